@@ -1,0 +1,15 @@
+pub mod Buffers
+pub mod Names
+pub mod Numbers
+pub mod Statuses
+pub mod Requests
+pub mod Packets
+pub mod Telemetry
+pub mod Records
+pub mod Transcript
+pub mod State
+pub mod Deeds
+pub mod Effects
+pub mod Commands
+pub mod Dispatch
+pub mod Counts

@@ -1,0 +1,34 @@
+use crate::bytes::Bytes;
+use crate::note::BankNote;
+use crate::request::{Actor, Request};
+use crate::status::Status;
+
+/// What a request is answered with.
+#[derive(Debug, Drop)]
+pub struct Reply {
+    pub status: Status,
+    /// What the status is about: a handle, a verdict, a function code. 0 where nothing is named.
+    pub detail: u32,
+    /// Image bytes, files or a record that were asked for.
+    pub bytes: Bytes,
+    /// The telemetry packets and notices that the request sent, joined in their order.
+    pub packets: Bytes,
+}
+
+/// One event of the service: a request, and all that came of it.
+#[derive(Debug, Drop)]
+pub struct Entry {
+    pub actor: Actor,
+    pub request: Request,
+    pub reply: Reply,
+    pub note: BankNote,
+    /// The verdicts that validation functions gave in this request, in their order.
+    pub verdicts: [Option<i32>; 2],
+}
+
+/// A status with its detail.
+#[derive(Clone, Copy, Debug, PartialEq, Eq)]
+pub struct Answer {
+    pub status: Status,
+    pub detail: u32,
+}

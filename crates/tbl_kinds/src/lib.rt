@@ -1,0 +1,27 @@
+//! The types that every other crate speaks of, and in specs/ the definitions that their contracts cite.
+#![tactic(auto)]
+
+mod block;
+mod bytes;
+mod entry;
+mod name;
+mod note;
+mod options;
+mod request;
+mod slots;
+mod status;
+mod telemetry;
+
+pub use block::{Block, BlockKind};
+pub use bytes::{Bytes, Memory};
+pub use entry::{Answer, Entry, Reply};
+pub use name::{Name, Name16, Name20, Name40, Name64};
+pub use note::{BankNote, Outcome};
+pub use options::Options;
+pub use request::{Actor, Request, ResetKind, fits};
+pub use slots::Slots;
+pub use status::Status;
+pub use telemetry::{Event, Housekeeping, RegistryRow, TlmHead};
+
+#[cfg(test)]
+mod tests;
