@@ -21,7 +21,7 @@ abbrev pub registry_id : ℕ
 registry_id = 0x080C
 
 -- id, sequence flags 3 with the count, and the length of the whole packet less 7
-abbrev pub primary_header : ℕ → ℕ → ℕ → List ℕ
+unfoldable pub primary_header : ℕ → ℕ → ℕ → List ℕ
 primary_header id count len = two id ++ two (0xC000 + count) ++ two (len - 7)
 
 -- a telemetry packet has the time behind its primary header

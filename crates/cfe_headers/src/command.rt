@@ -1,0 +1,63 @@
+//! Command packets.
+
+ghost use Rattle.std.specs.Prelude.{◌≡◌, ◌<◌, None, Some, IfOk, OnOk, IfErr};
+ghost use Rattle.tbl_kinds.specs.Packets.{packet_flaw, packet_id, packet_code, checksum};
+ghost use Rattle.cfe_headers.specs.Faults.{flaw_of};
+
+use crate::primary::{LENGTH_LESS, u16_at};
+use thiserror::Error;
+
+/// What a command packet carries in its headers (CCSDS 133.0-B; cFE's `CFE_MSG_CommandSecondaryHeader`). The payload is the bytes from place 8.
+#[derive(Clone, Copy, Debug, PartialEq, Eq)]
+pub struct CmdPacket {
+    /// The message id: the first 16 bits.
+    pub id: u16,
+    /// The function code, below 128.
+    pub code: u8,
+}
+
+/// What is wrong with a command packet, in the order tested.
+#[derive(Clone, Copy, Debug, PartialEq, Eq, Error)]
+pub enum PacketFault {
+    /// There are fewer than 8 bytes.
+    #[error("a command packet has 8 bytes or more")]
+    Short,
+    /// The length field and 7 are not the number of bytes.
+    #[error("the length field differs from the packet's length")]
+    BadLength,
+    /// The exclusive or of 0xFF and all bytes is not 0.
+    #[error("the checksum is wrong")]
+    BadCheck,
+}
+
+/// The exclusive or of 0xFF and all bytes.
+fn checksum_of(bytes: &[u8]) -> u8
+    ensures { result ≡ checksum bytes.now }
+{
+    bytes.iter().fold(0xFF, |sum, byte| sum ^ *byte)
+}
+
+/// Reads the headers of a command packet, all of the bytes. The sequence flags, the sequence count and the high bit
+/// of the code byte are not looked at.
+pub fn read_packet(bytes: &[u8]) -> Result<CmdPacket, PacketFault>
+    ensures ok { OnOk result (packet_flaw bytes.now ≡ None) }
+    ensures err { IfErr result (λ fault. packet_flaw bytes.now ≡ Some (flaw_of fault)) }
+
+    ensures id { IfOk result (λ packet. packet.id ≡ packet_id bytes.now) }
+    ensures code { IfOk result (λ packet. packet.code ≡ packet_code bytes.now) }
+    ensures code_fits { IfOk result (λ packet. packet.code < 128) }
+{
+    if bytes.len() < 8 {
+        return Err(PacketFault::Short);
+    }
+    if u16_at(bytes, 4) as usize + LENGTH_LESS as usize != bytes.len() {
+        return Err(PacketFault::BadLength);
+    }
+    if checksum_of(bytes) != 0 {
+        return Err(PacketFault::BadCheck);
+    }
+    Ok(CmdPacket {
+        id: u16_at(bytes, 0),
+        code: bytes[6] % 128,
+    })
+}
