@@ -1,7 +1,7 @@
 -- What telemetry counts over the history, and from which entry each of its "last" fields is read.
 use Rattle.std.specs.Prelude.{ℕ, ◌+◌, ◌==◌, ◌%◌, List, [], ◌∷◌, length, Bool, true, false, not, ◌&&◌, ◌||◌, if◌then◌else◌, count_by, sum_by, Option, Some, None, unwrap_or, is_some}
 use Rattle.std.specs.List.{after_last, fold}
-use Rattle.std.specs.Option.{option_map}
+use Rattle.std.specs.Option.{option_map, option_or}
 use Rattle.std.proofs.Common.{ℤ, pos}
 use Rattle.tbl_kinds.specs.State.{State, Table, Tables}
 use Rattle.tbl_kinds.specs.Tables.{table_at}
@@ -83,9 +83,9 @@ deeds_by test t = count_by test t.effect.deeds
 
 -- ---- the latest
 
--- the value of the latest that has one, over what was known before
-abbrev pub latest : {X Y : Type 0} → (X → Option Y) → Y → List X → Y
-latest pick known xs = fold (λ y x. unwrap_or (pick x) y) known xs
+-- what the latest that has one tells, none where none does
+abbrev pub latest : {X Y : Type 0} → (X → Option Y) → List X → Option Y
+latest pick xs = fold (λ known x. option_or (pick x) known) None xs
 
 abbrev pub name_at : State → ℕ → List ℕ
 name_at s row = unwrap_or (option_map (λ (t : Table). t.name) (table_at s.tables row)) []
@@ -104,8 +104,8 @@ abbrev pub validation_of : State → Deed → Option Validation
 validation_of s (finished row active image verdict) = Some (record { check = check16 image; verdict = verdict; active = if active then 1 else 0; name = name_at s row })
 validation_of s _ = None
 
-abbrev pub validation_after : Validation → Told → Validation
-validation_after known t = latest (validation_of t.before) known t.effect.deeds
+abbrev pub validation_in : Told → Option Validation
+validation_in t = latest (validation_of t.before) t.effect.deeds
 
 -- an image that went active: when, and the table's name
 pub record Update : Type 0 where
@@ -120,15 +120,15 @@ abbrev pub update_of : State → Deed → Option Update
 update_of s (activated row number image) = Some (record { seconds = s.seconds; sub = s.sub; name = name_at s row })
 update_of s _ = None
 
-abbrev pub update_after : Update → Told → Update
-update_after known t = latest (update_of t.before) known t.effect.deeds
+abbrev pub update_in : Told → Option Update
+update_in t = latest (update_of t.before) t.effect.deeds
 
 abbrev pub dump_of : Deed → Option (List ℕ)
 dump_of (dumped row file len) = Some file
 dump_of _ = None
 
-abbrev pub dump_after : List ℕ → Told → List ℕ
-dump_after known t = latest dump_of known t.effect.deeds
+abbrev pub dump_in : Told → Option (List ℕ)
+dump_in t = latest dump_of t.effect.deeds
 
 -- an accepted LOAD, LoadImage or LoadFile
 abbrev pub is_load : Request → Bool
@@ -192,9 +192,9 @@ counts_of past =
       events = sum_by events_in sent % 16384;
       housekeepings = count_by (λ t. is_housekeeping t.effect.shown) sent % 16384;
       notices = count_by (λ t. is_some t.effect.notice) sent % 16384;
-      validation = fold validation_after no_validation sent;
-      update = fold update_after no_update sent;
-      loaded = latest loaded_in [] sent;
-      loaded_file = latest loaded_file_in [] sent;
-      dumped_file = fold dump_after [] sent;
+      validation = unwrap_or (latest validation_in sent) no_validation;
+      update = unwrap_or (latest update_in sent) no_update;
+      loaded = unwrap_or (latest loaded_in sent) [];
+      loaded_file = unwrap_or (latest loaded_file_in sent) [];
+      dumped_file = unwrap_or (latest dump_in sent) [];
     }
