@@ -1,13 +1,12 @@
-// A library with one function.
+//! Telemetry packets of the service, each written as its one spelling into room that the caller has reserved.
 #![tactic(auto)]
 
-ghost use Rattle.std.specs.Prelude.{◌≡◌};
-ghost use Rattle.tlm_packets.specs.Echo.{echo_of};
+mod event;
+mod housekeeping;
+mod put;
 
-// The `ensures` clause is the contract: what `echo` returns is `echo_of` of its argument, a definition
-// in `specs/Echo.antt`, which a caller's clause can cite too.
-pub fn echo(x: usize) -> usize
-    ensures { result ≡ echo_of x }
-{
-    x
-}
+pub use event::write_event;
+pub use housekeeping::write_housekeeping;
+
+#[cfg(test)]
+mod tests;
