@@ -139,7 +139,7 @@ is_load _ = false
 
 -- the table that an entry loaded, by its name
 abbrev pub loaded_in : Told → Option (List ℕ)
-loaded_in t = if is_load t.request && is_success t.effect.status then option_map (name_at t.before) t.effect.row else None
+loaded_in t = if is_success t.effect.status && is_load t.request then option_map (name_at t.before) t.effect.row else None
 
 -- the file of a load from a file
 abbrev pub file_of : Request → Option (List ℕ)
@@ -198,3 +198,21 @@ counts_of past =
       loaded_file = unwrap_or (latest loaded_file_in sent) [];
       dumped_file = unwrap_or (latest dump_in sent) [];
     }
+
+abbrev pub no_counts : Counts
+no_counts = record {
+  accepted = 0;
+  refused = 0;
+  finished = 0;
+  good = 0;
+  bad = 0;
+  requests = 0;
+  events = 0;
+  housekeepings = 0;
+  notices = 0;
+  validation = no_validation;
+  update = no_update;
+  loaded = [];
+  loaded_file = [];
+  dumped_file = [];
+}

@@ -1,5 +1,5 @@
 -- One entry more: what it adds to the counts, and how each count goes on.
-use Rattle.std.specs.Prelude.{◌≡◌, ℕ, ◌+◌, ◌%◌, ◌==◌, List, [], ◌∷◌, ◌++◌, Bool, if◌then◌else◌, Option, unwrap_or, is_some}
+use Rattle.std.specs.Prelude.{◌≡◌, ℕ, ◌+◌, ◌%◌, ◌==◌, List, [], ◌∷◌, ◌++◌, Bool, false, if◌then◌else◌, Option, None, unwrap_or, is_some}
 use Rattle.tbl_kinds.specs.Counts.{Told, Counts, counts_of, restarts, clears_counters, adds_accepted, adds_refused, adds_request, deeds_by, is_finished, is_finished_well, is_finished_badly, events_in, is_housekeeping, Validation, no_validation, validation_in, Update, no_update, update_in, loaded_in, loaded_file_in, dump_in}
 
 -- what an entry adds
@@ -61,4 +61,24 @@ counts_after c t = record {
   loaded = if t.restarted then [] else unwrap_or t.loaded c.loaded;
   loaded_file = if t.restarted then [] else unwrap_or t.loaded_file c.loaded_file;
   dumped_file = if t.restarted then [] else unwrap_or t.dumped_file c.dumped_file;
+}
+
+abbrev pub no_tally : Tally
+no_tally = record {
+  restarted = false;
+  cleared = false;
+  accepted = false;
+  refused = false;
+  finished = 0;
+  good = 0;
+  bad = 0;
+  request = false;
+  events = 0;
+  housekeeping = false;
+  notice = false;
+  validation = None;
+  update = None;
+  loaded = None;
+  loaded_file = None;
+  dumped_file = None;
 }
