@@ -1,5 +1,5 @@
 -- Lemmas on counts that rise.
-use Rattle.std.proofs.Common.{inl, inr, ℕ, ◌-◌, ◌^◌, ◌≤◌, arith}
+use Rattle.std.proofs.Common.{◌≡◌, inl, inr, ℕ, ◌-◌, ◌^◌, ◌≤◌, arith}
 use Rattle.tbl_outside.specs.Counts.{Rose, risen}
 
 -- what rose since a later moment rose since an earlier one
@@ -7,10 +7,13 @@ pub Rose-since : (a b c : ℕ) → a ≤ b → Rose b c → Rose a c
 Rose-since a b c le (inl lt) = inl (omega arith)
 Rose-since a b c le (inr top) = inr top
 
--- what rose stays so, as long as it can't go above the top
-pub Rose-until : (a b c : ℕ) → Rose a b → b ≤ c → c ≤ 2 ^ 64 - 1 → Rose a c
-Rose-until a b c (inl lt) le bound = inl (omega arith)
-Rose-until a b c (inr top) le bound = inr (omega arith)
+above_top : (a b c : ℕ) → a ≤ b → b ≤ c → b ≡ 2 ^ 64 - 1 → Rose a c
+above_top a b c start le top = grind arith
+
+-- what rose by an earlier moment rose by a later one
+pub Rose-until : (a b c : ℕ) → a ≤ b → b ≤ c → Rose a b → Rose a c
+Rose-until a b c start le (inl lt) = inl (omega arith)
+Rose-until a b c start le (inr top) = above_top a b c start le top
 
 pub Rose-risen : (n : ℕ) → Rose n (risen n)
 Rose-risen n = grind arith

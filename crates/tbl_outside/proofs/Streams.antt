@@ -1,5 +1,7 @@
 -- Lemmas on what several reads and writes in a row do to known bytes.
-use Rattle.std.proofs.Common.{◌≡◌, ℕ, Option, None, Some, List, [], ◌++◌, take, refl, sym, ap, subst, ◌∙◌, append_assoc, append-nil, IfSome}
+use Rattle.std.proofs.Common.{◌≡◌, ℕ, Option, None, Some, List, [], ◌++◌, take, refl, sym, ap, subst, ◌∙◌, append_assoc, append-nil, IfSome, ◌+◌, length, min, ◌≤◌, arith}
+use Rattle.std.proofs.lemmas.List.{take-append-le, take_min}
+use Rattle.std.proofs.Math.Seq.{take-append-add, take-length}
 use Rattle.std.specs.Io.KnownBytes.{prepend_known, append_known, IsAtEnd}
 use Rattle.tbl_outside.specs.Streams.{TakesFront}
 
@@ -7,10 +9,6 @@ use Rattle.tbl_outside.specs.Streams.{TakesFront}
 pub prepend_known-twice : (a : Option (List ℕ)) (bs cs : List ℕ) → prepend_known bs (prepend_known cs a) ≡ prepend_known (bs ++ cs) a
 prepend_known-twice None bs cs = refl
 prepend_known-twice (Some x) bs cs = ap Some (sym (append_assoc bs cs x))
-
-pub prepend_known-nil : (a : Option (List ℕ)) → prepend_known [] a ≡ a
-prepend_known-nil None = refl
-prepend_known-nil (Some x) = refl
 
 -- two writes in a row
 pub append_known-twice : (a : Option (List ℕ)) (bs cs : List ℕ) → append_known (append_known a bs) cs ≡ append_known a (bs ++ cs)
@@ -39,6 +37,26 @@ pub read_all : (a b : Option (List ℕ)) (bs : List ℕ) → a ≡ prepend_known
 read_all a None bs e end = subst (λ o. IfSome o (λ xs. xs ≡ bs)) (sym e) tt
 read_all a (Some x) bs e end = subst (λ o. IfSome o (λ xs. xs ≡ bs)) (sym e) (ap (λ l. bs ++ l) end ∙ append-nil bs)
 
--- a write that failed after others took a front of them all together
-pub written_front : (a b c : Option (List ℕ)) (bs cs : List ℕ) → b ≡ append_known a bs → TakesFront b c cs → (n : ℕ) × (c ≡ append_known a (bs ++ take n cs))
-written_front a b c bs cs p q = (q.0, written_more a b c bs (take q.0 cs) p q.1)
+-- a front of the first of two pieces is a front of both together
+front_within : (n : ℕ) (bs cs : List ℕ) → take n bs ≡ take (min n (length bs)) (bs ++ cs)
+front_within n bs cs =
+    let le : min n (length bs) ≤ length bs = omega arith in
+    sym (take-append-le (min n (length bs)) bs cs le ∙ take_min n bs)
+
+-- a front of the first piece is a front of both together
+pub front_of_first : (a b : Option (List ℕ)) (bs cs : List ℕ) → TakesFront a b bs → TakesFront a b (bs ++ cs)
+front_of_first a b bs cs p = record {
+  count = min p.count (length bs);
+  grown = p.grown ∙ ap (append_known a) (front_within p.count bs cs);
+}
+
+-- after the first piece was taken whole, a front of the second is a front of both together
+pub front_of_second : (a b c : Option (List ℕ)) (bs cs : List ℕ) → b ≡ append_known a bs → TakesFront b c cs → TakesFront a c (bs ++ cs)
+front_of_second a b c bs cs p q = record {
+  count = length bs + q.count;
+  grown = written_more a b c bs (take q.count cs) p q.grown ∙ ap (append_known a) (sym (take-append-add bs cs q.count));
+}
+
+-- what was taken whole was taken up to a front
+pub front_of_whole : (a b : Option (List ℕ)) (bs : List ℕ) → b ≡ append_known a bs → TakesFront a b bs
+front_of_whole a b bs p = record { count = length bs; grown = p ∙ ap (append_known a) (sym (take-length bs)) }
