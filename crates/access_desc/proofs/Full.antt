@@ -1,5 +1,5 @@
 -- No place is free exactly where all are taken.
-use Rattle.std.proofs.Common.{◌≡◌, ℕ, ◌+◌, ◌≤◌, ◌<◌, ◌↔◌, List, [], ◌∷◌, Option, Some, None, IsNone, is_some, is_none, position, length, count_by, cond, nat_lt, arith, refl}
+use Rattle.std.proofs.Common.{◌≡◌, ℕ, ◌+◌, ◌≤◌, ◌↔◌, List, [], ◌∷◌, Option, Some, None, IsNone, is_some, is_none, position, length, count_by, cond, nat_lt, arith, refl}
 use Rattle.std.specs.List.{position_or_len}
 use Rattle.std.proofs.lemmas.Bool.Decides.{nat_tests}
 use Rattle.std.proofs.lemmas.List.Sums.{count_by-le-length, sum_by-cons}

@@ -1,4 +1,4 @@
-use Rattle.std.proofs.Common.{◌<◌, None, length, ◌∙◌, arith}
+use Rattle.std.proofs.Common.{◌<◌, length, arith}
 use Rattle.std.specs.Option.{option_map}
 use Rattle.std.proofs.lemmas.List.{get_or_default}
 use Rattle.std.proofs.lemmas.List.Edits.{map_over_more}

@@ -1,5 +1,4 @@
-use Rattle.std.proofs.Common.{rules, None, refl, arith}
-use Rattle.std.proofs.lemmas.Grind.{common_steps}
+use Rattle.std.proofs.Common.{rules}
 use Rattle.access_desc.proofs.handles.free_places.Goals as goal
 
 pub returns : goal.returns
