@@ -8,12 +8,14 @@ pub mod Telemetry
 pub mod Records
 pub mod Transcript
 pub mod State
+pub mod Tables
 pub mod Deeds
 pub mod Effects
+pub mod TableSteps
+pub mod Applications
 pub mod Commands
 pub mod Dispatch
 pub mod Check
-pub mod Tables
 pub mod Events
 pub mod Counts
 pub mod Replies

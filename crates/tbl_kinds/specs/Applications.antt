@@ -1,0 +1,135 @@
+-- What each request of an application does.
+use Rattle.std.specs.Prelude.{ℕ, ◌+◌, ◌-◌, ◌==◌, List, [], ◌∷◌, ◌++◌, length, Bool, true, not, ◌&&◌, ◌||◌, nat_lt, nat_le, if◌then◌else◌, Option, Some, None, is_some, unwrap_or, option_and_then, slice_get, slice_set, Result, Ok, Err}
+use Rattle.std.specs.List.{list_any}
+use Rattle.tbl_kinds.specs.Names.{is_name}
+use Rattle.tbl_kinds.specs.State.{State, Table, Handle, Tables}
+use Rattle.tbl_kinds.specs.Tables.{table_at, is_double, is_dump_only, in_use}
+use Rattle.tbl_kinds.specs.TableSteps.{is_that, find, least_free, handle_at, locker, check, put, with_table, with_handle, Step, get_address_of, release_of, read_of, new_table, new_handle}
+use Rattle.tbl_kinds.specs.Deeds.{Deed, activated}
+use Rattle.tbl_kinds.specs.Effects.{Effect, answered}
+use Rattle.tbl_kinds.specs.declared.status.Status.{Status}
+use Rattle.tbl_kinds.specs.declared.status.TheConstants.Status.{SUCCESS, INFO_TABLE_LOCKED, WARN_DUPLICATE, ERR_BAD_APP, ERR_INVALID_NAME, ERR_INVALID_SIZE, ERR_INVALID_OPTIONS, ERR_NO_VALIDATOR, ERR_DUPLICATE_NOT_OWNED, ERR_DUPLICATE_DIFF_SIZE, ERR_REGISTRY_FULL, ERR_HANDLES_FULL, ERR_DUMP_ONLY, ERR_LOAD_IN_PROGRESS, ERR_IMAGE_SIZE, ERR_NO_BUFFER_AVAIL, ERR_APP_RUNNING}
+
+-- ---- applications
+
+-- the name under which an application runs
+abbrev pub name_of : State → ℕ → Option (List ℕ)
+name_of s app = option_and_then (λ found. found) (slice_get s.apps (app - 1))
+
+-- a byte of it is a dot
+abbrev pub has_dot : List ℕ → Bool
+has_dot name = list_any (λ b. b == 46) name
+
+-- application, dot, short name
+abbrev pub full_name : List ℕ → List ℕ → List ℕ
+full_name app short = app ++ 46 ∷ short
+
+abbrev pub start_effect : State → ℕ → List ℕ → Effect
+start_effect s app name =
+    if is_some (name_of s app) then answered s ERR_APP_RUNNING 0
+    else (if not (is_name name) || has_dot name then answered s ERR_INVALID_NAME 0
+    else record (answered s SUCCESS 0) { next = record s { apps = slice_set s.apps (app - 1) (Some name) } })
+
+abbrev pub by_app : State → Option (List ℕ) → (List ℕ → Effect) → Effect
+by_app s None effect = answered s ERR_BAD_APP 0
+by_app s (Some name) effect = effect name
+
+-- what a request does that only a running application may make, by the application's name
+abbrev pub if_running : State → ℕ → (List ℕ → Effect) → Effect
+if_running s app effect = by_app s (name_of s app) effect
+
+-- and that needs a handle which the application may use: the row, the table and the handle
+abbrev pub with_handle_and_table : State → Option Table → Option Handle → (Table → Handle → Effect) → Effect
+with_handle_and_table s (Some t) (Some h) effect = effect t h
+with_handle_and_table s _ _ effect = answered s ERR_BAD_APP 0
+
+abbrev pub by_check : State → ℕ → Result ℕ Status → (ℕ → Table → Handle → Effect) → Effect
+by_check s handle (Err status) effect = answered s status 0
+by_check s handle (Ok row) effect = with_handle_and_table s (table_at s.tables row) (handle_at s.tables handle) (effect row)
+
+abbrev pub if_handle : State → ℕ → ℕ → Bool → (ℕ → Table → Handle → Effect) → Effect
+if_handle s app handle owner_only effect = if_running s app (λ name. by_check s handle (check s.tables app handle owner_only) effect)
+
+abbrev pub stepped : State → Step → Effect
+stepped s step = record (answered s step.status 0) { next = record s { tables = step.tables } }
+
+-- ---- registration
+
+-- the largest table
+abbrev pub table_limit : ℕ
+table_limit = 16384
+
+-- the options that can be asked for today
+abbrev pub are_options : ℕ → Bool
+are_options flags = flags == 0
+
+-- whether the application may use this validation function
+abbrev pub may_use : State → ℕ → Option ℕ → Bool
+may_use s app None = true
+may_use s app (Some number) = is_that app (option_and_then (λ found. found) (slice_get s.kit number))
+
+abbrev pub duplicate_effect : State → ℕ → ℕ → Option Table → Effect
+duplicate_effect s app size None = answered s ERR_REGISTRY_FULL 0
+duplicate_effect s app size (Some t) =
+    if not (t.owner == app) then answered s ERR_DUPLICATE_NOT_OWNED 0
+    else (if not (t.size == size) then answered s ERR_DUPLICATE_DIFF_SIZE 0
+    else answered s WARN_DUPLICATE t.handle)
+
+-- a new table in the least free row, with the least free handle
+abbrev pub add_effect : State → ℕ → List ℕ → ℕ → ℕ → Option ℕ → Option ℕ → Option ℕ → Effect
+add_effect s app name size options validator None free_handle = answered s ERR_REGISTRY_FULL 0
+add_effect s app name size options validator (Some row) None = answered s ERR_HANDLES_FULL 0
+add_effect s app name size options validator (Some row) (Some handle) = record (answered s SUCCESS handle) {
+  next = record s { tables = with_handle handle (new_handle app row) (with_table row (new_table name app size options validator handle) s.tables) };
+}
+
+abbrev pub by_name_effect : State → ℕ → List ℕ → ℕ → ℕ → Option ℕ → Option ℕ → Effect
+by_name_effect s app name size options validator (Some row) = duplicate_effect s app size (table_at s.tables row)
+by_name_effect s app name size options validator None = add_effect s app name size options validator (least_free s.tables.rows) (least_free s.tables.handles)
+
+unfoldable pub register_effect : State → ℕ → List ℕ → ℕ → ℕ → Option ℕ → Effect
+register_effect s app short size flags validator = if_running s app (λ app_name.
+    if not (is_name short) then answered s ERR_INVALID_NAME 0
+    else (if size == 0 || nat_lt table_limit size then answered s ERR_INVALID_SIZE 0
+    else (if not (are_options flags) then answered s ERR_INVALID_OPTIONS 0
+    else (if not (may_use s app validator) then answered s ERR_NO_VALIDATOR 0
+    else by_name_effect s app (full_name app_name short) size flags validator (find (full_name app_name short) s.tables)))))
+
+-- ---- loads
+
+-- the image becomes the table's last one
+abbrev pub activate_effect : State → ℕ → Table → List ℕ → Effect
+activate_effect s row t image = record (answered s SUCCESS 0) {
+  row = Some row;
+  deeds = activated row (t.count + 1) image ∷ [];
+  next = record s { tables = put row image (with_table row (record t { seconds = s.seconds; sub = s.sub }) s.tables) };
+}
+
+-- the table is locked, or no shared buffer is free for it
+abbrev pub if_free : State → ℕ → Table → Option ℕ → Effect → Effect
+if_free s row t (Some handle) effect = answered s INFO_TABLE_LOCKED handle
+if_free s row t None effect =
+    if not (is_double t) && length (in_use s.tables) == 4 then record (answered s ERR_NO_BUFFER_AVAIL 0) { bytes = in_use s.tables }
+    else effect
+
+unfoldable pub load_image_effect : State → ℕ → ℕ → List ℕ → Effect
+load_image_effect s app handle image = if_handle s app handle true (λ row t h.
+    if is_dump_only t then answered s ERR_DUMP_ONLY 0
+    else (if is_some t.load then answered s ERR_LOAD_IN_PROGRESS 0
+    else (if not (length image == t.size) then answered s ERR_IMAGE_SIZE 0
+    else if_free s row t (locker s.tables row t) (activate_effect s row t image))))
+
+-- ---- addresses
+
+unfoldable pub get_effect : State → ℕ → ℕ → Effect
+get_effect s app handle = if_handle s app handle false (λ row t h. stepped s (get_address_of s.tables handle h t))
+
+unfoldable pub release_effect : State → ℕ → ℕ → Effect
+release_effect s app handle = if_handle s app handle false (λ row t h. stepped s (release_of s.tables handle h row t))
+
+abbrev pub read_answer : State → Result (List ℕ) Status → Effect
+read_answer s (Ok bytes) = record (answered s SUCCESS 0) { bytes = bytes }
+read_answer s (Err status) = answered s status 0
+
+unfoldable pub read_effect : State → ℕ → ℕ → ℕ → ℕ → Effect
+read_effect s app handle offset len = if_handle s app handle false (λ row t h. read_answer s (read_of h t offset len))

@@ -1,0 +1,162 @@
+-- What is asked of the tables, and how they change: one function for each question and each change.
+use Rattle.std.specs.Prelude.{ℕ, ◌+◌, ◌-◌, ◌<◌, ◌==◌, List, [], ◌∷◌, ◌++◌, length, map, replicate, take, drop, Bool, true, false, not, ◌&&◌, ◌||◌, nat_lt, nat_le, if◌then◌else◌, position, Option, Some, None, is_some, is_none, unwrap_or, option_and_then, slice_get, slice_set, Result, Ok, Err}
+use Rattle.std.specs.List.{list_any}
+use Rattle.std.specs.Option.{option_map}
+use Rattle.tbl_kinds.specs.Numbers.{piece}
+use Rattle.tbl_kinds.specs.State.{Table, Handle, Tables, Load, Dump, quiet}
+use Rattle.tbl_kinds.specs.Tables.{table_at, is_double}
+use Rattle.tbl_kinds.specs.declared.status.Status.{Status}
+use Rattle.tbl_kinds.specs.declared.status.TheConstants.Status.{SUCCESS, INFO_UPDATED, ERR_INVALID_HANDLE, ERR_NO_ACCESS, ERR_UNREGISTERED, ERR_ALREADY_PINNED, ERR_NEVER_LOADED, ERR_NOT_PINNED, ERR_OUT_OF_RANGE}
+
+-- ---- questions
+
+-- the same bytes
+abbrev pub same_bytes : List ℕ → List ℕ → Bool
+same_bytes [] [] = true
+same_bytes (x ∷ xs) (y ∷ ys) = x == y && same_bytes xs ys
+same_bytes [] (y ∷ ys) = false
+same_bytes (x ∷ xs) [] = false
+
+abbrev pub has_name : List ℕ → Option Table → Bool
+has_name name None = false
+has_name name (Some t) = same_bytes t.name name
+
+-- the row of the table of this full name
+abbrev pub find : List ℕ → Tables → Option ℕ
+find name tables = position (has_name name) tables.rows
+
+-- the least number that is free
+abbrev pub least_free : {X : Type 0} → List (Option X) → Option ℕ
+least_free places = position is_none places
+
+abbrev pub handle_at : Tables → ℕ → Option Handle
+handle_at tables number = option_and_then (λ found. found) (slice_get tables.handles number)
+
+-- the image that a pin is of: the last one, or the one before it
+abbrev pub image_of : Table → ℕ → Option (List ℕ)
+image_of t pin = if pin == t.count then t.last else t.before
+
+abbrev pub is_that : ℕ → Option ℕ → Bool
+is_that n None = false
+is_that n (Some m) = m == n
+
+-- the handle pins the image of this number of the table in this row
+abbrev pub pins : ℕ → ℕ → Option Handle → Bool
+pins row number None = false
+pins row number (Some h) = is_that row h.row && is_that number h.pin
+
+-- the handle is in the way of a new image of the table in this row: it pins an image, of a double-buffered table
+-- one that isn't the last
+abbrev pub is_in_way : ℕ → Table → Option Handle → Bool
+is_in_way row t None = false
+is_in_way row t (Some h) = is_that row h.row && is_some h.pin && not (is_double t && is_that t.count h.pin)
+
+-- the least handle in the way; the table is locked where there is one
+abbrev pub locker : Tables → ℕ → Table → Option ℕ
+locker tables row t = position (is_in_way row t) tables.handles
+
+-- whether the application may use the handle, and its table's row
+abbrev pub check_owner : Tables → ℕ → Bool → ℕ → Result ℕ Status
+check_owner tables app owner_only row =
+    if owner_only && not (is_that app (option_map (λ (t : Table). t.owner) (table_at tables row))) then Err ERR_NO_ACCESS else Ok row
+
+abbrev pub check_row : Tables → ℕ → Bool → Option ℕ → Result ℕ Status
+check_row tables app owner_only None = Err ERR_UNREGISTERED
+check_row tables app owner_only (Some row) = check_owner tables app owner_only row
+
+abbrev pub check_handle : Tables → ℕ → Bool → Option Handle → Result ℕ Status
+check_handle tables app owner_only None = Err ERR_INVALID_HANDLE
+check_handle tables app owner_only (Some h) = if not (h.app == app) then Err ERR_NO_ACCESS else check_row tables app owner_only h.row
+
+-- in order: the handle is in use, it is this application's, its table is there, and for the owner alone, the caller owns it
+abbrev pub check : Tables → ℕ → ℕ → Bool → Result ℕ Status
+check tables app handle owner_only = check_handle tables app owner_only (handle_at tables handle)
+
+-- ---- changes
+
+abbrev pub with_table : ℕ → Table → Tables → Tables
+with_table row t tables = record tables { rows = slice_set tables.rows row (Some t) }
+
+abbrev pub with_handle : ℕ → Handle → Tables → Tables
+with_handle number h tables = record tables { handles = slice_set tables.handles number (Some h) }
+
+-- a new image becomes the last, and the one that was the last stays as long as a handle pins it
+abbrev pub with_image : List (Option Handle) → ℕ → List ℕ → Table → Table
+with_image handles row image t = record t {
+  count = t.count + 1;
+  last = Some image;
+  before = if list_any (pins row t.count) handles then t.last else None;
+}
+
+abbrev pub put_in : Tables → ℕ → List ℕ → Option Table → Tables
+put_in tables row image None = tables
+put_in tables row image (Some t) = with_table row (with_image tables.handles row image t) tables
+
+abbrev pub put : ℕ → List ℕ → Tables → Tables
+put row image tables = put_in tables row image (table_at tables row)
+
+-- the one before the last goes once no handle pins it
+abbrev pub let_go : List (Option Handle) → ℕ → Table → Table
+let_go handles row t = record t { before = if list_any (pins row (t.count - 1)) handles then t.before else None }
+
+-- what a call answers, and the tables that it leaves
+pub record Step : Type 0 where
+  pub status : Status
+  pub tables : Tables
+
+abbrev pub stays : Tables → Status → Step
+stays tables status = record { status = status; tables = tables }
+
+-- a handle pins the last image, and is told of it
+abbrev pub pin_last : Tables → ℕ → Handle → Table → Step
+pin_last tables number h t = record {
+  status = if nat_lt h.told t.count then INFO_UPDATED else SUCCESS;
+  tables = with_handle number (record h { pin = Some t.count; told = t.count }) tables;
+}
+
+abbrev pub get_address_of : Tables → ℕ → Handle → Table → Step
+get_address_of tables number h t =
+    if is_some h.pin then stays tables ERR_ALREADY_PINNED
+    else (if t.count == 0 then stays tables ERR_NEVER_LOADED
+    else pin_last tables number h t)
+
+-- the pin ends
+abbrev pub release_of : Tables → ℕ → Handle → ℕ → Table → Step
+release_of tables number h row t =
+    if not (is_some h.pin) then stays tables ERR_NOT_PINNED
+    else (let freed = with_handle number (record h { pin = None }) tables in record {
+      status = if nat_lt h.told t.count then INFO_UPDATED else SUCCESS;
+      tables = with_table row (let_go freed.handles row t) freed;
+    })
+
+-- the stated bytes of the pinned image
+abbrev pub read_of : Handle → Table → ℕ → ℕ → Result (List ℕ) Status
+read_of h t offset len =
+    if not (is_some h.pin) then Err ERR_NOT_PINNED
+    else (if nat_lt t.size (offset + len) then Err ERR_OUT_OF_RANGE
+    else Ok (piece offset len (unwrap_or (image_of t (unwrap_or h.pin 0)) [])))
+
+-- a table as its registration makes it
+abbrev pub new_table : List ℕ → ℕ → ℕ → ℕ → Option ℕ → ℕ → Table
+new_table name owner size options validator handle = record {
+  name = name;
+  owner = owner;
+  handle = handle;
+  size = size;
+  options = options;
+  validator = validator;
+  count = 0;
+  last = None;
+  before = None;
+  load = None;
+  activation = false;
+  dump = quiet;
+  notice = None;
+  seconds = 0;
+  sub = 0;
+  file = [];
+}
+
+-- a handle that was told of no image and pins none
+abbrev pub new_handle : ℕ → ℕ → Handle
+new_handle app row = record { app = app; row = Some row; told = 0; pin = None }
