@@ -1,5 +1,5 @@
 -- What each request of an application does.
-use Rattle.std.specs.Prelude.{ℕ, ◌+◌, ◌-◌, ◌==◌, List, [], ◌∷◌, ◌++◌, length, Bool, true, not, ◌&&◌, ◌||◌, nat_lt, nat_le, if◌then◌else◌, Option, Some, None, is_some, unwrap_or, option_and_then, slice_get, slice_set, Result, Ok, Err}
+use Rattle.std.specs.Prelude.{ℕ, ◌+◌, ◌-◌, ◌==◌, List, [], ◌∷◌, ◌++◌, length, Bool, true, false, not, ◌&&◌, ◌||◌, nat_lt, nat_le, if◌then◌else◌, Option, Some, None, is_some, unwrap_or, option_and_then, slice_get, slice_set, Result, Ok, Err}
 use Rattle.std.specs.List.{list_any}
 use Rattle.tbl_kinds.specs.Names.{is_name}
 use Rattle.tbl_kinds.specs.State.{State, Table, Handle, Tables}
