@@ -1,3 +1,4 @@
 pub mod Names
 pub mod CountsLaws
 pub mod HistoryLaws
+pub mod RecordLaws

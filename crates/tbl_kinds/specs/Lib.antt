@@ -6,6 +6,7 @@ pub mod Requests
 pub mod Packets
 pub mod Telemetry
 pub mod Records
+pub mod Heads
 pub mod Transcript
 pub mod State
 pub mod Tables

@@ -1,0 +1,5 @@
+use Rattle.tbl_kinds.proofs.RecordLaws.{bad-append}
+use Rattle.session_records.proofs.laws.bad_stays_bad.Goals as goal
+
+pub returns : goal.returns
+returns c = bad-append

@@ -1,0 +1,59 @@
+ghost use Rattle.std.specs.Prelude.{◌≡◌, ◌≤◌, length};
+ghost use Rattle.tbl_kinds.specs.Numbers.{byte_at};
+ghost use Rattle.tbl_kinds.specs.Heads as heads;
+ghost use Rattle.session_records.specs.Reading.{actor_at};
+
+use tbl_kinds::Actor;
+
+/// Kind, actor and length of the body.
+pub const HEAD_LEN: usize = 4;
+
+/// The longest body.
+pub const BODY_LIMIT: usize = 32_832;
+
+/// What the first four bytes say.
+#[derive(Clone, Copy)]
+pub struct Head {
+    pub kind: u8,
+    pub actor: u8,
+    /// The length of the body.
+    pub len: usize,
+}
+
+impl Head {
+    /// The head at the front of the bytes.
+    pub fn of(bytes: &[u8]) -> Head
+        requires { 4 ≤ length bytes.now }
+        ensures kind { result.kind ≡ byte_at 0 bytes.now }
+        ensures actor { result.actor ≡ byte_at 1 bytes.now }
+        ensures len { result.len ≡ heads.stated_len bytes.now }
+    {
+        Head {
+            kind: bytes[0],
+            actor: bytes[1],
+            len: usize::from(u16::from_be_bytes([bytes[2], bytes[3]])),
+        }
+    }
+
+    /// Whether the kind is known, the actor fits it, and the length is one that it allows.
+    #[tactic(auto, unfolding(tbl_kinds::specs::Heads::is_good_head))]
+    pub fn is_good(self) -> bool
+        ensures { result ≡ heads.is_good_head self.kind self.actor self.len }
+    {
+        let from_ground = self.actor == 0;
+        match self.kind {
+            0x01 => from_ground && self.len <= BODY_LIMIT,
+            _ => false,
+        }
+    }
+}
+
+/// Who has this number in a head.
+pub fn actor_of(number: u8) -> Actor
+    ensures { result ≡ actor_at number }
+{
+    match number {
+        0 => Actor::Ground,
+        _ => Actor::App(number),
+    }
+}

@@ -1,0 +1,73 @@
+-- The heads of session records, and how far the bytes at the front of an input make a record.
+use Rattle.std.specs.Prelude.{◌≡◌, ◌≢◌, ℕ, ◌+◌, ◌==◌, List, [], ◌∷◌, ◌++◌, length, Bool, true, false, not, ◌&&◌, ◌||◌, nat_lt, nat_le, IsTrue, ◌⊎◌}
+use Rattle.std.specs.List.{list_any}
+use Rattle.tbl_kinds.specs.Numbers.{piece, byte_at, two_at}
+use Rattle.tbl_kinds.specs.Records.{Pair, IsRecord, spelling, body_limit, record_limit}
+
+-- a kind of record: its number, who sends it, the fewest and the most bytes of its body, and which bodies are right
+pub record Kind : Type 0 where
+  pub number : ℕ
+  pub from_ground : Bool
+  pub least : ℕ
+  pub most : ℕ
+  pub is_right : List ℕ → Bool
+
+-- the kinds that the service knows today
+abbrev pub kinds : List Kind
+kinds = record { number = 0x01; from_ground = true; least = 0; most = body_limit; is_right = λ body. true } ∷ []
+
+-- the ground has the number 0, the applications have 1 to 16
+abbrev pub is_sender : Bool → ℕ → Bool
+is_sender true actor = actor == 0
+is_sender false actor = nat_le 1 actor && nat_le actor 16
+
+abbrev pub allows : ℕ → ℕ → ℕ → Kind → Bool
+allows number actor len kind = number == kind.number && is_sender kind.from_ground actor && nat_le kind.least len && nat_le len kind.most
+
+-- the kind is known, the actor fits it, and the length is one that it allows
+unfoldable pub is_good_head : ℕ → ℕ → ℕ → Bool
+is_good_head number actor len = list_any (allows number actor len) kinds
+
+unfoldable pub is_right_body : ℕ → List ℕ → Bool
+is_right_body number body = list_any (λ kind. number == kind.number && kind.is_right body) kinds
+
+-- ---- the bytes at the front of an input
+
+-- kind, actor and length of the body
+abbrev pub head_len : ℕ
+head_len = 4
+
+abbrev pub stated_len : List ℕ → ℕ
+stated_len bytes = two_at 2 bytes
+
+abbrev pub has_good_head : List ℕ → Bool
+has_good_head bytes = is_good_head (byte_at 0 bytes) (byte_at 1 bytes) (stated_len bytes)
+
+abbrev pub has_right_body : List ℕ → Bool
+has_right_body bytes = is_right_body (byte_at 0 bytes) (piece head_len (stated_len bytes) bytes)
+
+-- as many bytes as the head states
+abbrev pub is_whole : List ℕ → Bool
+is_whole bytes = nat_le (head_len + stated_len bytes) (length bytes)
+
+-- a part of a head, or a good head with a part of its body
+unfoldable pub is_short : List ℕ → Bool
+is_short bytes = nat_lt 0 (length bytes) && (nat_lt (length bytes) head_len || (has_good_head bytes && not (is_whole bytes)))
+
+-- a bad head, or a whole body that isn't right
+unfoldable pub is_bad : List ℕ → Bool
+is_bad bytes = nat_le head_len (length bytes) && (not (has_good_head bytes) || (is_whole bytes && not (has_right_body bytes)))
+
+abbrev pub IsShort : List ℕ → Type 0
+IsShort bytes = IsTrue (is_short bytes)
+
+abbrev pub IsBad : List ℕ → Type 0
+IsBad bytes = IsTrue (is_bad bytes)
+
+-- no record's spelling stands at the front
+abbrev pub BeginsNone : List ℕ → Type 0
+BeginsNone bytes = (p : Pair) (more : List ℕ) → IsRecord p → bytes ≢ spelling p ++ more
+
+-- the records of an input end before such a rest: nothing is left, or a short or a bad front, or a session has no more
+abbrev pub EndsBefore : List Pair → List ℕ → Type 0
+EndsBefore pairs rest = (rest ≡ []) ⊎ IsShort rest ⊎ IsBad rest ⊎ (length pairs ≡ record_limit)

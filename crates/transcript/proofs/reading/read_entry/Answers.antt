@@ -1,0 +1,54 @@
+use Rattle.std.proofs.Common.{◌≡◌, ℕ, ◌<◌, ◌≤◌, ◌+◌, ◌-◌, ◌^◌, length, refl, sym, ap, ◌∙◌, arith}
+use Rattle.tbl_kinds.specs.Numbers.{four_at}
+use Rattle.transcript.proofs.Fields.{tells, entry_again, entry_found}
+use Rattle.transcript.proofs.reading.read_entry.Goals as goal
+
+pub returns-then-bytes-lt17-clause-only : goal.returns-then-bytes-lt17-clause-only
+returns-then-bytes-lt17-clause-only c = λ f more is e. let t = tells c.args.bytes.now f more is e in absurd (omega (arith, t.len))
+
+pub returns-then-bytes-packets_at-clause-only : goal.returns-then-bytes-packets_at-clause-only
+returns-then-bytes-packets_at-clause-only c = λ f more is e.
+    let t = tells c.args.bytes.now f more is e in
+    let n : c.number_at-bytes_len.result ≡ length f.bytes = c.number_at-bytes_len.ensures ∙ t.bytes_len in
+    absurd (omega (arith, t.len, n))
+
+pub returns-then-bytes-packets_at-2-clause-only : goal.returns-then-bytes-packets_at-2-clause-only
+returns-then-bytes-packets_at-2-clause-only c = λ f more is e.
+    let t = tells c.args.bytes.now f more is e in
+    let n : c.number_at-bytes_len.result ≡ length f.bytes = c.number_at-bytes_len.ensures ∙ t.bytes_len in
+    let m : c.number_at-packets_len.result ≡ length f.packets = c.number_at-packets_len.ensures ∙ ap (λ (k : ℕ). four_at (17 + k) c.args.bytes.now) n ∙ t.packets_len in
+    absurd (omega (arith, t.len, n, m))
+
+pub returns-then-place-clause-only : goal.returns-then-place-clause-only
+returns-then-place-clause-only c = λ f more is e.
+    let t = tells c.args.bytes.now f more is e in
+    let p : c.number_at-place.result ≡ f.place = c.number_at-place.ensures ∙ t.place in
+    absurd (omega (arith, is.place, p))
+
+pub returns-then-actor-gt16-clause-only : goal.returns-then-actor-gt16-clause-only
+returns-then-actor-gt16-clause-only c = λ f more is e. let t = tells c.args.bytes.now f more is e in absurd (omega (arith, is.actor, t.actor))
+
+pub returns-clause-found : goal.returns-clause-found
+returns-clause-found c =
+    entry_found c.args.bytes.now _ (λ i. omega (arith, c.type_inv.bytes i))
+    (record {
+      place_is = c.number_at-place.ensures;
+      actor_is = refl;
+      status_is = c.number_at.ensures;
+      detail_is = c.number_at-2.ensures;
+      bytes_len_is = c.number_at-bytes_len.ensures;
+      packets_len_is = c.number_at-packets_len.ensures;
+    })
+    (omega arith) (omega arith) (omega arith)
+
+pub returns-clause-only : goal.returns-clause-only
+returns-clause-only c = λ f more is e.
+    entry_again c.args.bytes.now f more _ (tells c.args.bytes.now f more is e)
+    (record {
+      place_is = c.number_at-place.ensures;
+      actor_is = refl;
+      status_is = c.number_at.ensures;
+      detail_is = c.number_at-2.ensures;
+      bytes_len_is = c.number_at-bytes_len.ensures;
+      packets_len_is = c.number_at-packets_len.ensures;
+    })
