@@ -42,6 +42,7 @@ module _ (old new : Kept) (actor : Actor) (bytes : Buffer) (reply : Reply) (fits
             ∙ sym (refused_packets old.state actor bytes past status detail refuses goes_on);
         entries = enters.entries;
         next = enters.state;
+        goes_on = live;
         counts = enters.counts ∙ ap (counts_after old.counts) (sym (refused_tally old.state actor bytes status detail refuses goes_on));
       })
 
@@ -64,6 +65,7 @@ module _ (old new : Kept) (actor : Actor) (bytes : Buffer) (reply : Reply) (fits
             ∙ sym (noop_packets old.state actor bytes past asks);
         entries = enters.entries;
         next = enters.state;
+        goes_on = live;
         counts = enters.counts ∙ ap (counts_after old.counts) (sym (noop_tally old.state actor bytes asks));
       })
 
@@ -86,5 +88,6 @@ module _ (old new : Kept) (actor : Actor) (bytes : Buffer) (reply : Reply) (fits
             ∙ sym (housekeeping_packets old.state actor bytes past asks);
         entries = enters.entries;
         next = enters.state;
+        goes_on = live;
         counts = enters.counts ∙ ap (counts_after old.counts) (sym (housekeeping_tally old.state actor bytes asks));
       })

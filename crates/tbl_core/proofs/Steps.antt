@@ -38,6 +38,7 @@ pub record Did (old new : Kept) (actor : Actor) (request : Request) (reply : Rep
   pub packets : (past : List Told) → counts_of past ≡ old.counts → reply.packets.list ≡ packets_of past (told old.state actor request effect)
   pub entries : new.entries ≡ old.entries ++ entry_of actor request reply ∷ []
   pub next : new.state ≡ effect.next
+  pub goes_on : effect.next.ended ≡ false
   pub counts : new.counts ≡ counts_after old.counts (tally_of (told old.state actor request effect))
 
 module _ (old new : Kept) (actor : Actor) (request : Request) (reply : Reply) (effect : Effect) (did : Did old new actor request reply effect) where
@@ -65,6 +66,7 @@ module _ (old new : Kept) (actor : Actor) (request : Request) (reply : Reply) (e
     request_is = refl;
     added = did.entries;
     answered = λ r shown. subst (λ (s : State). IsAnswered (record { state = s; past = r.past }) (entry_of actor request reply)) (sym shown.state) (answered_here r.past shown.counts);
+    live = ap (λ (s : State). s.ended) did.next ∙ did.goes_on;
     shows = λ r shown. subst (λ (s : State). Shows new (onward (record { state = s; past = r.past }) (entry_of actor request reply))) (sym shown.state) (shows_here r.past shown.counts);
   }
 

@@ -1,5 +1,5 @@
 -- What the core keeps, and which histories it stands for.
-use Rattle.std.specs.Prelude.{◌≡◌, ℕ, ◌≤◌, List, [], ◌∷◌, ◌++◌, length, None}
+use Rattle.std.specs.Prelude.{◌≡◌, ℕ, ◌≤◌, List, [], ◌∷◌, ◌++◌, length, None, false}
 use Rattle.tbl_kinds.specs.State.{State}
 use Rattle.tbl_kinds.specs.Counts.{Counts, counts_of}
 use Rattle.tbl_kinds.specs.CountsAfter.{Tally, counts_after}
@@ -33,6 +33,7 @@ pub record Plays (old new : Kept) (actor : Actor) (request : Request) : Type 0 w
   pub added : new.entries ≡ old.entries ++ entry ∷ []
   pub answered : (r : Run) → Shows old r → IsAnswered r entry
   pub shows : (r : Run) → Shows old r → Shows new (onward r entry)
+  pub live : new.state.ended ≡ false
 
 -- a reply has at most this many bytes, and its packets too
 abbrev pub reply_limit : ℕ

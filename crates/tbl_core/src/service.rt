@@ -83,6 +83,7 @@ impl Core {
         requires room { length self.old.entries < record_limit }
         ensures adds { OnOk result ((e : Entry) × (self.new.entries ≡ self.old.entries ++ e ∷ []) × (e.actor ≡ actor) × (e.request ≡ request)) }
         ensures legal { OnOk result ((opening : State) → StandsFor opening self.old → StandsFor opening self.new) }
+        ensures live { OnOk result (self.new.state.ended ≡ false) }
         ensures memory { IsOkUnless result StepFault.Memory }
         ensures err { OnErr result (self.new ≡ self.old) }
     {
