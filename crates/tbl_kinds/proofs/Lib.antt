@@ -2,3 +2,4 @@ pub mod Names
 pub mod CountsLaws
 pub mod HistoryLaws
 pub mod RecordLaws
+pub mod TranscriptLaws

@@ -1,4 +1,4 @@
-use Rattle.std.proofs.Common.{◌≡◌, refl, sym, ◌∙◌, get_or, arith}
+use Rattle.std.proofs.Common.{refl, sym, ◌∙◌, get_or, arith}
 use Rattle.transcript.proofs.Fields.{tells_end, end_again, end_found}
 use Rattle.transcript.proofs.reading.read_end.Goals as goal
 

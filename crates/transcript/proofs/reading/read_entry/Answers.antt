@@ -1,4 +1,4 @@
-use Rattle.std.proofs.Common.{◌≡◌, ℕ, ◌<◌, ◌≤◌, ◌+◌, ◌-◌, ◌^◌, length, refl, sym, ap, ◌∙◌, arith}
+use Rattle.std.proofs.Common.{◌≡◌, ℕ, ◌+◌, length, refl, ap, ◌∙◌, arith}
 use Rattle.tbl_kinds.specs.Numbers.{four_at}
 use Rattle.transcript.proofs.Fields.{tells, entry_again, entry_found}
 use Rattle.transcript.proofs.reading.read_entry.Goals as goal
