@@ -15,6 +15,7 @@ pub fn write_tlm(out: &mut Bytes, id: u16, count: u16, seconds: u32, sub: u16, b
     requires body { length body.now ≤ 65000 }
     ensures bytes { out.new.list ≡ out.old.list ++ telemetry_packet id (record { count = count; seconds = seconds; sub = sub }) body.now }
     ensures room { out.old.spare ≤ out.new.spare + (12 + length body.now) }
+    ensures len { length out.new.list ≡ length out.old.list + (12 + length body.now) }
 {
     put_primary(out, id, count, 12 + body.len() as u16);
     out.append(&seconds.to_be_bytes());

@@ -9,7 +9,6 @@ use Rattle.tbl_kinds.specs.declared.status.Status.{Status}
 pub data Shown : Type 0 where
   nothing : Shown
   housekeeping : Shown
-  registry : ℕ → Shown
 
 pub record Effect : Type 0 where
   pub status : Status

@@ -12,4 +12,10 @@ pub mod Deeds
 pub mod Effects
 pub mod Commands
 pub mod Dispatch
+pub mod Check
+pub mod Tables
+pub mod Events
 pub mod Counts
+pub mod Replies
+pub mod History
+pub mod CountsAfter

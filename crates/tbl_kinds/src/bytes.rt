@@ -79,4 +79,12 @@ impl Bytes {
         self.items.reserve(more)?;
         Ok(())
     }
+
+    /// Takes all bytes away. The room stays.
+    pub fn clear(&mut self)
+        ensures bytes { self.new.list ≡ [] }
+        ensures room { self.old.spare ≤ self.new.spare }
+    {
+        self.items.clear();
+    }
 }

@@ -1,6 +1,6 @@
 //! Event packets.
 
-ghost use Rattle.std.specs.Prelude.{◌≡◌, ◌+◌, ◌<◌, ◌≤◌, ◌++◌};
+ghost use Rattle.std.specs.Prelude.{◌≡◌, ◌+◌, ◌<◌, ◌≤◌, ◌++◌, length};
 ghost use Rattle.arrayvec.specs.ArrayVec.{array_vec_len};
 ghost use Rattle.tbl_kinds.specs.Packets.{telemetry_packet, event_id};
 ghost use Rattle.tbl_kinds.specs.Telemetry.{event_body};
@@ -33,6 +33,7 @@ pub fn write_event(out: &mut Bytes, head: &TlmHead, event: &Event)
     requires count { head.now.count < 16384 }
     ensures bytes { out.new.list ≡ out.old.list ++ telemetry_packet event_id head.now (event_body event.now) }
     ensures room { out.old.spare ≤ out.new.spare + 24 }
+    ensures len { length out.new.list ≡ length out.old.list + 24 }
 {
     let body = body_of(event);
     write_tlm(

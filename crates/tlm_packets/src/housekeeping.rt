@@ -1,6 +1,6 @@
 //! Housekeeping packets.
 
-ghost use Rattle.std.specs.Prelude.{◌≡◌, ◌+◌, ◌<◌, ◌≤◌, ◌++◌};
+ghost use Rattle.std.specs.Prelude.{◌≡◌, ◌+◌, ◌<◌, ◌≤◌, ◌++◌, length};
 ghost use Rattle.arrayvec.specs.ArrayVec.{array_vec_len};
 ghost use Rattle.tbl_kinds.specs.Packets.{telemetry_packet, housekeeping_id};
 ghost use Rattle.tbl_kinds.specs.Telemetry.{housekeeping_body, commands_and_loads, last_validation, validations_and_buffers, last_update};
@@ -67,6 +67,7 @@ pub fn write_housekeeping(out: &mut Bytes, head: &TlmHead, state: &Housekeeping)
     requires count { head.now.count < 16384 }
     ensures bytes { out.new.list ≡ out.old.list ++ telemetry_packet housekeeping_id head.now (housekeeping_body state.now) }
     ensures room { out.old.spare ≤ out.new.spare + 290 }
+    ensures len { length out.new.list ≡ length out.old.list + 290 }
 {
     let mut body = ArrayVec::new();
     put_commands_and_loads(&mut body, state);

@@ -1,0 +1,213 @@
+ghost use Rattle.std.specs.Prelude.{◌≡◌, ◌^◌, ◌<◌, ◌↔◌, None, Some, is_some, is_none, IsSome, IsNone, IfOk, IfSome, IfNone, OnSome, map, position, count_by, length, replicate, slice_set};
+ghost use Rattle.std.specs.Option.{option_map};
+ghost use Rattle.access_desc.specs.Steps.{at_place, changed_at, has, new_handle, pins, pins_old, with_pin, with_no_pin, with_told, after_new_image, after_end};
+
+use crate::handle_view::HandleView;
+use std::alloc::{AllocError, Global};
+use std::marker::Model;
+use tbl_kinds::Memory;
+
+/// How many handles there can be (`CFE_PLATFORM_TBL_MAX_NUM_HANDLES`).
+const PLACES: usize = 256;
+
+/// The 256 places for handles: what stands at place n is handle n.
+#[derive(Debug, Drop)]
+pub struct Handles {
+    places: Vec<Option<HandleView>>,
+}
+
+impl Model for Handles {
+    ghost use Rattle.std.specs.Prelude.{◌≡◌, List, Option, length};
+    ghost use Rattle.access_desc.specs.declared.handle_view.HandleView.{HandleView};
+
+    ghost Value = { List (Option HandleView) };
+
+    ghost view = { λ h. h.places.items };
+
+    ghost invariant = { λ h. length h.places.items ≡ 256 };
+}
+
+/// The first place that is free.
+fn first_free(places: &[Option<HandleView>]) -> Option<usize>
+    ensures least { result ≡ position is_none places.now }
+    ensures within { IfSome result (λ n. n < length places.now) }
+{
+    places.iter().position(|place| place.is_none())
+}
+
+/// The first place of a handle that pins an image of this row's table.
+fn first_pin(places: &[Option<HandleView>], row: u8) -> Option<usize>
+    ensures least { result ≡ position (has (pins row)) places.now }
+    ensures within { IfSome result (λ n. n < length places.now) }
+{
+    places
+        .iter()
+        .position(|place| place.is_some_and(|handle| handle.pins(row)))
+}
+
+/// The first place of a handle that pins an image of this row's table which isn't the last.
+fn first_old_pin(places: &[Option<HandleView>], row: u8) -> Option<usize>
+    ensures least { result ≡ position (has (pins_old row)) places.now }
+    ensures within { IfSome result (λ n. n < length places.now) }
+{
+    places
+        .iter()
+        .position(|place| place.is_some_and(|handle| handle.pins_old(row)))
+}
+
+/// A place as the number of its handle.
+fn number(place: Option<usize>) -> Option<u16>
+    requires { IfSome place (λ n. n < 2 ^ 16) }
+    ensures { result ≡ place }
+{
+    match place {
+        Some(n) => Some(n as u16),
+        None => None,
+    }
+}
+
+fn place_after_new_image(place: Option<HandleView>, row: u8) -> Option<HandleView>
+    ensures { result ≡ option_map (after_new_image row) place }
+{
+    place.map(|handle| handle.after_new_image(row))
+}
+
+fn place_after_end(place: Option<HandleView>, row: u8) -> Option<HandleView>
+    ensures { result ≡ option_map (after_end row) place }
+{
+    place.map(|handle| handle.after_end(row))
+}
+
+/// Tells every handle of a row that its table has a new image.
+fn move_pins(places: &mut [Option<HandleView>], row: u8)
+    ensures { places.new ≡ map (option_map (after_new_image row)) places.old }
+{
+    for place in places.iter_mut() {
+        *place = place_after_new_image(*place, row);
+    }
+}
+
+/// Takes their table and their pin from the handles of a row.
+fn end_table(places: &mut [Option<HandleView>], row: u8)
+    ensures { places.new ≡ map (option_map (after_end row)) places.old }
+{
+    for place in places.iter_mut() {
+        *place = place_after_end(*place, row);
+    }
+}
+
+fn free_places(alloc: Global) -> Result<Vec<Option<HandleView>>, AllocError>
+    ensures { IfOk result (λ v. v.items ≡ replicate 256 None) }
+{
+    let places = vec![in alloc; None; PLACES]?;
+    Ok(places)
+}
+
+impl Handles {
+    /// 256 free places.
+    pub fn make(alloc: Global) -> Result<Handles, Memory>
+        ensures { IfOk result (λ h. h ≡ replicate 256 None) }
+    {
+        Ok(Handles {
+            places: free_places(alloc)?,
+        })
+    }
+
+    /// Gives an application a handle on the table of a row: the least free number. It pins nothing and was told of no image.
+    #[tactic(auto, using(crate::proofs::Full::none_at_256))]
+    pub fn add(&mut self, app: u8, row: u8) -> Option<u16>
+        ensures least_free { result ≡ position is_none self.old }
+        ensures none_where_full { IsNone result ↔ (count_by is_some self.old ≡ 256) }
+        ensures added { IfSome result (λ n. self.new ≡ slice_set self.old n (Some (new_handle app row))) }
+        ensures within { IfSome result (λ n. n < 256) }
+        ensures full { IfNone result (self.new ≡ self.old) }
+    {
+        let free = first_free(&self.places)?;
+        self.places[free] = Some(HandleView {
+            app,
+            row: Some(row),
+            pinned: false,
+            old: false,
+            told: 0,
+        });
+        Some(free as u16)
+    }
+
+    /// Frees the number of a handle.
+    pub fn drop_handle(&mut self, handle: u16)
+        requires { IsSome (at_place self.old handle) }
+        ensures { self.new ≡ slice_set self.old handle None }
+    {
+        self.places[handle as usize] = None;
+    }
+
+    /// Each handle of a row loses its table and its pin.
+    pub fn orphan(&mut self, row: u8)
+        ensures { self.new ≡ map (option_map (after_end row)) self.old }
+    {
+        end_table(&mut self.places, row);
+    }
+
+    /// From now on the handle pins the last image of its table.
+    pub fn pin(&mut self, handle: u16)
+        requires { IsSome (at_place self.old handle) }
+        ensures { self.new ≡ changed_at with_pin self.old handle }
+    {
+        if let Some(entry) = &mut self.places[handle as usize] {
+            entry.pinned = true;
+            entry.old = false;
+        }
+    }
+
+    /// From now on the handle pins nothing.
+    pub fn unpin(&mut self, handle: u16)
+        requires { IsSome (at_place self.old handle) }
+        ensures { self.new ≡ changed_at with_no_pin self.old handle }
+    {
+        if let Some(entry) = &mut self.places[handle as usize] {
+            entry.pinned = false;
+            entry.old = false;
+        }
+    }
+
+    /// The handle was told of this many images.
+    pub fn tell(&mut self, handle: u16, count: u32)
+        requires { IsSome (at_place self.old handle) }
+        ensures { self.new ≡ changed_at (with_told count) self.old handle }
+    {
+        if let Some(entry) = &mut self.places[handle as usize] {
+            entry.told = count;
+        }
+    }
+
+    /// The table of a row has a new image: each pin of one of its images is from now on of the image before.
+    pub fn moved(&mut self, row: u8)
+        ensures { self.new ≡ map (option_map (after_new_image row)) self.old }
+    {
+        move_pins(&mut self.places, row);
+    }
+
+    /// The least handle that pins an image of this row's table.
+    pub fn pinned_any(&self, row: u8) -> Option<u16>
+        ensures least { result ≡ position (has (pins row)) self.now }
+        ensures within { IfSome result (λ n. n < 256) }
+    {
+        number(first_pin(&self.places, row))
+    }
+
+    /// The least handle that pins an image of this row's table which isn't the last.
+    pub fn pinned_old(&self, row: u8) -> Option<u16>
+        ensures least { result ≡ position (has (pins_old row)) self.now }
+        ensures within { IfSome result (λ n. n < 256) }
+    {
+        number(first_old_pin(&self.places, row))
+    }
+
+    /// What a handle stands for, None where no such handle is given.
+    pub fn view(&self, handle: u16) -> Option<HandleView>
+        ensures handle { result ≡ at_place self.now handle }
+        ensures within { OnSome result (handle < 256) }
+    {
+        self.places.get(handle as usize).copied().flatten()
+    }
+}

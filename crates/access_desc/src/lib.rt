@@ -1,0 +1,11 @@
+//! The access descriptors of tables: the layer above may rely on it that each change is one step of the list of places.
+#![tactic(auto)]
+
+mod handle_view;
+mod handles;
+
+pub use handle_view::HandleView;
+pub use handles::Handles;
+
+#[cfg(test)]
+mod tests;

@@ -1,0 +1,49 @@
+// Bytes that are read from the front.
+ghost use Rattle.std.specs.Prelude.{◌≡◌, ◌++◌, ◌≤◌, length, take, drop, min};
+
+use std::marker::Model;
+use tbl_kinds::Bytes;
+
+/// Bytes of which a number were read already.
+#[derive(Drop)]
+pub(crate) struct Supply {
+    bytes: Bytes,
+    at: usize,
+}
+
+impl Model for Supply {
+    ghost use Rattle.std.specs.Prelude.{List, ℕ, ◌≤◌, length, drop};
+
+    ghost Value = { List ℕ };
+
+    ghost view = { λ s. drop s.at s.bytes.list };
+
+    ghost invariant = { λ s. s.at ≤ length s.bytes.list };
+}
+
+impl Supply {
+    pub(crate) fn of(bytes: Bytes) -> Supply
+        ensures { result ≡ bytes.list }
+    {
+        Supply { bytes, at: 0 }
+    }
+
+    pub(crate) fn rest(&self) -> &[u8]
+        ensures { result.now ≡ self.now }
+    {
+        &self.bytes.bytes()[self.at..]
+    }
+
+    /// Moves as many bytes as there are, or as the piece has, and answers how many.
+    pub(crate) fn fill(&mut self, into: &mut [u8]) -> usize
+        ensures count { result ≡ min (length into.old) (length self.old) }
+        ensures moved { into.new ≡ take result self.old ++ drop result into.old }
+        ensures left { self.new ≡ drop result self.old }
+    {
+        let rest = &self.bytes.bytes()[self.at..];
+        let count = into.len().min(rest.len());
+        into[..count].copy_from_slice(&rest[..count]);
+        self.at += count;
+        count
+    }
+}

@@ -1,0 +1,57 @@
+-- What can be read off the tables.
+use Rattle.std.specs.Prelude.{ℕ, ◌+◌, ◌-◌, ◌==◌, List, [], ◌∷◌, ◌++◌, length, Bool, true, false, not, ◌&&◌, ◌||◌, if◌then◌else◌, count_by, Option, Some, None, is_some, slice_get, bit_and, option_and_then}
+use Rattle.std.specs.Option.{option_map}
+use Rattle.tbl_kinds.specs.State.{Table, Handle, Tables, Load, Dump, quiet, asked, filled}
+
+-- ---- options
+
+abbrev pub has_option : ℕ → ℕ → Bool
+has_option bit options = bit_and options bit == bit
+
+abbrev pub is_double : Table → Bool
+is_double t = has_option 0x0001 t.options
+
+abbrev pub is_dump_only : Table → Bool
+is_dump_only t = has_option 0x0002 t.options
+
+abbrev pub is_critical : Table → Bool
+is_critical t = has_option 0x0008 t.options
+
+-- ---- rows
+
+abbrev pub table_at : Tables → ℕ → Option Table
+table_at tables row = option_and_then (λ found. found) (slice_get tables.rows row)
+
+-- how many tables are registered
+abbrev pub table_count : Tables → ℕ
+table_count tables = count_by is_some tables.rows
+
+abbrev pub has_load : Option Table → Bool
+has_load None = false
+has_load (Some t) = is_some t.load
+
+-- how many loads are open
+abbrev pub load_count : Tables → ℕ
+load_count tables = count_by has_load tables.rows
+
+-- ---- the shared working buffers
+
+abbrev pub is_quiet : Dump → Bool
+is_quiet quiet = true
+is_quiet _ = false
+
+-- an open load of a single-buffered table and a pending dump of a dump-only table use one each
+abbrev pub uses_buffer : Option Table → Bool
+uses_buffer None = false
+uses_buffer (Some t) = not (is_double t) && is_some t.load || is_dump_only t && not (is_quiet t.dump)
+
+abbrev pub rows_from : ℕ → List (Option Table) → List ℕ
+rows_from row [] = []
+rows_from row (t ∷ ts) = (if uses_buffer t then row ∷ rows_from (row + 1) ts else rows_from (row + 1) ts)
+
+-- the rows that use them, ascending
+abbrev pub in_use : Tables → List ℕ
+in_use tables = rows_from 0 tables.rows
+
+abbrev pub free_buffers : Tables → ℕ
+free_buffers tables = 4 - length (in_use tables)
