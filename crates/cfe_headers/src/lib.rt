@@ -1,4 +1,5 @@
-//! Space packets between values and bytes: a command packet is read exactly where it is whole, and a telemetry packet is written as its one spelling.
+//! Packets between values and bytes: a command packet is read exactly where it is whole, with the first flaw
+//! named else, and a telemetry packet is written as its one spelling.
 #![tactic(auto)]
 
 mod command;

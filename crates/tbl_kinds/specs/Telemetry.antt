@@ -10,7 +10,7 @@ use Rattle.tbl_kinds.specs.declared.telemetry.RegistryRow.{RegistryRow}
 unfoldable pub event_body : Event → List ℕ
 event_body e = two e.number ++ four e.status.0 ++ two e.row ++ four e.detail
 
--- the counters of commands, the tables, and the loads, 8 bytes
+-- commands accepted and refused, tables registered, open loads, and validations finished, 8 bytes
 unfoldable pub commands_and_loads : Housekeeping → List ℕ
 commands_and_loads h = h.accepted ∷ h.refused ∷ [] ++ two h.tables ++ two h.loads ++ two h.finished
 

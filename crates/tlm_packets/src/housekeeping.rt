@@ -60,11 +60,14 @@ fn put_last_update(body: &mut Body, state: &Housekeeping)
     put(body, &state.sub.to_be_bytes());
 }
 
-/// The 278 bytes of a housekeeping body.
+/// Appends a housekeeping packet, 290 bytes.
 #[tactic(auto, unfolding(tbl_kinds::specs::Telemetry::housekeeping_body))]
-fn body_of(state: &Housekeeping) -> Body
-    ensures bytes { result.items ≡ housekeeping_body state.now }
-    ensures len { array_vec_len result ≡ 278 }
+pub fn write_housekeeping(out: &mut Bytes, head: &TlmHead, state: &Housekeeping)
+    requires room { 290 ≤ out.old.spare }
+    requires count { head.now.count < 16384 }
+    ensures bytes { out.new.list ≡ out.old.list ++ telemetry_packet housekeeping_id head.now (housekeeping_body state.now) }
+    ensures room { out.old.spare ≤ out.new.spare + 290 }
+    ensures len { length out.new.list ≡ length out.old.list + 290 }
 {
     let mut body = ArrayVec::new();
     put_commands_and_loads(&mut body, state);
@@ -76,18 +79,6 @@ fn body_of(state: &Housekeeping) -> Body
     put_name(&mut body, &state.loaded_file);
     put_name(&mut body, &state.dumped_file);
     put_name(&mut body, &state.loaded);
-    body
-}
-
-/// Appends a housekeeping packet, 290 bytes.
-pub fn write_housekeeping(out: &mut Bytes, head: &TlmHead, state: &Housekeeping)
-    requires room { 290 ≤ out.old.spare }
-    requires count { head.now.count < 16384 }
-    ensures bytes { out.new.list ≡ out.old.list ++ telemetry_packet housekeeping_id head.now (housekeeping_body state.now) }
-    ensures room { out.old.spare ≤ out.new.spare + 290 }
-    ensures len { length out.new.list ≡ length out.old.list + 290 }
-{
-    let body = body_of(state);
     write_tlm(
         out,
         HOUSEKEEPING_ID,
