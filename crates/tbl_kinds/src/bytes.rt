@@ -83,7 +83,7 @@ impl Bytes {
     /// Takes all bytes away. The room stays.
     pub fn clear(&mut self)
         ensures bytes { self.new.list ≡ [] }
-        ensures room { self.old.spare ≤ self.new.spare }
+        ensures room { self.old.spare + length self.old.list ≤ self.new.spare }
     {
         self.items.clear();
     }

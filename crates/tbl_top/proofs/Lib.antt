@@ -1,0 +1,4 @@
+pub mod WritingLemmas
+pub mod PlayingLemmas
+pub mod ReadingLemmas
+pub mod SessionLemmas

@@ -1,0 +1,18 @@
+use Rattle.std.proofs.Common.{◌≡◌, ℕ, ◌≤◌, List, length, Option}
+use Rattle.std.specs.Io.KnownBytes.{prepend_known}
+use Rattle.tbl_kinds.specs.State.{State}
+use Rattle.tbl_core.specs.Service.{StandsFor}
+use Rattle.tbl_top.specs.Playing.{IsBeginning, consumed, IsSession, IsWritten}
+use Rattle.tbl_top.proofs.reading.read_all.Given as goal
+
+abbrev pub invariant-reads : goal.invariant-reads
+invariant-reads g l = record {
+  left : g.S.Source.left l.fn.source ≡ prepend_known (consumed l.player) (g.S.Source.left l.source);
+  many : l.counter ≤ length (consumed l.player);
+  begun : IsBeginning (length l.player.core.entries) l.player.rest;
+  session : IsSession l.player.core;
+  stands : (opening : State) → StandsFor opening l.fn.player.core → StandsFor opening l.player.core;
+  written : (first : Option (List ℕ)) → IsWritten first l.fn.player.core.entries (g.K.Sink.taken l.fn.sink) → IsWritten first l.player.core.entries (g.K.Sink.taken l.sink);
+  source_count : g.S.Source.faults l.fn.source ≤ g.S.Source.faults l.source;
+  sink_count : g.K.Sink.faults l.fn.sink ≤ g.K.Sink.faults l.sink;
+}

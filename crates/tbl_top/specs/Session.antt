@@ -1,0 +1,51 @@
+-- A session as `play` tells it.
+use Rattle.std.specs.Prelude.{◌≡◌, ◌⊎◌, ℕ, ◌+◌, ◌<◌, ◌≤◌, List, [], ◌∷◌, ◌++◌, length, codes, Option, Some}
+use Rattle.std.specs.List.{AllByRecursion}
+use Rattle.std.specs.Io.KnownBytes.{append_known}
+use Rattle.tbl_kinds.specs.Buffers.{Buffer}
+use Rattle.tbl_kinds.specs.State.{State}
+use Rattle.tbl_kinds.specs.Records.{Pair, IsRecord, joined, record_limit, AreRecords}
+use Rattle.tbl_kinds.specs.Heads.{IsShort, IsBad}
+use Rattle.tbl_kinds.specs.Transcript.{pairs_of, entries_bytes, transcript}
+use Rattle.tbl_kinds.specs.History.{IsLegal}
+use Rattle.tbl_outside.specs.Streams.{TakesFront}
+use Rattle.tbl_kinds.specs.declared.entry.Entry.{Entry}
+
+-- the words are `play` alone
+abbrev pub IsPlay : List Buffer → Type 0
+IsPlay [] = ⊥
+IsPlay (word ∷ []) = word.list ≡ codes "play"
+IsPlay (word ∷ other ∷ words) = ⊥
+
+-- all but the beginning of one record and one piece of what was read was played
+abbrev pub rest_limit : ℕ
+rest_limit = 36932
+
+-- which end of the input a status tells, behind the records that were played
+pub record EndsAs (status : ℕ) (played : ℕ) (rest : List ℕ) (at_end : Type 0) : Type 0 where
+  pub done : status ≡ 0 → (rest ≡ []) × at_end
+  pub cut : status ≡ 3 → (rest ≡ []) ⊎ IsShort rest
+  pub bad : status ≡ 5 → (played < record_limit) × (IsBad rest ⊎ (IsShort rest × at_end))
+  pub full : status ≡ 6 → (played ≡ record_limit) × (0 < length rest)
+
+-- what the sink took, by the status
+pub record Tells (status : ℕ) (entries : List Entry) (ends : ℕ → Type 0) (before after : Option (List ℕ)) : Type 0 where
+  -- 0, 3, 5, 6: the transcript with this status
+  pub whole : (status ≡ 0) ⊎ (status ≡ 3) ⊎ (status ≡ 5) ⊎ (status ≡ 6) → after ≡ append_known before (transcript entries status)
+  -- 4: a front of the entries, or of the transcript with the status that it would have had
+  pub broken : status ≡ 4 → TakesFront before after (entries_bytes 0 entries) ⊎ ((other : ℕ) × ends other × TakesFront before after (transcript entries other))
+  -- 1: a front of the transcript
+  pub starved : status ≡ 1 → TakesFront before after (transcript entries 1)
+
+-- One legal history, whose requests are the records of what was read, was told. After 1 and 4 they are the first of them.
+pub record Session (opening : State) (read : List ℕ) (at_end : Type 0) (status : ℕ) (before after : Option (List ℕ)) : Type 0 where
+  pub entries : List Entry
+  pub state : State
+  pub rest : List ℕ
+  pub legal : IsLegal opening entries state
+  pub each : AllByRecursion IsRecord (pairs_of entries)
+  pub few : length entries ≤ record_limit
+  pub parts : read ≡ joined (pairs_of entries) ++ rest
+  pub near : length rest < rest_limit
+  pub ends : EndsAs status (length entries) rest at_end
+  pub told : Tells status entries (λ other. EndsAs other (length entries) rest at_end) before after

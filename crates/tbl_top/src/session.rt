@@ -1,0 +1,59 @@
+//! A session from its first byte to the end of its transcript.
+
+ghost use Rattle.std.specs.Prelude.{◌≡◌, ◌≢◌, ◌↔◌, ℕ, List, []};
+ghost use Rattle.std.specs.Io.KnownBytes.{prepend_known, IsAtEnd};
+ghost use Rattle.tbl_kinds.specs.State.{first_state};
+ghost use Rattle.tbl_core.specs.Service.{StandsFor};
+ghost use Rattle.tbl_outside.specs.Counts.{Rose};
+ghost use Rattle.tbl_top.specs.Playing.{consumed, IsSession};
+ghost use Rattle.tbl_top.specs.Session.{IsPlay, Session};
+
+use crate::finishing::{NO_MEMORY, finish};
+use crate::player::Player;
+use crate::reading::read_all;
+use crate::words::is_play;
+use std::alloc::Global;
+use tbl_core::Core;
+use tbl_kinds::{Bytes, Memory};
+use tbl_outside::{Sink, Source};
+
+/// The words aren't those that the program knows.
+const USAGE: u8 = 2;
+
+/// Plays a session from its start.
+fn play<S: Source, K: Sink>(player: &mut Player, source: &mut S, sink: &mut K) -> u8
+    requires begun { consumed player.old ≡ [] }
+    requires empty { player.old.core.entries ≡ [] }
+    requires session { IsSession player.old.core }
+    requires stands { StandsFor (first_state [] []) player.old.core }
+    ensures session { (read : List ℕ) × (S.left source.old ≡ prepend_known read (S.left source.new))
+        × Session (first_state [] []) read (IsAtEnd (S.left source.new)) result (K.taken sink.old) (K.taken sink.new) }
+    ensures source_failed { result ≡ 3 → Rose (S.faults source.old) (S.faults source.new) }
+    ensures sink_failed { result ≡ 4 → Rose (K.faults sink.old) (K.faults sink.new) }
+    ensures not_usage { result ≢ 2 }
+{
+    let ending = read_all(player, source, sink);
+    finish(player, ending, sink)
+}
+
+/// Plays a session: reads records from the source, and writes the transcript to the sink.
+pub fn run<S: Source, K: Sink>(alloc: Global, words: &[Bytes], source: &mut S, sink: &mut K) -> u8
+    // 2 exactly where the words aren't `play` alone; then nothing is read or written.
+    ensures usage { (result ≡ 2) ↔ (¬ IsPlay words.now) }
+    ensures untouched { (¬ IsPlay words.now) → (source.new ≡ source.old) × (sink.new ≡ sink.old) }
+
+    ensures session { IsPlay words.now → (read : List ℕ) × (S.left source.old ≡ prepend_known read (S.left source.new))
+        × Session (first_state [] []) read (IsAtEnd (S.left source.new)) result (K.taken sink.old) (K.taken sink.new) }
+
+    // The other end's failure has its cause there.
+    ensures source_failed { result ≡ 3 → Rose (S.faults source.old) (S.faults source.new) }
+    ensures sink_failed { result ≡ 4 → Rose (K.faults sink.old) (K.faults sink.new) }
+{
+    if !is_play(words) {
+        return USAGE;
+    }
+    match Player::make(alloc, Core::start(alloc)) {
+        Err(Memory) => NO_MEMORY,
+        Ok(mut player) => play(&mut player, source, sink),
+    }
+}
