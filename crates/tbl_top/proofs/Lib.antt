@@ -2,3 +2,4 @@ pub mod WritingLemmas
 pub mod PlayingLemmas
 pub mod ReadingLemmas
 pub mod SessionLemmas
+pub mod CompletenessLemmas

@@ -3,10 +3,13 @@ use Rattle.std.proofs.Common.{◌≡◌, ◌≢◌, ℕ, ◌<◌, ◌≤◌, eqb
 use Rattle.std.specs.Prelude.{if◌then◌else◌}
 use Rattle.std.specs.Io.KnownBytes.{append_known}
 use Rattle.std.proofs.lemmas.Bool.{eqb-true}
-use Rattle.std.proofs.lemmas.List.{nil_from_length}
+use Rattle.std.proofs.lemmas.List.{nil_from_length, length-map}
 use Rattle.tbl_kinds.specs.State.{State}
 use Rattle.tbl_kinds.specs.Records.{joined, record_limit}
-use Rattle.tbl_kinds.specs.Transcript.{pairs_of, entries_bytes, end_bytes, offset_of, transcript}
+use Rattle.std.proofs.lemmas.Bool.Decides.{nat_tests}
+use Rattle.tbl_kinds.specs.Heads.{IsShort, IsBad, is_short, is_bad, EndsBefore}
+use Rattle.tbl_kinds.proofs.RecordLaws.{are_records}
+use Rattle.tbl_kinds.specs.Transcript.{pair_of, pairs_of, entries_bytes, end_bytes, offset_of, transcript}
 use Rattle.tbl_kinds.specs.History.{IsLegal}
 use Rattle.tbl_core.specs.Service.{Kept, StandsFor}
 use Rattle.tbl_outside.specs.Counts.{Rose}
@@ -14,10 +17,21 @@ use Rattle.tbl_outside.specs.Streams.{TakesFront}
 use Rattle.tbl_outside.proofs.Streams.{append_known-nil, written_more, front_of_first, front_of_second, front_of_whole}
 use Rattle.tbl_top.specs.Playing.{Playing, IsBeginning, IsSession, consumed, IsWritten, IsFrontWritten}
 use Rattle.tbl_top.specs.Reading.{Leaves, IsKept, EndsReading, TellsEnd, status_for, WritesEnd, Finishes}
-use Rattle.tbl_top.specs.Session.{EndsAs, Tells, Session}
+use Rattle.tbl_top.specs.Session.{IsStatus, IsEnded, IsBrokenOff, EndsAs, IsExact, Tells, Session}
+use Rattle.tbl_top.proofs.CompletenessLemmas.{bad_is_some}
 use Rattle.tbl_top.specs.declared.reading.Ending.{Ending}
 use Rattle.tbl_top.specs.declared.reading.Ending.TheVariants.{End, ReadFailed, Bad, Full, SinkFailed, Memory, Unwritten}
 use Rattle.tbl_kinds.specs.declared.entry.Entry.{Entry}
+
+not_ended : (status : ℕ) → IsBrokenOff status → IsEnded status → ⊥
+not_ended status (inl one) (inl e) = omega (arith, one, e)
+not_ended status (inl one) (inr (inl e)) = omega (arith, one, e)
+not_ended status (inl one) (inr (inr (inl e))) = omega (arith, one, e)
+not_ended status (inl one) (inr (inr (inr e))) = omega (arith, one, e)
+not_ended status (inr four) (inl e) = omega (arith, four, e)
+not_ended status (inr four) (inr (inl e)) = omega (arith, four, e)
+not_ended status (inr four) (inr (inr (inl e))) = omega (arith, four, e)
+not_ended status (inr four) (inr (inr (inr e))) = omega (arith, four, e)
 
 -- ---- which end a status tells
 
@@ -55,15 +69,9 @@ end_as false played rest at_end e (inr short) end = record {
 -- what an end leaves is what its status tells
 ends_as : (how : Ending) (played : ℕ) (rest kept : List ℕ) (at_end : Type 0) → Leaves how played rest at_end → IsKept how rest kept → EndsAs (status_for how (eqb (length kept) 0)) played rest at_end
 ends_as End played rest kept at_end leaves is = end_as (eqb (length kept) 0) played rest at_end (ap (λ (xs : List ℕ). eqb (length xs) 0) is) leaves.0 leaves.1
-ends_as ReadFailed played rest kept at_end (inl none) is = record {
+ends_as ReadFailed played rest kept at_end leaves is = record {
   done = λ e. absurd (omega (arith, e));
-  cut = λ _. inl none;
-  bad = λ e. absurd (omega (arith, e));
-  full = λ e. absurd (omega (arith, e));
-}
-ends_as ReadFailed played rest kept at_end (inr short) is = record {
-  done = λ e. absurd (omega (arith, e));
-  cut = λ _. inr short.0;
+  cut = λ _. leaves;
   bad = λ e. absurd (omega (arith, e));
   full = λ e. absurd (omega (arith, e));
 }
@@ -83,6 +91,33 @@ ends_as SinkFailed played rest kept at_end leaves is = tells_none 4 played rest 
 ends_as Memory played rest kept at_end leaves is = tells_none 1 played rest at_end (inl refl)
 ends_as Unwritten played rest kept at_end leaves is = tells_none 1 played rest at_end (inl refl)
 
+-- ---- and the other way
+
+short_not_bad : (rest : List ℕ) → IsShort rest → IsBad rest → ⊥
+unfolding is_short is_bad
+short_not_bad rest short bad = grind (arith, nat_tests)
+
+exact_of : (status played : ℕ) (rest : List ℕ) (at_end : Type 0) → IsStatus status → EndsAs status played rest at_end → IsExact status played rest at_end
+exact_of status played rest at_end (inl zero) ends = record {
+  bad = λ lt bad. absurd (bad_is_some rest bad (ends.done zero).0);
+  full = λ all some. absurd (omega (arith, some, ap (λ (xs : List ℕ). length xs) (ends.done zero).0));
+}
+exact_of status played rest at_end (inr (inl one)) ends = record { bad = λ lt bad. inr (inl one); full = λ all some. inr (inl one) }
+exact_of status played rest at_end (inr (inr (inl three))) ends = record {
+  bad = λ lt bad. absurd (elim (ends.cut three) [ inl none ↦ bad_is_some rest bad none | inr short ↦ short_not_bad rest short.0 bad ]);
+  full = λ all some. absurd (elim (ends.cut three) [ inl none ↦ omega (arith, some, ap (λ (xs : List ℕ). length xs) none) | inr short ↦ omega (arith, all, short.1) ]);
+}
+exact_of status played rest at_end (inr (inr (inr (inl four)))) ends = record { bad = λ lt bad. inr (inr four); full = λ all some. inr (inr four) }
+exact_of status played rest at_end (inr (inr (inr (inr (inl five))))) ends = record { bad = λ lt bad. inl five; full = λ all some. absurd (omega (arith, all, (ends.bad five).0)) }
+exact_of status played rest at_end (inr (inr (inr (inr (inr six))))) ends = record { bad = λ lt bad. absurd (omega (arith, lt, (ends.full six).0)); full = λ all some. inl six }
+
+-- no further record follows
+ends_before : (status : ℕ) (entries : List Entry) (rest : List ℕ) (at_end : Type 0) → IsEnded status → EndsAs status (length entries) rest at_end → EndsBefore (pairs_of entries) rest
+ends_before status entries rest at_end (inl zero) ends = inl (ends.done zero).0
+ends_before status entries rest at_end (inr (inl three)) ends = elim (ends.cut three) [ inl none ↦ inl none | inr short ↦ inr (inl short.0) ]
+ends_before status entries rest at_end (inr (inr (inl five))) ends = elim (ends.bad five).1 [ inl bad ↦ inr (inr (inl bad)) | inr short ↦ inr (inl short.0) ]
+ends_before status entries rest at_end (inr (inr (inr six))) ends = inr (inr (inr (length-map entries pair_of ∙ (ends.full six).0)))
+
 -- ---- what the sink took
 
 module _ (status result : ℕ) (entries : List Entry) (ends : ℕ → Type 0) (before mid after : Option (List ℕ)) (faults faults_then : ℕ) where
@@ -96,16 +131,7 @@ module _ (status result : ℕ) (entries : List Entry) (ends : ℕ → Type 0) (b
         starved = λ one. front_of_whole before after (transcript entries 1) (all ∙ ap (λ s. append_known before (transcript entries s)) (sym w.0 ∙ one));
       }
   tells_end not_four ends_status written (inr w) = record {
-    whole = λ some. absurd (elim some [
-      | inl e ↦ omega (arith, w.0, e)
-      | inr more ↦ elim more [
-        | inl e ↦ omega (arith, w.0, e)
-        | inr more2 ↦ elim more2 [
-          | inl e ↦ omega (arith, w.0, e)
-          | inr e ↦ omega (arith, w.0, e)
-        ]
-      ]
-    ]);
+    whole = λ ended. absurd (not_ended result (inr w.0) ended);
     broken = λ _. inr (status, ends_status, front_of_second before mid after (entries_bytes 0 entries) (end_bytes status (length entries) (offset_of entries)) written w.1);
     starved = λ one. absurd (omega (arith, w.0, one));
   }
@@ -117,9 +143,10 @@ module _ (opening : State) (first p : Playing) (read : List ℕ) (at_end : Type 
   played : ℕ
   played = length p.core.entries
 
-  made : (how : Ending) → (ends : EndsReading how first p read at_end) → EndsAs result (length p.core.entries) ends.rest at_end
+  made : (how : Ending) → IsStatus result → (ends : EndsReading how first p read at_end) → EndsAs result (length p.core.entries) ends.rest at_end
       → Tells result p.core.entries (λ other. EndsAs other (length p.core.entries) ends.rest at_end) before after → Session opening read at_end result before after
-  made how ends ends_as_is told = record {
+  made how known ends ends_as_is told = record {
+    known = known;
     entries = p.core.entries;
     state = p.core.state;
     rest = ends.rest;
@@ -127,6 +154,9 @@ module _ (opening : State) (first p : Playing) (read : List ℕ) (at_end : Type 
     each = session.each;
     few = session.few;
     parts = ap (λ (xs : List ℕ). xs ++ read) (sym none) ∙ ends.parts;
+    records = λ ended. are_records read (pairs_of p.core.entries) ends.rest session.each (omega (arith, session.few, length-map p.core.entries pair_of)) (ap (λ (xs : List ℕ). xs ++ read) (sym none) ∙ ends.parts)
+        (ends_before result p.core.entries ends.rest at_end ended ends_as_is);
+    exact = exact_of result (length p.core.entries) ends.rest at_end known ends_as_is;
     near = ends.near;
     ends = ends_as_is;
     told = told;
@@ -143,6 +173,20 @@ module _ (opening : State) (first p : Playing) (read : List ℕ) (at_end : Type 
   not_sink Memory whole is = λ e. omega (arith, e)
   not_sink Unwritten whole is = λ e. omega (arith, e)
 
+  status_is : (how : Ending) (whole : Bool) → IsStatus (status_for how whole)
+  status_is End true = inl refl
+  status_is End false = inr (inr (inr (inr (inl refl))))
+  status_is ReadFailed whole = inr (inr (inl refl))
+  status_is Bad whole = inr (inr (inr (inr (inl refl))))
+  status_is Full whole = inr (inr (inr (inr (inr refl))))
+  status_is SinkFailed whole = inr (inr (inr (inl refl)))
+  status_is Memory whole = inr (inl refl)
+  status_is Unwritten whole = inr (inl refl)
+
+  result_is : (how : Ending) (whole : Bool) → WritesEnd (status_for how whole) result p.core.entries mid after faults faults_then → IsStatus result
+  result_is how whole (inl w) = subst IsStatus (sym w.0) (status_is how whole)
+  result_is how whole (inr w) = inr (inr (inr (inl w.0)))
+
   result_ends : (how : Ending) (ends : EndsReading how first p read at_end)
       → WritesEnd (status_for how (eqb (length p.rest) 0)) result p.core.entries mid after faults faults_then → EndsAs result (length p.core.entries) ends.rest at_end
   result_ends how ends (inl w) = rw w.0 (ends_as how (length p.core.entries) ends.rest p.rest at_end ends.leaves ends.kept)
@@ -152,7 +196,7 @@ module _ (opening : State) (first p : Playing) (read : List ℕ) (at_end : Type 
   ended : (how : Ending) → (how ≢ SinkFailed) → EndsReading how first p read at_end → IsWritten before p.core.entries mid
       → WritesEnd (status_for how (eqb (length p.rest) 0)) result p.core.entries mid after faults faults_then → Session opening read at_end result before after
   ended how is ends written w =
-      made how ends (result_ends how ends w)
+      made how (result_is how (eqb (length p.rest) 0) w) ends (result_ends how ends w)
       (tells_end (status_for how (eqb (length p.rest) 0)) result p.core.entries (λ other. EndsAs other (length p.core.entries) ends.rest at_end) before mid after faults faults_then
       (not_sink how (eqb (length p.rest) 0) is) (ends_as how (length p.core.entries) ends.rest p.rest at_end ends.leaves ends.kept) written w)
 
@@ -163,31 +207,13 @@ module _ (opening : State) (first p : Playing) (read : List ℕ) (at_end : Type 
   session_of Bad ends told w = ended Bad (λ e. cc) ends told w
   session_of Full ends told w = ended Full (λ e. cc) ends told w
   session_of Memory ends told w = ended Memory (λ e. cc) ends told w
-  session_of SinkFailed ends told w = made SinkFailed ends (tells_none result (length p.core.entries) ends.rest at_end (inr w.0)) (record {
-    whole = λ some. absurd (elim some [
-      | inl e ↦ omega (arith, w.0, e)
-      | inr more ↦ elim more [
-        | inl e ↦ omega (arith, w.0, e)
-        | inr more2 ↦ elim more2 [
-          | inl e ↦ omega (arith, w.0, e)
-          | inr e ↦ omega (arith, w.0, e)
-        ]
-      ]
-    ]);
+  session_of SinkFailed ends told w = made SinkFailed (inr (inr (inr (inl w.0)))) ends (tells_none result (length p.core.entries) ends.rest at_end (inr w.0)) (record {
+    whole = λ ended. absurd (not_ended result (inr w.0) ended);
     broken = λ _. inl (subst (λ (t : Option (List ℕ)). TakesFront before t (entries_bytes 0 p.core.entries)) (sym w.1) told);
     starved = λ one. absurd (omega (arith, w.0, one));
   })
-  session_of Unwritten ends told w = made Unwritten ends (tells_none result (length p.core.entries) ends.rest at_end (inl w.0)) (record {
-    whole = λ some. absurd (elim some [
-      | inl e ↦ omega (arith, w.0, e)
-      | inr more ↦ elim more [
-        | inl e ↦ omega (arith, w.0, e)
-        | inr more2 ↦ elim more2 [
-          | inl e ↦ omega (arith, w.0, e)
-          | inr e ↦ omega (arith, w.0, e)
-        ]
-      ]
-    ]);
+  session_of Unwritten ends told w = made Unwritten (inr (inl w.0)) ends (tells_none result (length p.core.entries) ends.rest at_end (inl w.0)) (record {
+    whole = λ ended. absurd (not_ended result (inl w.0) ended);
     broken = λ four. absurd (omega (arith, w.0, four));
     starved = λ _. subst (λ (t : Option (List ℕ)). TakesFront before t (transcript p.core.entries 1)) (sym w.1)
         (front_of_first before mid (entries_bytes 0 p.core.entries) (end_bytes 1 (length p.core.entries) (offset_of p.core.entries)) told);
@@ -211,18 +237,12 @@ starved_at_once opening at_end taken core stands none = record {
   few = omega arith;
   parts = refl;
   near = omega arith;
+  known = inr (inl refl);
+  records = λ ended. absurd (not_ended 1 (inl refl) ended);
+  exact = exact_of 1 0 [] at_end (inr (inl refl)) (tells_none 1 0 [] at_end (inl refl));
   ends = tells_none 1 0 [] at_end (inl refl);
   told = record {
-    whole = λ some. absurd (elim some [
-      | inl e ↦ omega (arith, e)
-      | inr more ↦ elim more [
-        | inl e ↦ omega (arith, e)
-        | inr more2 ↦ elim more2 [
-          | inl e ↦ omega (arith, e)
-          | inr e ↦ omega (arith, e)
-        ]
-      ]
-    ]);
+    whole = λ ended. absurd (not_ended 1 (inl refl) ended);
     broken = λ four. absurd (omega (arith, four));
     starved = λ _. front_of_nothing taken (transcript [] 1);
   };

@@ -9,6 +9,7 @@ use Rattle.tbl_kinds.specs.Heads.{IsShort, IsBad}
 use Rattle.tbl_kinds.specs.Transcript.{pairs_of, entries_bytes, transcript}
 use Rattle.tbl_kinds.specs.History.{IsLegal}
 use Rattle.tbl_outside.specs.Streams.{TakesFront}
+use Rattle.tbl_top.specs.Playing.{IsBeginning}
 use Rattle.tbl_kinds.specs.declared.entry.Entry.{Entry}
 
 -- the words are `play` alone
@@ -24,14 +25,31 @@ rest_limit = 36932
 -- which end of the input a status tells, behind the records that were played
 pub record EndsAs (status : ℕ) (played : ℕ) (rest : List ℕ) (at_end : Type 0) : Type 0 where
   pub done : status ≡ 0 → (rest ≡ []) × at_end
-  pub cut : status ≡ 3 → (rest ≡ []) ⊎ IsShort rest
+  pub cut : status ≡ 3 → IsBeginning played rest
   pub bad : status ≡ 5 → (played < record_limit) × (IsBad rest ⊎ (IsShort rest × at_end))
   pub full : status ≡ 6 → (played ≡ record_limit) × (0 < length rest)
+
+-- the statuses of a session
+abbrev pub IsStatus : ℕ → Type 0
+IsStatus status = (status ≡ 0) ⊎ (status ≡ 1) ⊎ (status ≡ 3) ⊎ (status ≡ 4) ⊎ (status ≡ 5) ⊎ (status ≡ 6)
+
+-- all records that were read were played, and the transcript is whole
+abbrev pub IsEnded : ℕ → Type 0
+IsEnded status = (status ≡ 0) ⊎ (status ≡ 3) ⊎ (status ≡ 5) ⊎ (status ≡ 6)
+
+-- memory ran out, or the sink failed
+abbrev pub IsBrokenOff : ℕ → Type 0
+IsBrokenOff status = (status ≡ 1) ⊎ (status ≡ 4)
+
+-- and in the other direction: what stands behind the records that were played decides the status, unless it was broken off
+pub record IsExact (status : ℕ) (played : ℕ) (rest : List ℕ) (at_end : Type 0) : Type 0 where
+  pub bad : played < record_limit → IsBad rest → (status ≡ 5) ⊎ IsBrokenOff status
+  pub full : played ≡ record_limit → 0 < length rest → (status ≡ 6) ⊎ IsBrokenOff status
 
 -- what the sink took, by the status
 pub record Tells (status : ℕ) (entries : List Entry) (ends : ℕ → Type 0) (before after : Option (List ℕ)) : Type 0 where
   -- 0, 3, 5, 6: the transcript with this status
-  pub whole : (status ≡ 0) ⊎ (status ≡ 3) ⊎ (status ≡ 5) ⊎ (status ≡ 6) → after ≡ append_known before (transcript entries status)
+  pub whole : IsEnded status → after ≡ append_known before (transcript entries status)
   -- 4: a front of the entries, or of the transcript with the status that it would have had
   pub broken : status ≡ 4 → TakesFront before after (entries_bytes 0 entries) ⊎ ((other : ℕ) × ends other × TakesFront before after (transcript entries other))
   -- 1: a front of the transcript
@@ -47,5 +65,15 @@ pub record Session (opening : State) (read : List ℕ) (at_end : Type 0) (status
   pub few : length entries ≤ record_limit
   pub parts : read ≡ joined (pairs_of entries) ++ rest
   pub near : length rest < rest_limit
+  pub records : IsEnded status → AreRecords read (pairs_of entries)
+  pub known : IsStatus status
   pub ends : EndsAs status (length entries) rest at_end
+  pub exact : IsExact status (length entries) rest at_end
   pub told : Tells status entries (λ other. EndsAs other (length entries) rest at_end) before after
+
+-- the input is the spellings of a session's records and nothing else
+pub record IsWhole (input : List ℕ) : Type 0 where
+  pub pairs : List Pair
+  pub each : AllByRecursion IsRecord pairs
+  pub few : length pairs ≤ record_limit
+  pub parts : input ≡ joined pairs

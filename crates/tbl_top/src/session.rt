@@ -1,12 +1,12 @@
 //! A session from its first byte to the end of its transcript.
 
-ghost use Rattle.std.specs.Prelude.{◌≡◌, ◌≢◌, ◌↔◌, ℕ, List, []};
+ghost use Rattle.std.specs.Prelude.{◌≡◌, ◌≢◌, ◌⊎◌, ◌↔◌, ℕ, List, [], Some, IfSome};
 ghost use Rattle.std.specs.Io.KnownBytes.{prepend_known, IsAtEnd};
 ghost use Rattle.tbl_kinds.specs.State.{first_state};
 ghost use Rattle.tbl_core.specs.Service.{StandsFor};
 ghost use Rattle.tbl_outside.specs.Counts.{Rose};
 ghost use Rattle.tbl_top.specs.Playing.{consumed, IsSession};
-ghost use Rattle.tbl_top.specs.Session.{IsPlay, Session};
+ghost use Rattle.tbl_top.specs.Session.{IsPlay, IsWhole, Session};
 
 use crate::finishing::{NO_MEMORY, finish};
 use crate::player::Player;
@@ -45,7 +45,12 @@ pub fn run<S: Source, K: Sink>(alloc: Global, words: &[Bytes], source: &mut S, s
     ensures session { IsPlay words.now → (read : List ℕ) × (S.left source.old ≡ prepend_known read (S.left source.new))
         × Session (first_state [] []) read (IsAtEnd (S.left source.new)) result (K.taken sink.old) (K.taken sink.new) }
 
-    // The other end's failure has its cause there.
+    // A session's records and nothing else are played to their end, unless something failed or memory ran out.
+    ensures complete { IsPlay words.now → IfSome (S.left source.old) (λ input. IsWhole input
+        → ¬ Rose (S.faults source.old) (S.faults source.new) → ¬ Rose (K.faults sink.old) (K.faults sink.new)
+        → ((result ≡ 0) × (S.left source.new ≡ Some [])) ⊎ (result ≡ 1)) }
+
+    // Statuses 3 and 4 have their cause in the source and in the sink.
     ensures source_failed { result ≡ 3 → Rose (S.faults source.old) (S.faults source.new) }
     ensures sink_failed { result ≡ 4 → Rose (K.faults sink.old) (K.faults sink.new) }
 {

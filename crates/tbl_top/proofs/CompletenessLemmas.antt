@@ -1,0 +1,76 @@
+-- Where the input is a session's records and nothing else, and nothing failed, all of it is played.
+use Rattle.std.proofs.Common.{◌≡◌, ◌≢◌, ℕ, suc, ◌<◌, ◌≤◌, List, [], ◌∷◌, ◌++◌, length, Option, Some, None, refl, sym, ap, subst, ◌∙◌, append_assoc, arith, ◌⊎◌, inl, inr}
+use Rattle.std.specs.Prelude.{IfSome}
+use Rattle.std.specs.Io.KnownBytes.{prepend_known, IsAtEnd}
+use Rattle.std.proofs.lemmas.List.{append-nil, length-append, length-map}
+use Rattle.tbl_kinds.specs.State.{State}
+use Rattle.tbl_kinds.specs.Records.{joined, record_limit}
+use Rattle.tbl_kinds.specs.Heads.{IsShort, IsBad, is_short, is_bad, EndsBefore}
+use Rattle.tbl_kinds.specs.Transcript.{pair_of, pairs_of}
+use Rattle.tbl_kinds.proofs.RecordLaws.{bad-append, no_rest}
+use Rattle.tbl_outside.specs.Counts.{Rose}
+use Rattle.tbl_top.specs.Session.{Session, IsWhole, IsStatus}
+
+short_is_some : (rest : List ℕ) → IsShort rest → rest ≡ [] → ⊥
+unfolding is_short
+short_is_some rest short none = let h : IsShort [] = subst IsShort none short in cc
+
+pub bad_is_some : (rest : List ℕ) → IsBad rest → rest ≡ [] → ⊥
+unfolding is_bad
+bad_is_some rest bad none = let h : IsBad [] = subst IsBad none bad in cc
+
+module _ (opening : State) (read input left : List ℕ) (at_end : Type 0) (result : ℕ) (before after : Option (List ℕ))
+    (s : Session opening read at_end result before after) (parts : input ≡ read ++ left) (whole : IsWhole input) where
+  -- where no record can follow, nothing is left at all
+  nothing_left : EndsBefore (pairs_of s.entries) (s.rest ++ left) → s.rest ++ left ≡ []
+  nothing_left ends = no_rest (pairs_of s.entries) whole.pairs (s.rest ++ left) s.each whole.each whole.few ends
+      (sym (append_assoc (joined (pairs_of s.entries)) s.rest left) ∙ ap (λ (xs : List ℕ). xs ++ left) (sym s.parts) ∙ sym parts ∙ whole.parts)
+
+  not_bad : IsBad s.rest → ⊥
+  not_bad bad = bad_is_some (s.rest ++ left) (bad-append s.rest left bad) (nothing_left (inr (inr (inl (bad-append s.rest left bad)))))
+
+  not_short : left ≡ [] → IsShort s.rest → ⊥
+  not_short none short =
+      let all : IsShort (s.rest ++ left) = subst IsShort (sym (ap (λ (xs : List ℕ). s.rest ++ xs) none ∙ append-nil s.rest)) short in
+      short_is_some (s.rest ++ left) all (nothing_left (inr (inl all)))
+
+  not_full : length s.entries ≡ record_limit → 0 < length s.rest → ⊥
+  not_full full some =
+      omega (arith, some, length-append s.rest left, ap (λ (xs : List ℕ). length xs) (nothing_left (inr (inr (inr (length-map s.entries pair_of ∙ full))))))
+
+at_end_is : (left_new : Option (List ℕ)) (left : List ℕ) → left_new ≡ Some left → IsAtEnd left_new → left ≡ []
+at_end_is None left e end = absurd cc
+at_end_is (Some xs) left e end = let same : xs ≡ left = cc in sym same ∙ end
+
+-- what the source has left is the input behind what was read
+rest_of_input : (left_new : Option (List ℕ)) (read input : List ℕ) → Some input ≡ prepend_known read left_new → (left : List ℕ) × (left_new ≡ Some left) × (input ≡ read ++ left)
+rest_of_input None read input e = absurd cc
+rest_of_input (Some xs) read input e = (xs, refl, cc)
+
+module _ (opening : State) (read : List ℕ) (left_new : Option (List ℕ)) (result : ℕ) (before after : Option (List ℕ)) (a b c d : ℕ)
+    (s : Session opening read (IsAtEnd left_new) result before after) (source : result ≡ 3 → Rose a b) (sink : result ≡ 4 → Rose c d) where
+  by_status : (input left : List ℕ) → left_new ≡ Some left → input ≡ read ++ left → IsWhole input → ¬ Rose a b → ¬ Rose c d → IsStatus result
+      → ((result ≡ 0) × (left_new ≡ Some [])) ⊎ (result ≡ 1)
+  by_status input left is parts whole calm_source calm_sink (inl zero) = inl (zero, is ∙ ap Some (at_end_is left_new left is (s.ends.done zero).1))
+  by_status input left is parts whole calm_source calm_sink (inr (inl one)) = inr one
+  by_status input left is parts whole calm_source calm_sink (inr (inr (inl three))) = absurd (calm_source (source three))
+  by_status input left is parts whole calm_source calm_sink (inr (inr (inr (inl four)))) = absurd (calm_sink (sink four))
+  by_status input left is parts whole calm_source calm_sink (inr (inr (inr (inr (inl five))))) =
+      absurd (elim (s.ends.bad five).1 [
+        | inl bad ↦ not_bad opening read input left (IsAtEnd left_new) result before after s parts whole bad
+        | inr short ↦ not_short opening read input left (IsAtEnd left_new) result before after s parts whole (at_end_is left_new left is short.1) short.0
+      ])
+  by_status input left is parts whole calm_source calm_sink (inr (inr (inr (inr (inr six))))) =
+      absurd (not_full opening read input left (IsAtEnd left_new) result before after s parts whole (s.ends.full six).0 (s.ends.full six).1)
+
+  pub complete : (left_old : Option (List ℕ)) → left_old ≡ prepend_known read left_new
+      → IfSome left_old (λ input. IsWhole input → ¬ Rose a b → ¬ Rose c d → ((result ≡ 0) × (left_new ≡ Some [])) ⊎ (result ≡ 1))
+  complete None e = tt
+  complete (Some input) e = λ whole calm_source calm_sink.
+      let rest = rest_of_input left_new read input e in
+      by_status input rest.0 rest.1 rest.2 whole calm_source calm_sink s.known
+
+-- where memory ran out before the first read
+pub starved : (left left_new : Option (List ℕ)) (a b c d : ℕ) → IfSome left (λ input. IsWhole input → ¬ Rose a b → ¬ Rose c d → ((◌≡◌ {A = ℕ} 1 0) × (left_new ≡ Some [])) ⊎ (◌≡◌ {A = ℕ} 1 1))
+starved None left_new a b c d = tt
+starved (Some input) left_new a b c d = λ whole calm_source calm_sink. inr refl
