@@ -1,0 +1,91 @@
+ghost use Rattle.std.specs.Prelude.{◌≡◌, ◌<◌, ◌+◌, ◌^◌, false, None, Some, length};
+ghost use Rattle.std.specs.Option.{option_copied};
+ghost use Rattle.tbl_kinds.specs.Tables.{option_bits};
+ghost use Rattle.tbl_kinds.specs.TableSteps.{new_table};
+ghost use Rattle.std.specs.Str.{bytes_eq};
+
+use bitflags::Flags;
+use buffer_pairs::Buffers;
+use std::marker::Model;
+use tbl_kinds::{Name40, Options};
+
+/// What a table is registered with (`CFE_TBL_Register`).
+#[derive(Debug, Drop)]
+pub struct NewTable {
+    /// Its full name: application, dot, short name.
+    pub name: Name40,
+    /// How many bytes an image of it has.
+    pub size: u32,
+    pub flags: Options,
+    /// The number under which its validation function stands in the kit.
+    pub validator: Option<u8>,
+}
+
+/// What can be seen of a registered table.
+#[derive(Clone, Copy, Debug, PartialEq, Eq)]
+pub struct RowView {
+    /// The application that registered it, from 1 to 16.
+    pub owner: u8,
+    /// The handle that its registration gave.
+    pub handle: u16,
+    /// How many bytes an image of it has.
+    pub size: u32,
+    pub flags: Options,
+    /// The number under which its validation function stands in the kit.
+    pub validator: Option<u8>,
+    /// How many images it has had since its registration.
+    pub count: u32,
+}
+
+/// A registered table.
+#[derive(Debug, Drop)]
+pub(crate) struct Row {
+    name: Name40,
+    owner: u8,
+    handle: u16,
+    flags: Options,
+    validator: Option<u8>,
+    count: u32,
+    size: u32,
+    buffers: Buffers,
+    seconds: u32,
+    sub: u16,
+}
+
+impl Model for Row {
+    ghost use Rattle.tbl_kinds.specs.State.{Table};
+
+    ghost Value = { Table };
+
+    ghost use Rattle.tbl_registry.specs.Rows.{table_of, IsSingle};
+
+    ghost view = { table_of };
+
+    ghost invariant = { IsSingle };
+}
+
+impl Row {
+    ghost use Rattle.tbl_registry.specs.Views.{row_view};
+    ghost use Rattle.tbl_kinds.specs.State.{Table};
+
+    /// Whether it has this full name.
+    pub(crate) fn has_name(&self, name: &[u8]) -> bool
+        ensures { result ≡ bytes_eq self.now.name name.now }
+    {
+        self.name.bytes() == name
+    }
+
+    /// What can be seen of it.
+    pub(crate) fn view(&self) -> RowView
+        ensures { result ≡ row_view self.now }
+    {
+        RowView {
+            owner: self.owner,
+            handle: self.handle,
+            size: self.size,
+            flags: self.flags,
+            validator: self.validator,
+            count: self.count,
+        }
+    }
+}
