@@ -2,6 +2,7 @@
 use Rattle.std.specs.Prelude.{ℕ, ◌-◌, List, map, if◌then◌else◌, slice_index_or, Option, Some, None}
 use Rattle.std.specs.Option.{option_map, option_map_or}
 use Rattle.tbl_kinds.specs.State.{Table, Handle, Tables}
+use Rattle.access_desc.specs.Steps.{with_pin, with_told}
 use Rattle.access_desc.specs.declared.handle_view.HandleView.{HandleView}
 
 -- how many images the table of a row has had
@@ -18,3 +19,7 @@ handle_of rows h = record { app = h.app; row = h.row; told = h.told; pin = pin_o
 
 abbrev pub tables_of : List (Option Table) → List (Option HandleView) → Tables
 tables_of rows handles = record { rows = rows; handles = map (option_map (handle_of rows)) handles }
+
+-- it pins the last of so many images, and was told of all
+abbrev pub with_last : ℕ → HandleView → HandleView
+with_last count h = with_told count (with_pin h)

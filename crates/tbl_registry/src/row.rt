@@ -1,5 +1,6 @@
-ghost use Rattle.std.specs.Prelude.{◌≡◌, ◌<◌, ◌+◌, ◌^◌, false, None, Some, length};
-ghost use Rattle.std.specs.Option.{option_copied};
+ghost use Rattle.std.specs.Prelude.{◌≡◌, ◌<◌, ◌+◌, ◌^◌, ℕ, List, false, None, Some, IfSome, length};
+ghost use Rattle.std.specs.Option.{option_map};
+ghost use Rattle.std.specs.Borrow.{Bor};
 ghost use Rattle.tbl_kinds.specs.Tables.{option_bits};
 ghost use Rattle.tbl_kinds.specs.TableSteps.{new_table};
 ghost use Rattle.std.specs.Str.{bytes_eq};
@@ -86,6 +87,25 @@ impl Row {
             flags: self.flags,
             validator: self.validator,
             count: self.count,
+        }
+    }
+
+    /// How many images it has had.
+    pub(crate) fn count(&self) -> u32
+        ensures { result ≡ self.now.count }
+    {
+        self.count
+    }
+
+    /// Its last image.
+    pub(crate) fn last(&self) -> Option<&[u8]>
+        ensures image { option_map (λ (image : Bor (List ℕ)). image.now) result ≡ self.now.last }
+        ensures size { IfSome result (λ image. length image.now ≡ self.now.size) }
+    {
+        if self.count == 0 {
+            None
+        } else {
+            Some(self.buffers.active())
         }
     }
 }

@@ -1,14 +1,17 @@
-ghost use Rattle.std.specs.Prelude.{◌≡◌, ◌<◌, ◌≤◌, None, IfOk, IfSome, length, position, replicate, count_by, is_some};
+ghost use Rattle.std.specs.Prelude.{◌≡◌, ◌<◌, ◌≤◌, ℕ, List, None, Some, Ok, Err, IsSome, IfOk, IfErr, IfSome, IfNone, if◌then◌else◌, length, position, replicate, count_by, is_some, slice_index_or, nat_lt, option_and_then};
 ghost use Rattle.std.specs.Option.{option_copied, option_map};
+ghost use Rattle.std.specs.Borrow.{Bor};
+ghost use Rattle.access_desc.specs.Steps.{at_place, changed_at};
+ghost use Rattle.tbl_registry.specs.Seen.{handle_of, tables_of, with_last};
 ghost use Rattle.tbl_kinds.specs.State.{no_tables, Table};
 ghost use Rattle.tbl_kinds.specs.Tables.{table_count, table_at};
-ghost use Rattle.tbl_kinds.specs.TableSteps.{has_name as row_has_name, find, check};
+ghost use Rattle.tbl_kinds.specs.TableSteps.{has_name as row_has_name, find, check, handle_at, access_of, get_address, release, read};
 
 use crate::row::{NewTable, Row, RowView};
 use access_desc::{HandleView, Handles};
 use std::alloc::{AllocError, Global};
 use std::marker::Model;
-use tbl_kinds::{Memory, Status};
+use tbl_kinds::{Answer, Memory, Status};
 
 /// How many tables there can be (`CFE_PLATFORM_TBL_MAX_NUM_TABLES`).
 const ROWS: usize = 128;
@@ -68,7 +71,63 @@ fn tables_in(rows: &[Option<Row>]) -> usize
     rows.iter().filter(|row| row.is_some()).count()
 }
 
+/// The table of a row.
+fn table_in(rows: &[Option<Row>], row: u8) -> Option<&Row>
+    ensures { option_copied result ≡ slice_index_or rows.now row None }
+{
+    match rows.get(row as usize) {
+        Some(Some(table)) => Some(table),
+        _ => None,
+    }
+}
+
+/// What a handle stands for, with its table's row and its table.
+fn access<'a>(
+    rows: &'a [Option<Row>],
+    handles: &Handles,
+    handle: u16,
+) -> Option<(HandleView, u8, &'a Row)>
+    ensures handle { IfSome result (λ found. at_place handles.now handle ≡ Some found.0) }
+    ensures row { IfSome result (λ found. found.0.row ≡ Some found.1) }
+    ensures table { IfSome result (λ found. slice_index_or rows.now found.1 None ≡ Some found.2.now) }
+    ensures none { IfNone result (access_of (tables_of rows.now handles.now) handle ≡ None) }
+{
+    let view = handles.view(handle)?;
+    let row = view.row?;
+    let table = table_in(rows, row)?;
+    Some((view, row, table))
+}
+
+/// The handle pins the last image of its table, which has had so many, and is told of it.
+fn pin_last(handles: &mut Handles, handle: u16, count: u32)
+    requires { IsSome (at_place handles.old handle) }
+    ensures { handles.new ≡ changed_at (with_last count) handles.old handle }
+{
+    handles.pin(handle);
+    handles.tell(handle, count);
+}
+
+/// Whether there is an image that was not told of yet.
+fn news(told: u32, count: u32) -> Status
+    ensures { result ≡ (if nat_lt told count then Status.INFO_UPDATED else Status.SUCCESS) }
+{
+    if told < count {
+        Status::INFO_UPDATED
+    } else {
+        Status::SUCCESS
+    }
+}
+
+/// An answer that names nothing.
+fn plain_answer(status: Status) -> Answer
+    ensures status { result.status ≡ status }
+    ensures detail { result.detail ≡ 0 }
+{
+    Answer { status, detail: 0 }
+}
+
 impl Tables {
+    ghost use Rattle.tbl_registry.specs.Views.{row_view};
     /// No table and no handle.
     pub fn make(alloc: Global) -> Result<Tables, Memory>
         ensures { IfOk result (λ t. t ≡ no_tables) }
@@ -115,9 +174,89 @@ impl Tables {
     fn owner(&self, row: u8) -> Option<u8>
         ensures { result ≡ option_map (λ (t : Table). t.owner) (table_at self.now row) }
     {
-        match self.rows.get(row as usize) {
-            Some(Some(table)) => Some(table.view().owner),
-            _ => None,
+        Some(table_in(&self.rows, row)?.view().owner)
+    }
+
+    /// What can be seen of the table of a row.
+    pub fn row(&self, row: u8) -> Option<RowView>
+        ensures { result ≡ option_map row_view (table_at self.now row) }
+    {
+        Some(table_in(&self.rows, row)?.view())
+    }
+
+    /// The last image of the table of a row, None where there is none.
+    pub fn last(&self, row: u8) -> Option<&[u8]>
+        ensures { option_map (λ (image : Bor (List ℕ)). image.now) result ≡ option_and_then (λ (t : Table). t.last) (table_at self.now row) }
+    {
+        table_in(&self.rows, row)?.last()
+    }
+
+    /// What a handle stands for, None where no such handle is given.
+    pub fn handle(&self, handle: u16) -> Option<HandleView>
+        ensures { handle_at self.now handle ≡ option_map (handle_of self.now.rows) result }
+    {
+        self.handles.view(handle)
+    }
+
+    /// The handle pins the last image of its table and is told of it.
+    pub fn get_address(&mut self, handle: u16) -> Answer
+        requires { IsSome (access_of self.old handle) }
+        ensures status { result.status ≡ (get_address handle self.old).status }
+        ensures detail { result.detail ≡ 0 }
+        ensures tables { self.new ≡ (get_address handle self.old).tables }
+    {
+        let Some((view, _, table)) = access(&self.rows, &self.handles, handle) else {
+            unreachable!();
+        };
+        let count = table.count();
+        if view.pinned {
+            return plain_answer(Status::ERR_ALREADY_PINNED);
         }
+        if count == 0 {
+            return plain_answer(Status::ERR_NEVER_LOADED);
+        }
+        pin_last(&mut self.handles, handle, count);
+        plain_answer(news(view.told, count))
+    }
+
+    /// The pin of the handle ends.
+    pub fn release(&mut self, handle: u16) -> Answer
+        requires { IsSome (access_of self.old handle) }
+        ensures status { result.status ≡ (release handle self.old).status }
+        ensures detail { result.detail ≡ 0 }
+        ensures tables { self.new ≡ (release handle self.old).tables }
+    {
+        let Some((view, _, table)) = access(&self.rows, &self.handles, handle) else {
+            unreachable!();
+        };
+        let count = table.count();
+        if !view.pinned {
+            return plain_answer(Status::ERR_NOT_PINNED);
+        }
+        self.handles.unpin(handle);
+        plain_answer(news(view.told, count))
+    }
+
+    /// The stated bytes of the image that the handle pins.
+    pub fn read(&self, handle: u16, offset: u32, len: u32) -> Result<&[u8], Status>
+        requires { IsSome (access_of self.now handle) }
+        ensures ok { IfOk result (λ bytes. read handle offset len self.now ≡ Ok bytes.now) }
+        ensures err { IfErr result (λ status. read handle offset len self.now ≡ Err status) }
+    {
+        let Some((view, _, table)) = access(&self.rows, &self.handles, handle) else {
+            unreachable!();
+        };
+        if !view.pinned {
+            return Err(Status::ERR_NOT_PINNED);
+        }
+        let Some(image) = table.last() else {
+            unreachable!();
+        };
+        let from = offset as usize;
+        let to = from + len as usize;
+        if to > image.len() {
+            return Err(Status::ERR_OUT_OF_RANGE);
+        }
+        Ok(&image[from..to])
     }
 }
