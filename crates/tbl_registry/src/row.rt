@@ -1,4 +1,4 @@
-ghost use Rattle.std.specs.Prelude.{◌≡◌, ◌<◌, ◌+◌, ◌^◌, ℕ, List, false, None, Some, IfSome, length};
+ghost use Rattle.std.specs.Prelude.{◌≡◌, ◌<◌, ◌+◌, ◌-◌, ◌^◌, ℕ, List, false, None, Some, IfSome, length};
 ghost use Rattle.std.specs.Option.{option_map};
 ghost use Rattle.std.specs.Borrow.{Bor};
 ghost use Rattle.tbl_kinds.specs.Tables.{option_bits};
@@ -107,5 +107,23 @@ impl Row {
         } else {
             Some(self.buffers.active())
         }
+    }
+
+    /// Takes an image as its last one.
+    pub(crate) fn put(&mut self, image: &[u8])
+        requires size { length image.now ≡ self.old.size }
+        requires count { self.old.count < 2 ^ 32 - 1 }
+        ensures { self.new ≡ record self.old { count = self.old.count + 1; last = Some image.now } }
+    {
+        self.buffers.copy_in(image);
+        self.count += 1;
+    }
+
+    /// Sets the time of its last update.
+    pub(crate) fn set_time(&mut self, seconds: u32, sub: u16)
+        ensures { self.new ≡ record self.old { seconds = seconds; sub = sub } }
+    {
+        self.seconds = seconds;
+        self.sub = sub;
     }
 }

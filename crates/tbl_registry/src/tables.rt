@@ -1,11 +1,11 @@
-ghost use Rattle.std.specs.Prelude.{◌≡◌, ◌<◌, ◌≤◌, ℕ, List, None, Some, Ok, Err, IsSome, IfOk, IfErr, IfSome, IfNone, if◌then◌else◌, length, position, replicate, count_by, is_some, slice_index_or, nat_lt, option_and_then};
-ghost use Rattle.std.specs.Option.{option_copied, option_map};
+ghost use Rattle.std.specs.Prelude.{◌≡◌, ◌<◌, ◌≤◌, ◌-◌, ◌^◌, ℕ, List, None, Some, Ok, Err, IsSome, IfOk, IfErr, IfSome, IfNone, if◌then◌else◌, length, position, replicate, count_by, is_some, slice_index_or, nat_lt, option_and_then};
+ghost use Rattle.std.specs.Option.{option_copied, option_map, ForSome};
 ghost use Rattle.std.specs.Borrow.{Bor};
 ghost use Rattle.access_desc.specs.Steps.{at_place, changed_at};
 ghost use Rattle.tbl_registry.specs.Seen.{handle_of, tables_of, with_last};
 ghost use Rattle.tbl_kinds.specs.State.{no_tables, Table};
 ghost use Rattle.tbl_kinds.specs.Tables.{table_count, table_at};
-ghost use Rattle.tbl_kinds.specs.TableSteps.{has_name as row_has_name, find, check, handle_at, access_of, get_address, release, read};
+ghost use Rattle.tbl_kinds.specs.TableSteps.{has_name as row_has_name, find, check, handle_at, access_of, get_address, release, read, locker, put, set_time};
 
 use crate::row::{NewTable, Row, RowView};
 use access_desc::{HandleView, Handles};
@@ -258,5 +258,38 @@ impl Tables {
             return Err(Status::ERR_OUT_OF_RANGE);
         }
         Ok(&image[from..to])
+    }
+
+    /// The least handle in the way of a new image of the table of a row (cFE User's Guide, Table Services, "Locking").
+    pub fn locker(&self, row: u8) -> Option<u16>
+        ensures { result ≡ option_and_then (λ (t : Table). locker self.now row t) (table_at self.now row) }
+    {
+        let _table = table_in(&self.rows, row)?;
+        self.handles.pinned_any(row)
+    }
+
+    /// An image becomes the last one of the table of a row.
+    pub fn put(&mut self, row: u8, image: &[u8])
+        requires table { IsSome (table_at self.old row) }
+        requires unlocked { ForSome (table_at self.old row) (λ t. locker self.old row t ≡ None) }
+        requires size { ForSome (table_at self.old row) (λ t. length image.now ≡ t.size) }
+        requires count { ForSome (table_at self.old row) (λ t. t.count < 2 ^ 32 - 1) }
+        ensures { self.new ≡ put row image.now self.old }
+    {
+        let Some(table) = &mut self.rows[row as usize] else {
+            unreachable!();
+        };
+        table.put(image);
+    }
+
+    /// The time of the last update of the table of a row.
+    pub fn set_time(&mut self, row: u8, seconds: u32, sub: u16)
+        requires { IsSome (table_at self.old row) }
+        ensures { self.new ≡ set_time row seconds sub self.old }
+    {
+        let Some(table) = &mut self.rows[row as usize] else {
+            unreachable!();
+        };
+        table.set_time(seconds, sub);
     }
 }
