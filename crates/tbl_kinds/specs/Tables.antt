@@ -31,6 +31,10 @@ table_at tables row = slice_index_or tables.rows row None
 abbrev pub table_count : Tables → ℕ
 table_count tables = count_by is_some tables.rows
 
+-- how many handles are given
+abbrev pub handle_count : Tables → ℕ
+handle_count tables = count_by is_some tables.handles
+
 abbrev pub has_load : Option Table → Bool
 has_load None = false
 has_load (Some t) = is_some t.load

@@ -1,3 +1,5 @@
+pub mod Add
+pub mod Full
 pub mod Places
 pub mod Rows
 pub mod Start

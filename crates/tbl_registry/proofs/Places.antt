@@ -64,8 +64,8 @@ pub position-None : {X : Type 0} (p : X → Bool) (xs : List X) (k : ℕ) (d : X
 position-None p xs k d none fails =
     let past : length xs ≤ position_or_len p xs = past_none (position_or_len p xs) (length xs) none in
     elim (cases_lt k (length xs)) [
-      inl within ↦ fails_before_first p xs k d (omega arith)
-    | inr beyond ↦ rw (get_or_past xs k d beyond) fails
+      | inl within ↦ fails_before_first p xs k d (omega arith)
+      | inr beyond ↦ rw (get_or_past xs k d beyond) fails
     ]
 
 -- what is read at a place where something stands

@@ -137,7 +137,7 @@ put_seen rows handles row t image there sound none =
     let free : list_any (image_pins row t.count) (map (option_map (handle_of rows)) handles) ≡ false = none_pins rows row t.count handles (unpinned rows handles row t plain none) in
     let u : Table = record t { count = t.count + 1; last = Some image } in
     rw (handles_stay rows row (Some u) handles (apart_where_unlocked rows handles row t plain none), there, free)
-        (ap (λ (b : Option (List ℕ)). tables_with (slice_set rows row (Some (record u { before = b }))) (map (option_map (handle_of rows)) handles)) plain.before)
+    (ap (λ (b : Option (List ℕ)). tables_with (slice_set rows row (Some (record u { before = b }))) (map (option_map (handle_of rows)) handles)) plain.before)
 
 -- a table that takes an image of its size is as plain as it was
 plain_with_image : (t : Table) (image : List ℕ) → IsPlain t → length image ≡ t.size → IsPlain (record t { count = t.count + 1; last = Some image })

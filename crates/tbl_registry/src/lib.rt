@@ -5,7 +5,7 @@ mod row;
 mod tables;
 
 pub use row::{NewTable, RowView};
-pub use tables::Tables;
+pub use tables::{AddFault, Tables};
 
 #[cfg(test)]
 mod tests;

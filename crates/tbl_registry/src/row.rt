@@ -1,11 +1,11 @@
 ghost use Rattle.std.specs.Prelude.{◌≡◌, ◌<◌, ◌+◌, ◌-◌, ◌^◌, ℕ, List, false, None, Some, IfSome, length};
 ghost use Rattle.std.specs.Option.{option_map};
 ghost use Rattle.std.specs.Borrow.{Bor};
+ghost use Rattle.buffer_pairs.specs.Pair.{zeroed};
 ghost use Rattle.tbl_kinds.specs.Tables.{option_bits};
 ghost use Rattle.tbl_kinds.specs.TableSteps.{new_table};
 ghost use Rattle.std.specs.Str.{bytes_eq};
 
-use bitflags::Flags;
 use buffer_pairs::Buffers;
 use std::marker::Model;
 use tbl_kinds::{Name40, Options};
@@ -44,10 +44,10 @@ pub(crate) struct Row {
     name: Name40,
     owner: u8,
     handle: u16,
+    size: u32,
     flags: Options,
     validator: Option<u8>,
     count: u32,
-    size: u32,
     buffers: Buffers,
     seconds: u32,
     sub: u16,
@@ -68,6 +68,26 @@ impl Model for Row {
 impl Row {
     ghost use Rattle.tbl_registry.specs.Views.{row_view};
     ghost use Rattle.tbl_kinds.specs.State.{Table};
+
+    /// A table as its registration makes it, over a buffer of its size.
+    pub(crate) fn make(app: u8, handle: u16, plan: NewTable, buffers: Buffers) -> Row
+        requires buffer { buffers ≡ zeroed plan.size false }
+        requires no_option { option_bits plan.flags ≡ 0 }
+        ensures { result ≡ new_table plan.name app plan.size (option_bits plan.flags) plan.validator handle }
+    {
+        Row {
+            name: plan.name,
+            owner: app,
+            handle,
+            size: plan.size,
+            flags: plan.flags,
+            validator: plan.validator,
+            count: 0,
+            buffers,
+            seconds: 0,
+            sub: 0,
+        }
+    }
 
     /// Whether it has this full name.
     pub(crate) fn has_name(&self, name: &[u8]) -> bool

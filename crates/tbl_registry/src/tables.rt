@@ -1,20 +1,35 @@
-ghost use Rattle.std.specs.Prelude.{◌≡◌, ◌<◌, ◌≤◌, ◌-◌, ◌^◌, ℕ, List, None, Some, Ok, Err, IsSome, IfOk, IfErr, IfSome, IfNone, if◌then◌else◌, length, position, replicate, count_by, is_some, slice_index_or, nat_lt, option_and_then};
+ghost use Rattle.std.specs.Prelude.{◌≡◌, ◌<◌, ◌≤◌, ◌↔◌, ◌-◌, ◌^◌, ℕ, List, None, Some, Ok, Err, IsTrue, IsSome, IsNone, IfOk, OnOk, IfErr, OnErr, IfSome, IfNone, if◌then◌else◌, length, position, replicate, count_by, is_some, is_none, slice_index_or, nat_lt, option_and_then};
 ghost use Rattle.std.specs.Option.{option_copied, option_map, ForSome};
 ghost use Rattle.std.specs.Borrow.{Bor};
+ghost use Rattle.tbl_kinds.specs.Applications.{are_options, table_limit};
 ghost use Rattle.access_desc.specs.Steps.{at_place, changed_at};
 ghost use Rattle.tbl_registry.specs.Seen.{handle_of, tables_of, with_last};
 ghost use Rattle.tbl_kinds.specs.State.{no_tables, Table};
-ghost use Rattle.tbl_kinds.specs.Tables.{table_count, table_at};
-ghost use Rattle.tbl_kinds.specs.TableSteps.{has_name as row_has_name, find, check, handle_at, access_of, get_address, release, read, locker, put, set_time};
+ghost use Rattle.tbl_kinds.specs.Tables.{table_count, handle_count, option_bits, table_at};
+ghost use Rattle.tbl_kinds.specs.TableSteps.{has_name as row_has_name, find, check, handle_at, access_of, get_address, release, read, locker, put, set_time, least_free, new_table, new_handle, with_table, with_handle};
 
 use crate::row::{NewTable, Row, RowView};
 use access_desc::{HandleView, Handles};
+use buffer_pairs::Buffers;
 use std::alloc::{AllocError, Global};
 use std::marker::Model;
 use tbl_kinds::{Answer, Memory, Status};
 
 /// How many tables there can be (`CFE_PLATFORM_TBL_MAX_NUM_TABLES`).
 const ROWS: usize = 128;
+
+/// Why a table isn't registered. Nothing was changed.
+#[derive(Clone, Copy, Debug, PartialEq, Eq, Drop, thiserror::Error)]
+pub enum AddFault {
+    /// 128 tables are registered.
+    #[error("128 tables are registered")]
+    RegistryFull,
+    /// 256 handles are given.
+    #[error("256 handles are given")]
+    HandlesFull,
+    #[error("out of memory")]
+    Memory,
+}
 
 /// The registered tables and the handles on them.
 #[derive(Debug, Drop)]
@@ -62,6 +77,26 @@ fn row_of_name(rows: &[Option<Row>], name: &[u8]) -> Option<usize>
     ensures within { IfSome result (λ n. n < length rows.now) }
 {
     rows.iter().position(|row| has_name(row, name))
+}
+
+fn first_free(rows: &[Option<Row>]) -> Option<usize>
+    ensures row { result ≡ position is_none rows.now }
+    ensures within { IfSome result (λ n. n < length rows.now) }
+{
+    rows.iter().position(|row| row.is_none())
+}
+
+/// The least row without a table.
+fn free_row(rows: &[Option<Row>]) -> Option<u8>
+    requires { length rows.now ≤ 256 }
+    ensures row { result ≡ position is_none rows.now }
+    ensures full { IsNone result ↔ (count_by is_some rows.now ≡ length rows.now) }
+    ensures within { IfSome result (λ row. row < length rows.now) }
+{
+    match first_free(rows) {
+        Some(row) => Some(row as u8),
+        None => None,
+    }
 }
 
 fn tables_in(rows: &[Option<Row>]) -> usize
@@ -153,6 +188,35 @@ impl Tables {
         ensures within { result ≤ 128 }
     {
         tables_in(&self.rows) as u16
+    }
+
+    /// Registers a table in the least free row, and gives its owner the least free handle on it.
+    /// All memory that the table needs is taken here.
+    pub fn add(&mut self, app: u8, plan: NewTable) -> Result<u16, AddFault>
+        requires new { find plan.name self.old ≡ None }
+        requires some_bytes { 0 < plan.size }
+        requires within { plan.size ≤ table_limit }
+        requires options { IsTrue (are_options (option_bits plan.flags)) }
+        ensures row_free { OnOk result (IsSome (least_free self.old.rows)) }
+        ensures handle_free { IfOk result (λ handle. least_free self.old.handles ≡ Some handle) }
+        ensures added { IfOk result (λ handle. ForSome (least_free self.old.rows) (λ row. self.new ≡ with_handle handle (new_handle app row) (with_table row (new_table plan.name app plan.size (option_bits plan.flags) plan.validator handle) self.old))) }
+        ensures registry_full { (result ≡ Err AddFault.RegistryFull) ↔ (table_count self.old ≡ 128) }
+        ensures handles_full { result ≡ Err AddFault.HandlesFull → handle_count self.old ≡ 256 }
+        ensures no_row { result ≡ Err AddFault.RegistryFull → least_free self.old.rows ≡ None }
+        ensures no_handle { result ≡ Err AddFault.HandlesFull → least_free self.old.handles ≡ None }
+        ensures err { OnErr result (self.new ≡ self.old) }
+    {
+        let Some(row) = free_row(&self.rows) else {
+            return Err(AddFault::RegistryFull);
+        };
+        let Ok(buffers) = Buffers::make(self.alloc, plan.size, false) else {
+            return Err(AddFault::Memory);
+        };
+        let Some(handle) = self.handles.add(app, row) else {
+            return Err(AddFault::HandlesFull);
+        };
+        self.rows[row as usize] = Some(Row::make(app, handle, plan, buffers));
+        Ok(handle)
     }
 
     /// Whether the application may use the handle, and the row of its table.

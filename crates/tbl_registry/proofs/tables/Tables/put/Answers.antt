@@ -15,4 +15,4 @@ returns c =
     let there = at_place-read c.self.inside.rows.items c.args.row c.index_mut.result.now c.in-Some.table c.index_mut.ensures.value c.in-Some.is (rw (← c.self.view_is) at c.requires.table) in
     let seen : table_at c.args.self.now c.args.row ≡ Some c.in-Some.table = rw (← c.self.view_is) there in
     rw (← c.self.view_is, c.put.ensures)
-        (put_seen c.self.inside.rows.items c.self.inside.handles c.args.row c.in-Some.table c.args.image.now there c.self.invariant (rw (← c.self.view_is) at (c.requires.unlocked c.in-Some.table seen)))
+    (put_seen c.self.inside.rows.items c.self.inside.handles c.args.row c.in-Some.table c.args.image.now there c.self.invariant (rw (← c.self.view_is) at (c.requires.unlocked c.in-Some.table seen)))
