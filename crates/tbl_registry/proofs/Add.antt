@@ -1,10 +1,11 @@
 -- A new table.
-use Rattle.std.proofs.Common.{◌≡◌, ◌≢◌, ◌≤◌, ◌==◌, ℕ, List, map, length, slice_index_or, slice_set, true, position, is_none, IsSome, Option, Some, None, refl, ap, sym, ◌∙◌, arith, subst}
+use Rattle.std.proofs.Common.{◌≡◌, ◌≢◌, ◌<◌, ◌≤◌, ◌==◌, ℕ, List, map, length, slice_index_or, slice_set, true, position, is_none, IsSome, Option, Some, None, refl, ap, sym, ◌∙◌, arith, subst}
 use Rattle.std.specs.Option.{option_map}
 use Rattle.std.proofs.lemmas.List.{map-set, get_or-set_same, length-set}
 use Rattle.std.proofs.lemmas.Option.{same_Some}
 use Rattle.tbl_kinds.specs.State.{Table, Handle, Tables}
 use Rattle.tbl_kinds.specs.TableSteps.{new_table, new_handle, with_table, with_handle}
+use Rattle.tbl_kinds.specs.Applications.{table_limit}
 use Rattle.access_desc.specs.declared.handle_view.HandleView.{HandleView}
 use Rattle.access_desc.specs.Steps.{new_handle as new_view}
 use Rattle.tbl_registry.specs.Seen.{tables_of, handle_of}
@@ -13,8 +14,10 @@ use Rattle.tbl_registry.proofs.Places.{AtEachPlace-set}
 use Rattle.tbl_registry.proofs.Full.{least_free-None, least_free-within}
 use Rattle.tbl_registry.proofs.Rows.{sound_after, handles_stay}
 
-pub new_is_plain : (name : List ℕ) (owner size options : ℕ) (validator : Option ℕ) (handle : ℕ) → options ≡ 0 → IsPlain (new_table name owner size options validator handle)
-new_is_plain name owner size options validator handle none = record {
+pub new_is_plain : (name : List ℕ) (owner size options : ℕ) (validator : Option ℕ) (handle : ℕ) → 0 < size → size ≤ table_limit → options ≡ 0 → IsPlain (new_table name owner size options validator handle)
+new_is_plain name owner size options validator handle some small none = record {
+  some_bytes = some;
+  within = small;
   options = none;
   before = refl;
   load = refl;

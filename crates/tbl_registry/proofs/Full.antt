@@ -1,10 +1,12 @@
 -- Free places.
-use Rattle.std.proofs.Common.{◌≡◌, ◌<◌, ℕ, ◌+◌, ◌≤◌, ◌↔◌, List, [], ◌∷◌, Option, Some, None, IsNone, is_some, is_none, position, length, map, slice_index_or, count_by, cond, nat_lt, arith, refl, true}
+use Rattle.std.proofs.Common.{◌≡◌, ◌<◌, ℕ, ◌+◌, ◌≤◌, ◌↔◌, List, [], ◌∷◌, Option, Some, None, IsNone, is_some, is_none, position, length, map, slice_index_or, count_by, cond, nat_lt, arith, refl, true, IsSome}
 use Rattle.std.specs.List.{position_or_len}
 use Rattle.std.specs.Option.{option_map}
 use Rattle.std.proofs.lemmas.Bool.Decides.{nat_tests}
 use Rattle.std.proofs.lemmas.List.Quantifiers.{position-Some}
 use Rattle.std.proofs.lemmas.List.Sums.{count_by-le-length, sum_by-cons}
+use Rattle.tbl_kinds.specs.State.{Table}
+use Rattle.tbl_kinds.specs.TableSteps.{has_name}
 use Rattle.tbl_registry.proofs.Places.{position-map}
 
 all_taken : {X : Type 0} (places : List (Option X)) → length places ≤ position_or_len is_none places → count_by is_some places ≡ length places
@@ -56,3 +58,11 @@ least_free-within places n free = (position-Some is_none places n None free).0
 
 pub first_none_where_full : {X : Type 0} (places : List (Option X)) (first : Option ℕ) → first ≡ position is_none places → IsNone first ↔ (count_by is_some places ≡ length places)
 first_none_where_full places first is = rw is (none_where_full places)
+
+named_there : (name : List ℕ) (row : Option Table) → has_name name row ≡ true → IsSome row
+named_there name None is = absurd (cc is)
+named_there name (Some t) is = refl
+
+-- a table stands in the row that is found
+pub named_row : (name : List ℕ) (rows : List (Option Table)) (row : ℕ) → position (has_name name) rows ≡ Some row → IsSome (slice_index_or rows row None)
+named_row name rows row found = named_there name _ (position-Some (has_name name) rows row None found).1

@@ -1,12 +1,12 @@
 -- One row changes: what becomes of the handles, and of how they are seen.
-use Rattle.std.proofs.Common.{◌≡◌, ◌≢◌, ◌==◌, ◌+◌, ◌-◌, ◌<◌, ◌≤◌, position, ℕ, zero, suc, List, [], ◌∷◌, map, length, slice_index_or, slice_set, Bool, true, false, not, ◌&&◌, is_some, IsSome, IfSome, Option, Some, None, refl, ap, sym, ◌∙◌, subst, rules, arith, cond}
+use Rattle.std.proofs.Common.{◌≡◌, ◌≢◌, ◌==◌, ◌+◌, ◌-◌, ◌<◌, ◌≤◌, position, count_by, ℕ, zero, suc, List, [], ◌∷◌, map, length, slice_index_or, slice_set, Bool, true, false, not, ◌&&◌, is_some, IsSome, IfSome, Option, Some, None, refl, ap, sym, ◌∙◌, subst, rules, arith, cond}
 use Rattle.std.specs.Option.{option_map, option_map_or, ForSome}
 use Rattle.std.specs.List.{list_any}
 use Rattle.std.proofs.lemmas.List.{length-set}
 use Rattle.std.proofs.lemmas.Bool.Decides.{nat_tests}
 use Rattle.std.proofs.lemmas.Option.{same_Some}
 use Rattle.tbl_kinds.specs.State.{Table, Handle, Tables}
-use Rattle.tbl_kinds.specs.Tables.{is_double}
+use Rattle.tbl_kinds.specs.Tables.{is_double, has_load, uses_buffer, rows_from}
 use Rattle.tbl_kinds.specs.TableSteps.{is_that, is_in_way, locker, put, set_time, with_image, pins as image_pins}
 use Rattle.access_desc.specs.declared.handle_view.HandleView.{HandleView}
 use Rattle.access_desc.specs.Steps.{at_place, has, pins}
@@ -142,6 +142,8 @@ put_seen rows handles row t image there sound none =
 -- a table that takes an image of its size is as plain as it was
 plain_with_image : (t : Table) (image : List ℕ) → IsPlain t → length image ≡ t.size → IsPlain (record t { count = t.count + 1; last = Some image })
 plain_with_image t image plain size = record {
+  some_bytes = plain.some_bytes;
+  within = plain.within;
   options = plain.options;
   before = plain.before;
   load = plain.load;
@@ -162,6 +164,8 @@ pub time_sound : (rows : List (Option Table)) (handles : List (Option HandleView
 time_sound rows handles row t seconds sub there sound =
     let plain : IsPlain t = sound.tables row t there in
     sound_after rows handles row _ sound (rw there (omega arith)) record {
+      some_bytes = plain.some_bytes;
+      within = plain.within;
       options = plain.options;
       before = plain.before;
       load = plain.load;
@@ -171,3 +175,19 @@ time_sound rows handles row t seconds sub there sound =
       loaded = plain.loaded;
       fits = plain.fits;
     }
+
+-- ---- what the layer above may rely on
+
+-- no load is open, and no table uses a shared buffer
+pub no_load : (rows : List (Option Table)) → AtEachPlace IsPlain rows → count_by has_load rows ≡ 0
+no_load [] plain = refl
+no_load (None ∷ rows) plain = no_load rows (λ k. plain (suc k))
+no_load (Some t ∷ rows) plain = rw ((plain zero t refl).load) (no_load rows (λ k. plain (suc k)))
+
+plain_uses_none : (t : Table) → IsPlain t → uses_buffer (Some t) ≡ false
+plain_uses_none t plain = rw (plain.options, plain.load) refl
+
+pub no_buffer : (rows : List (Option Table)) (row : ℕ) → AtEachPlace IsPlain rows → rows_from row rows ≡ []
+no_buffer [] row plain = refl
+no_buffer (None ∷ rows) row plain = no_buffer rows (row + 1) (λ k. plain (suc k))
+no_buffer (Some t ∷ rows) row plain = rw (plain_uses_none t (plain zero t refl)) (no_buffer rows (row + 1) (λ k. plain (suc k)))

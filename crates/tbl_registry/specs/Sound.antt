@@ -1,7 +1,8 @@
 -- What holds of all that the registry keeps.
-use Rattle.std.specs.Prelude.{◌≡◌, ℕ, ◌<◌, ◌==◌, List, [], length, Bool, true, false, not, slice_index_or, Option, Some, None, is_some, IsSome, IfSome}
+use Rattle.std.specs.Prelude.{◌≡◌, ℕ, ◌<◌, ◌≤◌, ◌==◌, List, [], length, Bool, true, false, not, slice_index_or, Option, Some, None, is_some, IsSome, IfSome}
 use Rattle.std.specs.Option.{ForSome}
 use Rattle.tbl_kinds.specs.State.{Table, Tables, quiet}
+use Rattle.tbl_kinds.specs.Applications.{table_limit}
 use Rattle.access_desc.specs.declared.handle_view.HandleView.{HandleView}
 use Rattle.tbl_registry.specs.Seen.{count_in}
 
@@ -9,8 +10,10 @@ use Rattle.tbl_registry.specs.Seen.{count_in}
 abbrev pub AtEachPlace : {X : Type 0} → (X → Type 0) → List (Option X) → Type 0
 AtEachPlace P places = (n : ℕ) → ForSome (slice_index_or places n None) P
 
--- a single-buffered table without pending work: it has a last image once it had one, of its size
+-- a single-buffered table of 1 to 16,384 bytes without pending work: it has a last image once it had one, of its size
 pub record IsPlain (t : Table) : Type 0 where
+  pub some_bytes : 0 < t.size
+  pub within : t.size ≤ table_limit
   pub options : t.options ≡ 0
   pub before : t.before ≡ None
   pub load : t.load ≡ None

@@ -1,11 +1,12 @@
-ghost use Rattle.std.specs.Prelude.{◌≡◌, ◌<◌, ◌≤◌, ◌↔◌, ◌-◌, ◌^◌, ℕ, List, None, Some, Ok, Err, IsTrue, IsSome, IsNone, IfOk, OnOk, IfErr, OnErr, IfSome, IfNone, if◌then◌else◌, length, position, replicate, count_by, is_some, is_none, slice_index_or, nat_lt, option_and_then};
+ghost use Rattle.std.specs.Prelude.{◌≡◌, ◌<◌, ◌≤◌, ◌↔◌, ◌-◌, ◌^◌, ℕ, List, [], None, Some, Ok, Err, IsTrue, IsSome, IsNone, IfOk, OnOk, IfErr, OnErr, IfSome, IfNone, if◌then◌else◌, length, position, replicate, count_by, is_some, is_none, slice_index_or, nat_lt, option_and_then};
 ghost use Rattle.std.specs.Option.{option_copied, option_map, ForSome};
 ghost use Rattle.std.specs.Borrow.{Bor};
 ghost use Rattle.tbl_kinds.specs.Applications.{are_options, table_limit};
 ghost use Rattle.access_desc.specs.Steps.{at_place, changed_at};
+ghost use Rattle.tbl_registry.specs.Sound.{IsPlain};
 ghost use Rattle.tbl_registry.specs.Seen.{handle_of, tables_of, with_last};
 ghost use Rattle.tbl_kinds.specs.State.{no_tables, Table};
-ghost use Rattle.tbl_kinds.specs.Tables.{table_count, handle_count, option_bits, table_at};
+ghost use Rattle.tbl_kinds.specs.Tables.{table_count, handle_count, load_count, in_use, option_bits, table_at};
 ghost use Rattle.tbl_kinds.specs.TableSteps.{has_name as row_has_name, find, check, handle_at, access_of, get_address, release, read, locker, put, set_time, least_free, new_table, new_handle, with_table, with_handle};
 
 use crate::row::{NewTable, Row, RowView};
@@ -44,6 +45,7 @@ impl Model for Tables {
 
     ghost Value = { Tables };
 
+    ghost use Rattle.tbl_registry.specs.Sound.{IsPlain};
     ghost use Rattle.tbl_registry.specs.Seen.{tables_of};
     ghost use Rattle.tbl_registry.specs.Sound.{IsSound};
 
@@ -177,6 +179,7 @@ impl Tables {
     /// The row of the table of this full name.
     pub fn find(&self, name: &[u8]) -> Option<u8>
         ensures row { result ≡ find name.now self.now }
+        ensures table { IfSome result (λ row. IsSome (table_at self.now row)) }
         ensures within { IfSome result (λ row. row < 128) }
     {
         Some(row_of_name(&self.rows, name)? as u8)
@@ -186,6 +189,8 @@ impl Tables {
     pub fn count(&self) -> u16
         ensures tables { result ≡ table_count self.now }
         ensures within { result ≤ 128 }
+        ensures no_load { load_count self.now ≡ 0 }
+        ensures no_buffer { in_use self.now ≡ [] }
     {
         tables_in(&self.rows) as u16
     }
@@ -221,7 +226,9 @@ impl Tables {
 
     /// Whether the application may use the handle, and the row of its table.
     pub fn check(&self, app: u8, handle: u16, owner: bool) -> Result<u8, Status>
-        ensures { result ≡ check self.now app handle owner }
+        ensures answer { result ≡ check self.now app handle owner }
+        ensures table { IfOk result (λ row. IsSome (table_at self.now row)) }
+        ensures access { OnOk result (IsSome (access_of self.now handle)) }
     {
         let view = self.handles.view(handle).ok_or(Status::ERR_INVALID_HANDLE)?;
         if view.app != app {
@@ -243,7 +250,8 @@ impl Tables {
 
     /// What can be seen of the table of a row.
     pub fn row(&self, row: u8) -> Option<RowView>
-        ensures { result ≡ option_map row_view (table_at self.now row) }
+        ensures view { result ≡ option_map row_view (table_at self.now row) }
+        ensures plain { ForSome (table_at self.now row) IsPlain }
     {
         Some(table_in(&self.rows, row)?.view())
     }
@@ -306,6 +314,8 @@ impl Tables {
         requires { IsSome (access_of self.now handle) }
         ensures ok { IfOk result (λ bytes. read handle offset len self.now ≡ Ok bytes.now) }
         ensures err { IfErr result (λ status. read handle offset len self.now ≡ Err status) }
+        ensures length { IfOk result (λ bytes. length bytes.now ≡ len) }
+        ensures within { OnOk result (len ≤ table_limit) }
     {
         let Some((view, _, table)) = access(&self.rows, &self.handles, handle) else {
             unreachable!();
