@@ -1,7 +1,8 @@
 -- What is asked of the tables, and how they change: one function for each question and each change.
-use Rattle.std.specs.Prelude.{ℕ, ◌+◌, ◌-◌, ◌<◌, ◌==◌, List, [], ◌∷◌, ◌++◌, length, map, replicate, take, drop, Bool, true, false, not, ◌&&◌, ◌||◌, nat_lt, nat_le, if◌then◌else◌, position, Option, Some, None, is_some, is_none, unwrap_or, option_and_then, slice_get, slice_set, Result, Ok, Err}
+use Rattle.std.specs.Prelude.{ℕ, ◌+◌, ◌-◌, ◌==◌, List, [], Bool, true, false, not, ◌&&◌, nat_lt, if◌then◌else◌, position, Option, Some, None, is_some, is_none, unwrap_or, option_and_then, slice_index_or, slice_set, Result, Ok, Err}
 use Rattle.std.specs.List.{list_any}
-use Rattle.std.specs.Option.{option_map}
+use Rattle.std.specs.Option.{option_map, option_map_or}
+use Rattle.std.specs.Str.{bytes_eq}
 use Rattle.tbl_kinds.specs.Numbers.{piece}
 use Rattle.tbl_kinds.specs.State.{Table, Handle, Tables, Load, Dump, quiet}
 use Rattle.tbl_kinds.specs.Tables.{table_at, is_double}
@@ -10,16 +11,9 @@ use Rattle.tbl_kinds.specs.declared.status.TheConstants.Status.{SUCCESS, INFO_UP
 
 -- ---- questions
 
--- the same bytes
-abbrev pub same_bytes : List ℕ → List ℕ → Bool
-same_bytes [] [] = true
-same_bytes (x ∷ xs) (y ∷ ys) = x == y && same_bytes xs ys
-same_bytes [] (y ∷ ys) = false
-same_bytes (x ∷ xs) [] = false
-
 abbrev pub has_name : List ℕ → Option Table → Bool
 has_name name None = false
-has_name name (Some t) = same_bytes t.name name
+has_name name (Some t) = bytes_eq t.name name
 
 -- the row of the table of this full name
 abbrev pub find : List ℕ → Tables → Option ℕ
@@ -30,7 +24,20 @@ abbrev pub least_free : {X : Type 0} → List (Option X) → Option ℕ
 least_free places = position is_none places
 
 abbrev pub handle_at : Tables → ℕ → Option Handle
-handle_at tables number = option_and_then (λ found. found) (slice_get tables.handles number)
+handle_at tables number = slice_index_or tables.handles number None
+
+-- a handle that leads to a table
+pub record Access : Type 0 where
+  pub handle : Handle
+  pub row : ℕ
+  pub table : Table
+
+abbrev pub access_by : Tables → Handle → Option Access
+access_by tables h = option_and_then (λ row. option_map (λ t. record { handle = h; row = row; table = t }) (table_at tables row)) h.row
+
+-- none where no such handle is given or its table is gone
+abbrev pub access_of : Tables → ℕ → Option Access
+access_of tables number = option_and_then (access_by tables) (handle_at tables number)
 
 -- the image that a pin is of: the last one, or the one before it
 abbrev pub image_of : Table → ℕ → Option (List ℕ)
@@ -95,6 +102,14 @@ put_in tables row image (Some t) = with_table row (with_image tables.handles row
 abbrev pub put : ℕ → List ℕ → Tables → Tables
 put row image tables = put_in tables row image (table_at tables row)
 
+abbrev pub set_time_in : Tables → ℕ → ℕ → ℕ → Option Table → Tables
+set_time_in tables row seconds sub None = tables
+set_time_in tables row seconds sub (Some t) = with_table row (record t { seconds = seconds; sub = sub }) tables
+
+-- the time of the last update
+abbrev pub set_time : ℕ → ℕ → ℕ → Tables → Tables
+set_time row seconds sub tables = set_time_in tables row seconds sub (table_at tables row)
+
 -- the one before the last goes once no handle pins it
 abbrev pub let_go : List (Option Handle) → ℕ → Table → Table
 let_go handles row t = record t { before = if list_any (pins row (t.count - 1)) handles then t.before else None }
@@ -120,6 +135,10 @@ get_address_of tables number h t =
     else (if t.count == 0 then stays tables ERR_NEVER_LOADED
     else pin_last tables number h t)
 
+abbrev pub get_address : ℕ → Tables → Step
+get_address number tables =
+    option_map_or (λ (a : Access). get_address_of tables number a.handle a.table) (access_of tables number) (stays tables ERR_INVALID_HANDLE)
+
 -- the pin ends
 abbrev pub release_of : Tables → ℕ → Handle → ℕ → Table → Step
 release_of tables number h row t =
@@ -129,12 +148,20 @@ release_of tables number h row t =
       tables = with_table row (let_go freed.handles row t) freed;
     })
 
+abbrev pub release : ℕ → Tables → Step
+release number tables =
+    option_map_or (λ (a : Access). release_of tables number a.handle a.row a.table) (access_of tables number) (stays tables ERR_INVALID_HANDLE)
+
 -- the stated bytes of the pinned image
 abbrev pub read_of : Handle → Table → ℕ → ℕ → Result (List ℕ) Status
 read_of h t offset len =
     if not (is_some h.pin) then Err ERR_NOT_PINNED
     else (if nat_lt t.size (offset + len) then Err ERR_OUT_OF_RANGE
     else Ok (piece offset len (unwrap_or (image_of t (unwrap_or h.pin 0)) [])))
+
+abbrev pub read : ℕ → ℕ → ℕ → Tables → Result (List ℕ) Status
+read number offset len tables =
+    option_map_or (λ (a : Access). read_of a.handle a.table offset len) (access_of tables number) (Err ERR_INVALID_HANDLE)
 
 -- a table as its registration makes it
 abbrev pub new_table : List ℕ → ℕ → ℕ → ℕ → Option ℕ → ℕ → Table

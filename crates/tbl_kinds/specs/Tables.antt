@@ -1,9 +1,14 @@
 -- What can be read off the tables.
-use Rattle.std.specs.Prelude.{ℕ, ◌+◌, ◌-◌, ◌==◌, List, [], ◌∷◌, ◌++◌, length, Bool, true, false, not, ◌&&◌, ◌||◌, if◌then◌else◌, count_by, Option, Some, None, is_some, slice_get, bit_and, option_and_then}
+use Rattle.std.specs.Prelude.{ℕ, ◌+◌, ◌-◌, ◌==◌, List, [], ◌∷◌, ◌++◌, length, Bool, true, false, not, ◌&&◌, ◌||◌, if◌then◌else◌, count_by, Option, Some, None, is_some, slice_index_or, bit_and}
 use Rattle.std.specs.Option.{option_map}
 use Rattle.tbl_kinds.specs.State.{Table, Handle, Tables, Load, Dump, quiet, asked, filled}
+use Rattle.tbl_kinds.specs.declared.options.Options.{Options}
 
 -- ---- options
+
+-- the bits of a set of options
+abbrev pub option_bits : Options → ℕ
+option_bits options = options.0
 
 abbrev pub has_option : ℕ → ℕ → Bool
 has_option bit options = bit_and options bit == bit
@@ -20,11 +25,15 @@ is_critical t = has_option 0x0008 t.options
 -- ---- rows
 
 abbrev pub table_at : Tables → ℕ → Option Table
-table_at tables row = option_and_then (λ found. found) (slice_get tables.rows row)
+table_at tables row = slice_index_or tables.rows row None
 
 -- how many tables are registered
 abbrev pub table_count : Tables → ℕ
 table_count tables = count_by is_some tables.rows
+
+-- how many handles are given
+abbrev pub handle_count : Tables → ℕ
+handle_count tables = count_by is_some tables.handles
 
 abbrev pub has_load : Option Table → Bool
 has_load None = false

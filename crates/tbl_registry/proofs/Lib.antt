@@ -1,0 +1,6 @@
+pub mod Add
+pub mod Full
+pub mod Places
+pub mod Rows
+pub mod Start
+pub mod Steps

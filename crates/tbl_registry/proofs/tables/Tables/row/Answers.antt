@@ -1,0 +1,4 @@
+use Rattle.tbl_registry.proofs.tables.Tables.row.Goals as goal
+
+pub returns-clause-plain : goal.returns-clause-plain
+returns-clause-plain c = rw (← c.self.view_is) (c.self.invariant.tables c.args.row)

@@ -1,0 +1,25 @@
+-- How what the registry keeps is seen.
+use Rattle.std.specs.Prelude.{ℕ, ◌-◌, List, map, if◌then◌else◌, slice_index_or, Option, Some, None}
+use Rattle.std.specs.Option.{option_map, option_map_or}
+use Rattle.tbl_kinds.specs.State.{Table, Handle, Tables}
+use Rattle.access_desc.specs.Steps.{with_pin, with_told}
+use Rattle.access_desc.specs.declared.handle_view.HandleView.{HandleView}
+
+-- how many images the table of a row has had
+abbrev pub count_in : List (Option Table) → Option ℕ → ℕ
+count_in rows None = 0
+count_in rows (Some row) = option_map_or (λ (t : Table). t.count) (slice_index_or rows row None) 0
+
+-- the number of the image that a handle pins: the last one, or the one before it
+abbrev pub pin_of : List (Option Table) → HandleView → Option ℕ
+pin_of rows h = if h.pinned then Some (if h.old then count_in rows h.row - 1 else count_in rows h.row) else None
+
+abbrev pub handle_of : List (Option Table) → HandleView → Handle
+handle_of rows h = record { app = h.app; row = h.row; told = h.told; pin = pin_of rows h }
+
+abbrev pub tables_of : List (Option Table) → List (Option HandleView) → Tables
+tables_of rows handles = record { rows = rows; handles = map (option_map (handle_of rows)) handles }
+
+-- it pins the last of so many images, and was told of all
+abbrev pub with_last : ℕ → HandleView → HandleView
+with_last count h = with_told count (with_pin h)

@@ -1,0 +1,36 @@
+-- What holds of all that the registry keeps.
+use Rattle.std.specs.Prelude.{◌≡◌, ℕ, ◌<◌, ◌≤◌, ◌==◌, List, [], length, Bool, true, false, not, slice_index_or, Option, Some, None, is_some, IsSome, IfSome}
+use Rattle.std.specs.Option.{ForSome}
+use Rattle.tbl_kinds.specs.State.{Table, Tables, quiet}
+use Rattle.tbl_kinds.specs.Applications.{table_limit}
+use Rattle.access_desc.specs.declared.handle_view.HandleView.{HandleView}
+use Rattle.tbl_registry.specs.Seen.{count_in}
+
+-- P of what stands at each place
+abbrev pub AtEachPlace : {X : Type 0} → (X → Type 0) → List (Option X) → Type 0
+AtEachPlace P places = (n : ℕ) → ForSome (slice_index_or places n None) P
+
+-- a single-buffered table of 1 to 16,384 bytes without pending work: it has a last image once it had one, of its size
+pub record IsPlain (t : Table) : Type 0 where
+  pub some_bytes : 0 < t.size
+  pub within : t.size ≤ table_limit
+  pub options : t.options ≡ 0
+  pub before : t.before ≡ None
+  pub load : t.load ≡ None
+  pub activation : t.activation ≡ false
+  pub dump : t.dump ≡ quiet
+  pub notice : t.notice ≡ None
+  pub loaded : is_some t.last ≡ not (t.count == 0)
+  pub fits : IfSome t.last (λ image. length image ≡ t.size)
+
+-- a handle's row has a table, and what it pins is that table's last image
+pub record Leads (rows : List (Option Table)) (h : HandleView) : Type 0 where
+  pub table : ForSome h.row (λ row. IsSome (slice_index_or rows row None))
+  pub pins_last : h.pinned ≡ true → h.old ≡ false
+  pub pins_image : h.pinned ≡ true → 0 < count_in rows h.row
+
+pub record IsSound (rows : List (Option Table)) (handles : List (Option HandleView)) : Type 0 where
+  pub all_rows : length rows ≡ 128
+  pub all_handles : length handles ≡ 256
+  pub tables : AtEachPlace IsPlain rows
+  pub leads : AtEachPlace (Leads rows) handles

@@ -1,0 +1,11 @@
+//! The table registry: the layer above may rely on it that each call is one step of the registered tables and their handles.
+#![tactic(auto)]
+
+mod row;
+mod tables;
+
+pub use row::{NewTable, RowView};
+pub use tables::{AddFault, Tables};
+
+#[cfg(test)]
+mod tests;

@@ -1,0 +1,369 @@
+ghost use Rattle.std.specs.Prelude.{◌≡◌, ◌<◌, ◌≤◌, ◌↔◌, ◌-◌, ◌^◌, ℕ, List, [], None, Some, Ok, Err, IsTrue, IsSome, IsNone, IfOk, OnOk, IfErr, OnErr, IfSome, IfNone, if◌then◌else◌, length, position, replicate, count_by, is_some, is_none, slice_index_or, nat_lt, option_and_then};
+ghost use Rattle.std.specs.Option.{option_copied, option_map, ForSome};
+ghost use Rattle.std.specs.Borrow.{Bor};
+ghost use Rattle.tbl_kinds.specs.Applications.{are_options, table_limit};
+ghost use Rattle.access_desc.specs.Steps.{at_place, changed_at};
+ghost use Rattle.tbl_registry.specs.Sound.{IsPlain};
+ghost use Rattle.tbl_registry.specs.Seen.{handle_of, tables_of, with_last};
+ghost use Rattle.tbl_kinds.specs.State.{no_tables, Table};
+ghost use Rattle.tbl_kinds.specs.Tables.{table_count, handle_count, load_count, in_use, option_bits, table_at};
+ghost use Rattle.tbl_kinds.specs.TableSteps.{has_name as row_has_name, find, check, handle_at, access_of, get_address, release, read, locker, put, set_time, least_free, new_table, new_handle, with_table, with_handle};
+
+use crate::row::{NewTable, Row, RowView};
+use access_desc::{HandleView, Handles};
+use buffer_pairs::Buffers;
+use std::alloc::{AllocError, Global};
+use std::marker::Model;
+use tbl_kinds::{Answer, Memory, Status};
+
+/// How many tables there can be (`CFE_PLATFORM_TBL_MAX_NUM_TABLES`).
+const ROWS: usize = 128;
+
+/// Why a table isn't registered. Nothing was changed.
+#[derive(Clone, Copy, Debug, PartialEq, Eq, Drop, thiserror::Error)]
+pub enum AddFault {
+    /// 128 tables are registered.
+    #[error("128 tables are registered")]
+    RegistryFull,
+    /// 256 handles are given.
+    #[error("256 handles are given")]
+    HandlesFull,
+    #[error("out of memory")]
+    Memory,
+}
+
+/// The registered tables and the handles on them.
+#[derive(Debug, Drop)]
+pub struct Tables {
+    alloc: Global,
+    rows: Vec<Option<Row>>,
+    handles: Handles,
+}
+
+impl Model for Tables {
+    ghost use Rattle.tbl_kinds.specs.State.{Tables};
+
+    ghost Value = { Tables };
+
+    ghost use Rattle.tbl_registry.specs.Sound.{IsPlain};
+    ghost use Rattle.tbl_registry.specs.Seen.{tables_of};
+    ghost use Rattle.tbl_registry.specs.Sound.{IsSound};
+
+    ghost view = { λ t. tables_of t.rows.items t.handles };
+
+    ghost invariant = { λ t. IsSound t.rows.items t.handles };
+}
+
+fn free_rows(alloc: Global) -> Result<Vec<Option<Row>>, AllocError>
+    ensures { IfOk result (λ rows. rows.items ≡ replicate 128 None) }
+{
+    let mut rows = Vec::with_capacity(alloc, ROWS)?;
+    for _ in 0..ROWS {
+        rows.push(None)?;
+    }
+    Ok(rows)
+}
+
+/// Whether the row has a table of this full name.
+fn has_name(row: &Option<Row>, name: &[u8]) -> bool
+    ensures { result ≡ row_has_name name.now row.now }
+{
+    match row {
+        Some(table) => table.has_name(name),
+        None => false,
+    }
+}
+
+fn row_of_name(rows: &[Option<Row>], name: &[u8]) -> Option<usize>
+    ensures row { result ≡ position (row_has_name name.now) rows.now }
+    ensures within { IfSome result (λ n. n < length rows.now) }
+{
+    rows.iter().position(|row| has_name(row, name))
+}
+
+fn first_free(rows: &[Option<Row>]) -> Option<usize>
+    ensures row { result ≡ position is_none rows.now }
+    ensures within { IfSome result (λ n. n < length rows.now) }
+{
+    rows.iter().position(|row| row.is_none())
+}
+
+/// The least row without a table.
+fn free_row(rows: &[Option<Row>]) -> Option<u8>
+    requires { length rows.now ≤ 256 }
+    ensures row { result ≡ position is_none rows.now }
+    ensures full { IsNone result ↔ (count_by is_some rows.now ≡ length rows.now) }
+    ensures within { IfSome result (λ row. row < length rows.now) }
+{
+    match first_free(rows) {
+        Some(row) => Some(row as u8),
+        None => None,
+    }
+}
+
+fn tables_in(rows: &[Option<Row>]) -> usize
+    ensures tables { result ≡ count_by is_some rows.now }
+    ensures within { result ≤ length rows.now }
+{
+    rows.iter().filter(|row| row.is_some()).count()
+}
+
+/// The table of a row.
+fn table_in(rows: &[Option<Row>], row: u8) -> Option<&Row>
+    ensures { option_copied result ≡ slice_index_or rows.now row None }
+{
+    match rows.get(row as usize) {
+        Some(Some(table)) => Some(table),
+        _ => None,
+    }
+}
+
+/// What a handle stands for, with its table's row and its table.
+fn access<'a>(
+    rows: &'a [Option<Row>],
+    handles: &Handles,
+    handle: u16,
+) -> Option<(HandleView, u8, &'a Row)>
+    ensures handle { IfSome result (λ found. at_place handles.now handle ≡ Some found.0) }
+    ensures row { IfSome result (λ found. found.0.row ≡ Some found.1) }
+    ensures table { IfSome result (λ found. slice_index_or rows.now found.1 None ≡ Some found.2.now) }
+    ensures none { IfNone result (access_of (tables_of rows.now handles.now) handle ≡ None) }
+{
+    let view = handles.view(handle)?;
+    let row = view.row?;
+    let table = table_in(rows, row)?;
+    Some((view, row, table))
+}
+
+/// The handle pins the last image of its table, which has had so many, and is told of it.
+fn pin_last(handles: &mut Handles, handle: u16, count: u32)
+    requires { IsSome (at_place handles.old handle) }
+    ensures { handles.new ≡ changed_at (with_last count) handles.old handle }
+{
+    handles.pin(handle);
+    handles.tell(handle, count);
+}
+
+/// Whether there is an image that was not told of yet.
+fn news(told: u32, count: u32) -> Status
+    ensures { result ≡ (if nat_lt told count then Status.INFO_UPDATED else Status.SUCCESS) }
+{
+    if told < count {
+        Status::INFO_UPDATED
+    } else {
+        Status::SUCCESS
+    }
+}
+
+/// An answer that names nothing.
+fn plain_answer(status: Status) -> Answer
+    ensures status { result.status ≡ status }
+    ensures detail { result.detail ≡ 0 }
+{
+    Answer { status, detail: 0 }
+}
+
+impl Tables {
+    ghost use Rattle.tbl_registry.specs.Views.{row_view};
+    /// No table and no handle.
+    pub fn make(alloc: Global) -> Result<Tables, Memory>
+        ensures { IfOk result (λ t. t ≡ no_tables) }
+    {
+        Ok(Tables {
+            alloc,
+            rows: free_rows(alloc)?,
+            handles: Handles::make(alloc)?,
+        })
+    }
+
+    /// The row of the table of this full name.
+    pub fn find(&self, name: &[u8]) -> Option<u8>
+        ensures row { result ≡ find name.now self.now }
+        ensures table { IfSome result (λ row. IsSome (table_at self.now row)) }
+        ensures within { IfSome result (λ row. row < 128) }
+    {
+        Some(row_of_name(&self.rows, name)? as u8)
+    }
+
+    /// How many tables are registered.
+    pub fn count(&self) -> u16
+        ensures tables { result ≡ table_count self.now }
+        ensures within { result ≤ 128 }
+        ensures no_load { load_count self.now ≡ 0 }
+        ensures no_buffer { in_use self.now ≡ [] }
+    {
+        tables_in(&self.rows) as u16
+    }
+
+    /// Registers a table in the least free row, and gives its owner the least free handle on it.
+    /// All memory that the table needs is taken here.
+    pub fn add(&mut self, app: u8, plan: NewTable) -> Result<u16, AddFault>
+        requires new { find plan.name self.old ≡ None }
+        requires some_bytes { 0 < plan.size }
+        requires within { plan.size ≤ table_limit }
+        requires options { IsTrue (are_options (option_bits plan.flags)) }
+        ensures row_free { OnOk result (IsSome (least_free self.old.rows)) }
+        ensures handle_free { IfOk result (λ handle. least_free self.old.handles ≡ Some handle) }
+        ensures added { IfOk result (λ handle. ForSome (least_free self.old.rows) (λ row. self.new ≡ with_handle handle (new_handle app row) (with_table row (new_table plan.name app plan.size (option_bits plan.flags) plan.validator handle) self.old))) }
+        ensures registry_full { (result ≡ Err AddFault.RegistryFull) ↔ (table_count self.old ≡ 128) }
+        ensures handles_full { result ≡ Err AddFault.HandlesFull → handle_count self.old ≡ 256 }
+        ensures no_row { result ≡ Err AddFault.RegistryFull → least_free self.old.rows ≡ None }
+        ensures no_handle { result ≡ Err AddFault.HandlesFull → least_free self.old.handles ≡ None }
+        ensures err { OnErr result (self.new ≡ self.old) }
+    {
+        let Some(row) = free_row(&self.rows) else {
+            return Err(AddFault::RegistryFull);
+        };
+        let Ok(buffers) = Buffers::make(self.alloc, plan.size, false) else {
+            return Err(AddFault::Memory);
+        };
+        let Some(handle) = self.handles.add(app, row) else {
+            return Err(AddFault::HandlesFull);
+        };
+        self.rows[row as usize] = Some(Row::make(app, handle, plan, buffers));
+        Ok(handle)
+    }
+
+    /// Whether the application may use the handle, and the row of its table.
+    pub fn check(&self, app: u8, handle: u16, owner: bool) -> Result<u8, Status>
+        ensures answer { result ≡ check self.now app handle owner }
+        ensures table { IfOk result (λ row. IsSome (table_at self.now row)) }
+        ensures access { OnOk result (IsSome (access_of self.now handle)) }
+    {
+        let view = self.handles.view(handle).ok_or(Status::ERR_INVALID_HANDLE)?;
+        if view.app != app {
+            return Err(Status::ERR_NO_ACCESS);
+        }
+        let row = view.row.ok_or(Status::ERR_UNREGISTERED)?;
+        if owner && self.owner(row) != Some(app) {
+            return Err(Status::ERR_NO_ACCESS);
+        }
+        Ok(row)
+    }
+
+    /// Who owns the table of a row.
+    fn owner(&self, row: u8) -> Option<u8>
+        ensures { result ≡ option_map (λ (t : Table). t.owner) (table_at self.now row) }
+    {
+        Some(table_in(&self.rows, row)?.view().owner)
+    }
+
+    /// What can be seen of the table of a row.
+    pub fn row(&self, row: u8) -> Option<RowView>
+        ensures view { result ≡ option_map row_view (table_at self.now row) }
+        ensures plain { ForSome (table_at self.now row) IsPlain }
+    {
+        Some(table_in(&self.rows, row)?.view())
+    }
+
+    /// The last image of the table of a row, None where there is none.
+    pub fn last(&self, row: u8) -> Option<&[u8]>
+        ensures { option_map (λ (image : Bor (List ℕ)). image.now) result ≡ option_and_then (λ (t : Table). t.last) (table_at self.now row) }
+    {
+        table_in(&self.rows, row)?.last()
+    }
+
+    /// What a handle stands for, None where no such handle is given.
+    pub fn handle(&self, handle: u16) -> Option<HandleView>
+        ensures { handle_at self.now handle ≡ option_map (handle_of self.now.rows) result }
+    {
+        self.handles.view(handle)
+    }
+
+    /// The handle pins the last image of its table and is told of it.
+    pub fn get_address(&mut self, handle: u16) -> Answer
+        requires { IsSome (access_of self.old handle) }
+        ensures status { result.status ≡ (get_address handle self.old).status }
+        ensures detail { result.detail ≡ 0 }
+        ensures tables { self.new ≡ (get_address handle self.old).tables }
+    {
+        let Some((view, _, table)) = access(&self.rows, &self.handles, handle) else {
+            unreachable!();
+        };
+        let count = table.count();
+        if view.pinned {
+            return plain_answer(Status::ERR_ALREADY_PINNED);
+        }
+        if count == 0 {
+            return plain_answer(Status::ERR_NEVER_LOADED);
+        }
+        pin_last(&mut self.handles, handle, count);
+        plain_answer(news(view.told, count))
+    }
+
+    /// The pin of the handle ends.
+    pub fn release(&mut self, handle: u16) -> Answer
+        requires { IsSome (access_of self.old handle) }
+        ensures status { result.status ≡ (release handle self.old).status }
+        ensures detail { result.detail ≡ 0 }
+        ensures tables { self.new ≡ (release handle self.old).tables }
+    {
+        let Some((view, _, table)) = access(&self.rows, &self.handles, handle) else {
+            unreachable!();
+        };
+        let count = table.count();
+        if !view.pinned {
+            return plain_answer(Status::ERR_NOT_PINNED);
+        }
+        self.handles.unpin(handle);
+        plain_answer(news(view.told, count))
+    }
+
+    /// The stated bytes of the image that the handle pins.
+    pub fn read(&self, handle: u16, offset: u32, len: u32) -> Result<&[u8], Status>
+        requires { IsSome (access_of self.now handle) }
+        ensures ok { IfOk result (λ bytes. read handle offset len self.now ≡ Ok bytes.now) }
+        ensures err { IfErr result (λ status. read handle offset len self.now ≡ Err status) }
+        ensures length { IfOk result (λ bytes. length bytes.now ≡ len) }
+        ensures within { OnOk result (len ≤ table_limit) }
+    {
+        let Some((view, _, table)) = access(&self.rows, &self.handles, handle) else {
+            unreachable!();
+        };
+        if !view.pinned {
+            return Err(Status::ERR_NOT_PINNED);
+        }
+        let Some(image) = table.last() else {
+            unreachable!();
+        };
+        let from = offset as usize;
+        let to = from + len as usize;
+        if to > image.len() {
+            return Err(Status::ERR_OUT_OF_RANGE);
+        }
+        Ok(&image[from..to])
+    }
+
+    /// The least handle in the way of a new image of the table of a row (cFE User's Guide, Table Services, "Locking").
+    pub fn locker(&self, row: u8) -> Option<u16>
+        ensures { result ≡ option_and_then (λ (t : Table). locker self.now row t) (table_at self.now row) }
+    {
+        let _table = table_in(&self.rows, row)?;
+        self.handles.pinned_any(row)
+    }
+
+    /// An image becomes the last one of the table of a row.
+    pub fn put(&mut self, row: u8, image: &[u8])
+        requires table { IsSome (table_at self.old row) }
+        requires unlocked { ForSome (table_at self.old row) (λ t. locker self.old row t ≡ None) }
+        requires size { ForSome (table_at self.old row) (λ t. length image.now ≡ t.size) }
+        requires count { ForSome (table_at self.old row) (λ t. t.count < 2 ^ 32 - 1) }
+        ensures { self.new ≡ put row image.now self.old }
+    {
+        let Some(table) = &mut self.rows[row as usize] else {
+            unreachable!();
+        };
+        table.put(image);
+    }
+
+    /// The time of the last update of the table of a row.
+    pub fn set_time(&mut self, row: u8, seconds: u32, sub: u16)
+        requires { IsSome (table_at self.old row) }
+        ensures { self.new ≡ set_time row seconds sub self.old }
+    {
+        let Some(table) = &mut self.rows[row as usize] else {
+            unreachable!();
+        };
+        table.set_time(seconds, sub);
+    }
+}
