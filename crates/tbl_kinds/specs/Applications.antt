@@ -4,11 +4,11 @@ use Rattle.std.specs.List.{list_any}
 use Rattle.tbl_kinds.specs.Names.{is_name}
 use Rattle.tbl_kinds.specs.State.{State, Table, Handle, Tables}
 use Rattle.tbl_kinds.specs.Tables.{table_at, is_double, is_dump_only, in_use}
-use Rattle.tbl_kinds.specs.TableSteps.{is_that, find, least_free, handle_at, locker, check, put, with_table, with_handle, Step, get_address_of, release_of, read_of, new_table, new_handle}
+use Rattle.tbl_kinds.specs.TableSteps.{is_that, find, least_free, locker, check, put, set_time, with_table, with_handle, Step, get_address, release, read, new_table, new_handle}
 use Rattle.tbl_kinds.specs.Deeds.{Deed, activated}
 use Rattle.tbl_kinds.specs.Effects.{Effect, answered}
 use Rattle.tbl_kinds.specs.declared.status.Status.{Status}
-use Rattle.tbl_kinds.specs.declared.status.TheConstants.Status.{SUCCESS, INFO_TABLE_LOCKED, WARN_DUPLICATE, ERR_BAD_APP, ERR_INVALID_NAME, ERR_INVALID_SIZE, ERR_INVALID_OPTIONS, ERR_NO_VALIDATOR, ERR_DUPLICATE_NOT_OWNED, ERR_DUPLICATE_DIFF_SIZE, ERR_REGISTRY_FULL, ERR_HANDLES_FULL, ERR_DUMP_ONLY, ERR_LOAD_IN_PROGRESS, ERR_IMAGE_SIZE, ERR_NO_BUFFER_AVAIL, ERR_APP_RUNNING}
+use Rattle.tbl_kinds.specs.declared.status.TheConstants.Status.{SUCCESS, INFO_TABLE_LOCKED, WARN_DUPLICATE, ERR_BAD_APP, ERR_UNREGISTERED, ERR_INVALID_NAME, ERR_INVALID_SIZE, ERR_INVALID_OPTIONS, ERR_NO_VALIDATOR, ERR_DUPLICATE_NOT_OWNED, ERR_DUPLICATE_DIFF_SIZE, ERR_REGISTRY_FULL, ERR_HANDLES_FULL, ERR_DUMP_ONLY, ERR_LOAD_IN_PROGRESS, ERR_IMAGE_SIZE, ERR_NO_BUFFER_AVAIL, ERR_APP_RUNNING}
 
 -- ---- applications
 
@@ -38,17 +38,13 @@ by_app s (Some name) effect = effect name
 abbrev pub if_running : State → ℕ → (List ℕ → Effect) → Effect
 if_running s app effect = by_app s (name_of s app) effect
 
--- and that needs a handle which the application may use: the row, the table and the handle
-abbrev pub with_handle_and_table : State → Option Table → Option Handle → (Table → Handle → Effect) → Effect
-with_handle_and_table s (Some t) (Some h) effect = effect t h
-with_handle_and_table s _ _ effect = answered s ERR_BAD_APP 0
+abbrev pub by_check : State → Result ℕ Status → (ℕ → Effect) → Effect
+by_check s (Err status) effect = answered s status 0
+by_check s (Ok row) effect = effect row
 
-abbrev pub by_check : State → ℕ → Result ℕ Status → (ℕ → Table → Handle → Effect) → Effect
-by_check s handle (Err status) effect = answered s status 0
-by_check s handle (Ok row) effect = with_handle_and_table s (table_at s.tables row) (handle_at s.tables handle) (effect row)
-
-abbrev pub if_handle : State → ℕ → ℕ → Bool → (ℕ → Table → Handle → Effect) → Effect
-if_handle s app handle owner_only effect = if_running s app (λ name. by_check s handle (check s.tables app handle owner_only) effect)
+-- and that needs a handle which the application may use, by the row of its table
+abbrev pub if_handle : State → ℕ → ℕ → Bool → (ℕ → Effect) → Effect
+if_handle s app handle owner_only effect = if_running s app (λ name. by_check s (check s.tables app handle owner_only) effect)
 
 abbrev pub stepped : State → Step → Effect
 stepped s step = record (answered s step.status 0) { next = record s { tables = step.tables } }
@@ -97,12 +93,12 @@ register_effect s app short size flags validator = if_running s app (λ app_name
 
 -- ---- loads
 
--- the image becomes the table's last one
+-- the image becomes the table's last one, at the service's time
 abbrev pub activate_effect : State → ℕ → Table → List ℕ → Effect
 activate_effect s row t image = record (answered s SUCCESS 0) {
   row = Some row;
   deeds = activated row (t.count + 1) image ∷ [];
-  next = record s { tables = put row image (with_table row (record t { seconds = s.seconds; sub = s.sub }) s.tables) };
+  next = record s { tables = set_time row s.seconds s.sub (put row image s.tables) };
 }
 
 -- the table is locked, or no shared buffer is free for it
@@ -112,24 +108,28 @@ if_free s row t None effect =
     if not (is_double t) && length (in_use s.tables) == 4 then record (answered s ERR_NO_BUFFER_AVAIL 0) { bytes = in_use s.tables }
     else effect
 
-unfoldable pub load_image_effect : State → ℕ → ℕ → List ℕ → Effect
-load_image_effect s app handle image = if_handle s app handle true (λ row t h.
+abbrev pub load_image_of : State → ℕ → Option Table → List ℕ → Effect
+load_image_of s row None image = answered s ERR_UNREGISTERED 0
+load_image_of s row (Some t) image =
     if is_dump_only t then answered s ERR_DUMP_ONLY 0
     else (if is_some t.load then answered s ERR_LOAD_IN_PROGRESS 0
     else (if not (length image == t.size) then answered s ERR_IMAGE_SIZE 0
-    else if_free s row t (locker s.tables row t) (activate_effect s row t image))))
+    else if_free s row t (locker s.tables row t) (activate_effect s row t image)))
+
+unfoldable pub load_image_effect : State → ℕ → ℕ → List ℕ → Effect
+load_image_effect s app handle image = if_handle s app handle true (λ row. load_image_of s row (table_at s.tables row) image)
 
 -- ---- addresses
 
 unfoldable pub get_effect : State → ℕ → ℕ → Effect
-get_effect s app handle = if_handle s app handle false (λ row t h. stepped s (get_address_of s.tables handle h t))
+get_effect s app handle = if_handle s app handle false (λ row. stepped s (get_address handle s.tables))
 
 unfoldable pub release_effect : State → ℕ → ℕ → Effect
-release_effect s app handle = if_handle s app handle false (λ row t h. stepped s (release_of s.tables handle h row t))
+release_effect s app handle = if_handle s app handle false (λ row. stepped s (release handle s.tables))
 
 abbrev pub read_answer : State → Result (List ℕ) Status → Effect
 read_answer s (Ok bytes) = record (answered s SUCCESS 0) { bytes = bytes }
 read_answer s (Err status) = answered s status 0
 
 unfoldable pub read_effect : State → ℕ → ℕ → ℕ → ℕ → Effect
-read_effect s app handle offset len = if_handle s app handle false (λ row t h. read_answer s (read_of h t offset len))
+read_effect s app handle offset len = if_handle s app handle false (λ row. read_answer s (read handle offset len s.tables))

@@ -14,7 +14,7 @@ pub record Effect : Type 0 where
   pub status : Status
   pub detail : ℕ
   pub bytes : List ℕ  -- the reply's bytes
-  pub row : Option ℕ  -- the table that a command names
+  pub row : Option ℕ  -- the table that a command names or a load fills
   pub deeds : List Deed
   pub shown : Shown
   pub notice : Option Notice
