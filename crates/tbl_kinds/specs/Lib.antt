@@ -22,3 +22,4 @@ pub mod Counts
 pub mod Replies
 pub mod History
 pub mod CountsAfter
+pub mod Vectors
