@@ -1,14 +1,14 @@
 -- The laws of session records.
-use Rattle.std.proofs.Common.{◌≡◌, ◌≢◌, ℕ, suc, ◌+◌, ◌<◌, ◌≤◌, ◌^◌, Bool, true, false, not, ◌&&◌, ◌||◌, List, [], ◌∷◌, ◌++◌, length, map, take, drop, refl, sym, ap, subst, ◌∙◌, append_assoc, arith, ◌⊎◌, inl, inr, rules}
+use Rattle.std.proofs.Common.{◌≡◌, ℕ, ◌+◌, ◌<◌, ◌≤◌, Bool, true, false, not, ◌&&◌, ◌||◌, List, [], ◌∷◌, ◌++◌, length, map, refl, sym, ap, ◌∙◌, append_assoc, arith, ◌⊎◌, inl, inr, rules}
 use Rattle.std.specs.Prelude.{◌==◌, nat_lt, nat_le}
-use Rattle.std.specs.List.{AllByRecursion, flat_map, list_any}
+use Rattle.std.specs.List.{AllByRecursion, list_any}
 use Rattle.std.proofs.lemmas.List.{append-nil, length-append, take-append-le}
-use Rattle.std.proofs.lemmas.Bool.{le-leb, le-ltb, leb-true, ltb-true, ltb-false, leb-false}
+use Rattle.std.proofs.lemmas.Bool.{le-leb, le-ltb, leb-true, ltb-true, leb-false}
 use Rattle.std.proofs.lemmas.Bool.Decides.{nat_tests}
 use Rattle.std.proofs.lemmas.Nat.{from_be_bytes-to_be_bytes_2}
 use Rattle.std.proofs.Math.Seq.{take-append_seam, drop-append_seam}
-use Rattle.tbl_kinds.specs.Numbers.{two, byte_at, piece}
-use Rattle.tbl_kinds.specs.Records.{Pair, IsBuilt, IsRecord, kind_of, actor_number, body_of, body_limit, head_of, spelling, joined, record_limit, BeginsWith, AreRecords}
+use Rattle.tbl_kinds.specs.Numbers.{byte_at, piece}
+use Rattle.tbl_kinds.specs.Records.{Pair, IsBuilt, IsRecord, kind_of, actor_number, body_of, body_limit, head_of, spelling, joined, record_limit, AreRecords}
 use Rattle.tbl_kinds.specs.Requests.{Fits}
 use Rattle.tbl_kinds.specs.Heads.{Kind, kinds, allows, is_sender, head_len, is_good_head, is_right_body, has_good_head, has_right_body, is_whole, stated_len, is_short, is_bad, IsShort, IsBad, BeginsNone, EndsBefore}
 use Rattle.tbl_kinds.specs.declared.request.Actor.{Actor}

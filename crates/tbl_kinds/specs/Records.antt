@@ -1,9 +1,8 @@
 -- Session records: one request of one actor, as bytes, and the list of records that an input holds.
-use Rattle.std.specs.Prelude.{◌≡◌, ◌≢◌, ℕ, ◌+◌, ◌<◌, ◌≤◌, ◌==◌, List, [], ◌∷◌, ◌++◌, length, take, drop, Bool, true, false, not, ◌&&◌, ◌||◌, nat_lt, nat_le, if◌then◌else◌, Option, Some, None, MatchOption}
-use Rattle.std.specs.List.{list_all, flat_map, AllByRecursion}
-use Rattle.tbl_kinds.specs.Buffers.{Buffer}
-use Rattle.tbl_kinds.specs.Names.{name_in, name_field, is_zero}
-use Rattle.tbl_kinds.specs.Numbers.{two, four, piece, byte_at, two_at}
+use Rattle.std.specs.Prelude.{◌≡◌, ℕ, ◌≤◌, List, [], ◌∷◌, ◌++◌, length, Option, Some, None}
+use Rattle.std.specs.List.{flat_map, AllByRecursion}
+use Rattle.tbl_kinds.specs.Names.{name_field}
+use Rattle.tbl_kinds.specs.Numbers.{two, four}
 use Rattle.tbl_kinds.specs.Requests.{Fits}
 use Rattle.tbl_kinds.specs.declared.request.Actor.{Actor}
 use Rattle.tbl_kinds.specs.declared.request.Actor.TheVariants.{Ground, App}
