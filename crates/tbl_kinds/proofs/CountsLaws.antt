@@ -1,12 +1,12 @@
 -- What is counted over a history with one entry more is one step on from what was counted before.
-use Rattle.std.proofs.Common.{◌≡◌, ℕ, ◌+◌, ◌-◌, ◌%◌, ◌<◌, ◌≤◌, Bool, true, false, not, cond, List, [], ◌∷◌, ◌++◌, length, reverse, take, drop, refl, sym, ap, ◌∙◌, subst, arith, Option, Some, None, unwrap_or, is_some}
-use Rattle.std.specs.Prelude.{count_by, sum_by}
-use Rattle.std.specs.List.{after_last, suffix_len, prefix_len, fold}
+use Rattle.std.proofs.Common.{◌≡◌, ℕ, ◌+◌, ◌-◌, ◌%◌, ◌≤◌, Bool, true, false, not, cond, List, [], ◌∷◌, ◌++◌, length, drop, refl, sym, ap, ◌∙◌, arith, Option, Some, None, unwrap_or, is_some}
+use Rattle.std.specs.Prelude.{sum_by}
+use Rattle.std.specs.List.{after_last, suffix_len, prefix_len}
 use Rattle.std.specs.Option.{option_or}
 use Rattle.std.proofs.lemmas.List.{reverse-append, length-append, drop_all, drop-append-le}
 use Rattle.std.proofs.lemmas.List.Sums.{sum_by_push, suffix_len-le-length, fold_push}
 use Rattle.std.proofs.Math.Nat.{mod-add-mod, zero-mod}
-use Rattle.tbl_kinds.specs.Counts.{Told, Counts, counts_of, restarts, clears_counters, adds_accepted, adds_refused, adds_request, deeds_by, latest, is_finished, is_finished_well, is_finished_badly, events_in, is_housekeeping, Validation, no_validation, validation_in, Update, no_update, update_in, loaded_in, loaded_file_in, dump_in}
+use Rattle.tbl_kinds.specs.Counts.{Told, counts_of, restarts, clears_counters, adds_accepted, adds_refused, adds_request, deeds_by, latest, is_finished, is_finished_well, is_finished_badly, events_in, is_housekeeping, no_validation, validation_in, no_update, update_in, loaded_in, loaded_file_in, dump_in}
 use Rattle.tbl_kinds.specs.CountsAfter.{bit, tally_of, counts_after}
 
 after_last_by : {X : Type 0} (xs : List X) (x : X) (b : Bool) (k : ℕ) → k ≤ length xs

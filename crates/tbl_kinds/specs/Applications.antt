@@ -1,8 +1,8 @@
 -- What each request of an application does.
-use Rattle.std.specs.Prelude.{ℕ, ◌+◌, ◌-◌, ◌==◌, List, [], ◌∷◌, ◌++◌, length, Bool, true, false, not, ◌&&◌, ◌||◌, nat_lt, nat_le, if◌then◌else◌, Option, Some, None, is_some, unwrap_or, option_and_then, slice_get, slice_set, Result, Ok, Err}
+use Rattle.std.specs.Prelude.{ℕ, ◌+◌, ◌-◌, ◌==◌, List, [], ◌∷◌, ◌++◌, length, Bool, true, false, not, ◌&&◌, ◌||◌, nat_lt, if◌then◌else◌, Option, Some, None, is_some, option_and_then, slice_get, slice_set, Result, Ok, Err}
 use Rattle.std.specs.List.{list_any}
 use Rattle.tbl_kinds.specs.Names.{is_name}
-use Rattle.tbl_kinds.specs.State.{State, Table, Handle, Tables}
+use Rattle.tbl_kinds.specs.State.{State, Table, Handle}
 use Rattle.tbl_kinds.specs.Tables.{table_at, is_double, is_dump_only, in_use}
 use Rattle.tbl_kinds.specs.TableSteps.{is_that, find, least_free, locker, check, put, set_time, with_table, with_handle, Step, get_address, release, read, new_table, new_handle}
 use Rattle.tbl_kinds.specs.Deeds.{Deed, activated}

@@ -1,17 +1,17 @@
 -- What telemetry counts over the history, and from which entry each of its "last" fields is read.
-use Rattle.std.specs.Prelude.{ℕ, ◌+◌, ◌==◌, ◌%◌, List, [], ◌∷◌, length, Bool, true, false, not, ◌&&◌, ◌||◌, if◌then◌else◌, count_by, sum_by, Option, Some, None, unwrap_or, is_some}
+use Rattle.std.specs.Prelude.{ℕ, ◌==◌, ◌%◌, List, [], length, Bool, true, false, not, ◌&&◌, ◌||◌, if◌then◌else◌, count_by, sum_by, Option, Some, None, unwrap_or, is_some}
 use Rattle.std.specs.List.{after_last, fold}
 use Rattle.std.specs.Option.{option_map, option_or}
 use Rattle.std.proofs.Common.{ℤ, pos}
-use Rattle.tbl_kinds.specs.State.{State, Table, Tables}
+use Rattle.tbl_kinds.specs.State.{State, Table}
 use Rattle.tbl_kinds.specs.Tables.{table_at}
 use Rattle.tbl_kinds.specs.Statuses.{is_success}
 use Rattle.tbl_kinds.specs.Check.{check16}
 use Rattle.tbl_kinds.specs.Names.{name_in}
 use Rattle.tbl_kinds.specs.Numbers.{piece}
 use Rattle.tbl_kinds.specs.Packets.{command_id, packet_id, packet_code}
-use Rattle.tbl_kinds.specs.Deeds.{Deed, finished, judged, activated, copy_failed, dumped, not_dumped}
-use Rattle.tbl_kinds.specs.Effects.{Effect, Shown, nothing, housekeeping}
+use Rattle.tbl_kinds.specs.Deeds.{Deed, finished, activated, dumped}
+use Rattle.tbl_kinds.specs.Effects.{Effect, Shown, housekeeping}
 use Rattle.tbl_kinds.specs.Commands.{is_housekeeping_request}
 use Rattle.tbl_kinds.specs.Events.{events_of, is_good}
 use Rattle.tbl_kinds.specs.declared.request.Actor.{Actor}

@@ -1,5 +1,5 @@
 -- The effect of each request.
-use Rattle.std.specs.Prelude.{ℕ, List, Option}
+use Rattle.std.specs.Prelude.{List, Option}
 use Rattle.std.proofs.Common.{ℤ}
 use Rattle.tbl_kinds.specs.State.{State}
 use Rattle.tbl_kinds.specs.Effects.{Effect, answered}

@@ -1,9 +1,9 @@
 -- The event packets of a request.
-use Rattle.std.specs.Prelude.{ℕ, ◌==◌, List, [], ◌∷◌, ◌++◌, map, Bool, true, false, not, ◌&&◌, ◌||◌, if◌then◌else◌, Option, unwrap_or}
+use Rattle.std.specs.Prelude.{ℕ, ◌==◌, List, [], ◌∷◌, ◌++◌, map, Bool, not, if◌then◌else◌, Option, unwrap_or}
 use Rattle.std.specs.Int.{w32, cast_unsigned}
 use Rattle.std.proofs.Common.{ℤ}
 use Rattle.tbl_kinds.specs.Statuses.{is_success}
-use Rattle.tbl_kinds.specs.Packets.{command_id, packet_id, packet_code}
+use Rattle.tbl_kinds.specs.Packets.{packet_code}
 use Rattle.tbl_kinds.specs.Deeds.{Deed, finished, judged, activated, copy_failed, dumped, not_dumped}
 use Rattle.tbl_kinds.specs.Effects.{Effect}
 use Rattle.tbl_kinds.specs.Commands.{is_housekeeping_request}

@@ -1,5 +1,5 @@
 -- Space packets: the primary header of CCSDS 133.0-B, and behind it the secondary header of a command or of telemetry.
-use Rattle.std.specs.Prelude.{◌≡◌, ℕ, ◌+◌, ◌-◌, ◌%◌, ◌==◌, List, [], ◌∷◌, ◌++◌, length, drop, Bool, not, nat_lt, if◌then◌else◌, Option, Some, None, bit_xor}
+use Rattle.std.specs.Prelude.{ℕ, ◌+◌, ◌-◌, ◌%◌, ◌==◌, List, [], ◌∷◌, ◌++◌, length, drop, not, nat_lt, if◌then◌else◌, Option, Some, None, bit_xor}
 use Rattle.std.specs.List.{fold}
 use Rattle.tbl_kinds.specs.Numbers.{two, four, byte_at, two_at}
 use Rattle.tbl_kinds.specs.declared.telemetry.TlmHead.{TlmHead}

@@ -1,10 +1,10 @@
 -- What is asked of the tables, and how they change: one function for each question and each change.
-use Rattle.std.specs.Prelude.{ℕ, ◌+◌, ◌-◌, ◌==◌, List, [], Bool, true, false, not, ◌&&◌, nat_lt, if◌then◌else◌, position, Option, Some, None, is_some, is_none, unwrap_or, option_and_then, slice_index_or, slice_set, Result, Ok, Err}
+use Rattle.std.specs.Prelude.{ℕ, ◌+◌, ◌-◌, ◌==◌, List, [], Bool, false, not, ◌&&◌, nat_lt, if◌then◌else◌, position, Option, Some, None, is_some, is_none, unwrap_or, option_and_then, slice_index_or, slice_set, Result, Ok, Err}
 use Rattle.std.specs.List.{list_any}
 use Rattle.std.specs.Option.{option_map, option_map_or}
 use Rattle.std.specs.Str.{bytes_eq}
 use Rattle.tbl_kinds.specs.Numbers.{piece}
-use Rattle.tbl_kinds.specs.State.{Table, Handle, Tables, Load, Dump, quiet}
+use Rattle.tbl_kinds.specs.State.{Table, Handle, Tables, quiet}
 use Rattle.tbl_kinds.specs.Tables.{table_at, is_double}
 use Rattle.tbl_kinds.specs.declared.status.Status.{Status}
 use Rattle.tbl_kinds.specs.declared.status.TheConstants.Status.{SUCCESS, INFO_UPDATED, ERR_INVALID_HANDLE, ERR_NO_ACCESS, ERR_UNREGISTERED, ERR_ALREADY_PINNED, ERR_NEVER_LOADED, ERR_NOT_PINNED, ERR_OUT_OF_RANGE}

@@ -1,9 +1,9 @@
 -- A new table.
-use Rattle.std.proofs.Common.{◌≡◌, ◌≢◌, ◌<◌, ◌≤◌, ◌==◌, ℕ, List, map, length, slice_index_or, slice_set, true, position, is_none, IsSome, Option, Some, None, refl, ap, sym, ◌∙◌, arith, subst}
+use Rattle.std.proofs.Common.{◌≡◌, ◌≢◌, ◌<◌, ◌≤◌, ℕ, List, slice_index_or, slice_set, true, position, is_none, IsSome, Option, Some, None, refl, arith, subst}
 use Rattle.std.specs.Option.{option_map}
 use Rattle.std.proofs.lemmas.List.{map-set, get_or-set_same, length-set}
 use Rattle.std.proofs.lemmas.Option.{same_Some}
-use Rattle.tbl_kinds.specs.State.{Table, Handle, Tables}
+use Rattle.tbl_kinds.specs.State.{Table}
 use Rattle.tbl_kinds.specs.TableSteps.{new_table, new_handle, with_table, with_handle}
 use Rattle.tbl_kinds.specs.Applications.{table_limit}
 use Rattle.access_desc.specs.declared.handle_view.HandleView.{HandleView}

@@ -1,5 +1,5 @@
 -- Lists of places, seen by index.
-use Rattle.std.proofs.Common.{◌≡◌, ℕ, ◌≤◌, ◌<◌, zero, suc, List, [], ◌∷◌, length, map, replicate, position, slice_index_or, slice_set, Bool, true, false, cond, nat_lt, Option, Some, None, refl, ap, sym, ◌∙◌, IsSome, inl, inr, rules, arith}
+use Rattle.std.proofs.Common.{◌≡◌, ℕ, ◌≤◌, zero, suc, List, [], ◌∷◌, length, map, replicate, position, slice_index_or, slice_set, Bool, false, cond, nat_lt, Option, Some, None, refl, ap, sym, ◌∙◌, IsSome, inl, inr, arith}
 use Rattle.std.specs.List.{position_or_len}
 use Rattle.std.specs.Option.{option_map, ForSome}
 use Rattle.std.proofs.lemmas.Bool.{cases_lt}

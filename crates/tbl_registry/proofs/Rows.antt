@@ -1,18 +1,18 @@
 -- One row changes: what becomes of the handles, and of how they are seen.
-use Rattle.std.proofs.Common.{◌≡◌, ◌≢◌, ◌==◌, ◌+◌, ◌-◌, ◌<◌, ◌≤◌, position, count_by, ℕ, zero, suc, List, [], ◌∷◌, map, length, slice_index_or, slice_set, Bool, true, false, not, ◌&&◌, is_some, IsSome, IfSome, Option, Some, None, refl, ap, sym, ◌∙◌, subst, rules, arith, cond}
-use Rattle.std.specs.Option.{option_map, option_map_or, ForSome}
+use Rattle.std.proofs.Common.{◌≡◌, ◌≢◌, ◌==◌, ◌+◌, ◌-◌, ◌<◌, ◌≤◌, position, count_by, ℕ, zero, suc, List, [], ◌∷◌, map, length, slice_index_or, slice_set, Bool, true, false, ◌&&◌, is_some, IsSome, Option, Some, None, refl, ap, sym, ◌∙◌, subst, arith, cond}
+use Rattle.std.specs.Option.{option_map, option_map_or}
 use Rattle.std.specs.List.{list_any}
 use Rattle.std.proofs.lemmas.List.{length-set}
 use Rattle.std.proofs.lemmas.Bool.Decides.{nat_tests}
 use Rattle.std.proofs.lemmas.Option.{same_Some}
 use Rattle.tbl_kinds.specs.State.{Table, Handle, Tables}
 use Rattle.tbl_kinds.specs.Tables.{is_double, has_load, uses_buffer, rows_from}
-use Rattle.tbl_kinds.specs.TableSteps.{is_that, is_in_way, locker, put, set_time, with_image, pins as image_pins}
+use Rattle.tbl_kinds.specs.TableSteps.{is_that, is_in_way, locker, put, pins as image_pins}
 use Rattle.access_desc.specs.declared.handle_view.HandleView.{HandleView}
-use Rattle.access_desc.specs.Steps.{at_place, has, pins}
+use Rattle.access_desc.specs.Steps.{has, pins}
 use Rattle.tbl_registry.specs.Seen.{count_in, tables_of, handle_of}
 use Rattle.tbl_registry.specs.Sound.{IsSound, IsPlain, Leads, AtEachPlace}
-use Rattle.tbl_registry.proofs.Places.{at_place-map, AtEachPlace-set, map-agree, position-map, position-None}
+use Rattle.tbl_registry.proofs.Places.{AtEachPlace-set, map-agree, position-map, position-None}
 
 abbrev tables_with : List (Option Table) → List (Option Handle) → Tables
 tables_with rows handles = record { rows = rows; handles = handles }

@@ -1,12 +1,10 @@
 -- The steps of a handle that leads to a table.
-use Rattle.std.proofs.Common.{◌≡◌, ◌==◌, ◌+◌, ◌-◌, ◌<◌, ◌≤◌, nat_lt, ℕ, List, map, length, take, drop, cond, slice_index_or, slice_set, Bool, true, false, not, is_some, Option, Some, None, Ok, refl, ap, sym, ◌∙◌, arith, rules}
-use Rattle.std.specs.Option.{option_map}
+use Rattle.std.proofs.Common.{◌≡◌, ◌==◌, ◌+◌, ◌-◌, ◌<◌, ◌≤◌, nat_lt, ℕ, List, length, take, drop, cond, slice_index_or, slice_set, Bool, true, false, not, is_some, Option, Some, None, Ok, refl, ap, sym, ◌∙◌, arith, rules}
 use Rattle.std.specs.List.{list_any}
 use Rattle.std.proofs.lemmas.List.{set-get_or}
 use Rattle.std.proofs.lemmas.Bool.Decides.{nat_tests}
-use Rattle.tbl_kinds.specs.Numbers.{piece}
 use Rattle.tbl_kinds.specs.State.{Table, Handle, Tables}
-use Rattle.tbl_kinds.specs.TableSteps.{Access, access_of, with_handle, get_address, release, read, let_go, pins}
+use Rattle.tbl_kinds.specs.TableSteps.{access_of, with_handle, get_address, release, read, let_go, pins}
 use Rattle.access_desc.specs.declared.handle_view.HandleView.{HandleView}
 use Rattle.access_desc.specs.Steps.{at_place, changed_at, with_no_pin}
 use Rattle.tbl_registry.specs.Sound.{IsSound}

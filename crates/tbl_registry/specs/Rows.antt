@@ -1,5 +1,5 @@
 -- What a registry row stands for.
-use Rattle.std.specs.Prelude.{◌≡◌, ◌==◌, ℕ, List, [], length, Bool, false, if◌then◌else◌, Option, Some, None}
+use Rattle.std.specs.Prelude.{◌≡◌, ◌==◌, [], length, false, if◌then◌else◌, Some, None}
 use Rattle.tbl_kinds.specs.State.{Table, quiet}
 use Rattle.tbl_kinds.specs.Tables.{option_bits}
 use Rattle.tbl_registry.specs.declared.row.Row.TheInside.{Inside}

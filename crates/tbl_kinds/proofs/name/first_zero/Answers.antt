@@ -1,4 +1,4 @@
-use Rattle.std.proofs.Common.{◌≡◌, length, get_or, sym, eq-eqb, arith}
+use Rattle.std.proofs.Common.{length, sym, eq-eqb, arith}
 use Rattle.std.proofs.lemmas.List.Sums.{position_or_len_is}
 use Rattle.tbl_kinds.specs.Names.{is_zero}
 use Rattle.tbl_kinds.proofs.name.first_zero.Goals as goal

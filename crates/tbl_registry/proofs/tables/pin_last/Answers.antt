@@ -1,4 +1,3 @@
-use Rattle.std.proofs.Common.{◌∙◌}
 use Rattle.access_desc.specs.Steps.{with_pin, with_told}
 use Rattle.tbl_registry.proofs.Places.{changed_at-twice}
 use Rattle.tbl_registry.proofs.tables.pin_last.Goals as goal

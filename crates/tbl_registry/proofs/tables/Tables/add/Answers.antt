@@ -1,7 +1,6 @@
-use Rattle.std.proofs.Common.{◌≡◌, ◌∙◌, sym, refl, Some, None, position, is_none, rules, arith, subst, ℕ}
+use Rattle.std.proofs.Common.{◌≡◌, ◌∙◌, sym, refl, Some, position, is_none, arith}
 use Rattle.std.proofs.lemmas.Option.{same_Some}
 use Rattle.std.proofs.lemmas.Bool.Decides.{nat_tests}
-use Rattle.tbl_kinds.specs.TableSteps.{with_handle, new_handle, with_table}
 use Rattle.tbl_kinds.specs.Tables.{option_bits}
 use Rattle.tbl_registry.proofs.Full.{least_free-map}
 use Rattle.tbl_registry.proofs.Add.{add_sound, add_seen, new_is_plain}

@@ -1,6 +1,6 @@
-use Rattle.std.proofs.Common.{rules, arith, ◌∙◌, sym, ap}
+use Rattle.std.proofs.Common.{rules, arith, sym}
 use Rattle.tbl_registry.specs.Sound.{IsPlain}
-use Rattle.tbl_registry.proofs.Steps.{Leading, pins_nothing, read_lends}
+use Rattle.tbl_registry.proofs.Steps.{pins_nothing, read_lends}
 use Rattle.tbl_registry.proofs.tables.Tables.read.Goals as goal
 
 pub unreachable-requires-in_default-last : goal.unreachable-requires-in_default-last
