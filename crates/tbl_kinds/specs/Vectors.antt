@@ -1,19 +1,16 @@
 -- What the definitions say of bytes that are written out: each line is computed by the checker.
-use Rattle.std.specs.Prelude.{◌≡◌, ℕ, List, [], ◌∷◌, ◌++◌, length, map, replicate, true, false, None, Some, codes, refl}
+use Rattle.std.specs.Prelude.{◌≡◌, ℕ, List, [], ◌∷◌, ◌++◌, map, replicate, true, false, None, codes, refl}
 use Rattle.std.specs.List.{range_with_len}
 use Rattle.std.proofs.Common.{sym}
-use Rattle.tbl_kinds.specs.Buffers.{Buffer}
 use Rattle.tbl_kinds.specs.Names.{name_in, name_field, is_name}
 use Rattle.tbl_kinds.specs.Check.{check16, after_byte}
-use Rattle.tbl_kinds.specs.Numbers.{two, four}
-use Rattle.tbl_kinds.specs.Packets.{command_id, primary_header, command_packet, telemetry_packet}
+use Rattle.tbl_kinds.specs.Packets.{primary_header, telemetry_packet}
 use Rattle.tbl_kinds.specs.Telemetry.{event_body, housekeeping_body, commands_and_loads, last_validation, validations_and_buffers, last_update}
-use Rattle.tbl_kinds.specs.Records.{Pair, spelling}
+use Rattle.tbl_kinds.specs.Records.{spelling}
 use Rattle.tbl_kinds.specs.Transcript.{entry_spelling, end_bytes, transcript}
 use Rattle.tbl_kinds.specs.State.{State, first_state}
-use Rattle.tbl_kinds.specs.Effects.{Effect, answered}
-use Rattle.tbl_kinds.specs.Commands.{command_effect, housekeeping_effect}
-use Rattle.tbl_kinds.specs.Dispatch.{Given, effect_of}
+use Rattle.tbl_kinds.specs.Effects.{answered}
+use Rattle.tbl_kinds.specs.Commands.{command_effect}
 use Rattle.tbl_kinds.specs.Counts.{Told, counts_of}
 use Rattle.tbl_kinds.specs.Replies.{head_at, packets_of}
 use Rattle.tbl_kinds.specs.History.{Run, begins_at, onward, run_from, IsAnswered, IsLegal, untouched, told_of}
