@@ -74,8 +74,20 @@ fn a_noop_and_housekeeping(rt: HostRuntime) -> Result<(), Fail> {
     assert!(rt; core.is_live());
     assert!(rt; core.history().is_empty());
     plays(&rt, &mut core, &NOOP, ACCEPTED, &event(0, 1, 0, 0))?;
-    plays(&rt, &mut core, &ASK_HOUSEKEEPING, ACCEPTED, &housekeeping(0, 1, 0))?;
-    plays(&rt, &mut core, &ASK_HOUSEKEEPING, ACCEPTED, &housekeeping(1, 1, 0))?;
+    plays(
+        &rt,
+        &mut core,
+        &ASK_HOUSEKEEPING,
+        ACCEPTED,
+        &housekeeping(0, 1, 0),
+    )?;
+    plays(
+        &rt,
+        &mut core,
+        &ASK_HOUSEKEEPING,
+        ACCEPTED,
+        &housekeeping(1, 1, 0),
+    )?;
     plays(&rt, &mut core, &NOOP, ACCEPTED, &event(1, 1, 0, 0))
 }
 
@@ -86,10 +98,28 @@ fn refusals(rt: HostRuntime) -> Result<(), Fail> {
     plays(&rt, &mut core, &SHORT, (bad, 1), &event(0, 2, 80, 1))?;
     plays(&rt, &mut core, &LONGER, (bad, 2), &event(1, 2, 80, 2))?;
     plays(&rt, &mut core, &WRONG_CHECK, (bad, 3), &event(2, 2, 80, 3))?;
-    plays(&rt, &mut core, &ASK_HOUSEKEEPING, ACCEPTED, &housekeeping(0, 0, 3))?;
-    plays(&rt, &mut core, &UNKNOWN, (Status::ERR_BAD_CODE, 10), &event(3, 2, 82, 10))?;
+    plays(
+        &rt,
+        &mut core,
+        &ASK_HOUSEKEEPING,
+        ACCEPTED,
+        &housekeeping(0, 0, 3),
+    )?;
+    plays(
+        &rt,
+        &mut core,
+        &UNKNOWN,
+        (Status::ERR_BAD_CODE, 10),
+        &event(3, 2, 82, 10),
+    )?;
     plays(&rt, &mut core, &NOOP, ACCEPTED, &event(4, 1, 0, 0))?;
-    plays(&rt, &mut core, &ASK_HOUSEKEEPING, ACCEPTED, &housekeeping(1, 1, 4))
+    plays(
+        &rt,
+        &mut core,
+        &ASK_HOUSEKEEPING,
+        ACCEPTED,
+        &housekeeping(1, 1, 4),
+    )
 }
 
 #[test]
@@ -98,5 +128,11 @@ fn the_command_counter_wraps(rt: HostRuntime) -> Result<(), Fail> {
     for count in 0..=255 {
         plays(&rt, &mut core, &NOOP, ACCEPTED, &event(count, 1, 0, 0))?;
     }
-    plays(&rt, &mut core, &ASK_HOUSEKEEPING, ACCEPTED, &housekeeping(0, 0, 0))
+    plays(
+        &rt,
+        &mut core,
+        &ASK_HOUSEKEEPING,
+        ACCEPTED,
+        &housekeeping(0, 0, 0),
+    )
 }
