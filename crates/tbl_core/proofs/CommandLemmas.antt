@@ -1,19 +1,19 @@
 -- Each way to end a command plays it.
-use Rattle.std.proofs.Common.{◌≡◌, ℕ, eqb, Bool, true, false, List, [], refl, sym, ap, ◌∙◌}
+use Rattle.std.proofs.Common.{◌≡◌, ℕ, eqb, true, false, [], sym, ap, ◌∙◌}
 use Rattle.tbl_kinds.specs.Buffers.{Buffer}
 use Rattle.tbl_kinds.specs.State.{State}
 use Rattle.tbl_kinds.specs.Requests.{Fits}
 use Rattle.tbl_kinds.specs.Statuses.{is_success}
 use Rattle.tbl_kinds.specs.Packets.{telemetry_packet, event_id, housekeeping_id}
 use Rattle.tbl_kinds.specs.Telemetry.{event_body, housekeeping_body}
-use Rattle.tbl_kinds.specs.Effects.{Effect, answered}
+use Rattle.tbl_kinds.specs.Effects.{answered}
 use Rattle.tbl_kinds.specs.Commands.{command_effect, is_housekeeping_request, is_noop, housekeeping_effect}
 use Rattle.tbl_kinds.specs.Events.{event}
-use Rattle.tbl_kinds.specs.Counts.{Counts, counts_of}
-use Rattle.tbl_kinds.specs.CountsAfter.{no_tally, tally_of, counts_after}
+use Rattle.tbl_kinds.specs.Counts.{Counts}
+use Rattle.tbl_kinds.specs.CountsAfter.{no_tally, counts_after}
 use Rattle.tbl_kinds.specs.Replies.{head_at, housekeeping_of}
 use Rattle.tbl_core.specs.Service.{Kept, Plays, Enters}
-use Rattle.tbl_core.proofs.Steps.{told, Did, did_play}
+use Rattle.tbl_core.proofs.Steps.{did_play}
 use Rattle.tbl_core.proofs.Packets.{refused_packets, refused_tally, noop_packets, noop_tally, housekeeping_packets, housekeeping_tally}
 use Rattle.tbl_kinds.specs.declared.request.Actor.{Actor}
 use Rattle.tbl_kinds.specs.declared.request.Request.TheVariants.{Command}

@@ -1,5 +1,5 @@
 -- The packets of each kind of reply, and what it adds to the counts.
-use Rattle.std.proofs.Common.{◌≡◌, ℕ, ◌+◌, ◌%◌, eqb, Bool, true, false, cond, not, ◌&&◌, List, [], ◌∷◌, ◌++◌, length, Option, Some, None, refl, sym, ap, subst, ◌∙◌, append_assoc, add-zero}
+use Rattle.std.proofs.Common.{◌≡◌, ℕ, ◌+◌, ◌%◌, eqb, true, false, ◌&&◌, List, [], ◌∷◌, ◌++◌, length, refl, ap, ◌∙◌, add-zero}
 use Rattle.std.specs.Prelude.{count_by, sum_by}
 use Rattle.std.specs.List.{after_last}
 use Rattle.std.proofs.lemmas.Bool.{eqb-true, and_parts, and_right}
@@ -10,11 +10,11 @@ use Rattle.tbl_kinds.specs.State.{State}
 use Rattle.tbl_kinds.specs.Statuses.{is_success}
 use Rattle.tbl_kinds.specs.Packets.{telemetry_packet, event_id, housekeeping_id, command_id, housekeeping_request_id, packet_id, packet_code}
 use Rattle.tbl_kinds.specs.Telemetry.{event_body, housekeeping_body}
-use Rattle.tbl_kinds.specs.Effects.{Effect, answered}
+use Rattle.tbl_kinds.specs.Effects.{answered}
 use Rattle.tbl_kinds.specs.Commands.{is_housekeeping_request, is_noop, housekeeping_effect}
 use Rattle.tbl_kinds.specs.Events.{event}
-use Rattle.tbl_kinds.specs.Counts.{Told, Counts, counts_of, is_command, clears_counters, adds_accepted, adds_refused, adds_request, deeds_by, is_finished, is_finished_well, is_finished_badly}
-use Rattle.tbl_kinds.specs.CountsAfter.{Tally, no_tally, tally_of, counts_after}
+use Rattle.tbl_kinds.specs.Counts.{Told, counts_of, is_command, clears_counters, adds_accepted, adds_refused, adds_request, deeds_by, is_finished, is_finished_well, is_finished_badly}
+use Rattle.tbl_kinds.specs.CountsAfter.{no_tally, tally_of, counts_after}
 use Rattle.tbl_kinds.specs.Replies.{head_at, housekeeping_of, packets_of}
 use Rattle.tbl_kinds.proofs.CountsLaws.{counts_push}
 use Rattle.tbl_core.proofs.Steps.{told}

@@ -1,15 +1,15 @@
 -- From what a step did to the core to the legal history.
-use Rattle.std.proofs.Common.{◌≡◌, ℕ, Bool, true, false, cond, List, [], ◌∷◌, ◌++◌, Option, Some, None, Result, Ok, Err, refl, sym, ap, subst, ◌∙◌}
+use Rattle.std.proofs.Common.{◌≡◌, false, List, [], ◌∷◌, ◌++◌, None, Result, Ok, Err, refl, sym, ap, subst, ◌∙◌}
 use Rattle.std.specs.Prelude.{OnOk}
 use Rattle.tbl_kinds.specs.State.{State}
 use Rattle.tbl_kinds.specs.Requests.{Fits}
 use Rattle.tbl_kinds.specs.Records.{IsBuilt}
 use Rattle.tbl_kinds.specs.Effects.{Effect}
 use Rattle.tbl_kinds.specs.Dispatch.{Given, effect_of}
-use Rattle.tbl_kinds.specs.Counts.{Told, Counts, counts_of}
+use Rattle.tbl_kinds.specs.Counts.{Told, counts_of}
 use Rattle.tbl_kinds.specs.CountsAfter.{tally_of, counts_after}
 use Rattle.tbl_kinds.specs.Replies.{packets_of}
-use Rattle.tbl_kinds.specs.History.{Run, begins_at, told_of, onward, run_from, untouched, IsAnswered, AreAnswered, IsLegal}
+use Rattle.tbl_kinds.specs.History.{Run, begins_at, onward, run_from, untouched, IsAnswered, AreAnswered}
 use Rattle.tbl_kinds.proofs.CountsLaws.{counts_push}
 use Rattle.tbl_kinds.proofs.HistoryLaws.{run_push, answered_push}
 use Rattle.tbl_core.specs.Service.{Kept, Shows, StandsFor, Plays, entry_of}

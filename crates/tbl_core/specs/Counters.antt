@@ -1,5 +1,4 @@
 -- What the running numbers stand for.
-use Rattle.std.specs.Prelude.{ℕ, [], false, None}
 use Rattle.tbl_kinds.specs.Counts.{Counts, no_counts}
 use Rattle.tbl_kinds.specs.CountsAfter.{Tally as Adds, no_tally}
 use Rattle.tbl_core.specs.declared.counters.Counters.{Counters}

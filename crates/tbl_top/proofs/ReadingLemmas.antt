@@ -1,10 +1,9 @@
 -- One read more, and the whole reading.
-use Rattle.std.proofs.Common.{◌≡◌, ℕ, ◌+◌, ◌*◌, ◌<◌, ◌≤◌, List, [], ◌∷◌, ◌++◌, length, Option, Some, None, refl, sym, ap, subst, ◌∙◌, append_assoc, arith, inl, inr}
+use Rattle.std.proofs.Common.{◌≡◌, ℕ, ◌+◌, ◌<◌, ◌≤◌, List, [], ◌∷◌, ◌++◌, length, Option, Some, None, refl, sym, ap, ◌∙◌, arith, inl, inr}
 use Rattle.std.proofs.lemmas.List.{append-nil, length-append, length-map}
 use Rattle.std.specs.Io.KnownBytes.{prepend_known}
 use Rattle.tbl_kinds.specs.Records.{joined}
 use Rattle.tbl_kinds.specs.Transcript.{pair_of, pairs_of}
-use Rattle.tbl_kinds.specs.Heads.{IsShort}
 use Rattle.tbl_kinds.proofs.RecordLaws.{short-length}
 use Rattle.tbl_top.specs.Playing.{Playing, IsBeginning, consumed, Streams, IsSession}
 use Rattle.tbl_top.proofs.PlayingLemmas.{joined_bound}

@@ -1,21 +1,19 @@
 -- From the end of the reading to the session that was told.
-use Rattle.std.proofs.Common.{◌≡◌, ◌≢◌, ℕ, ◌<◌, ◌≤◌, eqb, Bool, true, false, List, [], ◌∷◌, ◌++◌, length, Option, Some, None, refl, sym, ap, subst, ◌∙◌, append_assoc, arith, ◌⊎◌, inl, inr}
+use Rattle.std.proofs.Common.{◌≡◌, ◌≢◌, ℕ, eqb, Bool, true, false, List, [], ◌++◌, length, Option, refl, sym, ap, subst, ◌∙◌, arith, ◌⊎◌, inl, inr}
 use Rattle.std.specs.Prelude.{if◌then◌else◌}
 use Rattle.std.specs.Io.KnownBytes.{append_known}
 use Rattle.std.proofs.lemmas.Bool.{eqb-true}
 use Rattle.std.proofs.lemmas.List.{nil_from_length, length-map}
 use Rattle.tbl_kinds.specs.State.{State}
-use Rattle.tbl_kinds.specs.Records.{joined, record_limit}
 use Rattle.std.proofs.lemmas.Bool.Decides.{nat_tests}
 use Rattle.tbl_kinds.specs.Heads.{IsShort, IsBad, is_short, is_bad, EndsBefore}
 use Rattle.tbl_kinds.proofs.RecordLaws.{are_records}
 use Rattle.tbl_kinds.specs.Transcript.{pair_of, pairs_of, entries_bytes, end_bytes, offset_of, transcript}
 use Rattle.tbl_kinds.specs.History.{IsLegal}
 use Rattle.tbl_core.specs.Service.{Kept, StandsFor}
-use Rattle.tbl_outside.specs.Counts.{Rose}
 use Rattle.tbl_outside.specs.Streams.{TakesFront}
 use Rattle.tbl_outside.proofs.Streams.{append_known-nil, written_more, front_of_first, front_of_second, front_of_whole}
-use Rattle.tbl_top.specs.Playing.{Playing, IsBeginning, IsSession, consumed, IsWritten, IsFrontWritten}
+use Rattle.tbl_top.specs.Playing.{Playing, IsBeginning, IsSession, consumed, IsWritten}
 use Rattle.tbl_top.specs.Reading.{Leaves, IsKept, EndsReading, TellsEnd, status_for, WritesEnd, Finishes}
 use Rattle.tbl_top.specs.Session.{IsStatus, IsEnded, IsBrokenOff, EndsAs, IsExact, Tells, Session}
 use Rattle.tbl_top.proofs.CompletenessLemmas.{bad_is_some}

@@ -1,4 +1,4 @@
-use Rattle.std.proofs.Common.{length, ap, sym, ◌∙◌, ◌-◌, refl}
+use Rattle.std.proofs.Common.{length, ap, ◌-◌}
 use Rattle.tbl_top.proofs.WritingLemmas.{wrote_last}
 use Rattle.tbl_top.proofs.playing.play.Goals as goal
 

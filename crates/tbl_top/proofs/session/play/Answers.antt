@@ -1,4 +1,4 @@
-use Rattle.std.proofs.Common.{[], ap, ◌∙◌, sym, refl}
+use Rattle.std.proofs.Common.{[]}
 use Rattle.std.specs.Io.KnownBytes.{IsAtEnd}
 use Rattle.tbl_kinds.specs.State.{first_state}
 use Rattle.tbl_top.proofs.SessionLemmas.{session_of, nothing_written}

@@ -1,4 +1,4 @@
-use Rattle.std.proofs.Common.{length, ap, ◌∙◌, arith}
+use Rattle.std.proofs.Common.{length, ap, arith}
 use Rattle.std.proofs.lemmas.List.{length-append}
 use Rattle.tbl_top.proofs.PlayingLemmas.{end_length}
 use Rattle.tbl_top.proofs.player.Player.tell_end.Goals as goal
