@@ -25,7 +25,7 @@ none_past n all h = grind (arith, nat_tests)
 past_none : (n all : ℕ) → IsNone (cond (nat_lt n all) (Some n) None) → all ≤ n
 past_none n all h = grind (arith, nat_tests)
 
-none_where_full : {X : Type 0} (places : List (Option X)) → IsNone (position is_none places) ↔ (count_by is_some places ≡ length places)
+pub none_where_full : {X : Type 0} (places : List (Option X)) → IsNone (position is_none places) ↔ (count_by is_some places ≡ length places)
 none_where_full places = (
   λ none. all_taken places (past_none (position_or_len is_none places) (length places) none),
   λ full. none_past (position_or_len is_none places) (length places) (none_free places full),

@@ -1,10 +1,12 @@
 //! Command packets.
 
-ghost use Rattle.std.specs.Prelude.{◌≡◌, ◌<◌, None, Some, IfOk, OnOk, IfErr};
-ghost use Rattle.tbl_kinds.specs.Packets.{packet_flaw, packet_id, packet_code, checksum};
+ghost use Rattle.std.specs.Prelude.{◌≡◌, ◌+◌, ◌<◌, ◌≤◌, ◌++◌, None, Some, length, bit_xor, IfOk, OnOk, IfErr};
+ghost use Rattle.std.specs.List.{fold};
+ghost use Rattle.tbl_kinds.specs.Packets.{packet_flaw, packet_id, packet_code, command_packet};
 ghost use Rattle.cfe_headers.specs.Faults.{flaw_of};
 
-use crate::primary::{LENGTH_LESS, u16_at};
+use crate::primary::{LENGTH_LESS, put_primary, u16_at};
+use tbl_kinds::Bytes;
 use thiserror::Error;
 
 /// What a command packet carries in its headers (CCSDS 133.0-B; cFE's `CFE_MSG_CommandSecondaryHeader`). The payload is the bytes from place 8.
@@ -30,11 +32,11 @@ pub enum PacketFault {
     BadCheck,
 }
 
-/// The exclusive or of 0xFF and all bytes.
-fn checksum_of(bytes: &[u8]) -> u8
-    ensures { result ≡ checksum bytes.now }
+/// The exclusive or of a sum and all bytes. The checksum of a packet begins with 0xFF.
+fn checksum_from(sum: u8, bytes: &[u8]) -> u8
+    ensures { result ≡ fold bit_xor sum bytes.now }
 {
-    bytes.iter().fold(0xFF, |sum, byte| sum ^ *byte)
+    bytes.iter().fold(sum, |sum, byte| sum ^ *byte)
 }
 
 /// Reads the headers of a command packet, all of the bytes. The sequence flags, the sequence count and the high bit
@@ -46,6 +48,7 @@ pub fn read_packet(bytes: &[u8]) -> Result<CmdPacket, PacketFault>
     ensures id { IfOk result (λ packet. packet.id ≡ packet_id bytes.now) }
     ensures code { IfOk result (λ packet. packet.code ≡ packet_code bytes.now) }
     ensures code_fits { IfOk result (λ packet. packet.code < 128) }
+    ensures within { OnOk result (length bytes.now ≤ 65542) }
 {
     if bytes.len() < 8 {
         return Err(PacketFault::Short);
@@ -53,11 +56,31 @@ pub fn read_packet(bytes: &[u8]) -> Result<CmdPacket, PacketFault>
     if u16_at(bytes, 4) as usize + LENGTH_LESS as usize != bytes.len() {
         return Err(PacketFault::BadLength);
     }
-    if checksum_of(bytes) != 0 {
+    if checksum_from(0xFF, bytes) != 0 {
         return Err(PacketFault::BadCheck);
     }
     Ok(CmdPacket {
         id: u16_at(bytes, 0),
         code: bytes[6] % 128,
     })
+}
+
+/// Appends a command packet: the primary header, the function code, the check byte that makes the checksum 0, and the
+/// payload.
+pub fn write_cmd(out: &mut Bytes, id: u16, count: u16, code: u8, payload: &[u8])
+    requires room { 8 + length payload.now ≤ out.old.spare }
+    requires count { count < 16384 }
+    requires code { code < 128 }
+    requires payload { length payload.now ≤ 65000 }
+    ensures bytes { out.new.list ≡ out.old.list ++ command_packet id count code payload.now }
+    ensures room { out.old.spare ≤ out.new.spare + (8 + length payload.now) }
+    ensures len { length out.new.list ≡ length out.old.list + (8 + length payload.now) }
+{
+    let start = out.bytes().len();
+    put_primary(out, id, count, 8 + payload.len() as u16);
+    out.append(&[code]);
+    let (_, front) = out.bytes().split_at(start);
+    let sum = checksum_from(0xFF, front);
+    out.append(&[checksum_from(sum, payload)]);
+    out.append(payload);
 }

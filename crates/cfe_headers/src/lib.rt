@@ -1,12 +1,19 @@
-//! Packets between values and bytes: a command packet is read exactly where it is whole, with the first flaw
-//! named else, and a telemetry packet is written as its one spelling.
+//! CCSDS packets and cFE file headers between values and bytes: command packets and file headers are read exactly where
+//! they are whole, with the first flaw named else, and each packet and header is written in its one spelling.
 #![tactic(auto)]
 
 mod command;
+mod file;
+mod laws;
 mod primary;
 mod telemetry;
 
-pub use command::{CmdPacket, PacketFault, read_packet};
+pub use command::{CmdPacket, PacketFault, read_packet, write_cmd};
+pub use file::{FileHeader, HeaderFault, read_file_header, write_file_header};
+pub use laws::{
+    command_packets_are_read, what_is_read_is_a_command_packet, what_is_read_is_a_header,
+    written_commands_are_command_packets, written_headers_are_read,
+};
 pub use telemetry::write_tlm;
 
 #[cfg(test)]

@@ -1,17 +1,63 @@
 -- What is read from a head and a body is spelled by them.
-use Rattle.std.proofs.Common.{◌≡◌, ℕ, zero, suc, ◌+◌, ◌<◌, ◌≤◌, List, [], ◌∷◌, ◌++◌, length, get_or, take, drop, refl, sym, ap, ◌∙◌, arith}
+use Rattle.std.proofs.Common.{◌≡◌, ℕ, zero, suc, ◌+◌, ◌<◌, ◌≤◌, true, false, ◌&&◌, ◌||◌, List, [], ◌∷◌, ◌++◌, length, get_or, take, drop, refl, sym, ap, ◌∙◌, arith}
+use Rattle.std.specs.Prelude.{nat_le}
+use Rattle.std.proofs.lemmas.Bool.Decides.{nat_tests}
 use Rattle.std.proofs.lemmas.List.{length-take}
 use Rattle.std.proofs.lemmas.Nat.{be_bytes_2}
 use Rattle.std.proofs.Math.Seq.{take-append-add}
 use Rattle.tbl_kinds.specs.Numbers.{two, byte_at}
-use Rattle.tbl_kinds.specs.Heads.{stated_len}
-use Rattle.tbl_kinds.specs.Records.{Pair, kind_of, actor_number, body_of, spelling}
+use Rattle.tbl_kinds.specs.Requests.{IsFromGround, HasNoValidator255, Fits}
+use Rattle.tbl_kinds.specs.Records.{Pair, IsBuilt, IsRecord, kind_of, actor_number, body_of, spelling}
+use Rattle.tbl_kinds.specs.Heads.{is_good_head, stated_len}
+use Rattle.tbl_kinds.proofs.RecordLaws.{good_within}
 use Rattle.tbl_kinds.specs.declared.request.Actor.{Actor}
+use Rattle.tbl_kinds.specs.declared.request.Actor.TheVariants.{App}
 use Rattle.tbl_kinds.specs.declared.request.Request.{Request}
-use Rattle.session_records.specs.Reading.{actor_at}
+use Rattle.tbl_kinds.specs.declared.request.Request.TheVariants as ask
+use Rattle.session_records.specs.Reading.{actor_at, IsSpelledBy}
 
 pub number_of_actor : (number : ℕ) → actor_number (actor_at number) ≡ number
 number_of_actor number = grind arith
+
+-- an application that may make the request, by its number
+app_fits : (number : ℕ) (request : Request) → 1 ≤ number → number ≤ 16 → ¬ IsFromGround request → HasNoValidator255 request → Fits (actor_at number) request
+app_fits number request low high other none =
+    let app : actor_at number ≡ App number = grind (arith, nat_tests) in
+    rw app (low, high, other, none)
+
+-- what the head of an application's kind says of its sender
+app_sender : (number len least most : ℕ) → ((nat_le 1 number && nat_le number 16 && nat_le least len && nat_le len most) || false) ≡ true → (1 ≤ number) × (number ≤ 16)
+app_sender number len least most e = (grind (arith, nat_tests), grind (arith, nat_tests))
+
+-- a good head's sender may make the request of its kind
+sender_fits : (number len : ℕ) (request : Request) → IsBuilt request → HasNoValidator255 request → is_good_head (kind_of request) number len ≡ true → Fits (actor_at number) request
+unfolding is_good_head
+sender_fits number len (ask.Command bytes) built none good = let ground : number ≡ 0 = grind (arith, nat_tests) in rw ground tt
+sender_fits number len (ask.Start name) built none good =
+    let a = app_sender number len 20 20 good in app_fits number (ask.Start name) a.0 a.1 (λ no. no) none
+sender_fits number len (ask.Register name size flags validator) built none good =
+    let a = app_sender number len 23 23 good in app_fits number (ask.Register name size flags validator) a.0 a.1 (λ no. no) none
+sender_fits number len (ask.LoadImage handle image) built none good =
+    let a = app_sender number len 2 32832 good in app_fits number (ask.LoadImage handle image) a.0 a.1 (λ no. no) none
+sender_fits number len (ask.Get handle) built none good =
+    let a = app_sender number len 2 2 good in app_fits number (ask.Get handle) a.0 a.1 (λ no. no) none
+sender_fits number len (ask.Read handle offset count) built none good =
+    let a = app_sender number len 10 10 good in app_fits number (ask.Read handle offset count) a.0 a.1 (λ no. no) none
+sender_fits number len (ask.Release handle) built none good =
+    let a = app_sender number len 2 2 good in app_fits number (ask.Release handle) a.0 a.1 (λ no. no) none
+sender_fits number len request built none good = absurd built
+
+-- a request that a good head and its body spell makes a record with the head's sender
+pub is_record : (kind number : ℕ) (body : List ℕ) (actor : Actor) (request : Request) → is_good_head kind number (length body) ≡ true → actor ≡ actor_at number → IsSpelledBy kind body request
+    → IsRecord (record { actor = actor; request = request })
+is_record kind number body actor request good actor-is s =
+    let head : is_good_head (kind_of request) number (length body) ≡ true = rw s.kind_is good in
+    record {
+      built = s.built;
+      fits = rw actor-is (sender_fits number (length body) request s.built s.no_validator_255 head);
+      sized = s.sized;
+      within = omega (arith, good_within kind number (length body) good, ap length s.body_is);
+    }
 
 -- the bytes at the front of an input tell this pair
 pub record Tells (bytes : List ℕ) (p : Pair) : Type 0 where
@@ -42,11 +88,11 @@ spelled bytes p t = absurd (omega (arith, t.whole))
 -- the head of the bytes and a body behind it tell this pair
 pub tells : (bytes body : List ℕ) (actor : Actor) (request : Request) (kind number len : ℕ) → ((i : ℕ) → get_or bytes i 0 < 256) → 4 + len ≤ length bytes
     → kind ≡ byte_at 0 bytes → number ≡ byte_at 1 bytes → len ≡ stated_len bytes → body ≡ take len (drop 4 bytes)
-    → kind_of request ≡ kind → actor ≡ actor_at number → body_of request ≡ body → Tells bytes (record { actor = actor; request = request })
-tells bytes body actor request kind number len fits whole k n l b kind-is actor-is body-is = record {
+    → actor ≡ actor_at number → IsSpelledBy kind body request → Tells bytes (record { actor = actor; request = request })
+tells bytes body actor request kind number len fits whole k n l b actor-is s = record {
   fits = fits;
-  kind = kind-is ∙ k;
+  kind = s.kind_is ∙ k;
   actor = ap actor_number actor-is ∙ number_of_actor number ∙ n;
-  body = body-is ∙ b ∙ ap (λ m. take m (drop 4 bytes)) l;
+  body = s.body_is ∙ b ∙ ap (λ m. take m (drop 4 bytes)) l;
   whole = omega (arith, l, whole);
 }

@@ -1,8 +1,10 @@
 -- What is read at the front of an input.
-use Rattle.std.specs.Prelude.{ℕ, ◌==◌, if◌then◌else◌}
-use Rattle.tbl_kinds.specs.Records.{Pair}
+use Rattle.std.specs.Prelude.{◌≡◌, ℕ, ◌==◌, List, if◌then◌else◌}
+use Rattle.tbl_kinds.specs.Requests.{HasNoValidator255}
+use Rattle.tbl_kinds.specs.Records.{Pair, IsBuilt, IsSized, kind_of, body_of}
 use Rattle.tbl_kinds.specs.declared.request.Actor.{Actor}
 use Rattle.tbl_kinds.specs.declared.request.Actor.TheVariants.{Ground, App}
+use Rattle.tbl_kinds.specs.declared.request.Request.{Request}
 use Rattle.session_records.specs.declared.reading.Next.{Next}
 use Rattle.session_records.specs.declared.reading.Next.TheVariants.{Item}
 
@@ -14,3 +16,11 @@ actor_at number = if number == 0 then Ground else App number
 abbrev pub IfItem : Next → (Pair → ℕ → Type 0) → Type 0
 IfItem (Item actor request used) P = P (record { actor = actor; request = request }) used
 IfItem _ P = Unit {0}
+
+-- the request's record has this kind and this body
+pub record IsSpelledBy (kind : ℕ) (body : List ℕ) (request : Request) : Type 0 where
+  pub built : IsBuilt request
+  pub sized : IsSized request
+  pub no_validator_255 : HasNoValidator255 request
+  pub kind_is : kind_of request ≡ kind
+  pub body_is : body_of request ≡ body

@@ -41,8 +41,14 @@ impl Head {
         ensures { result ≡ heads.is_good_head self.kind self.actor self.len }
     {
         let from_ground = self.actor == 0;
+        let from_app = 1 <= self.actor && self.actor <= 16;
         match self.kind {
             0x01 => from_ground && self.len <= BODY_LIMIT,
+            0x10 => from_app && self.len == 20,
+            0x11 => from_app && self.len == 23,
+            0x14 => from_app && 2 <= self.len && self.len <= BODY_LIMIT,
+            0x1B | 0x1D => from_app && self.len == 2,
+            0x1C => from_app && self.len == 10,
             _ => false,
         }
     }

@@ -1,11 +1,16 @@
 ghost use Rattle.std.specs.Prelude.{◌≡◌, ℕ, ◌<◌, ◌≤◌, List, [], ◌++◌, length, map};
 ghost use Rattle.std.specs.List.{AllByRecursion};
-ghost use Rattle.tbl_kinds.specs.Records.{Pair, IsRecord, spelling, joined, record_limit, AreRecords};
+ghost use Rattle.tbl_kinds.specs.Records.{Pair, IsRecord, spelling, without_room, joined, record_limit, AreRecords};
 ghost use Rattle.tbl_kinds.specs.Heads.{IsShort, IsBad, BeginsNone, EndsBefore};
 
 /// No record's spelling is a proper prefix of another's.
 pub fn spellings_stand_apart()
     ensures { (p q : Pair) (x y : List ℕ) → IsRecord p → IsRecord q → spelling p ++ x ≡ spelling q ++ y → (spelling p ≡ spelling q) × (x ≡ y) }
+{}
+
+/// A spelling is of one request of one actor: any two are equal, but for the room reserved behind their bytes.
+pub fn a_spelling_is_of_one_request()
+    ensures { (p q : Pair) → IsRecord p → IsRecord q → spelling p ≡ spelling q → (p.actor ≡ q.actor) × (without_room p.request ≡ without_room q.request) }
 {}
 
 /// Where the bytes are none, short or bad, no record's spelling begins them.

@@ -1,8 +1,10 @@
-ghost use Rattle.std.specs.Prelude.{◌≡◌, ◌↔◌, ℕ, ◌≤◌, ◌∷◌, ◌++◌, [], length, take, IfOk, OnErr, IfSome, IsTrue, is_some, Ok};
-ghost use Rattle.tbl_kinds.specs.Records.{Pair, IsRecord, IsBuilt, kind_of, body_of, spelling};
-ghost use Rattle.tbl_kinds.specs.Heads.{IsShort, IsBad, is_good_head, is_right_body};
-ghost use Rattle.session_records.specs.Reading.{IfItem, actor_at};
+ghost use Rattle.std.specs.Prelude.{◌≡◌, ◌↔◌, ◌≤◌, [], length, take, IfOk, OnErr, IfSome, IsTrue, is_some, Ok};
+ghost use Rattle.tbl_kinds.specs.Numbers.{two};
+ghost use Rattle.tbl_kinds.specs.Records.{IsRecord, spelling};
+ghost use Rattle.tbl_kinds.specs.Heads.{IsShort, IsBad, is_name_field, has_name, is_good_head, is_right_body};
+ghost use Rattle.session_records.specs.Reading.{IfItem, IsSpelledBy};
 
+use crate::fields::{read_four, read_name, read_two, read_validator};
 use crate::head::{HEAD_LEN, Head, actor_of};
 use std::alloc::Global;
 use tbl_kinds::{Actor, Bytes, Memory, Request};
@@ -32,21 +34,92 @@ fn copy_of(alloc: Global, piece: &[u8]) -> Result<Bytes, Memory>
     Ok(bytes)
 }
 
+fn command(alloc: Global, body: &[u8]) -> Result<Request, Memory>
+    ensures { IfOk result (λ request. IsSpelledBy 0x01 body.now request) }
+{
+    let bytes = copy_of(alloc, body)?;
+    Ok(Request::Command { bytes })
+}
+
+fn start(body: &[u8]) -> Option<Request>
+    requires { length body.now ≡ 20 }
+    ensures right { is_some result ≡ is_name_field body.now }
+    ensures spelled { IfSome result (λ request. IsSpelledBy 0x10 body.now request) }
+{
+    let name = read_name::<20>(body)?;
+    Some(Request::Start { name })
+}
+
+fn register(body: &[u8]) -> Option<Request>
+    requires { length body.now ≡ 23 }
+    ensures right { is_some result ≡ has_name 0 16 body.now }
+    ensures spelled { IfSome result (λ request. IsSpelledBy 0x11 body.now request) }
+{
+    let (field, rest) = body.split_at(16);
+    let name = read_name::<16>(field)?;
+    let (size, rest) = read_four(rest);
+    let (flags, rest) = read_two(rest);
+    let validator = read_validator(rest);
+    Some(Request::Register {
+        name,
+        size,
+        flags,
+        validator,
+    })
+}
+
+fn load_image(alloc: Global, body: &[u8]) -> Result<Request, Memory>
+    requires { 2 ≤ length body.now }
+    ensures { IfOk result (λ request. IsSpelledBy 0x14 body.now request) }
+{
+    let (handle, rest) = read_two(body);
+    let image = copy_of(alloc, rest)?;
+    Ok(Request::LoadImage { handle, image })
+}
+
+fn read(body: &[u8]) -> Request
+    requires { length body.now ≡ 10 }
+    ensures { IsSpelledBy 0x1C body.now result }
+{
+    let (handle, rest) = read_two(body);
+    let (offset, rest) = read_four(rest);
+    let (len, _) = read_four(rest);
+    Request::Read {
+        handle,
+        offset,
+        len,
+    }
+}
+
+/// The handle that a body of two bytes is.
+fn handle_in(body: &[u8]) -> u16
+    requires { length body.now ≡ 2 }
+    ensures { body.now ≡ two result }
+{
+    let (handle, _) = read_two(body);
+    handle
+}
+
 /// The request that a body of this kind spells, if it is of the right form.
 #[tactic(auto, unfolding(tbl_kinds::specs::Heads::is_right_body, tbl_kinds::specs::Heads::is_good_head))]
 fn request_of(alloc: Global, head: Head, body: &[u8]) -> Result<Option<Request>, Memory>
     requires { IsTrue (is_good_head head.kind head.actor (length body.now)) }
     ensures right { IfOk result (λ found. is_some found ≡ is_right_body head.kind body.now) }
-    ensures kind { IfOk result (λ found. IfSome found (λ request. kind_of request ≡ head.kind)) }
-    ensures body { IfOk result (λ found. IfSome found (λ request. body_of request ≡ body.now)) }
-    ensures is_record { IfOk result (λ found. IfSome found (λ request. IsRecord (record { actor = actor_at head.actor; request = request }))) }
+    ensures spelled { IfOk result (λ found. IfSome found (λ request. IsSpelledBy head.kind body.now request)) }
     ensures memory { OnErr result (IsTrue (is_right_body head.kind body.now)) }
 {
     match head.kind {
-        0x01 => {
-            let bytes = copy_of(alloc, body)?;
-            Ok(Some(Request::Command { bytes }))
-        }
+        0x01 => Ok(Some(command(alloc, body)?)),
+        0x10 => Ok(start(body)),
+        0x11 => Ok(register(body)),
+        0x14 => Ok(Some(load_image(alloc, body)?)),
+        0x1B => Ok(Some(Request::Get {
+            handle: handle_in(body),
+        })),
+        0x1C => Ok(Some(read(body))),
+        0x1D => Ok(Some(Request::Release {
+            handle: handle_in(body),
+        })),
         _ => Ok(None),
     }
 }

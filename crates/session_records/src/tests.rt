@@ -1,12 +1,47 @@
+ghost use Rattle.std.specs.Prelude.{◌≤◌, length};
+ghost use Rattle.tbl_kinds.specs.Requests.{Fits};
+ghost use Rattle.tbl_kinds.specs.Records.{IsBuilt, body_of, body_limit};
+
 use super::*;
 use std::test::Fail;
-use tbl_kinds::{Actor, Bytes, Request};
+use tbl_kinds::{Actor, Bytes, Name, Request};
 
 /// The records of a NOOP and of a housekeeping request.
 const INPUT: [u8; 24] = [
     0x01, 0x00, 0x00, 0x08, 0x18, 0x04, 0xC0, 0x00, 0x00, 0x01, 0x00, 0x22, 0x01, 0x00, 0x00, 0x08,
     0x18, 0x0C, 0xC0, 0x00, 0x00, 0x01, 0x00, 0x2A,
 ];
+
+/// Application 1 starts as `AB`.
+const START: [u8; 24] = [
+    0x10, 0x01, 0x00, 0x14, 0x41, 0x42, 0, 0, 0, 0, 0, 0, 0, 0, 0, 0, 0, 0, 0, 0, 0, 0, 0, 0,
+];
+
+/// Application 1 registers `T` of 4 bytes, critical, without a validator.
+const REGISTER: [u8; 27] = [
+    0x11, 0x01, 0x00, 0x17, 0x54, 0, 0, 0, 0, 0, 0, 0, 0, 0, 0, 0, 0, 0, 0, 0, 0, 0, 0, 0x04, 0x00,
+    0x08, 0xFF,
+];
+
+/// Application 16 loads the image 01020304 under handle 258.
+const LOAD_IMAGE: [u8; 10] = [0x14, 0x10, 0x00, 0x06, 0x01, 0x02, 0x01, 0x02, 0x03, 0x04];
+
+/// Application 2 reads 64 bytes from place 65,536 on under handle 3.
+const READ: [u8; 14] = [
+    0x1C, 0x02, 0x00, 0x0A, 0x00, 0x03, 0x00, 0x01, 0x00, 0x00, 0x00, 0x00, 0x00, 0x40,
+];
+
+/// Application 2 takes the address of a table, and gives it back.
+const GET: [u8; 6] = [0x1B, 0x02, 0x00, 0x02, 0x00, 0x03];
+
+const RELEASE: [u8; 6] = [0x1D, 0x02, 0x00, 0x02, 0x00, 0x03];
+
+fn item(rt: &HostRuntime, bytes: &[u8]) -> Result<Request, Fail> {
+    match next_record(rt.alloc(), bytes)? {
+        Next::Item { request, .. } => Ok(request),
+        _ => Err("a record stands here".into()),
+    }
+}
 
 #[test]
 fn reads_records(rt: HostRuntime) -> Result<(), Fail> {
@@ -65,5 +100,151 @@ fn writes_records(rt: HostRuntime) -> Result<(), Fail> {
         write_record(&mut out, Actor::Ground, &Request::Command { bytes })?;
     }
     assert_eq!(rt; out.bytes(), INPUT.as_slice());
+    Ok(())
+}
+
+#[test]
+fn reads_requests_of_applications(rt: HostRuntime) -> Result<(), Fail> {
+    match item(&rt, &START)? {
+        Request::Start { name } => assert_eq!(rt; name.bytes(), b"AB".as_slice()),
+        _ => return Err("Start".into()),
+    }
+    match item(&rt, &REGISTER)? {
+        Request::Register {
+            name,
+            size: 4,
+            flags: 8,
+            validator: None,
+        } => assert_eq!(rt; name.bytes(), b"T".as_slice()),
+        _ => return Err("Register".into()),
+    }
+    match item(&rt, &LOAD_IMAGE)? {
+        Request::LoadImage { handle: 258, image } => {
+            assert_eq!(rt; image.bytes(), [1, 2, 3, 4].as_slice())
+        }
+        _ => return Err("LoadImage".into()),
+    }
+    assert!(rt;
+        matches!(
+            item(&rt, &READ)?,
+            Request::Read {
+                handle: 3,
+                offset: 65_536,
+                len: 64
+            }
+        )
+    );
+    assert!(rt; matches!(item(&rt, &GET)?, Request::Get { handle: 3 }));
+    assert!(rt; matches!(item(&rt, &RELEASE)?, Request::Release { handle: 3 }));
+    Ok(())
+}
+
+fn written(rt: &HostRuntime, actor: Actor, request: Request) -> Result<Bytes, Fail>
+    requires built { IsBuilt request }
+    requires fits { Fits actor request }
+    requires within { length (body_of request) ≤ body_limit }
+{
+    let mut out = Bytes::make(rt.alloc(), 0)?;
+    write_record(&mut out, actor, &request)?;
+    Ok(out)
+}
+
+#[test]
+fn writes_requests_of_applications(rt: HostRuntime) -> Result<(), Fail> {
+    let name = Name::of(b"AB");
+    let start = written(&rt, Actor::App(1), Request::Start { name })?;
+    assert_eq!(rt; start.bytes(), START.as_slice());
+    let register = Request::Register {
+        name: Name::of(b"T"),
+        size: 4,
+        flags: 8,
+        validator: None,
+    };
+    let register = written(&rt, Actor::App(1), register)?;
+    assert_eq!(rt; register.bytes(), REGISTER.as_slice());
+    let mut image = Bytes::make(rt.alloc(), 4)?;
+    image.append(&[1, 2, 3, 4]);
+    let load = written(
+        &rt,
+        Actor::App(16),
+        Request::LoadImage { handle: 258, image },
+    )?;
+    assert_eq!(rt; load.bytes(), LOAD_IMAGE.as_slice());
+    let read = Request::Read {
+        handle: 3,
+        offset: 65_536,
+        len: 64,
+    };
+    let read = written(&rt, Actor::App(2), read)?;
+    assert_eq!(rt; read.bytes(), READ.as_slice());
+    let get = written(&rt, Actor::App(2), Request::Get { handle: 3 })?;
+    assert_eq!(rt; get.bytes(), GET.as_slice());
+    let release = written(&rt, Actor::App(2), Request::Release { handle: 3 })?;
+    assert_eq!(rt; release.bytes(), RELEASE.as_slice());
+    Ok(())
+}
+
+/// Whether a body of this length may follow, after a head alone.
+fn allows(rt: &HostRuntime, kind: u8, actor: u8, len: u16) -> Result<bool, Fail> {
+    let [high, low] = len.to_be_bytes();
+    let next = next_record(rt.alloc(), &[kind, actor, high, low])?;
+    Ok(matches!(next, Next::Short))
+}
+
+#[test]
+fn tells_the_lengths_of_bodies(rt: HostRuntime) -> Result<(), Fail> {
+    for (kind, least, most) in [
+        (0x10u8, 20u16, 20u16),
+        (0x11, 23, 23),
+        (0x14, 2, 32_832),
+        (0x1B, 2, 2),
+        (0x1C, 10, 10),
+        (0x1D, 2, 2),
+    ] {
+        for (actor, may) in [(0u8, false), (1, true), (16, true), (17, false)] {
+            for (len, is_right) in [
+                (least - 1, false),
+                (least, may),
+                (most, may),
+                (most + 1, false),
+            ] {
+                assert_eq!(rt;
+                    allows(&rt, kind, actor, len)?,
+                    is_right,
+                    "{kind} of {actor}, {len}"
+                );
+            }
+        }
+    }
+    Ok(())
+}
+
+#[test]
+fn a_part_of_a_record_is_short(rt: HostRuntime) -> Result<(), Fail> {
+    for len in 1..27 {
+        let next = next_record(rt.alloc(), &REGISTER[..len])?;
+        assert!(rt; matches!(next, Next::Short), "{len} bytes");
+    }
+    Ok(())
+}
+
+#[test]
+fn a_byte_behind_a_name_is_bad(rt: HostRuntime) -> Result<(), Fail> {
+    for place in 6..24 {
+        let mut start = START;
+        start[place] = 0x42;
+        start[5] = 0;
+        assert!(rt;
+            matches!(next_record(rt.alloc(), &start)?, Next::Bad),
+            "at {place}"
+        );
+        assert!(rt;
+            matches!(next_record(rt.alloc(), &start[..23])?, Next::Short),
+            "at {place}"
+        );
+    }
+    let mut register = REGISTER;
+    register[19] = 0x54;
+    assert!(rt; matches!(next_record(rt.alloc(), &register)?, Next::Bad));
     Ok(())
 }

@@ -1,10 +1,13 @@
-ghost use Rattle.std.specs.Prelude.{◌≡◌, ◌≤◌, ◌++◌, length, OnOk, OnErr};
+ghost use Rattle.std.specs.Prelude.{◌≡◌, ◌+◌, ◌≤◌, ◌++◌, length, OnOk, OnErr};
+ghost use Rattle.tbl_kinds.specs.Names.{name_field};
 ghost use Rattle.tbl_kinds.specs.Requests.{Fits};
 ghost use Rattle.tbl_kinds.specs.Records as records;
-ghost use Rattle.tbl_kinds.specs.Records.{IsBuilt, body_of, body_limit, head_of, spelling};
+ghost use Rattle.tbl_kinds.specs.Records.{IsBuilt, IsSized, IsRecord, body_of, body_limit, spelling};
+ghost use Rattle.tbl_kinds.specs.declared.request.Request.TheVariants as ask;
 
+use crate::fields::{append_four, append_name, append_two, append_validator, field_len};
 use crate::head::HEAD_LEN;
-use tbl_kinds::{Actor, Bytes, Memory, Request};
+use tbl_kinds::{Actor, Bytes, Memory, Name16, Request};
 
 fn kind_of(request: &Request) -> u8
     requires { IsBuilt request.now }
@@ -12,6 +15,12 @@ fn kind_of(request: &Request) -> u8
 {
     match request {
         Request::Command { .. } => 0x01,
+        Request::Start { .. } => 0x10,
+        Request::Register { .. } => 0x11,
+        Request::LoadImage { .. } => 0x14,
+        Request::Get { .. } => 0x1B,
+        Request::Read { .. } => 0x1C,
+        Request::Release { .. } => 0x1D,
         _ => unreachable!(),
     }
 }
@@ -25,23 +34,75 @@ fn number_of(actor: Actor) -> u8
     }
 }
 
-fn body_len(request: &Request) -> usize
+/// How many bytes the body of the request's record has. The record can be written where they are at most
+/// [`BODY_LIMIT`](crate::BODY_LIMIT).
+pub fn body_len(request: &Request) -> usize
     requires { IsBuilt request.now }
     ensures { result ≡ length (body_of request.now) }
 {
     match request {
         Request::Command { bytes } => bytes.bytes().len(),
+        Request::Start { name } => field_len(name),
+        Request::Register { name, .. } => field_len(name) + 7,
+        Request::LoadImage { image, .. } => 2 + image.bytes().len(),
+        Request::Get { .. } | Request::Release { .. } => 2,
+        Request::Read { .. } => 10,
         _ => unreachable!(),
     }
+}
+
+fn append_register(out: &mut Bytes, name: &Name16, size: u32, flags: u16, validator: Option<u8>)
+    requires { length (name_field 16 name.now) + 7 ≤ out.old.spare }
+    ensures bytes { out.new.list ≡ out.old.list ++ body_of (ask.Register name.now size flags validator) }
+    ensures sized { IsSized (ask.Register name.now size flags validator) }
+{
+    append_name(out, name);
+    append_four(out, size);
+    append_two(out, flags);
+    append_validator(out, validator);
+}
+
+fn append_image(out: &mut Bytes, handle: u16, image: &Bytes)
+    requires { 2 + length image.now.list ≤ out.old.spare }
+    ensures bytes { out.new.list ≡ out.old.list ++ body_of (ask.LoadImage handle image.now) }
+    ensures sized { IsSized (ask.LoadImage handle image.now) }
+{
+    append_two(out, handle);
+    out.append(image.bytes());
+}
+
+fn append_read(out: &mut Bytes, handle: u16, offset: u32, len: u32)
+    requires { 10 ≤ out.old.spare }
+    ensures bytes { out.new.list ≡ out.old.list ++ body_of (ask.Read handle offset len) }
+    ensures sized { IsSized (ask.Read handle offset len) }
+{
+    append_two(out, handle);
+    append_four(out, offset);
+    append_four(out, len);
 }
 
 fn append_body(out: &mut Bytes, request: &Request)
     requires built { IsBuilt request.now }
     requires room { length (body_of request.now) ≤ out.old.spare }
-    ensures { out.new.list ≡ out.old.list ++ body_of request.now }
+    ensures bytes { out.new.list ≡ out.old.list ++ body_of request.now }
+    ensures sized { IsSized request.now }
 {
     match request {
         Request::Command { bytes } => out.append(bytes.bytes()),
+        Request::Start { name } => append_name(out, name),
+        Request::Register {
+            name,
+            size,
+            flags,
+            validator,
+        } => append_register(out, name, *size, *flags, *validator),
+        Request::LoadImage { handle, image } => append_image(out, *handle, image),
+        Request::Get { handle } | Request::Release { handle } => append_two(out, *handle),
+        Request::Read {
+            handle,
+            offset,
+            len,
+        } => append_read(out, *handle, *offset, *len),
         _ => unreachable!(),
     }
 }
@@ -53,6 +114,7 @@ pub fn write_record(out: &mut Bytes, actor: Actor, request: &Request) -> Result<
     requires fits { Fits actor request.now }
     requires within { length (body_of request.now) ≤ body_limit }
     ensures ok { OnOk result (out.new.list ≡ out.old.list ++ spelling (record { actor = actor; request = request.now })) }
+    ensures is_record { OnOk result (IsRecord (record { actor = actor; request = request.now })) }
     ensures err { OnErr result (out.new ≡ out.old) }
 {
     let len = body_len(request);

@@ -1,5 +1,5 @@
 -- From what a step did to the core to the legal history.
-use Rattle.std.proofs.Common.{◌≡◌, false, List, [], ◌∷◌, ◌++◌, None, Result, Ok, Err, refl, sym, ap, subst, ◌∙◌}
+use Rattle.std.proofs.Common.{◌≡◌, suc, false, List, [], ◌∷◌, ◌++◌, length, None, Result, Ok, Err, refl, sym, ap, subst, ◌∙◌, length-append, arith}
 use Rattle.std.specs.Prelude.{OnOk}
 use Rattle.tbl_kinds.specs.State.{State}
 use Rattle.tbl_kinds.specs.Requests.{Fits}
@@ -12,15 +12,13 @@ use Rattle.tbl_kinds.specs.Replies.{packets_of}
 use Rattle.tbl_kinds.specs.History.{Run, begins_at, onward, run_from, untouched, IsAnswered, AreAnswered}
 use Rattle.tbl_kinds.proofs.CountsLaws.{counts_push}
 use Rattle.tbl_kinds.proofs.HistoryLaws.{run_push, answered_push}
-use Rattle.tbl_core.specs.Service.{Kept, Shows, StandsFor, Plays, entry_of}
+use Rattle.tbl_core.specs.Log.{entry_of}
+use Rattle.tbl_core.specs.Service.{Kept, Shows, StandsFor, Plays, HasFewImages, told}
+use Rattle.tbl_core.proofs.Ordinary.{IsOrdinary, ordinary}
 use Rattle.tbl_kinds.specs.declared.request.Actor.{Actor}
 use Rattle.tbl_kinds.specs.declared.request.Request.{Request}
 use Rattle.tbl_kinds.specs.declared.entry.Entry.{Entry}
 use Rattle.tbl_kinds.specs.declared.entry.Reply.{Reply}
-
--- a request with this effect, told from this state
-abbrev pub told : State → Actor → Request → Effect → Told
-told s actor request effect = record { actor = actor; request = request; before = s; effect = effect }
 
 -- nothing came from the outside
 abbrev pub none_given : Given
@@ -31,6 +29,7 @@ pub record Did (old new : Kept) (actor : Actor) (request : Request) (reply : Rep
   pub built : IsBuilt request
   pub fits : Fits actor request
   pub live : old.state.ended ≡ false
+  pub few : HasFewImages old.state.tables (length old.entries)
   pub effect_is : effect_of old.state actor request none_given ≡ effect
   pub status : reply.status ≡ effect.status
   pub detail : reply.detail ≡ effect.detail
@@ -38,12 +37,14 @@ pub record Did (old new : Kept) (actor : Actor) (request : Request) (reply : Rep
   pub packets : (past : List Told) → counts_of past ≡ old.counts → reply.packets.list ≡ packets_of past (told old.state actor request effect)
   pub entries : new.entries ≡ old.entries ++ entry_of actor request reply ∷ []
   pub next : new.state ≡ effect.next
-  pub goes_on : effect.next.ended ≡ false
   pub counts : new.counts ≡ counts_after old.counts (tally_of (told old.state actor request effect))
 
 module _ (old new : Kept) (actor : Actor) (request : Request) (reply : Reply) (effect : Effect) (did : Did old new actor request reply effect) where
-  run_at : State → List Told → Run
-  run_at s past = record { state = s; past = past }
+  goes_on : IsOrdinary (length old.entries) effect
+  goes_on = subst (λ (e : Effect). IsOrdinary (length old.entries) e) did.effect_is (ordinary old.state (length old.entries) did.live did.few actor request none_given)
+
+  one_more : length new.entries ≡ suc (length old.entries)
+  one_more = ap length did.entries ∙ omega (arith, length-append old.entries (entry_of actor request reply ∷ []))
 
   answered_here : (past : List Told) → counts_of past ≡ old.counts → IsAnswered (record { state = old.state; past = past }) (entry_of actor request reply)
   answered_here past counted =
@@ -66,7 +67,8 @@ module _ (old new : Kept) (actor : Actor) (request : Request) (reply : Reply) (e
     request_is = refl;
     added = did.entries;
     answered = λ r shown. subst (λ (s : State). IsAnswered (record { state = s; past = r.past }) (entry_of actor request reply)) (sym shown.state) (answered_here r.past shown.counts);
-    live = ap (λ (s : State). s.ended) did.next ∙ did.goes_on;
+    live = ap (λ (s : State). s.ended) did.next ∙ goes_on.live;
+    few = rw (did.next, one_more) goes_on.few;
     shows = λ r shown. subst (λ (s : State). Shows new (onward (record { state = s; past = r.past }) (entry_of actor request reply))) (sym shown.state) (shows_here r.past shown.counts);
   }
 

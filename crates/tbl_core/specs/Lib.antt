@@ -1,2 +1,4 @@
 pub mod Counters
+pub mod Loads
+pub mod Log
 pub mod Service

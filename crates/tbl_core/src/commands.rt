@@ -1,212 +1,150 @@
 //! Telecommands.
 
-ghost use Rattle.std.specs.Prelude.{◌≡◌, false, true, ℕ, ◌+◌, ◌<◌, ◌==◌, [], ◌∷◌, ◌++◌, length, IfOk, OnOk, OnErr};
+ghost use Rattle.std.specs.Prelude.{◌≡◌, false, length, Ok, OnOk, OnErr};
 ghost use Rattle.tbl_kinds.specs.State.{State};
-ghost use Rattle.tbl_kinds.specs.Requests.{Fits};
 ghost use Rattle.tbl_kinds.specs.Statuses.{is_success};
-ghost use Rattle.tbl_kinds.specs.Packets.{telemetry_packet, event_id, housekeeping_id};
-ghost use Rattle.tbl_kinds.specs.Telemetry.{event_body, housekeeping_body};
 ghost use Rattle.tbl_kinds.specs.Effects.{answered};
-ghost use Rattle.tbl_kinds.specs.Commands.{command_effect, flaw_number as number_of_flaw, is_housekeeping_request, is_noop, housekeeping_effect};
-ghost use Rattle.tbl_kinds.specs.Replies.{head_at, housekeeping_of};
-ghost use Rattle.cfe_headers.specs.Faults.{flaw_of};
-ghost use Rattle.tbl_core.specs.Service.{Plays, IsSmallReply};
-ghost use Rattle.tbl_kinds.specs.declared.status.TheConstants.Status.{INFO_STOPPED};
+ghost use Rattle.tbl_kinds.specs.GroundCommands.{housekeeping, noop, reset_counters, command_in};
+ghost use Rattle.tbl_kinds.specs.Commands.{asks_housekeeping, asked_code, command_effect};
+ghost use Rattle.tbl_kinds.specs.CountsAfter.{tally_of};
+ghost use Rattle.tbl_core.specs.Counters.{tally_view};
+ghost use Rattle.tbl_core.specs.Service.{Plays, HasFewImages, kept_of, told};
 
 use crate::counters::Tally;
-use crate::service::{Core, StepFault};
-use cfe_headers::{PacketFault, read_packet};
-use tbl_kinds::{Actor, Bytes, Event, Memory, Reply, Request, Status, TlmHead};
-use tlm_packets::{write_event, write_housekeeping};
-
-/// The message id of telecommands.
-const COMMAND_ID: u16 = 0x1804;
-
-/// The message id that asks for housekeeping.
-const HOUSEKEEPING_REQUEST_ID: u16 = 0x180C;
-
-/// The function code of NOOP.
-const NOOP: u8 = 0;
+use crate::parts::Parts;
+use crate::replies::{reply_with_event, reply_with_housekeeping};
+use crate::service::StepFault;
+use cmd_packets::{Ground, read_command};
+use tbl_kinds::{Actor, Answer, Bytes, Event, Request, Status};
 
 /// The row field of an event that is about no table.
 const NO_ROW: u16 = 0xFFFF;
 
-/// The length of an event packet and of a housekeeping packet.
-const EVENT_LENGTH: usize = 24;
-
-const HOUSEKEEPING_LENGTH: usize = 290;
-
-/// The detail that tells what is wrong with a packet.
-fn flaw_number(fault: PacketFault) -> u32
-    ensures { result ≡ number_of_flaw (flaw_of fault) }
+/// The refusal of a command that isn't built yet: its function code is the detail.
+fn not_built(code: u8) -> Answer
+    ensures status { result.status ≡ Status.ERR_BAD_CODE }
+    ensures detail { result.detail ≡ code }
 {
-    match fault {
-        PacketFault::Short => 1,
-        PacketFault::BadLength => 2,
-        PacketFault::BadCheck => 3,
+    Answer {
+        status: Status::ERR_BAD_CODE,
+        detail: u32::from(code),
     }
 }
 
-impl Core {
+impl Parts {
     /// Plays a telecommand.
-    #[tactic(auto, unfolding(tbl_kinds::specs::Commands::command_effect))]
-    pub(crate) fn command(&mut self, actor: Actor, bytes: Bytes) -> Result<(), StepFault>
-        requires fits { Fits actor (Request.Command bytes) }
-        requires live { self.old.state.ended ≡ false }
-        ensures plays { OnOk result (Plays self.old self.new actor (Request.Command bytes)) }
-        ensures err { OnErr result (self.new ≡ self.old) }
+    pub(crate) fn command(&mut self, bytes: Bytes) -> Result<(), StepFault>
+        requires few { HasFewImages self.old.tables (length self.old.log.entries) }
+        ensures plays { OnOk result (Plays (kept_of self.old) (kept_of self.new) Actor.Ground (Request.Command bytes)) }
+        ensures err { OnErr result (kept_of self.new ≡ kept_of self.old) }
     {
-        let packet = match read_packet(bytes.bytes()) {
-            Ok(packet) => packet,
-            Err(fault) => return self.refuse(
-                actor,
-                bytes,
-                Status::ERR_BAD_PACKET,
-                flaw_number(fault),
-            ),
-        };
-        let whole = bytes.bytes().len() == 8;
-        if packet.id == HOUSEKEEPING_REQUEST_ID && whole {
-            self.housekeeping(actor, bytes)
-        } else if packet.id == COMMAND_ID && packet.code == NOOP && whole {
-            self.noop(actor, bytes)
-        } else {
-            self.refuse(actor, bytes, Status::ERR_BAD_CODE, u32::from(packet.code))
+        match read_command(bytes.bytes()) {
+            Err(fault) => self.refuse(bytes, fault.answer()),
+            Ok(Ground::Housekeeping) => self.housekeeping(bytes),
+            Ok(Ground::Noop) => self.noop(bytes),
+            Ok(Ground::ResetCounters) => self.reset_counters(bytes),
+            Ok(Ground::Load { .. }) => self.refuse(bytes, not_built(2)),
+            Ok(Ground::Dump { .. }) => self.refuse(bytes, not_built(3)),
+            Ok(Ground::Validate { .. }) => self.refuse(bytes, not_built(4)),
+            Ok(Ground::Activate { .. }) => self.refuse(bytes, not_built(5)),
+            Ok(Ground::DumpRegistry { .. }) => self.refuse(bytes, not_built(6)),
+            Ok(Ground::SendRegistry { .. }) => self.refuse(bytes, not_built(7)),
+            Ok(Ground::DeleteCds { .. }) => self.refuse(bytes, not_built(8)),
+            Ok(Ground::Abort { .. }) => self.refuse(bytes, not_built(9)),
         }
     }
 
     /// Refuses a command.
-    fn refuse(
-        &mut self,
-        actor: Actor,
-        bytes: Bytes,
-        status: Status,
-        detail: u32,
-    ) -> Result<(), StepFault>
-        requires fits { Fits actor (Request.Command bytes) }
-        requires live { self.old.state.ended ≡ false }
-        requires refuses { is_success status ≡ false }
-        requires goes_on { (status.0 == INFO_STOPPED.0) ≡ false }
-        requires effect { (s : State) → command_effect s bytes.list ≡ answered s status detail }
-        ensures plays { OnOk result (Plays self.old self.new actor (Request.Command bytes)) }
-        ensures err { OnErr result (self.new ≡ self.old) }
+    fn refuse(&mut self, bytes: Bytes, answer: Answer) -> Result<(), StepFault>
+        requires few { HasFewImages self.old.tables (length self.old.log.entries) }
+        requires refuses { is_success answer.status ≡ false }
+        requires effect { (s : State) → command_effect s bytes.list ≡ answered s answer.status answer.detail }
+        ensures plays { OnOk result (Plays (kept_of self.old) (kept_of self.new) Actor.Ground (Request.Command bytes)) }
+        ensures err { OnErr result (kept_of self.new ≡ kept_of self.old) }
     {
         let event = Event {
             number: 2,
-            status,
+            status: answer.status,
             row: NO_ROW,
-            detail,
+            detail: answer.detail,
         };
-        let reply = self.reply_with_event(&event, detail)?;
+        let reply = reply_with_event(&mut self.log, self.alloc, &event, answer.detail)?;
         let tally = Tally {
-            accepted: false,
             refused: true,
             events: 1,
-            housekeeping: false,
+            ..Tally::none()
         };
-        self.enter(actor, Request::Command { bytes }, reply, tally)
+        self.log
+            .enter(Actor::Ground, Request::Command { bytes }, reply, tally);
+        Ok(())
     }
 
-    /// Accepts a NOOP.
-    fn noop(&mut self, actor: Actor, bytes: Bytes) -> Result<(), StepFault>
-        requires fits { Fits actor (Request.Command bytes) }
-        requires live { self.old.state.ended ≡ false }
-        requires asks { is_noop bytes.list ≡ true }
+    /// Accepts a command that only counts.
+    fn accept(&mut self, bytes: Bytes, code: u8, tally: Tally) -> Result<(), StepFault>
+        requires few { HasFewImages self.old.tables (length self.old.log.entries) }
         requires effect { (s : State) → command_effect s bytes.list ≡ answered s Status.SUCCESS 0 }
-        ensures plays { OnOk result (Plays self.old self.new actor (Request.Command bytes)) }
-        ensures err { OnErr result (self.new ≡ self.old) }
+        requires sends { asks_housekeeping (command_in bytes.list) ≡ false }
+        requires code { asked_code (command_in bytes.list) ≡ code }
+        requires tally { (s : State) → tally_of (told s Actor.Ground (Request.Command bytes) (answered s Status.SUCCESS 0)) ≡ tally_view tally }
+        ensures plays { OnOk result (Plays (kept_of self.old) (kept_of self.new) Actor.Ground (Request.Command bytes)) }
+        ensures err { OnErr result (kept_of self.new ≡ kept_of self.old) }
     {
         let event = Event {
             number: 1,
             status: Status::SUCCESS,
             row: NO_ROW,
-            detail: NOOP as u32,
+            detail: code as u32,
         };
-        let reply = self.reply_with_event(&event, 0)?;
+        let reply = reply_with_event(&mut self.log, self.alloc, &event, 0)?;
+        self.log
+            .enter(Actor::Ground, Request::Command { bytes }, reply, tally);
+        Ok(())
+    }
+
+    /// Accepts a NOOP.
+    fn noop(&mut self, bytes: Bytes) -> Result<(), StepFault>
+        requires few { HasFewImages self.old.tables (length self.old.log.entries) }
+        requires asked { command_in bytes.list ≡ Ok noop }
+        ensures plays { OnOk result (Plays (kept_of self.old) (kept_of self.new) Actor.Ground (Request.Command bytes)) }
+        ensures err { OnErr result (kept_of self.new ≡ kept_of self.old) }
+    {
         let tally = Tally {
             accepted: true,
-            refused: false,
             events: 1,
-            housekeeping: false,
+            ..Tally::none()
         };
-        self.enter(actor, Request::Command { bytes }, reply, tally)
+        self.accept(bytes, 0, tally)
+    }
+
+    /// Clears the counters of commands and of validations.
+    fn reset_counters(&mut self, bytes: Bytes) -> Result<(), StepFault>
+        requires few { HasFewImages self.old.tables (length self.old.log.entries) }
+        requires asked { command_in bytes.list ≡ Ok reset_counters }
+        ensures plays { OnOk result (Plays (kept_of self.old) (kept_of self.new) Actor.Ground (Request.Command bytes)) }
+        ensures err { OnErr result (kept_of self.new ≡ kept_of self.old) }
+    {
+        let tally = Tally {
+            cleared: true,
+            events: 1,
+            ..Tally::none()
+        };
+        self.accept(bytes, 1, tally)
     }
 
     /// Sends a housekeeping packet.
-    fn housekeeping(&mut self, actor: Actor, bytes: Bytes) -> Result<(), StepFault>
-        requires fits { Fits actor (Request.Command bytes) }
-        requires live { self.old.state.ended ≡ false }
-        requires asks { is_housekeeping_request bytes.list ≡ true }
-        requires effect { (s : State) → command_effect s bytes.list ≡ housekeeping_effect s }
-        ensures plays { OnOk result (Plays self.old self.new actor (Request.Command bytes)) }
-        ensures err { OnErr result (self.new ≡ self.old) }
+    fn housekeeping(&mut self, bytes: Bytes) -> Result<(), StepFault>
+        requires few { HasFewImages self.old.tables (length self.old.log.entries) }
+        requires asked { command_in bytes.list ≡ Ok housekeeping }
+        ensures plays { OnOk result (Plays (kept_of self.old) (kept_of self.new) Actor.Ground (Request.Command bytes)) }
+        ensures err { OnErr result (kept_of self.new ≡ kept_of self.old) }
     {
-        let reply = self.reply_with_housekeeping()?;
+        let reply = reply_with_housekeeping(&mut self.log, self.alloc, &self.tables)?;
         let tally = Tally {
-            accepted: false,
-            refused: false,
-            events: 0,
             housekeeping: true,
+            ..Tally::none()
         };
-        self.enter(actor, Request::Command { bytes }, reply, tally)
-    }
-
-    /// A reply whose one packet is this event, with its status; of an accepted command the detail is 0.
-    fn reply_with_event(&self, event: &Event, detail: u32) -> Result<Reply, StepFault>
-        ensures status { IfOk result (λ reply. reply.status ≡ event.now.status) }
-        ensures detail { IfOk result (λ reply. reply.detail ≡ detail) }
-        ensures bytes { IfOk result (λ reply. reply.bytes.list ≡ []) }
-        ensures packets { IfOk result (λ reply. reply.packets.list ≡ telemetry_packet event_id (head_at self.now.state self.now.counts.events) (event_body event.now)) }
-        ensures small { IfOk result IsSmallReply }
-    {
-        let mut packets = self.room(EVENT_LENGTH)?;
-        let bytes = self.room(0)?;
-        let head = TlmHead {
-            count: self.counters.events,
-            seconds: 0,
-            sub: 0,
-        };
-        write_event(&mut packets, &head, event);
-        Ok(Reply {
-            status: event.status,
-            detail,
-            bytes,
-            packets,
-        })
-    }
-
-    /// A reply whose one packet is housekeeping.
-    fn reply_with_housekeeping(&self) -> Result<Reply, StepFault>
-        ensures status { IfOk result (λ reply. reply.status ≡ Status.SUCCESS) }
-        ensures detail { IfOk result (λ reply. reply.detail ≡ 0) }
-        ensures bytes { IfOk result (λ reply. reply.bytes.list ≡ []) }
-        ensures packets { IfOk result (λ reply. reply.packets.list ≡ telemetry_packet housekeeping_id (head_at self.now.state self.now.counts.housekeepings) (housekeeping_body (housekeeping_of self.now.counts self.now.state))) }
-        ensures small { IfOk result IsSmallReply }
-    {
-        let mut packets = self.room(HOUSEKEEPING_LENGTH)?;
-        let bytes = self.room(0)?;
-        let head = TlmHead {
-            count: self.counters.housekeepings,
-            seconds: 0,
-            sub: 0,
-        };
-        write_housekeeping(&mut packets, &head, &self.counters.housekeeping());
-        Ok(Reply {
-            status: Status::SUCCESS,
-            detail: 0,
-            bytes,
-            packets,
-        })
-    }
-
-    /// Reserved room for bytes.
-    fn room(&self, room: usize) -> Result<Bytes, StepFault>
-        ensures empty { IfOk result (λ b. b.list ≡ []) }
-        ensures room { IfOk result (λ b. b.spare ≡ room) }
-    {
-        match Bytes::make(self.alloc, room) {
-            Ok(bytes) => Ok(bytes),
-            Err(Memory) => Err(StepFault::Memory),
-        }
+        self.log
+            .enter(Actor::Ground, Request::Command { bytes }, reply, tally);
+        Ok(())
     }
 }

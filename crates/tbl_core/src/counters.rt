@@ -1,22 +1,41 @@
 //! The running numbers of telemetry.
 
-ghost use Rattle.std.specs.Prelude.{◌≡◌, ◌<◌, []};
-ghost use Rattle.tbl_kinds.specs.CountsAfter.{counts_after};
+ghost use Rattle.std.specs.Prelude.{◌≡◌, ◌+◌, ◌%◌, ◌<◌, [], unwrap_or, if◌then◌else◌};
+ghost use Rattle.tbl_kinds.specs.CountsAfter.{bit, counts_after};
 ghost use Rattle.tbl_kinds.specs.Counts.{no_counts};
-ghost use Rattle.tbl_kinds.specs.State.{first_state};
-ghost use Rattle.tbl_kinds.specs.Replies.{housekeeping_of};
 
-use tbl_kinds::{Housekeeping, Name};
+use tbl_kinds::Name40;
 
 /// Sequence counts have 14 bits (CCSDS 133.0-B, "Packet Sequence Count").
 const SEQUENCE_COUNTS: u16 = 16_384;
 
-/// The working buffers that tables share.
-const SHARED_BUFFERS: u8 = 4;
+/// An image that went active: when, and of which table.
+#[derive(Debug, Drop)]
+pub(crate) struct Update {
+    pub seconds: u32,
+    pub sub: u16,
+    pub name: Name40,
+}
+
+impl Update {
+    ghost use Rattle.std.specs.Option.{option_map};
+    ghost use Rattle.tbl_core.specs.Counters.{update_view};
+
+    /// The latest update, after a newer one if there is one.
+    fn renew(&mut self, newer: Option<Update>)
+        ensures { update_view self.new ≡ unwrap_or (option_map update_view newer) (update_view self.old) }
+    {
+        if let Some(update) = newer {
+            *self = update;
+        }
+    }
+}
 
 /// What an entry adds to the running numbers.
-#[derive(Clone, Copy, Debug)]
+#[derive(Debug, Drop)]
 pub(crate) struct Tally {
+    /// The counters of commands and of validations were cleared.
+    pub cleared: bool,
     /// A command was accepted that counts.
     pub accepted: bool,
     /// A command was refused.
@@ -25,16 +44,62 @@ pub(crate) struct Tally {
     pub events: u8,
     /// A housekeeping packet was sent.
     pub housekeeping: bool,
+    /// An image went active.
+    pub update: Option<Update>,
+    /// A table was loaded, by its name.
+    pub loaded: Option<Name40>,
 }
 
-/// How many commands were accepted and refused since the counters were cleared, and how many packets of each kind
-/// were sent since the service began.
+impl Tally {
+    ghost use Rattle.tbl_core.specs.Counters.{tally_view};
+    ghost use Rattle.tbl_kinds.specs.CountsAfter.{no_tally};
+
+    /// Nothing is added.
+    pub(crate) fn none() -> Tally
+        ensures { tally_view result ≡ no_tally }
+    {
+        Tally {
+            cleared: false,
+            accepted: false,
+            refused: false,
+            events: 0,
+            housekeeping: false,
+            update: None,
+            loaded: None,
+        }
+    }
+}
+
+/// A counter of one byte: 0 where it was cleared, else one more where one is counted.
+fn counted(known: u8, cleared: bool, more: bool) -> u8
+    ensures { result ≡ (if cleared then 0 else (known + bit more) % 256) }
+{
+    if cleared {
+        0
+    } else {
+        known.wrapping_add(u8::from(more))
+    }
+}
+
+/// The latest name, after a newer one if there is one.
+fn renew_name(known: &mut Name40, newer: Option<Name40>)
+    ensures { known.new ≡ unwrap_or newer known.old }
+{
+    if let Some(name) = newer {
+        *known = name;
+    }
+}
+
+/// How many commands were accepted and refused since the counters were cleared, how many packets of each kind were
+/// sent since the service began, and what was updated and loaded last.
 #[derive(Debug, Drop)]
 pub(crate) struct Counters {
     pub accepted: u8,
     pub refused: u8,
     pub events: u16,
     pub housekeepings: u16,
+    pub update: Update,
+    pub loaded: Name40,
     ghost events_fit: { events < 16384 },
     ghost housekeepings_fit: { housekeepings < 16384 },
 }
@@ -51,6 +116,12 @@ impl Counters {
             refused: 0,
             events: 0,
             housekeepings: 0,
+            update: Update {
+                seconds: 0,
+                sub: 0,
+                name: Name40::of(&[]),
+            },
+            loaded: Name40::of(&[]),
         }
     }
 
@@ -58,36 +129,11 @@ impl Counters {
     pub(crate) fn add(&mut self, tally: Tally)
         ensures { counts_view self.new ≡ counts_after (counts_view self.old) (tally_view tally) }
     {
-        self.accepted = self.accepted.wrapping_add(u8::from(tally.accepted));
-        self.refused = self.refused.wrapping_add(u8::from(tally.refused));
+        self.accepted = counted(self.accepted, tally.cleared, tally.accepted);
+        self.refused = counted(self.refused, tally.cleared, tally.refused);
         self.events = (self.events + u16::from(tally.events)) % SEQUENCE_COUNTS;
         self.housekeepings = (self.housekeepings + u16::from(tally.housekeeping)) % SEQUENCE_COUNTS;
-    }
-
-    /// The body of a housekeeping packet.
-    pub(crate) fn housekeeping(&self) -> Housekeeping
-        ensures { result ≡ housekeeping_of (counts_view self.now) (first_state [] []) }
-    {
-        Housekeeping {
-            accepted: self.accepted,
-            refused: self.refused,
-            tables: 0,
-            loads: 0,
-            finished: 0,
-            check: 0,
-            verdict: 0,
-            active: 0,
-            good: 0,
-            bad: 0,
-            requests: 0,
-            free: SHARED_BUFFERS,
-            seconds: 0,
-            sub: 0,
-            validated: Name::of(&[]),
-            updated: Name::of(&[]),
-            loaded_file: Name::of(&[]),
-            dumped_file: Name::of(&[]),
-            loaded: Name::of(&[]),
-        }
+        self.update.renew(tally.update);
+        renew_name(&mut self.loaded, tally.loaded);
     }
 }

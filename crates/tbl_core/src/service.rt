@@ -1,17 +1,18 @@
-//! The core: its state, and one step.
+//! The core, and one step of it.
 
-ghost use Rattle.std.specs.Prelude.{◌≡◌, false, ℕ, ◌+◌, ◌<◌, ◌≤◌, ◌↔◌, [], ◌∷◌, ◌++◌, length, IsTrue, OnOk, OnErr, All, IsOkUnless};
-ghost use Rattle.tbl_kinds.specs.State.{State, first_state};
+ghost use Rattle.std.specs.Prelude.{◌≡◌, false, ◌+◌, ◌<◌, ◌↔◌, [], ◌∷◌, ◌++◌, length, IsTrue, OnOk, OnErr, All, IfOk, IsOkUnless};
+ghost use Rattle.tbl_kinds.specs.State.{State, first_state, no_tables};
+ghost use Rattle.tbl_kinds.specs.Whole.{IsWhole};
 ghost use Rattle.tbl_kinds.specs.Requests.{Fits};
 ghost use Rattle.tbl_kinds.specs.Records.{IsBuilt, record_limit};
-ghost use Rattle.tbl_core.specs.Counters.{tally_view};
-ghost use Rattle.tbl_core.specs.Service.{StandsFor, Plays, Enters, IsSmall, IsSmallReply};
+ghost use Rattle.tbl_core.specs.Log.{IsSmall};
+ghost use Rattle.tbl_core.specs.Service.{StandsFor};
 ghost use Rattle.tbl_kinds.specs.declared.entry.Entry.{Entry};
 
-use crate::counters::{Counters, Tally};
+use crate::parts::Parts;
 use std::alloc::Global;
 use std::marker::Model;
-use tbl_kinds::{Actor, BankNote, Entry, Outcome, Reply, Request, Slots};
+use tbl_kinds::{Actor, Entry, Memory, Request};
 
 /// Why a step played no request, or was the last one.
 #[derive(Clone, Copy, Debug, PartialEq, Eq)]
@@ -20,12 +21,16 @@ pub enum StepFault {
     Memory,
 }
 
+impl From<Memory> for StepFault {
+    fn from(_: Memory) -> StepFault {
+        StepFault::Memory
+    }
+}
+
 /// The table service: its state and the history of all that was asked and answered.
 #[derive(Debug, Drop)]
 pub struct Core {
-    pub(crate) alloc: Global,
-    pub(crate) entries: Vec<Entry>,
-    pub(crate) counters: Counters,
+    parts: Parts,
 }
 
 impl Model for Core {
@@ -33,29 +38,25 @@ impl Model for Core {
 
     ghost Value = { Kept };
 
-    ghost use Rattle.std.specs.Prelude.{[], All};
-    ghost use Rattle.tbl_kinds.specs.State.{first_state};
-    ghost use Rattle.tbl_core.specs.Counters.{counts_view};
-    ghost use Rattle.tbl_core.specs.Service.{IsSmall};
+    ghost use Rattle.std.specs.Prelude.{length};
+    ghost use Rattle.tbl_core.specs.Service.{kept_of, HasFewImages};
 
-    ghost view = { λ c. record { entries = c.entries.items; state = first_state [] []; counts = counts_view c.counters } };
+    ghost view = { λ c. kept_of c.parts };
 
-    ghost invariant = { λ c. All IsSmall c.entries.items };
+    ghost invariant = { λ c. HasFewImages c.parts.tables (length c.parts.log.entries) };
 }
 
 impl Core {
     /// The service at its start, with an empty history.
     #[tactic(auto, unfolding(tbl_kinds::specs::Counts::counts_of))]
-    pub fn start(alloc: Global) -> Core
-        ensures stands { StandsFor (first_state [] []) result }
-        ensures empty { result.entries ≡ [] }
-        ensures live { result.state.ended ≡ false }
+    pub fn start(alloc: Global) -> Result<Core, Memory>
+        ensures stands { IfOk result (StandsFor (first_state [] [])) }
+        ensures empty { IfOk result (λ core. core.entries ≡ []) }
+        ensures live { IfOk result (λ core. core.state.ended ≡ false) }
     {
-        Core {
-            alloc,
-            entries: Vec::new(alloc),
-            counters: Counters::make(),
-        }
+        Ok(Core {
+            parts: Parts::make(alloc)?,
+        })
     }
 
     /// All that was asked and answered, in order.
@@ -63,19 +64,17 @@ impl Core {
         ensures entries { result.now ≡ self.now.entries }
         ensures small { All IsSmall result.now }
     {
-        self.entries.as_slice()
+        self.parts.log.entries()
     }
 
     /// Whether the service plays a further request: no boot of it has failed or was stopped.
     pub fn is_live(&self) -> bool
         ensures { IsTrue result ↔ (self.now.state.ended ≡ false) }
     {
-        let _state = &self.counters;
-        true
+        self.parts.is_live()
     }
 
     /// Plays one request, and adds its entry to the history.
-    #[tactic(auto, using(crate::proofs::Steps::plays_on, crate::proofs::Steps::adds_one))]
     pub fn step(&mut self, actor: Actor, request: Request) -> Result<(), StepFault>
         requires fits { Fits actor request }
         requires built { IsBuilt request }
@@ -83,62 +82,11 @@ impl Core {
         requires room { length self.old.entries < record_limit }
         ensures adds { OnOk result ((e : Entry) × (self.new.entries ≡ self.old.entries ++ e ∷ []) × (e.actor ≡ actor) × (e.request ≡ request)) }
         ensures legal { OnOk result ((opening : State) → StandsFor opening self.old → StandsFor opening self.new) }
+        ensures whole { OnOk result ((opening : State) → opening.tables ≡ no_tables → StandsFor opening self.old → IsWhole opening self.new.entries) }
         ensures live { OnOk result (self.new.state.ended ≡ false) }
         ensures memory { IsOkUnless result StepFault.Memory }
         ensures err { OnErr result (self.new ≡ self.old) }
     {
-        match self.play(actor, request) {
-            Ok(()) => Ok(()),
-            Err(StepFault::Memory) => Err(StepFault::Memory),
-        }
-    }
-
-    /// The same, seen from each run that the core stood for.
-    fn play(&mut self, actor: Actor, request: Request) -> Result<(), StepFault>
-        requires fits { Fits actor request }
-        requires built { IsBuilt request }
-        requires live { self.old.state.ended ≡ false }
-        ensures plays { OnOk result (Plays self.old self.new actor request) }
-        ensures err { OnErr result (self.new ≡ self.old) }
-    {
-        match request {
-            Request::Command { bytes } => self.command(actor, bytes),
-            _ => unreachable!(),
-        }
-    }
-
-    /// Adds an entry, and counts it.
-    pub(crate) fn enter(
-        &mut self,
-        actor: Actor,
-        request: Request,
-        reply: Reply,
-        tally: Tally,
-    ) -> Result<(), StepFault>
-        requires small { IsSmallReply reply }
-        ensures enters { OnOk result (Enters self.old self.new actor request reply (tally_view tally)) }
-        ensures err { OnErr result (self.new ≡ self.old) }
-    {
-        if self.entries.reserve(1).is_err() {
-            return Err(StepFault::Memory);
-        }
-        let note = BankNote {
-            outcome: Outcome::Untouched,
-            done: 0,
-            gate: false,
-            old: false,
-            ended: false,
-            restored: None,
-            found: Slots::make(),
-        };
-        self.entries.push_reserved(Entry {
-            actor,
-            request,
-            reply,
-            note,
-            verdicts: [None, None],
-        });
-        self.counters.add(tally);
-        Ok(())
+        self.parts.play(actor, request)
     }
 }

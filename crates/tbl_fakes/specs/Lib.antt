@@ -1,2 +1,5 @@
+pub mod Banks
 pub mod Calls
 pub mod Contents
+pub mod Past
+pub mod Troubles

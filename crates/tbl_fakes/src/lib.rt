@@ -3,14 +3,22 @@
 #![tactic(auto)]
 
 mod calm;
+mod calm_bank;
+mod mem_bank;
 mod mem_sink;
 mod mem_source;
+mod past;
 mod plan;
 mod supply;
+mod troubles;
 
 pub use calm::{CalmSink, CalmSource};
+pub use calm_bank::CalmBank;
+pub use mem_bank::MemBank;
 pub use mem_sink::MemSink;
 pub use mem_source::MemSource;
+pub use past::Span;
+pub use troubles::Break;
 
 #[cfg(test)]
 mod tests;

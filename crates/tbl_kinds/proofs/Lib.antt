@@ -1,4 +1,5 @@
 pub mod Names
+pub mod NameFields
 pub mod CountsLaws
 pub mod HistoryLaws
 pub mod RecordLaws

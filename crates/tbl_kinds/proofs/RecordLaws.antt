@@ -1,16 +1,18 @@
 -- The laws of session records.
-use Rattle.std.proofs.Common.{◌≡◌, ℕ, ◌+◌, ◌<◌, ◌≤◌, Bool, true, false, not, ◌&&◌, ◌||◌, List, [], ◌∷◌, ◌++◌, length, map, refl, sym, ap, ◌∙◌, append_assoc, arith, ◌⊎◌, inl, inr, rules}
-use Rattle.std.specs.Prelude.{◌==◌, nat_lt, nat_le}
+use Rattle.std.proofs.Common.{◌≡◌, ◌≢◌, ℕ, ◌+◌, ◌<◌, ◌≤◌, ◌^◌, Bool, true, false, not, ◌&&◌, ◌||◌, List, [], ◌∷◌, ◌++◌, length, map, take, drop, Option, Some, None, refl, sym, ap, ◌∙◌, append_assoc, arith, ◌⊎◌, inl, inr, rules}
+use Rattle.std.specs.Prelude.{◌==◌, nat_lt, nat_le, if◌then◌else◌}
 use Rattle.std.specs.List.{AllByRecursion, list_any}
-use Rattle.std.proofs.lemmas.List.{append-nil, length-append, take-append-le}
+use Rattle.std.proofs.lemmas.List.{append-nil, length-append, take-append-le, take_at, drop_at}
 use Rattle.std.proofs.lemmas.Bool.{le-leb, le-ltb, leb-true, ltb-true, leb-false}
 use Rattle.std.proofs.lemmas.Bool.Decides.{nat_tests}
-use Rattle.std.proofs.lemmas.Nat.{from_be_bytes-to_be_bytes_2}
+use Rattle.std.proofs.lemmas.Nat.{from_be_bytes-to_be_bytes_2, from_be_bytes-to_be_bytes_4}
 use Rattle.std.proofs.Math.Seq.{take-append_seam, drop-append_seam}
-use Rattle.tbl_kinds.specs.Numbers.{byte_at, piece}
-use Rattle.tbl_kinds.specs.Records.{Pair, IsBuilt, IsRecord, kind_of, actor_number, body_of, body_limit, head_of, spelling, joined, record_limit, AreRecords}
-use Rattle.tbl_kinds.specs.Requests.{Fits}
-use Rattle.tbl_kinds.specs.Heads.{Kind, kinds, allows, is_sender, head_len, is_good_head, is_right_body, has_good_head, has_right_body, is_whole, stated_len, is_short, is_bad, IsShort, IsBad, BeginsNone, EndsBefore}
+use Rattle.tbl_kinds.specs.Names.{name_in, name_field}
+use Rattle.tbl_kinds.specs.Numbers.{two, four, byte_at, two_at, four_at, piece}
+use Rattle.tbl_kinds.specs.Records.{Pair, IsBuilt, FitsField, IsSized, IsRecord, kind_of, actor_number, validator_number, body_of, body_limit, head_of, spelling, without_room, joined, record_limit, AreRecords}
+use Rattle.tbl_kinds.specs.Requests.{HasNoValidator255, Fits}
+use Rattle.tbl_kinds.specs.Heads.{Kind, is_name_field, has_name, kinds, allows, is_sender, head_len, is_good_head, is_right_body, has_good_head, has_right_body, is_whole, stated_len, is_short, is_bad, IsShort, IsBad, BeginsNone, EndsBefore}
+use Rattle.tbl_kinds.proofs.NameFields.{length-name_field, name_in-name_field, is_name_field-name_field}
 use Rattle.tbl_kinds.specs.declared.request.Actor.{Actor}
 use Rattle.tbl_kinds.specs.declared.request.Actor.TheVariants.{Ground, App}
 use Rattle.tbl_kinds.specs.declared.request.Request.{Request}
@@ -23,18 +25,57 @@ pub length-spelling : (p : Pair) → length (spelling p) ≡ 4 + length (body_of
 unfolding spelling
 length-spelling p = omega (arith, length-append (head_of p) (body_of p.request))
 
+-- what the head of an application's kind allows
+app_allowed : (number len least most : ℕ) → 1 ≤ number → number ≤ 16 → least ≤ len → len ≤ most → (nat_le 1 number && nat_le number 16 && nat_le least len && nat_le len most) ≡ true
+app_allowed number len least most low high few many = rw (le-leb 1 number low, le-leb number 16 high, le-leb least len few, le-leb len most many) refl
+
+length-register : (name : List ℕ) (size flags validator : ℕ) → FitsField 16 name → length (name_field 16 name ++ four size ++ two flags ++ validator ∷ []) ≡ 23
+length-register name size flags validator fits =
+    let field = name_field 16 name in
+    omega (arith, length-name_field 16 name fits, length-append field (four size), length-append (field ++ four size) (two flags), length-append (field ++ four size ++ two flags) (validator ∷ []))
+
 -- the head of a record is a good one
-good_head : (actor : Actor) (request : Request) → IsBuilt request → Fits actor request → length (body_of request) ≤ body_limit → is_good_head (kind_of request) (actor_number actor) (length (body_of request)) ≡ true
+good_head : (actor : Actor) (request : Request) → IsBuilt request → Fits actor request → IsSized request → length (body_of request) ≤ body_limit
+    → is_good_head (kind_of request) (actor_number actor) (length (body_of request)) ≡ true
 unfolding is_good_head
-good_head Ground (ask.Command bytes) built fits within = rw (le-leb (length bytes.list) 32832 within, le-leb 0 (length bytes.list) (omega arith)) refl
-good_head (App number) (ask.Command bytes) built fits within = absurd (fits.2 tt)
-good_head actor request built fits within = absurd built
+good_head Ground (ask.Command bytes) built fits sized within = rw (le-leb (length bytes.list) 32832 within, le-leb 0 (length bytes.list) (omega arith)) refl
+good_head Ground (ask.File name bytes) built fits sized within = absurd built
+good_head Ground (ask.Time seconds sub) built fits sized within = absurd built
+good_head Ground (ask.Reset kind) built fits sized within = absurd built
+good_head Ground request built fits sized within = absurd fits
+good_head (App number) (ask.Command bytes) built fits sized within = absurd (fits.2 tt)
+good_head (App number) (ask.File name bytes) built fits sized within = absurd (fits.2 tt)
+good_head (App number) (ask.Start name) built fits sized within =
+    let len = length-name_field 20 name sized in
+    rw (app_allowed number (length (name_field 20 name)) 20 20 fits.0 fits.1 (omega (arith, len)) (omega (arith, len))) refl
+good_head (App number) (ask.Register name size flags validator) built fits sized within =
+    let len = length-register name size flags (validator_number validator) sized.0 in
+    rw (app_allowed number (length (body_of (ask.Register name size flags validator))) 23 23 fits.0 fits.1 (omega (arith, len)) (omega (arith, len))) refl
+good_head (App number) (ask.LoadImage handle image) built fits sized within = rw (app_allowed number (length (body_of (ask.LoadImage handle image))) 2 32832 fits.0 fits.1 (omega arith) within) refl
+good_head (App number) (ask.Get handle) built fits sized within = rw (app_allowed number 2 2 2 fits.0 fits.1 (omega arith) (omega arith)) refl
+good_head (App number) (ask.Read handle offset len) built fits sized within = rw (app_allowed number 10 10 10 fits.0 fits.1 (omega arith) (omega arith)) refl
+good_head (App number) (ask.Release handle) built fits sized within = rw (app_allowed number 2 2 2 fits.0 fits.1 (omega arith) (omega arith)) refl
+good_head (App number) request built fits sized within = absurd built
+
+-- a body that begins with the field of a name has such a field there
+has_name_first : (width : ℕ) (name more body : List ℕ) → FitsField width name → body ≡ name_field width name ++ more → has_name 0 width body ≡ true
+has_name_first width name more body fits e =
+    let field : piece 0 width body ≡ name_field width name = ap (take width) e ∙ take_at (name_field width name) more width (length-name_field width name fits) in
+    ap is_name_field field ∙ is_name_field-name_field width name fits
 
 -- the body of a record is a right one
-right_body : (request : Request) → IsBuilt request → is_right_body (kind_of request) (body_of request) ≡ true
+right_body : (request : Request) → IsBuilt request → IsSized request → is_right_body (kind_of request) (body_of request) ≡ true
 unfolding is_right_body
-right_body (ask.Command bytes) built = refl
-right_body request built = absurd built
+right_body (ask.Command bytes) built sized = refl
+right_body (ask.Start name) built sized = rw (is_name_field-name_field 20 name sized) refl
+right_body (ask.Register name size flags validator) built sized =
+    let parts : body_of (ask.Register name size flags validator) ≡ name_field 16 name ++ (four size ++ two flags ++ validator_number validator ∷ []) = simp append_assoc in
+    rw (has_name_first 16 name (four size ++ two flags ++ validator_number validator ∷ []) (body_of (ask.Register name size flags validator)) sized.0 parts) refl
+right_body (ask.LoadImage handle image) built sized = refl
+right_body (ask.Get handle) built sized = refl
+right_body (ask.Read handle offset len) built sized = refl
+right_body (ask.Release handle) built sized = refl
+right_body request built sized = absurd built
 
 -- what stands at the front of a spelling, whatever follows it
 record Front (p : Pair) (more : List ℕ) : Type 0 where
@@ -66,9 +107,9 @@ whole p more is =
     let f = front p more is in
     record {
       long = omega (arith, f.len);
-      good = rw (f.kind, f.actor, f.stated) (good_head p.actor p.request is.built is.fits is.within);
+      good = rw (f.kind, f.actor, f.stated) (good_head p.actor p.request is.built is.fits is.sized is.within);
       whole = le-leb _ _ (omega (arith, f.len, f.stated));
-      right = rw (f.kind, f.stated, f.body) (right_body p.request is.built);
+      right = rw (f.kind, f.stated, f.body) (right_body p.request is.built is.sized);
     }
 
 whole_not_short : (bytes : List ℕ) → Whole bytes → is_short bytes ≡ false
@@ -105,6 +146,81 @@ apart p q x y p-is q-is e =
     let d = drop-append_seam (spelling q) y in
     (cc, cc)
 
+-- ---- one request for a spelling
+
+validator_in : ℕ → Option ℕ
+validator_in number = if number == 255 then None else Some number
+
+validator_again : (validator : Option ℕ) → validator ≢ Some 255 → validator_in (validator_number validator) ≡ validator
+unfolding validator_in
+validator_again None none = refl
+validator_again (Some number) none =
+    let other : number ≢ 255 = λ e. none (ap (λ (n : ℕ). Some n) e) in
+    grind (arith, nat_tests)
+
+register_in : List ℕ → List ℕ → Request
+register_in field rest = ask.Register (name_in field) (four_at 0 rest) (two_at 4 rest) (validator_in (byte_at 6 rest))
+
+-- the request that a body of a kind spells
+request_in : ℕ → List ℕ → Request
+request_in kind body =
+    if kind == 0x01 then ask.Command (record { list = body; spare = 0 }) else
+    (if kind == 0x10 then ask.Start (name_in body) else
+    (if kind == 0x11 then register_in (take 16 body) (drop 16 body) else
+    (if kind == 0x14 then ask.LoadImage (two_at 0 body) (record { list = drop 2 body; spare = 0 }) else
+    (if kind == 0x1B then ask.Get (two_at 0 body) else
+    (if kind == 0x1C then ask.Read (two_at 0 body) (four_at 2 body) (four_at 6 body) else ask.Release (two_at 0 body))))))
+
+register_again : (name : List ℕ) (size flags : ℕ) (validator : Option ℕ) → FitsField 16 name → size < 2 ^ 32 → flags < 2 ^ 16 → validator ≢ Some 255
+    → register_in (name_field 16 name) (four size ++ two flags ++ validator_number validator ∷ []) ≡ ask.Register name size flags validator
+unfolding register_in
+register_again name size flags validator fits s f v =
+    rw (name_in-name_field 16 name fits, from_be_bytes-to_be_bytes_4 size s, from_be_bytes-to_be_bytes_2 flags f, validator_again validator v) refl
+
+request_again : (request : Request) → IsBuilt request → IsSized request → HasNoValidator255 request → request_in (kind_of request) (body_of request) ≡ without_room request
+unfolding request_in
+request_again (ask.Command bytes) built sized v = refl
+request_again (ask.Start name) built sized v = rw (name_in-name_field 20 name sized) refl
+request_again (ask.Register name size flags validator) built sized v =
+    let field = name_field 16 name in
+    let rest = four size ++ two flags ++ validator_number validator ∷ [] in
+    let body : body_of (ask.Register name size flags validator) ≡ field ++ rest = simp append_assoc in
+    let len = length-name_field 16 name sized.0 in
+    let front : take 16 (body_of (ask.Register name size flags validator)) ≡ field = ap (take 16) body ∙ take_at field rest 16 len in
+    let back : drop 16 (body_of (ask.Register name size flags validator)) ≡ rest = ap (drop 16) body ∙ drop_at field rest 16 len in
+    rw (front, back) (register_again name size flags validator sized.0 sized.1 sized.2 v)
+request_again (ask.LoadImage handle image) built sized v = rw (from_be_bytes-to_be_bytes_2 handle sized) refl
+request_again (ask.Get handle) built sized v = rw (from_be_bytes-to_be_bytes_2 handle sized) refl
+request_again (ask.Read handle offset len) built sized v =
+    rw (from_be_bytes-to_be_bytes_2 handle sized.0, from_be_bytes-to_be_bytes_4 offset sized.1, from_be_bytes-to_be_bytes_4 len sized.2) refl
+request_again (ask.Release handle) built sized v = rw (from_be_bytes-to_be_bytes_2 handle sized) refl
+request_again request built sized v = absurd built
+
+no_validator_255 : (actor : Actor) (request : Request) → Fits actor request → HasNoValidator255 request
+no_validator_255 Ground (ask.Register name size flags validator) fits = absurd fits
+no_validator_255 Ground request fits = tt
+no_validator_255 (App number) request fits = fits.3
+
+same_actor : (actor other : Actor) (request asked : Request) → Fits actor request → Fits other asked → actor_number actor ≡ actor_number other → actor ≡ other
+same_actor Ground Ground request asked fits asked-fits e = refl
+same_actor Ground (App number) request asked fits asked-fits e = absurd (omega (arith, asked-fits.0, e))
+same_actor (App number) Ground request asked fits asked-fits e = absurd (omega (arith, fits.0, e))
+same_actor (App number) (App other) request asked fits asked-fits e = ap App e
+
+-- a spelling is of one request of one actor
+pub one_request : (p q : Pair) → IsRecord p → IsRecord q → spelling p ≡ spelling q → (p.actor ≡ q.actor) × (without_room p.request ≡ without_room q.request)
+one_request p q p-is q-is e =
+    let same = ap (λ (s : List ℕ). s ++ []) e in
+    let f = front p [] p-is in
+    let g = front q [] q-is in
+    let kind : kind_of p.request ≡ kind_of q.request = sym f.kind ∙ ap (byte_at 0) same ∙ g.kind in
+    let number : actor_number p.actor ≡ actor_number q.actor = sym f.actor ∙ ap (byte_at 1) same ∙ g.actor in
+    let len : length (body_of p.request) ≡ length (body_of q.request) = sym f.stated ∙ ap stated_len same ∙ g.stated in
+    let body : body_of p.request ≡ body_of q.request = sym f.body ∙ ap (piece head_len (length (body_of p.request))) same ∙ ap (λ n. piece head_len n (spelling q ++ [])) len ∙ g.body in
+    let p-again = request_again p.request p-is.built p-is.sized (no_validator_255 p.actor p.request p-is.fits) in
+    let q-again = request_again q.request q-is.built q-is.sized (no_validator_255 q.actor q.request q-is.fits) in
+    (same_actor p.actor q.actor p.request q.request p-is.fits q-is.fits number, sym p-again ∙ ap (λ k. request_in k (body_of p.request)) kind ∙ ap (request_in (kind_of q.request)) body ∙ q-again)
+
 -- ---- more bytes
 
 or_true : (a b : Bool) → (a || b) ≡ true → (a ≡ true) ⊎ (b ≡ true)
@@ -131,7 +247,7 @@ some_within number actor len (kind ∷ list) each e =
       | inr there ↦ some_within number actor len list each.1 there
     ]
 
-good_within : (number actor len : ℕ) → is_good_head number actor len ≡ true → len ≤ body_limit
+pub good_within : (number actor len : ℕ) → is_good_head number actor len ≡ true → len ≤ body_limit
 unfolding is_good_head
 good_within number actor len good = some_within number actor len kinds each_within good
 

@@ -1,36 +1,47 @@
 -- What each ground command does.
-use Rattle.std.specs.Prelude.{ℕ, ◌==◌, List, length, ◌&&◌, if◌then◌else◌, Bool, Option, Some, None}
+use Rattle.std.specs.Prelude.{ℕ, List, Bool, true, false, Result, Ok, Err}
 use Rattle.tbl_kinds.specs.State.{State}
-use Rattle.tbl_kinds.specs.Effects.{Effect, answered, housekeeping}
-use Rattle.tbl_kinds.specs.Packets.{PacketFlaw, short, bad_length, bad_check, packet_flaw, packet_id, packet_code, command_id, housekeeping_request_id}
-use Rattle.tbl_kinds.specs.declared.status.TheConstants.Status.{SUCCESS, ERR_BAD_PACKET, ERR_BAD_CODE}
+use Rattle.tbl_kinds.specs.Effects.{Effect, answered, housekeeping as housekeeping_packet}
+use Rattle.tbl_kinds.specs.GroundCommands.{GroundCommand, housekeeping, noop, reset_counters, load, validate, code_of, command_in}
+use Rattle.tbl_kinds.specs.declared.entry.Answer.{Answer}
+use Rattle.tbl_kinds.specs.declared.status.TheConstants.Status.{SUCCESS, ERR_BAD_CODE}
 
--- the detail that tells what is wrong with a packet
-abbrev pub flaw_number : PacketFlaw → ℕ
-flaw_number short = 1
-flaw_number bad_length = 2
-flaw_number bad_check = 3
+-- ---- what a packet asks for
 
--- a housekeeping request, whatever its function code, has no payload
-abbrev pub is_housekeeping_request : List ℕ → Bool
-is_housekeeping_request bytes = packet_id bytes == housekeeping_request_id && length bytes == 8
+abbrev pub asks_housekeeping : Result GroundCommand Answer → Bool
+asks_housekeeping (Ok housekeeping) = true
+asks_housekeeping _ = false
 
-abbrev pub is_noop : List ℕ → Bool
-is_noop bytes = packet_id bytes == command_id && packet_code bytes == 0 && length bytes == 8
+abbrev pub asks_reset_counters : Result GroundCommand Answer → Bool
+asks_reset_counters (Ok reset_counters) = true
+asks_reset_counters _ = false
+
+abbrev pub asks_load : Result GroundCommand Answer → Bool
+asks_load (Ok (load file)) = true
+asks_load _ = false
+
+abbrev pub asks_validate : Result GroundCommand Answer → Bool
+asks_validate (Ok (validate select table)) = true
+asks_validate _ = false
+
+-- the function code that event 1 tells
+abbrev pub asked_code : Result GroundCommand Answer → ℕ
+asked_code (Ok command) = code_of command
+asked_code (Err answer) = 0
+
+-- ---- what it gets
 
 -- the state goes into a packet, and stays
 abbrev pub housekeeping_effect : State → Effect
-housekeeping_effect s = record (answered s SUCCESS 0) { shown = housekeeping }
+housekeeping_effect s = record (answered s SUCCESS 0) { shown = housekeeping_packet }
 
-abbrev pub whole_command_effect : State → List ℕ → Effect
-whole_command_effect s bytes =
-    if is_housekeeping_request bytes then housekeeping_effect s
-    else (if is_noop bytes then answered s SUCCESS 0
-    else answered s ERR_BAD_CODE (packet_code bytes))
+-- a command of the right form that isn't built is refused with its code
+abbrev pub effect_by : State → Result GroundCommand Answer → Effect
+effect_by s (Err answer) = answered s answer.status answer.detail
+effect_by s (Ok housekeeping) = housekeeping_effect s
+effect_by s (Ok noop) = answered s SUCCESS 0
+effect_by s (Ok reset_counters) = answered s SUCCESS 0
+effect_by s (Ok command) = answered s ERR_BAD_CODE (code_of command)
 
-abbrev pub command_effect_by : State → List ℕ → Option PacketFlaw → Effect
-command_effect_by s bytes (Some flaw) = answered s ERR_BAD_PACKET (flaw_number flaw)
-command_effect_by s bytes None = whole_command_effect s bytes
-
-unfoldable pub command_effect : State → List ℕ → Effect
-command_effect s bytes = command_effect_by s bytes (packet_flaw bytes)
+abbrev pub command_effect : State → List ℕ → Effect
+command_effect s bytes = effect_by s (command_in bytes)

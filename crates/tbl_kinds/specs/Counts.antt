@@ -1,5 +1,5 @@
 -- What telemetry counts over the history, and from which entry each of its "last" fields is read.
-use Rattle.std.specs.Prelude.{ℕ, ◌==◌, ◌%◌, List, [], length, Bool, true, false, not, ◌&&◌, ◌||◌, if◌then◌else◌, count_by, sum_by, Option, Some, None, unwrap_or, is_some}
+use Rattle.std.specs.Prelude.{ℕ, ◌==◌, ◌%◌, List, [], length, Bool, true, false, not, ◌&&◌, ◌||◌, if◌then◌else◌, count_by, sum_by, Option, Some, None, unwrap_or, is_some, Result, Ok}
 use Rattle.std.specs.List.{after_last, fold}
 use Rattle.std.specs.Option.{option_map, option_or}
 use Rattle.std.proofs.Common.{ℤ, pos}
@@ -7,13 +7,12 @@ use Rattle.tbl_kinds.specs.State.{State, Table}
 use Rattle.tbl_kinds.specs.Tables.{table_at}
 use Rattle.tbl_kinds.specs.Statuses.{is_success}
 use Rattle.tbl_kinds.specs.Check.{check16}
-use Rattle.tbl_kinds.specs.Names.{name_in}
-use Rattle.tbl_kinds.specs.Numbers.{piece}
-use Rattle.tbl_kinds.specs.Packets.{command_id, packet_id, packet_code}
 use Rattle.tbl_kinds.specs.Deeds.{Deed, finished, activated, dumped}
 use Rattle.tbl_kinds.specs.Effects.{Effect, Shown, housekeeping}
-use Rattle.tbl_kinds.specs.Commands.{is_housekeeping_request}
+use Rattle.tbl_kinds.specs.GroundCommands.{GroundCommand, load, command_in}
+use Rattle.tbl_kinds.specs.Commands.{asks_housekeeping, asks_reset_counters, asks_load, asks_validate}
 use Rattle.tbl_kinds.specs.Events.{events_of, is_good}
+use Rattle.tbl_kinds.specs.declared.entry.Answer.{Answer}
 use Rattle.tbl_kinds.specs.declared.request.Actor.{Actor}
 use Rattle.tbl_kinds.specs.declared.request.Request.{Request}
 use Rattle.tbl_kinds.specs.declared.request.Request.TheVariants as ask
@@ -28,12 +27,9 @@ pub record Told : Type 0 where
 
 -- ---- commands
 
-abbrev pub is_command : ℕ → List ℕ → Bool
-is_command code bytes = packet_id bytes == command_id && packet_code bytes == code
-
 -- an accepted command counts, but for a housekeeping request and RESET_COUNTERS
 abbrev pub adds_accepted : Request → Effect → Bool
-adds_accepted (ask.Command bytes) effect = is_success effect.status && not (is_housekeeping_request bytes.list) && not (is_command 1 bytes.list)
+adds_accepted (ask.Command bytes) effect = is_success effect.status && not (asks_housekeeping (command_in bytes.list)) && not (asks_reset_counters (command_in bytes.list))
 adds_accepted _ effect = false
 
 abbrev pub adds_refused : Request → Effect → Bool
@@ -42,7 +38,7 @@ adds_refused _ effect = false
 
 -- an accepted VALIDATE
 abbrev pub adds_request : Request → Effect → Bool
-adds_request (ask.Command bytes) effect = is_success effect.status && is_command 4 bytes.list
+adds_request (ask.Command bytes) effect = is_success effect.status && asks_validate (command_in bytes.list)
 adds_request _ effect = false
 
 -- ---- what clears
@@ -57,7 +53,7 @@ restarts t = is_reset t.request || (t.effect.status.0 == INFO_STOPPED.0)
 
 -- an accepted RESET_COUNTERS
 abbrev pub resets_counters : Request → Effect → Bool
-resets_counters (ask.Command bytes) effect = is_success effect.status && is_command 1 bytes.list
+resets_counters (ask.Command bytes) effect = is_success effect.status && asks_reset_counters (command_in bytes.list)
 resets_counters _ effect = false
 
 abbrev pub clears_counters : Told → Bool
@@ -130,25 +126,32 @@ dump_of _ = None
 abbrev pub dump_in : Told → Option (List ℕ)
 dump_in t = latest dump_of t.effect.deeds
 
--- an accepted LOAD, LoadImage or LoadFile
-abbrev pub is_load : Request → Bool
-is_load (ask.Command bytes) = is_command 2 bytes.list
-is_load (ask.LoadImage handle image) = true
-is_load (ask.LoadFile handle name) = true
-is_load _ = false
+-- the name of the table that an accepted LOAD, LoadImage or LoadFile filled
+abbrev pub loaded_name : State → Bool → Option ℕ → Option (List ℕ)
+loaded_name s accepted row = if accepted then option_map (name_at s) row else None
 
--- the table that an entry loaded, by its name
+abbrev pub loaded_by : State → Request → Effect → Option (List ℕ)
+loaded_by s (ask.Command bytes) effect = loaded_name s (is_success effect.status && asks_load (command_in bytes.list)) effect.row
+loaded_by s (ask.LoadImage handle image) effect = loaded_name s (is_success effect.status) effect.row
+loaded_by s (ask.LoadFile handle name) effect = loaded_name s (is_success effect.status) effect.row
+loaded_by s _ effect = None
+
 abbrev pub loaded_in : Told → Option (List ℕ)
-loaded_in t = if is_success t.effect.status && is_load t.request then option_map (name_at t.before) t.effect.row else None
+loaded_in t = loaded_by t.before t.request t.effect
 
--- the file of a load from a file
-abbrev pub file_of : Request → Option (List ℕ)
-file_of (ask.Command bytes) = if is_command 2 bytes.list then Some (name_in (piece 8 64 bytes.list)) else None
-file_of (ask.LoadFile handle name) = Some name
-file_of _ = None
+-- the file that a LOAD names
+abbrev pub asked_file : Result GroundCommand Answer → Option (List ℕ)
+asked_file (Ok (load file)) = Some file
+asked_file _ = None
+
+-- the file of an accepted load from a file
+abbrev pub loaded_file_by : Request → Effect → Option (List ℕ)
+loaded_file_by (ask.Command bytes) effect = if is_success effect.status then asked_file (command_in bytes.list) else None
+loaded_file_by (ask.LoadFile handle name) effect = if is_success effect.status then Some name else None
+loaded_file_by _ effect = None
 
 abbrev pub loaded_file_in : Told → Option (List ℕ)
-loaded_file_in t = if is_success t.effect.status then file_of t.request else None
+loaded_file_in t = loaded_file_by t.request t.effect
 
 -- ---- the packets that an entry sends
 

@@ -1,12 +1,13 @@
 -- The event packets of a request.
-use Rattle.std.specs.Prelude.{ℕ, ◌==◌, List, [], ◌∷◌, ◌++◌, map, Bool, not, if◌then◌else◌, Option, unwrap_or}
+use Rattle.std.specs.Prelude.{ℕ, ◌==◌, List, [], ◌∷◌, ◌++◌, map, Bool, not, if◌then◌else◌, Option, unwrap_or, Result}
 use Rattle.std.specs.Int.{w32, cast_unsigned}
 use Rattle.std.proofs.Common.{ℤ}
 use Rattle.tbl_kinds.specs.Statuses.{is_success}
-use Rattle.tbl_kinds.specs.Packets.{packet_code}
+use Rattle.tbl_kinds.specs.GroundCommands.{GroundCommand, command_in}
 use Rattle.tbl_kinds.specs.Deeds.{Deed, finished, judged, activated, copy_failed, dumped, not_dumped}
 use Rattle.tbl_kinds.specs.Effects.{Effect}
-use Rattle.tbl_kinds.specs.Commands.{is_housekeeping_request}
+use Rattle.tbl_kinds.specs.Commands.{asks_housekeeping, asked_code}
+use Rattle.tbl_kinds.specs.declared.entry.Answer.{Answer}
 use Rattle.tbl_kinds.specs.declared.request.Request.{Request}
 use Rattle.tbl_kinds.specs.declared.request.Request.TheVariants as ask
 use Rattle.tbl_kinds.specs.declared.status.Status.{Status}
@@ -41,14 +42,14 @@ deed_event (dumped row file len) = event 7 SUCCESS (row_field row) len
 deed_event (not_dumped row) = event 8 ERR_DRAWER_FULL row 0
 
 -- 1: a command was accepted, but for a housekeeping request; 2: a command was refused
-abbrev pub command_events : List ℕ → Effect → List Event
-command_events bytes effect =
+abbrev pub command_events : Result GroundCommand Answer → Effect → List Event
+command_events asked effect =
     if not (is_success effect.status) then event 2 effect.status (row_field effect.row) effect.detail ∷ []
-    else (if is_housekeeping_request bytes then []
-    else event 1 SUCCESS (row_field effect.row) (packet_code bytes) ∷ [])
+    else (if asks_housekeeping asked then []
+    else event 1 SUCCESS (row_field effect.row) (asked_code asked) ∷ [])
 
 abbrev pub events_before : Request → Effect → List Event
-events_before (ask.Command bytes) effect = command_events bytes.list effect
+events_before (ask.Command bytes) effect = command_events (command_in bytes.list) effect
 events_before _ effect = []
 
 -- the command's own event, and then those of what was done, in order

@@ -1,6 +1,7 @@
 -- The heads of session records, and how far the bytes at the front of an input make a record.
-use Rattle.std.specs.Prelude.{◌≡◌, ◌≢◌, ℕ, ◌+◌, ◌==◌, List, [], ◌∷◌, ◌++◌, length, Bool, true, false, not, ◌&&◌, ◌||◌, nat_lt, nat_le, IsTrue, ◌⊎◌}
-use Rattle.std.specs.List.{list_any}
+use Rattle.std.specs.Prelude.{◌≡◌, ◌≢◌, ℕ, ◌+◌, ◌==◌, List, [], ◌∷◌, ◌++◌, length, drop, Bool, true, false, not, ◌&&◌, ◌||◌, nat_lt, nat_le, IsTrue, ◌⊎◌}
+use Rattle.std.specs.List.{list_all, list_any}
+use Rattle.tbl_kinds.specs.Names.{is_zero, name_in}
 use Rattle.tbl_kinds.specs.Numbers.{piece, byte_at, two_at}
 use Rattle.tbl_kinds.specs.Records.{Pair, IsRecord, spelling, body_limit, record_limit}
 
@@ -12,9 +13,28 @@ pub record Kind : Type 0 where
   pub most : ℕ
   pub is_right : List ℕ → Bool
 
+abbrev pub any_body : List ℕ → Bool
+any_body body = true
+
+-- behind the field's first zero byte all bytes are zero
+abbrev pub is_name_field : List ℕ → Bool
+is_name_field field = list_all is_zero (drop (length (name_in field)) field)
+
+-- a body with such a field of so many bytes at a place
+abbrev pub has_name : ℕ → ℕ → List ℕ → Bool
+has_name place width body = is_name_field (piece place width body)
+
 -- the kinds that the service knows today
 abbrev pub kinds : List Kind
-kinds = record { number = 0x01; from_ground = true; least = 0; most = body_limit; is_right = λ body. true } ∷ []
+kinds =
+    record { number = 0x01; from_ground = true; least = 0; most = body_limit; is_right = any_body }
+    ∷ record { number = 0x10; from_ground = false; least = 20; most = 20; is_right = is_name_field }
+    ∷ record { number = 0x11; from_ground = false; least = 23; most = 23; is_right = has_name 0 16 }
+    ∷ record { number = 0x14; from_ground = false; least = 2; most = body_limit; is_right = any_body }
+    ∷ record { number = 0x1B; from_ground = false; least = 2; most = 2; is_right = any_body }
+    ∷ record { number = 0x1C; from_ground = false; least = 10; most = 10; is_right = any_body }
+    ∷ record { number = 0x1D; from_ground = false; least = 2; most = 2; is_right = any_body }
+    ∷ []
 
 -- the ground has the number 0, the applications have 1 to 16
 abbrev pub is_sender : Bool → ℕ → Bool

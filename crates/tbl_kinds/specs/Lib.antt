@@ -3,7 +3,11 @@ pub mod Names
 pub mod Numbers
 pub mod Statuses
 pub mod Requests
+pub mod Fields
 pub mod Packets
+pub mod Headers
+pub mod TableFiles
+pub mod GroundCommands
 pub mod Telemetry
 pub mod Records
 pub mod Heads
@@ -21,5 +25,6 @@ pub mod Events
 pub mod Counts
 pub mod Replies
 pub mod History
+pub mod Whole
 pub mod CountsAfter
 pub mod Vectors

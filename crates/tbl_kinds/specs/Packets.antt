@@ -1,5 +1,5 @@
 -- Space packets: the primary header of CCSDS 133.0-B, and behind it the secondary header of a command or of telemetry.
-use Rattle.std.specs.Prelude.{ℕ, ◌+◌, ◌-◌, ◌%◌, ◌==◌, List, [], ◌∷◌, ◌++◌, length, drop, not, nat_lt, if◌then◌else◌, Option, Some, None, bit_xor}
+use Rattle.std.specs.Prelude.{◌≡◌, ℕ, ◌+◌, ◌-◌, ◌*◌, ◌%◌, ◌^◌, ◌<◌, ◌==◌, List, [], ◌∷◌, ◌++◌, length, drop, not, nat_lt, if◌then◌else◌, Option, Some, None, bit_xor}
 use Rattle.std.specs.List.{fold}
 use Rattle.tbl_kinds.specs.Numbers.{two, four, byte_at, two_at}
 use Rattle.tbl_kinds.specs.declared.telemetry.TlmHead.{TlmHead}
@@ -60,3 +60,14 @@ unfoldable pub command_packet : ℕ → ℕ → ℕ → List ℕ → List ℕ
 command_packet id count code payload =
     let front = primary_header id count (8 + length payload) ++ code ∷ [] in
     front ++ checksum (front ++ payload) ∷ payload
+
+-- the bytes are a command packet with this id, code and payload. Its sequence flags and count and the high bit of its code byte are free
+pub record IsCommandPacket (bytes : List ℕ) (id code : ℕ) (payload : List ℕ) : Type 0 where
+  pub sequence : ℕ
+  pub high : ℕ
+  pub check : ℕ
+  pub parts : bytes ≡ two id ++ two sequence ++ two (length payload + 1) ++ (128 * high + code) ∷ check ∷ payload
+  pub id_fits : id < 2 ^ 16
+  pub code_fits : code < 128
+  pub payload_fits : length payload + 1 < 2 ^ 16
+  pub checked : checksum bytes ≡ 0

@@ -1,7 +1,7 @@
 -- Session records: one request of one actor, as bytes, and the list of records that an input holds.
-use Rattle.std.specs.Prelude.{◌≡◌, ℕ, ◌≤◌, List, [], ◌∷◌, ◌++◌, length, Option, Some, None}
+use Rattle.std.specs.Prelude.{◌≡◌, ℕ, ◌^◌, ◌<◌, ◌≤◌, List, [], ◌∷◌, ◌++◌, length, Option, Some, None}
 use Rattle.std.specs.List.{flat_map, AllByRecursion}
-use Rattle.tbl_kinds.specs.Names.{name_field}
+use Rattle.tbl_kinds.specs.Names.{name_field, HasNoZero}
 use Rattle.tbl_kinds.specs.Numbers.{two, four}
 use Rattle.tbl_kinds.specs.Requests.{Fits}
 use Rattle.tbl_kinds.specs.declared.request.Actor.{Actor}
@@ -97,15 +97,65 @@ head_of p = kind_of p.request ∷ actor_number p.actor ∷ two (length (body_of 
 unfoldable pub spelling : Pair → List ℕ
 spelling p = head_of p ++ body_of p.request
 
+-- the request, whatever room is reserved behind its bytes
+abbrev pub without_room : Request → Request
+without_room (ask.Command bytes) = ask.Command (record { list = bytes.list; spare = 0 })
+without_room (ask.File name bytes) = ask.File name (record { list = bytes.list; spare = 0 })
+without_room (ask.LoadImage handle image) = ask.LoadImage handle (record { list = image.list; spare = 0 })
+without_room (ask.Edit handle offset bytes) = ask.Edit handle offset (record { list = bytes.list; spare = 0 })
+without_room (ask.CdsCopy slot image) = ask.CdsCopy slot (record { list = image.list; spare = 0 })
+without_room request = request
+
 -- the requests that the service knows today
 abbrev pub IsBuilt : Request → Type 0
 IsBuilt (ask.Command bytes) = Unit {0}
+IsBuilt (ask.Start name) = Unit {0}
+IsBuilt (ask.Register name size flags validator) = Unit {0}
+IsBuilt (ask.LoadImage handle image) = Unit {0}
+IsBuilt (ask.Get handle) = Unit {0}
+IsBuilt (ask.Read handle offset len) = Unit {0}
+IsBuilt (ask.Release handle) = Unit {0}
 IsBuilt _ = ⊥
 
--- what has a spelling: a request that its actor may make, with a body within the limit
+-- the name is no longer than its field, and has no zero byte
+pub record FitsField (width : ℕ) (name : List ℕ) : Type 0 where
+  pub within : length name ≤ width
+  pub no_zero : HasNoZero name
+
+-- each name and each number fits its field in the body
+abbrev pub IsSized : Request → Type 0
+IsSized (ask.Command bytes) = Unit {0}
+IsSized (ask.File name bytes) = FitsField 64 name
+IsSized (ask.Time seconds sub) = (seconds < 2 ^ 32) × (sub < 2 ^ 16)
+IsSized (ask.Reset kind) = Unit {0}
+IsSized (ask.Start name) = FitsField 20 name
+IsSized (ask.Register name size flags validator) = FitsField 16 name × (size < 2 ^ 32) × (flags < 2 ^ 16) × (validator_number validator < 2 ^ 8)
+IsSized (ask.Share name) = FitsField 40 name
+IsSized (ask.Unregister handle) = handle < 2 ^ 16
+IsSized (ask.LoadImage handle image) = handle < 2 ^ 16
+IsSized (ask.LoadFile handle name) = (handle < 2 ^ 16) × FitsField 64 name
+IsSized (ask.Update handle) = handle < 2 ^ 16
+IsSized (ask.Validate handle) = handle < 2 ^ 16
+IsSized (ask.Manage handle) = handle < 2 ^ 16
+IsSized (ask.DumpToBuffer handle) = handle < 2 ^ 16
+IsSized (ask.Edit handle offset bytes) = (handle < 2 ^ 16) × (offset < 2 ^ 32)
+IsSized (ask.Get handle) = handle < 2 ^ 16
+IsSized (ask.Read handle offset len) = (handle < 2 ^ 16) × (offset < 2 ^ 32) × (len < 2 ^ 32)
+IsSized (ask.Release handle) = handle < 2 ^ 16
+IsSized (ask.GetStatus handle) = handle < 2 ^ 16
+IsSized (ask.GetInfo name) = FitsField 40 name
+IsSized (ask.Notify handle msg code parameter) = (handle < 2 ^ 16) × (msg < 2 ^ 16) × (code < 2 ^ 16) × (parameter < 2 ^ 32)
+IsSized ask.Exit = Unit {0}
+IsSized (ask.CdsRegister name size) = FitsField 16 name × (size < 2 ^ 32)
+IsSized (ask.CdsCopy slot image) = slot < 2 ^ 16
+IsSized (ask.CdsRestore slot) = slot < 2 ^ 16
+IsSized (ask.CdsDelete slot) = slot < 2 ^ 16
+
+-- what has a spelling: a request that its actor may make, whose names and numbers fit, with a body within the limit
 pub record IsRecord (p : Pair) : Type 0 where
   pub built : IsBuilt p.request
   pub fits : Fits p.actor p.request
+  pub sized : IsSized p.request
   pub within : length (body_of p.request) ≤ body_limit
 
 -- ---- the records of an input

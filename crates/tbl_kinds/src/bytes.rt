@@ -1,4 +1,4 @@
-ghost use Rattle.std.specs.Prelude.{◌≡◌, ℕ, ◌+◌, ◌≤◌, [], ◌++◌, length, IfOk, OnOk, OnErr};
+ghost use Rattle.std.specs.Prelude.{◌≡◌, ℕ, ◌+◌, ◌≤◌, [], ◌++◌, length, take, drop, IfOk, OnOk, OnErr};
 
 use std::alloc::{AllocError, AllocFailed, Global};
 use std::marker::Model;
@@ -68,6 +68,15 @@ impl Bytes {
         ensures room { self.old.spare ≤ self.new.spare + length piece.now }
     {
         let _ = self.items.extend_from_slice(piece);
+    }
+
+    /// Writes a piece over the bytes from a place on.
+    pub fn write_over(&mut self, at: usize, piece: &[u8])
+        requires { at + length piece.now ≤ length self.old.list }
+        ensures bytes { self.new.list ≡ take at self.old.list ++ piece.now ++ drop (at + length piece.now) self.old.list }
+        ensures room { self.new.spare ≡ self.old.spare }
+    {
+        self.items[at..at + piece.len()].copy_from_slice(piece);
     }
 
     /// Reserves room for this many further bytes.

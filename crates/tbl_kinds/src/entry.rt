@@ -1,3 +1,5 @@
+ghost use Rattle.std.specs.Prelude.{◌≡◌};
+
 use crate::bytes::Bytes;
 use crate::note::BankNote;
 use crate::request::{Actor, Request};
@@ -31,4 +33,14 @@ pub struct Entry {
 pub struct Answer {
     pub status: Status,
     pub detail: u32,
+}
+
+impl Answer {
+    /// An answer that names nothing: its detail is 0.
+    pub fn plain(status: Status) -> Answer
+        ensures status { result.status ≡ status }
+        ensures detail { result.detail ≡ 0 }
+    {
+        Answer { status, detail: 0 }
+    }
 }

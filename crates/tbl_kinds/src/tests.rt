@@ -22,6 +22,25 @@ fn bytes_grow_in_reserved_room(rt: HostRuntime) -> Result<(), Fail> {
 }
 
 #[test]
+fn a_piece_is_written_over(rt: HostRuntime) -> Result<(), Fail> {
+    let mut bytes = Bytes::make(rt.alloc(), 5)?;
+    bytes.append(b"abcde");
+    bytes.write_over(1, b"xy");
+    bytes.write_over(5, b"");
+    assert_eq!(rt; bytes.bytes(), b"axyde".as_slice());
+    Ok(())
+}
+
+#[test]
+fn a_plain_answer_names_nothing(rt: HostRuntime) {
+    let want = Answer {
+        status: Status::ERR_BAD_APP,
+        detail: 0,
+    };
+    assert_eq!(rt; Answer::plain(Status::ERR_BAD_APP), want);
+}
+
+#[test]
 fn names_end_before_a_zero(rt: HostRuntime) {
     let short: Name16 = Name::of(b"A.T\0\x7FB\0\0\0\0\0\0\0\0\0\0");
     assert_eq!(rt; short.bytes(), b"A.T".as_slice());

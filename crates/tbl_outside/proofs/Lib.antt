@@ -1,2 +1,4 @@
 pub mod Counts
+pub mod Moments
+pub mod Pieces
 pub mod Streams

@@ -1,2 +1,3 @@
+pub mod Bank
 pub mod Counts
 pub mod Streams

@@ -1,7 +1,10 @@
-//! What lies outside the service, as traits: a layer above relies on the bytes that are told, on counts of faults that
-//! never fall, and on a failure coming only where its count rose.
+//! What lies outside the service, as traits: a layer above relies on the bytes that are told, on what a reset at any
+//! moment may leave of a bank, on counts of faults and stops that never fall, and on a failure or stop coming only where
+//! its count rose.
 #![tactic(auto)]
 
+mod bank;
 mod stream;
 
+pub use bank::{Back, Bank, Written};
 pub use stream::{Failed, Sink, Source};

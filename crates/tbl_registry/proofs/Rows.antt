@@ -11,7 +11,8 @@ use Rattle.tbl_kinds.specs.TableSteps.{is_that, is_in_way, locker, put, pins as 
 use Rattle.access_desc.specs.declared.handle_view.HandleView.{HandleView}
 use Rattle.access_desc.specs.Steps.{has, pins}
 use Rattle.tbl_registry.specs.Seen.{count_in, tables_of, handle_of}
-use Rattle.tbl_registry.specs.Sound.{IsSound, IsPlain, Leads, AtEachPlace}
+use Rattle.tbl_registry.specs.Sound.{AreNamed, IsSound, IsPlain, Leads, AtEachPlace}
+use Rattle.tbl_registry.proofs.Named.{named_kept}
 use Rattle.tbl_registry.proofs.Places.{AtEachPlace-set, map-agree, position-map, position-None}
 
 abbrev tables_with : List (Option Table) → List (Option Handle) → Tables
@@ -52,11 +53,12 @@ leads_on rows row u more h leads = record {
   grows None some = some
   grows (Some k) some = let e : count_in rows (Some k) ≤ count_in (slice_set rows row (Some u)) (Some k) = count_grows rows row k u more in omega arith
 
-pub sound_after : (rows : List (Option Table)) (handles : List (Option HandleView)) (row : ℕ) (u : Table) → IsSound rows handles → count_in rows (Some row) ≤ u.count → IsPlain u → IsSound (slice_set rows row (Some u)) handles
-sound_after rows handles row u sound more plain = record {
+pub sound_after : (rows : List (Option Table)) (handles : List (Option HandleView)) (row : ℕ) (u : Table) → IsSound rows handles → count_in rows (Some row) ≤ u.count → IsPlain u → AreNamed (slice_set rows row (Some u)) → IsSound (slice_set rows row (Some u)) handles
+sound_after rows handles row u sound more plain named = record {
   all_rows = simp length-set sound.all_rows;
   all_handles = sound.all_handles;
   tables = AtEachPlace-set IsPlain rows row (Some u) sound.tables (λ t is. subst IsPlain (same_Some u t is) plain);
+  named = named;
   leads = λ n h there. leads_on rows row u more h (sound.leads n h there);
 }
 
@@ -157,7 +159,7 @@ plain_with_image t image plain size = record {
 pub put_sound : (rows : List (Option Table)) (handles : List (Option HandleView)) (row : ℕ) (t : Table) (image : List ℕ) → slice_index_or rows row None ≡ Some t → IsSound rows handles → length image ≡ t.size
     → IsSound (slice_set rows row (Some (record t { count = t.count + 1; last = Some image }))) handles
 put_sound rows handles row t image there sound size =
-    sound_after rows handles row _ sound (rw there (omega arith)) (plain_with_image t image (sound.tables row t there) size)
+    sound_after rows handles row _ sound (rw there (omega arith)) (plain_with_image t image (sound.tables row t there) size) (named_kept rows row t _ there refl sound.named)
 
 pub time_sound : (rows : List (Option Table)) (handles : List (Option HandleView)) (row : ℕ) (t : Table) (seconds sub : ℕ) → slice_index_or rows row None ≡ Some t → IsSound rows handles
     → IsSound (slice_set rows row (Some (record t { seconds = seconds; sub = sub }))) handles
@@ -174,7 +176,7 @@ time_sound rows handles row t seconds sub there sound =
       notice = plain.notice;
       loaded = plain.loaded;
       fits = plain.fits;
-    }
+    } (named_kept rows row t _ there refl sound.named)
 
 -- ---- what the layer above may rely on
 

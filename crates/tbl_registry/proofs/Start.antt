@@ -14,6 +14,7 @@ sound_start rows handles r h = rw (r, h) record {
   all_rows = refl;
   all_handles = refl;
   tables = none_there _ 128;
+  named = λ k t there. absurd (cc (get_or-replicate_None {X = Table} 128 k));
   leads = none_there _ 256;
 }
 

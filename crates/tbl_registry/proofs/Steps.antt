@@ -1,15 +1,16 @@
 -- The steps of a handle that leads to a table.
-use Rattle.std.proofs.Common.{◌≡◌, ◌==◌, ◌+◌, ◌-◌, ◌<◌, ◌≤◌, nat_lt, ℕ, List, length, take, drop, cond, slice_index_or, slice_set, Bool, true, false, not, is_some, Option, Some, None, Ok, refl, ap, sym, ◌∙◌, arith, rules}
+use Rattle.std.proofs.Common.{◌≡◌, ◌==◌, ◌+◌, ◌-◌, ◌<◌, ◌≤◌, nat_lt, ℕ, List, length, take, drop, cond, slice_index_or, slice_set, Bool, true, false, not, is_some, Option, Some, None, Ok, refl, ap, sym, ◌∙◌, arith, rules, subst}
 use Rattle.std.specs.List.{list_any}
-use Rattle.std.proofs.lemmas.List.{set-get_or}
+use Rattle.std.proofs.lemmas.List.{set-get_or, length-set}
+use Rattle.std.proofs.lemmas.Option.{same_Some}
 use Rattle.std.proofs.lemmas.Bool.Decides.{nat_tests}
 use Rattle.tbl_kinds.specs.State.{Table, Handle, Tables}
 use Rattle.tbl_kinds.specs.TableSteps.{access_of, with_handle, get_address, release, read, let_go, pins}
 use Rattle.access_desc.specs.declared.handle_view.HandleView.{HandleView}
 use Rattle.access_desc.specs.Steps.{at_place, changed_at, with_no_pin}
-use Rattle.tbl_registry.specs.Sound.{IsSound}
+use Rattle.tbl_registry.specs.Sound.{IsSound, Leads}
 use Rattle.tbl_registry.specs.Seen.{tables_of, handle_of, with_last}
-use Rattle.tbl_registry.proofs.Places.{at_place-map, map-changed_at}
+use Rattle.tbl_registry.proofs.Places.{AtEachPlace-set, at_place-map, map-changed_at}
 
 not_zero : (n : ℕ) → (n ≡ 0 → ⊥) → (n == 0) ≡ false
 not_zero n some = grind (arith, nat_tests)
@@ -30,6 +31,32 @@ changed_seen : (rows : List (Option Table)) (f : HandleView → HandleView) (han
     → tables_of rows (changed_at f handles n) ≡ with_handle n (handle_of rows (f h)) (tables_of rows handles)
 changed_seen rows f handles n h place =
     ap (λ (hs : List (Option Handle)). let ts : Tables = record { rows = rows; handles = hs } in ts) (map-changed_at (handle_of rows) f handles n h place)
+
+changed_sound : (rows : List (Option Table)) (f : HandleView → HandleView) (handles : List (Option HandleView)) (n : ℕ) (h : HandleView) → at_place handles n ≡ Some h
+    → IsSound rows handles → Leads rows (f h) → IsSound rows (changed_at f handles n)
+changed_sound rows f handles n h place sound leads = rw place record {
+  all_rows = sound.all_rows;
+  all_handles = simp length-set sound.all_handles;
+  tables = sound.tables;
+  named = sound.named;
+  leads = AtEachPlace-set (Leads rows) handles n (Some (f h)) sound.leads (λ g is. subst (Leads rows) (same_Some (f h) g is) leads);
+}
+
+pub sound_after_pin : (rows : List (Option Table)) (handles : List (Option HandleView)) (n : ℕ) (h : HandleView) (row : ℕ) (t : Table) (count : ℕ) → Leading rows handles n h row t
+    → IsSound rows handles → count ≡ t.count → (count ≡ 0 → ⊥) → IsSound rows (changed_at (with_last count) handles n)
+sound_after_pin rows handles n h row t count l sound all loaded = changed_sound rows (with_last count) handles n h l.place sound record {
+  table = (sound.leads n h l.place).table;
+  pins_last = λ pinned. refl;
+  pins_image = λ pinned. rw (l.row_is, l.table, ← all) (omega arith);
+}
+
+pub sound_after_release : (rows : List (Option Table)) (handles : List (Option HandleView)) (n : ℕ) (h : HandleView) (row : ℕ) (t : Table) → Leading rows handles n h row t
+    → IsSound rows handles → IsSound rows (changed_at with_no_pin handles n)
+sound_after_release rows handles n h row t l sound = changed_sound rows with_no_pin handles n h l.place sound record {
+  table = (sound.leads n h l.place).table;
+  pins_last = λ pinned. refl;
+  pins_image = λ pinned. absurd (cc pinned);
+}
 
 pub get_address_pins : (rows : List (Option Table)) (handles : List (Option HandleView)) (n : ℕ) (h : HandleView) (row : ℕ) (t : Table) (count : ℕ) → Leading rows handles n h row t
     → h.pinned ≡ false → count ≡ t.count → (count ≡ 0 → ⊥) → tables_of rows (changed_at (with_last count) handles n) ≡ (get_address n (tables_of rows handles)).tables

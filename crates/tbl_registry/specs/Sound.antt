@@ -1,7 +1,8 @@
 -- What holds of all that the registry keeps.
-use Rattle.std.specs.Prelude.{◌≡◌, ℕ, ◌<◌, ◌≤◌, ◌==◌, List, length, true, false, not, slice_index_or, Option, None, is_some, IsSome, IfSome}
+use Rattle.std.specs.Prelude.{◌≡◌, ℕ, ◌<◌, ◌≤◌, ◌==◌, List, length, true, false, not, position, slice_index_or, Option, Some, None, is_some, IsSome, IfSome}
 use Rattle.std.specs.Option.{ForSome}
 use Rattle.tbl_kinds.specs.State.{Table, quiet}
+use Rattle.tbl_kinds.specs.TableSteps.{has_name}
 use Rattle.tbl_kinds.specs.Applications.{table_limit}
 use Rattle.access_desc.specs.declared.handle_view.HandleView.{HandleView}
 use Rattle.tbl_registry.specs.Seen.{count_in}
@@ -29,8 +30,13 @@ pub record Leads (rows : List (Option Table)) (h : HandleView) : Type 0 where
   pub pins_last : h.pinned ≡ true → h.old ≡ false
   pub pins_image : h.pinned ≡ true → 0 < count_in rows h.row
 
+-- each table is the one that is found under its name
+abbrev pub AreNamed : List (Option Table) → Type 0
+AreNamed rows = (row : ℕ) → ForSome (slice_index_or rows row None) (λ t. position (has_name t.name) rows ≡ Some row)
+
 pub record IsSound (rows : List (Option Table)) (handles : List (Option HandleView)) : Type 0 where
   pub all_rows : length rows ≡ 128
   pub all_handles : length handles ≡ 256
   pub tables : AtEachPlace IsPlain rows
+  pub named : AreNamed rows
   pub leads : AtEachPlace (Leads rows) handles

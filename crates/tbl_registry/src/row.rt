@@ -96,6 +96,13 @@ impl Row {
         self.name.bytes() == name
     }
 
+    /// Its full name.
+    pub(crate) fn name(&self) -> &Name40
+        ensures { result.now ≡ self.now.name }
+    {
+        &self.name
+    }
+
     /// What can be seen of it.
     pub(crate) fn view(&self) -> RowView
         ensures { result ≡ row_view self.now }

@@ -14,7 +14,7 @@ use access_desc::{HandleView, Handles};
 use buffer_pairs::Buffers;
 use std::alloc::{AllocError, Global};
 use std::marker::Model;
-use tbl_kinds::{Answer, Memory, Status};
+use tbl_kinds::{Answer, Memory, Name40, Status};
 
 /// How many tables there can be (`CFE_PLATFORM_TBL_MAX_NUM_TABLES`).
 const ROWS: usize = 128;
@@ -155,14 +155,6 @@ fn news(told: u32, count: u32) -> Status
     }
 }
 
-/// An answer that names nothing.
-fn plain_answer(status: Status) -> Answer
-    ensures status { result.status ≡ status }
-    ensures detail { result.detail ≡ 0 }
-{
-    Answer { status, detail: 0 }
-}
-
 impl Tables {
     ghost use Rattle.tbl_registry.specs.Views.{row_view};
     /// No table and no handle.
@@ -208,6 +200,7 @@ impl Tables {
         ensures registry_full { (result ≡ Err AddFault.RegistryFull) ↔ (table_count self.old ≡ 128) }
         ensures handles_full { result ≡ Err AddFault.HandlesFull → handle_count self.old ≡ 256 }
         ensures no_row { result ≡ Err AddFault.RegistryFull → least_free self.old.rows ≡ None }
+        ensures row_first { result ≡ Err AddFault.HandlesFull → IsSome (least_free self.old.rows) }
         ensures no_handle { result ≡ Err AddFault.HandlesFull → least_free self.old.handles ≡ None }
         ensures err { OnErr result (self.new ≡ self.old) }
     {
@@ -252,8 +245,16 @@ impl Tables {
     pub fn row(&self, row: u8) -> Option<RowView>
         ensures view { result ≡ option_map row_view (table_at self.now row) }
         ensures plain { ForSome (table_at self.now row) IsPlain }
+        ensures named { ForSome (table_at self.now row) (λ t. find t.name self.now ≡ Some row) }
     {
         Some(table_in(&self.rows, row)?.view())
+    }
+
+    /// The full name of the table of a row.
+    pub fn name(&self, row: u8) -> Option<&Name40>
+        ensures { option_copied result ≡ option_map (λ (t : Table). t.name) (table_at self.now row) }
+    {
+        Some(table_in(&self.rows, row)?.name())
     }
 
     /// The last image of the table of a row, None where there is none.
@@ -282,13 +283,13 @@ impl Tables {
         };
         let count = table.count();
         if view.pinned {
-            return plain_answer(Status::ERR_ALREADY_PINNED);
+            return Answer::plain(Status::ERR_ALREADY_PINNED);
         }
         if count == 0 {
-            return plain_answer(Status::ERR_NEVER_LOADED);
+            return Answer::plain(Status::ERR_NEVER_LOADED);
         }
         pin_last(&mut self.handles, handle, count);
-        plain_answer(news(view.told, count))
+        Answer::plain(news(view.told, count))
     }
 
     /// The pin of the handle ends.
@@ -303,10 +304,10 @@ impl Tables {
         };
         let count = table.count();
         if !view.pinned {
-            return plain_answer(Status::ERR_NOT_PINNED);
+            return Answer::plain(Status::ERR_NOT_PINNED);
         }
         self.handles.unpin(handle);
-        plain_answer(news(view.told, count))
+        Answer::plain(news(view.told, count))
     }
 
     /// The stated bytes of the image that the handle pins.
@@ -336,7 +337,8 @@ impl Tables {
 
     /// The least handle in the way of a new image of the table of a row (cFE User's Guide, Table Services, "Locking").
     pub fn locker(&self, row: u8) -> Option<u16>
-        ensures { result ≡ option_and_then (λ (t : Table). locker self.now row t) (table_at self.now row) }
+        ensures no_buffer { in_use self.now ≡ [] }
+        ensures least { result ≡ option_and_then (λ (t : Table). locker self.now row t) (table_at self.now row) }
     {
         let _table = table_in(&self.rows, row)?;
         self.handles.pinned_any(row)
@@ -348,7 +350,8 @@ impl Tables {
         requires unlocked { ForSome (table_at self.old row) (λ t. locker self.old row t ≡ None) }
         requires size { ForSome (table_at self.old row) (λ t. length image.now ≡ t.size) }
         requires count { ForSome (table_at self.old row) (λ t. t.count < 2 ^ 32 - 1) }
-        ensures { self.new ≡ put row image.now self.old }
+        ensures tables { self.new ≡ put row image.now self.old }
+        ensures table { IsSome (table_at self.new row) }
     {
         let Some(table) = &mut self.rows[row as usize] else {
             unreachable!();

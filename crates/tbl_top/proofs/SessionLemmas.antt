@@ -4,13 +4,14 @@ use Rattle.std.specs.Prelude.{if◌then◌else◌}
 use Rattle.std.specs.Io.KnownBytes.{append_known}
 use Rattle.std.proofs.lemmas.Bool.{eqb-true}
 use Rattle.std.proofs.lemmas.List.{nil_from_length, length-map}
-use Rattle.tbl_kinds.specs.State.{State}
+use Rattle.tbl_kinds.specs.State.{State, no_tables}
 use Rattle.std.proofs.lemmas.Bool.Decides.{nat_tests}
 use Rattle.tbl_kinds.specs.Heads.{IsShort, IsBad, is_short, is_bad, EndsBefore}
 use Rattle.tbl_kinds.proofs.RecordLaws.{are_records}
 use Rattle.tbl_kinds.specs.Transcript.{pair_of, pairs_of, entries_bytes, end_bytes, offset_of, transcript}
 use Rattle.tbl_kinds.specs.History.{IsLegal}
-use Rattle.tbl_core.specs.Service.{Kept, StandsFor}
+use Rattle.tbl_core.specs.Service.{StandsFor}
+use Rattle.tbl_core.proofs.WholeLaws.{whole}
 use Rattle.tbl_outside.specs.Streams.{TakesFront}
 use Rattle.tbl_outside.proofs.Streams.{append_known-nil, written_more, front_of_first, front_of_second, front_of_whole}
 use Rattle.tbl_top.specs.Playing.{Playing, IsBeginning, IsSession, consumed, IsWritten}
@@ -137,7 +138,7 @@ module _ (status result : ℕ) (entries : List Entry) (ends : ℕ → Type 0) (b
 -- ---- the session
 
 module _ (opening : State) (first p : Playing) (read : List ℕ) (at_end : Type 0) (result : ℕ) (before mid after : Option (List ℕ)) (faults faults_then : ℕ)
-    (none : consumed first ≡ []) (stands : StandsFor opening p.core) (session : IsSession p.core) where
+    (none : consumed first ≡ []) (at_first : opening.tables ≡ no_tables) (stands : StandsFor opening p.core) (session : IsSession p.core) where
   played : ℕ
   played = length p.core.entries
 
@@ -149,6 +150,7 @@ module _ (opening : State) (first p : Playing) (read : List ℕ) (at_end : Type 
     state = p.core.state;
     rest = ends.rest;
     legal = stands.legal;
+    whole = whole opening p.core.entries p.core.state at_first stands.legal;
     each = session.each;
     few = session.few;
     parts = ap (λ (xs : List ℕ). xs ++ read) (sym none) ∙ ends.parts;
@@ -225,12 +227,13 @@ front_of_nothing : (taken : Option (List ℕ)) (piece : List ℕ) → TakesFront
 front_of_nothing taken piece = record { count = 0; grown = sym (append_known-nil taken) }
 
 -- where memory ran out before the first read
-pub starved_at_once : (opening : State) (at_end : Type 0) (taken : Option (List ℕ)) (core : Kept) → StandsFor opening core → core.entries ≡ [] → Session opening [] at_end 1 taken taken
-starved_at_once opening at_end taken core stands none = record {
+pub starved_at_once : (opening : State) → opening.tables ≡ no_tables → (at_end : Type 0) (taken : Option (List ℕ)) → Session opening [] at_end 1 taken taken
+starved_at_once opening at_first at_end taken = record {
   entries = [];
-  state = core.state;
+  state = opening;
   rest = [];
-  legal = subst (λ (es : List Entry). IsLegal opening es core.state) none stands.legal;
+  legal = record { answered = tt; leads = refl };
+  whole = whole opening [] opening at_first (record { answered = tt; leads = refl });
   each = tt;
   few = omega arith;
   parts = refl;

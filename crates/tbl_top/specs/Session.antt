@@ -8,6 +8,7 @@ use Rattle.tbl_kinds.specs.Records.{Pair, IsRecord, joined, record_limit, AreRec
 use Rattle.tbl_kinds.specs.Heads.{IsShort, IsBad}
 use Rattle.tbl_kinds.specs.Transcript.{pairs_of, entries_bytes, transcript}
 use Rattle.tbl_kinds.specs.History.{IsLegal}
+use Rattle.tbl_kinds.specs.Whole.{IsWhole as HasWholeReads}
 use Rattle.tbl_outside.specs.Streams.{TakesFront}
 use Rattle.tbl_top.specs.Playing.{IsBeginning}
 use Rattle.tbl_kinds.specs.declared.entry.Entry.{Entry}
@@ -55,12 +56,14 @@ pub record Tells (status : ℕ) (entries : List Entry) (ends : ℕ → Type 0) (
   -- 1: a front of the transcript
   pub starved : status ≡ 1 → TakesFront before after (transcript entries 1)
 
--- One legal history, whose requests are the records of what was read, was told. After 1 and 4 they are the first of them.
+-- One legal history, in which each read of a pinned image is whole, and whose requests are the records of what was read,
+-- was told. After 1 and 4 they are the first of them.
 pub record Session (opening : State) (read : List ℕ) (at_end : Type 0) (status : ℕ) (before after : Option (List ℕ)) : Type 0 where
   pub entries : List Entry
   pub state : State
   pub rest : List ℕ
   pub legal : IsLegal opening entries state
+  pub whole : HasWholeReads opening entries
   pub each : AllByRecursion IsRecord (pairs_of entries)
   pub few : length entries ≤ record_limit
   pub parts : read ≡ joined (pairs_of entries) ++ rest

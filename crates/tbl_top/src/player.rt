@@ -3,7 +3,8 @@
 ghost use Rattle.std.specs.Prelude.{◌≡◌, ⊤, ℕ, ◌+◌, ◌<◌, ◌≤◌, Option, List, [], ◌++◌, length, take, drop, vec_len, false, All, IfOk, OnOk, MatchOption, OnErr, ◌==◌};
 ghost use Rattle.tbl_kinds.specs.State.{State};
 ghost use Rattle.tbl_kinds.specs.Records.{IsRecord, spelling, record_limit};
-ghost use Rattle.tbl_core.specs.Service.{StandsFor, IsSmall};
+ghost use Rattle.tbl_core.specs.Log.{IsSmall};
+ghost use Rattle.tbl_core.specs.Service.{StandsFor};
 ghost use Rattle.std.specs.Io.KnownBytes.{append_known};
 ghost use Rattle.tbl_kinds.specs.Transcript.{end_bytes, offset_of};
 ghost use Rattle.tbl_outside.specs.Counts.{Rose};

@@ -1,6 +1,6 @@
 //! A session from its first byte to the end of its transcript.
 
-ghost use Rattle.std.specs.Prelude.{◌≡◌, ◌≢◌, ◌⊎◌, ◌↔◌, ℕ, List, [], Some, IfSome};
+ghost use Rattle.std.specs.Prelude.{◌≡◌, ◌≢◌, ◌⊎◌, ◌↔◌, ℕ, List, [], Some, IfSome, IfOk};
 ghost use Rattle.std.specs.Io.KnownBytes.{prepend_known, IsAtEnd};
 ghost use Rattle.tbl_kinds.specs.State.{first_state};
 ghost use Rattle.tbl_core.specs.Service.{StandsFor};
@@ -19,6 +19,16 @@ use tbl_outside::{Sink, Source};
 
 /// The words aren't those that the program knows.
 const USAGE: u8 = 2;
+
+/// A session in which nothing was read yet, over a service at its start.
+fn begin(alloc: Global) -> Result<Player, Memory>
+    ensures begun { IfOk result (λ player. consumed player ≡ []) }
+    ensures empty { IfOk result (λ player. player.core.entries ≡ []) }
+    ensures session { IfOk result (λ player. IsSession player.core) }
+    ensures stands { IfOk result (λ player. StandsFor (first_state [] []) player.core) }
+{
+    Player::make(alloc, Core::start(alloc)?)
+}
 
 /// Plays a session from its start.
 fn play<S: Source, K: Sink>(player: &mut Player, source: &mut S, sink: &mut K) -> u8
@@ -57,7 +67,7 @@ pub fn run<S: Source, K: Sink>(alloc: Global, words: &[Bytes], source: &mut S, s
     if !is_play(words) {
         return USAGE;
     }
-    match Player::make(alloc, Core::start(alloc)) {
+    match begin(alloc) {
         Err(Memory) => NO_MEMORY,
         Ok(mut player) => play(&mut player, source, sink),
     }

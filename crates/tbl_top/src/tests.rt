@@ -29,6 +29,67 @@ const REFUSED_ENTRY: [u8; 45] = [
     0xC0, 0x01, 0x00, 0x11, 0, 0, 0, 0, 0, 0, 0x00, 0x02, 0, 0, 0, 0x50, 0xFF, 0xFF, 0, 0, 0, 0x02,
 ];
 
+/// Application 1 gets the address behind handle 0, and gives it back.
+const GET: [u8; 6] = [0x1B, 0x01, 0x00, 0x02, 0x00, 0x00];
+
+const RELEASE: [u8; 6] = [0x1D, 0x01, 0x00, 0x02, 0x00, 0x00];
+
+/// The record of an application that starts as `A`.
+fn start(app: u8) -> [u8; 24] {
+    [
+        0x10, app, 0x00, 0x14, 0x41, 0, 0, 0, 0, 0, 0, 0, 0, 0, 0, 0, 0, 0, 0, 0, 0, 0, 0, 0,
+    ]
+}
+
+/// The record of an application that registers a table without a validator.
+fn register(app: u8, name: [u8; 2], size: u16, flags: u8) -> [u8; 27] {
+    let [first, second] = name;
+    let [high, low] = size.to_be_bytes();
+    [
+        0x11, app, 0x00, 0x17, first, second, 0, 0, 0, 0, 0, 0, 0, 0, 0, 0, 0, 0, 0, 0, 0, 0, high,
+        low, 0x00, flags, 0xFF,
+    ]
+}
+
+/// The record of application 1 that loads an image by handle 0.
+fn load(image: [u8; 4]) -> [u8; 10] {
+    let [first, second, third, fourth] = image;
+    [
+        0x14, 0x01, 0x00, 0x06, 0x00, 0x00, first, second, third, fourth,
+    ]
+}
+
+/// The record of application 1 that reads by handle 0.
+fn read(offset: u8, len: u8) -> [u8; 14] {
+    [
+        0x1C, 0x01, 0x00, 0x0A, 0x00, 0x00, 0, 0, 0, offset, 0, 0, 0, len,
+    ]
+}
+
+/// The entry of a request that is answered without bytes and packets.
+fn entry(place: u8, app: u8, status: u8, detail: u8) -> [u8; 21] {
+    [
+        0, 0, 0, place, app, 0, 0, 0, status, 0, 0, 0, detail, 0, 0, 0, 0, 0, 0, 0, 0,
+    ]
+}
+
+/// The entry of a load of application 1, with so many events sent before it: success, and event 5 with row 0 and the
+/// number of images.
+fn loaded_entry(place: u8, sent: u8, images: u8) -> [u8; 45] {
+    [
+        0, 0, 0, place, 0x01, 0, 0, 0, 0, 0, 0, 0, 0, 0, 0, 0, 0, 0, 0, 0, 0x18, 0x08, 0x08, 0xC0,
+        sent, 0x00, 0x11, 0, 0, 0, 0, 0, 0, 0x00, 0x05, 0, 0, 0, 0, 0x00, 0x00, 0, 0, 0, images,
+    ]
+}
+
+/// The entry of a read of application 1 that is answered with two bytes.
+fn read_entry(place: u8, bytes: [u8; 2]) -> [u8; 23] {
+    let [first, second] = bytes;
+    [
+        0, 0, 0, place, 0x01, 0, 0, 0, 0, 0, 0, 0, 0, 0, 0, 0, 0x02, first, second, 0, 0, 0, 0,
+    ]
+}
+
 /// The entry of a NOOP at a place, with so many events sent before it.
 fn noop_entry(place: u16, sent: u16) -> [u8; 45] {
     let mut entry = NOOP_ENTRY;
@@ -83,6 +144,27 @@ fn noop_entries(alloc: Global, count: u16) -> Result<Vec<u8>, Memory> {
     let mut entries = Vec::new(alloc);
     for place in 0..count {
         entries.extend_from_slice(&noop_entry(place, place))?;
+    }
+    Ok(entries)
+}
+
+/// Application 1 starts and registers so many tables.
+fn registrations(alloc: Global, count: u8) -> Result<Vec<u8>, Memory> {
+    let mut input = Vec::new(alloc);
+    input.extend_from_slice(&start(1))?;
+    for number in 0..count {
+        let name = [b'A' + number / 16, b'A' + number % 16];
+        input.extend_from_slice(&register(1, name, 4, 0))?;
+    }
+    Ok(input)
+}
+
+/// The entries of it where each table is registered.
+fn registration_entries(alloc: Global, count: u8) -> Result<Vec<u8>, Memory> {
+    let mut entries = Vec::new(alloc);
+    entries.extend_from_slice(&entry(0, 1, 0, 0))?;
+    for handle in 0..count {
+        entries.extend_from_slice(&entry(handle + 1, 1, 0, handle))?;
     }
     Ok(entries)
 }
@@ -350,5 +432,182 @@ fn a_calm_session_is_done(rt: HostRuntime) -> Result<(), Fail> {
     let mut sink = CalmSink::make();
     assert_eq!(rt; run(alloc, &words, &mut source, &mut sink), 0);
     assert!(rt; source.left_bytes().is_empty());
+    Ok(())
+}
+
+// A table is got before its first load, loaded, got twice, read within its size and past it, given back twice, and read
+// without a pin.
+#[test]
+fn a_table_is_loaded_and_read(rt: HostRuntime) -> Result<(), Fail> {
+    let alloc = rt.alloc();
+    let input = joined(
+        alloc,
+        &[
+            &start(1),
+            &register(1, *b"T\0", 4, 0),
+            &GET,
+            &load([1, 2, 3, 4]),
+            &GET,
+            &GET,
+            &read(1, 2),
+            &read(3, 2),
+            &RELEASE,
+            &RELEASE,
+            &read(0, 1),
+        ],
+    )?;
+    let told = joined(
+        alloc,
+        &[
+            &entry(0, 1, 0, 0),
+            &entry(1, 1, 0, 0),
+            &entry(2, 1, 60, 0),
+            &loaded_entry(3, 0, 1),
+            &entry(4, 1, 1, 0),
+            &entry(5, 1, 59, 0),
+            &read_entry(6, [2, 3]),
+            &entry(7, 1, 62, 0),
+            &entry(8, 1, 0, 0),
+            &entry(9, 1, 61, 0),
+            &entry(10, 1, 61, 0),
+            &end_record(0, 11, 133),
+        ],
+    )?;
+    let outcome = play(alloc, &input, &[], 400, &[])?;
+    assert_eq!(rt; outcome.status, 0);
+    assert_eq!(rt; outcome.sink.taken(), told.as_slice());
+    Ok(())
+}
+
+// While an image is pinned no other is loaded, and what is read is of the pinned one. Once the address is given back the
+// next image is loaded, and read after a further call that gets the address.
+#[test]
+fn a_pinned_image_stays_as_it_is(rt: HostRuntime) -> Result<(), Fail> {
+    let alloc = rt.alloc();
+    let input = joined(
+        alloc,
+        &[
+            &start(1),
+            &register(1, *b"T\0", 4, 0),
+            &load([1, 2, 3, 4]),
+            &GET,
+            &load([5, 6, 7, 8]),
+            &read(1, 2),
+            &RELEASE,
+            &load([5, 6, 7, 8]),
+            &GET,
+            &read(1, 2),
+        ],
+    )?;
+    let told = joined(
+        alloc,
+        &[
+            &entry(0, 1, 0, 0),
+            &entry(1, 1, 0, 0),
+            &loaded_entry(2, 0, 1),
+            &entry(3, 1, 1, 0),
+            &entry(4, 1, 9, 0),
+            &read_entry(5, [2, 3]),
+            &entry(6, 1, 0, 0),
+            &loaded_entry(7, 1, 2),
+            &entry(8, 1, 1, 0),
+            &read_entry(9, [6, 7]),
+            &end_record(0, 10, 127),
+        ],
+    )?;
+    let outcome = play(alloc, &input, &[], 400, &[])?;
+    assert_eq!(rt; outcome.status, 0);
+    assert_eq!(rt; outcome.sink.taken(), told.as_slice());
+    Ok(())
+}
+
+// The largest table, sizes and options that none may have, and the first table's name again: with its size, with another
+// one, and by another application of the same name.
+#[test]
+fn applications_register(rt: HostRuntime) -> Result<(), Fail> {
+    let alloc = rt.alloc();
+    let input = joined(
+        alloc,
+        &[
+            &start(1),
+            &register(1, *b"T\0", 16_384, 0),
+            &register(1, *b"U\0", 16_385, 0),
+            &register(1, *b"U\0", 0, 0),
+            &register(1, *b"U\0", 4, 0x04),
+            &register(1, *b"U\0", 4, 0x03),
+            &register(1, *b"U\0", 4, 0x0A),
+            &register(1, *b"T\0", 16_384, 0),
+            &register(1, *b"T\0", 8, 0),
+            &start(3),
+            &register(3, *b"T\0", 16_384, 0),
+        ],
+    )?;
+    let told = joined(
+        alloc,
+        &[
+            &entry(0, 1, 0, 0),
+            &entry(1, 1, 0, 0),
+            &entry(2, 1, 37, 0),
+            &entry(3, 1, 37, 0),
+            &entry(4, 1, 38, 0),
+            &entry(5, 1, 38, 0),
+            &entry(6, 1, 38, 0),
+            &entry(7, 1, 16, 0),
+            &entry(8, 1, 41, 0),
+            &entry(9, 3, 0, 0),
+            &entry(10, 3, 40, 0),
+            &end_record(0, 11, 291),
+        ],
+    )?;
+    let outcome = play(alloc, &input, &[], 400, &[])?;
+    assert_eq!(rt; outcome.status, 0);
+    assert_eq!(rt; outcome.sink.taken(), told.as_slice());
+    Ok(())
+}
+
+// 128 tables have the handles 0 to 127, and there is no room for one more.
+#[test]
+fn the_registry_is_full(rt: HostRuntime) -> Result<(), Fail> {
+    let alloc = rt.alloc();
+    let registered = registration_entries(alloc, 128)?;
+    let told = joined(
+        alloc,
+        &[
+            &registered,
+            &entry(129, 1, 42, 0),
+            &end_record(0, 130, 3507),
+        ],
+    )?;
+    let outcome = play(alloc, &registrations(alloc, 129)?, &[], 3000, &[])?;
+    assert_eq!(rt; outcome.status, 0);
+    assert_eq!(rt; outcome.sink.taken(), told.as_slice());
+    Ok(())
+}
+
+// The input ends within the record of a load, or a read fails there. What stands before it is played.
+#[test]
+fn a_session_is_cut_within_a_load(rt: HostRuntime) -> Result<(), Fail> {
+    let alloc = rt.alloc();
+    let load = load([1, 2, 3, 4]);
+    for cut in 1..10usize {
+        let input = joined(
+            alloc,
+            &[&start(1), &register(1, *b"T\0", 4, 0), &GET, &load[..cut]],
+        )?;
+        for (reads, status) in [(&[] as &[u32], 5), (&[2], 3)] {
+            let told = joined(
+                alloc,
+                &[
+                    &entry(0, 1, 0, 0),
+                    &entry(1, 1, 0, 0),
+                    &entry(2, 1, 60, 0),
+                    &end_record(status, 3, 57),
+                ],
+            )?;
+            let outcome = play(alloc, &input, reads, 400, &[])?;
+            assert_eq!(rt; outcome.status, status, "{cut}");
+            assert_eq!(rt; outcome.sink.taken(), told.as_slice(), "{cut}");
+        }
+    }
     Ok(())
 }

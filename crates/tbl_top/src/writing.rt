@@ -3,7 +3,7 @@
 ghost use Rattle.std.specs.Prelude.{◌≡◌, ◌<◌, ◌≤◌, length, MatchOption};
 ghost use Rattle.std.specs.Io.KnownBytes.{append_known};
 ghost use Rattle.tbl_kinds.specs.Transcript.{entry_bytes};
-ghost use Rattle.tbl_core.specs.Service.{IsSmall};
+ghost use Rattle.tbl_core.specs.Log.{IsSmall};
 ghost use Rattle.tbl_top.specs.Telling.{TellsStop, TellsWhy};
 
 use crate::player::Fed;

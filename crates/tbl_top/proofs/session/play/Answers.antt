@@ -1,4 +1,4 @@
-use Rattle.std.proofs.Common.{[]}
+use Rattle.std.proofs.Common.{[], refl}
 use Rattle.std.specs.Io.KnownBytes.{IsAtEnd}
 use Rattle.tbl_kinds.specs.State.{first_state}
 use Rattle.tbl_top.proofs.SessionLemmas.{session_of, nothing_written}
@@ -15,6 +15,6 @@ returns-clause-session g c =
       reads.1,
       session_of (first_state [] []) c.args.player.now p reads.0 (IsAtEnd (g.S.Source.left c.read_all-ending.new.source)) c.finish.result before mid after
           (g.K.Sink.faults c.read_all-ending.new.sink) (g.K.Sink.faults c.finish.new.sink)
-          c.requires.begun (c.read_all-ending.ensures.stands (first_state [] []) c.requires.stands) c.read_all-ending.ensures.session
+          c.requires.begun refl (c.read_all-ending.ensures.stands (first_state [] []) c.requires.stands) c.read_all-ending.ensures.session
           c.read_all-ending.result reads.2 (c.read_all-ending.ensures.written before (nothing_written before c.args.player.now.core.entries c.requires.empty)) c.finish.ensures.finishes,
     )

@@ -1,4 +1,4 @@
-use Rattle.std.proofs.Common.{[]}
+use Rattle.std.proofs.Common.{[], refl}
 use Rattle.std.specs.Io.KnownBytes.{IsAtEnd}
 use Rattle.tbl_kinds.specs.State.{first_state}
 use Rattle.tbl_top.proofs.ReadingLemmas.{prepend_nothing}
@@ -10,7 +10,7 @@ pub returns-in-Err-clause-session : goal.returns-in-Err-clause-session
 returns-in-Err-clause-session g c = λ words. (
   [],
   prepend_nothing (g.S.Source.left c.args.source.now),
-  starved_at_once (first_state [] []) (IsAtEnd (g.S.Source.left c.args.source.now)) (g.K.Sink.taken c.args.sink.now) c.start.result c.start.ensures.stands c.start.ensures.empty,
+  starved_at_once (first_state [] []) refl (IsAtEnd (g.S.Source.left c.args.source.now)) (g.K.Sink.taken c.args.sink.now),
 )
 
 pub returns-in-Err-clause-complete : goal.returns-in-Err-clause-complete

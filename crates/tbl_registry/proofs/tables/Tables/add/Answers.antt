@@ -15,7 +15,7 @@ invariant_of-self-2 c =
     let free : position is_none c.self.inside.rows.items ≡ Some c.in-Some.row = rw (← c.deref.ensures.value) (sym c.in-Some.ensures.row) in
     rw (c.in-Some-add.ensures.added, c.make-2.ensures)
     (add_sound c.self.inside.rows.items c.self.inside.handles c.in-Some.row c.in-Some-add.handle c.args.app _ c.self.invariant free refl
-    (new_is_plain c.args.plan.name c.args.app c.args.plan.size (option_bits c.args.plan.flags) c.args.plan.validator c.in-Some-add.handle c.requires.some_bytes c.requires.within no_option))
+    (new_is_plain c.args.plan.name c.args.app c.args.plan.size (option_bits c.args.plan.flags) c.args.plan.validator c.in-Some-add.handle c.requires.some_bytes c.requires.within no_option) (rw (← c.self.view_is) at c.requires.new))
 
 pub returns-clause-handle_free : goal.returns-clause-handle_free
 returns-clause-handle_free c = rw (← c.self.view_is, least_free-map _ c.self.inside.handles) (sym c.in-Some-add.ensures.least_free)

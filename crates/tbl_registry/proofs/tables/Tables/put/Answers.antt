@@ -10,8 +10,8 @@ invariant_of-self c =
     let seen : table_at c.args.self.now c.args.row ≡ Some c.in-Some.table = rw (← c.self.view_is) there in
     rw c.put.ensures (put_sound _ _ c.args.row c.in-Some.table c.args.image.now there c.self.invariant (c.requires.size c.in-Some.table seen))
 
-pub returns : goal.returns
-returns c =
+pub returns-clause-tables : goal.returns-clause-tables
+returns-clause-tables c =
     let there = at_place-read c.self.inside.rows.items c.args.row c.index_mut.result.now c.in-Some.table c.index_mut.ensures.value c.in-Some.is (rw (← c.self.view_is) at c.requires.table) in
     let seen : table_at c.args.self.now c.args.row ≡ Some c.in-Some.table = rw (← c.self.view_is) there in
     rw (← c.self.view_is, c.put.ensures)

@@ -1,0 +1,25 @@
+use Rattle.std.proofs.Common.{◌≡◌, ◌++◌, ◌∷◌, [], List, ℕ, ap, ◌∙◌, length, drop, arith}
+use Rattle.std.specs.Prelude.{bit_xor}
+use Rattle.std.specs.List.{fold}
+use Rattle.std.proofs.lemmas.List.{length-append}
+use Rattle.tbl_kinds.specs.Packets.{command_packet}
+use Rattle.cfe_headers.proofs.Checks.{packet_from_pieces, length-command_packet}
+use Rattle.cfe_headers.proofs.command.write_cmd.Goals as goal
+
+pub returns-clause-bytes : goal.returns-clause-bytes
+returns-clause-bytes c =
+    let out-is = c.append.ensures.bytes ∙ ap (λ (s : List ℕ). s ++ c.args.code ∷ []) c.put_primary.ensures.bytes in
+    let behind : drop (length c.bytes-start.result.now) c.bytes.result.now ≡ drop (length c.args.out.now.list) c.append.new.self.list = rw (c.bytes-start.ensures, c.bytes.ensures) in
+    let front-is = c.checksum_from-sum.ensures ∙ ap (λ (s : List ℕ). fold bit_xor 0xFF s) (c.split_at.ensures.back ∙ behind) in
+    c.append-3.ensures.bytes
+    ∙ ap (λ (s : List ℕ). s ++ c.args.payload.now) c.append-2.ensures.bytes
+    ∙ packet_from_pieces c.args.out.now.list c.args.id c.args.count c.args.code c.args.payload.now c.append.new.self.list c.checksum_from-sum.result c.checksum_from.result out-is front-is c.checksum_from.ensures
+
+pub returns-clause-len : goal.returns-clause-len
+returns-clause-len c =
+    omega (
+      arith,
+      length-append c.args.out.now.list (command_packet c.args.id c.args.count c.args.code c.args.payload.now),
+      ap length (returns-clause-bytes c),
+      length-command_packet c.args.id c.args.count c.args.code c.args.payload.now,
+    )

@@ -1,0 +1,117 @@
+//! The header that cFE puts in front of its files.
+
+ghost use Rattle.std.specs.Prelude.{◌≡◌, ◌+◌, ◌≤◌, ◌++◌, None, Some, length, IfErr, IfOk, OnOk};
+ghost use Rattle.tbl_kinds.specs.Numbers.{four, four_at, piece};
+ghost use Rattle.tbl_kinds.specs.Headers.{file_header, header_flaw, header_in, header_len};
+ghost use Rattle.cfe_headers.specs.FileHeaders.{header_of, header_flaw_of};
+
+use byteorder::{BigEndian, ByteOrder};
+use tbl_kinds::Bytes;
+use thiserror::Error;
+
+/// The content type of cFE's files, the letters `cFE1` (cFE's `CFE_FS_FILE_CONTENT_ID`).
+const CONTENT_TYPE: u32 = 0x6346_4531;
+
+/// How many bytes the header has.
+const HEADER_LENGTH: usize = 64;
+
+/// The file header of cFE (`CFE_FS_Header_t`), without its content type, which is always the same.
+#[derive(Clone, Copy, Debug, PartialEq, Eq)]
+pub struct FileHeader {
+    /// What kind of file it is: 8 for a table file.
+    pub subtype: u32,
+    /// The number of bytes of the header, 64. Readers don't look at it.
+    pub length: u32,
+    /// The spacecraft that the file was written on or is for.
+    pub spacecraft: u32,
+    /// The processor that the file was written on or is for.
+    pub processor: u32,
+    /// The application that wrote the file.
+    pub application: u32,
+    /// When the file was written, in seconds of the service's time.
+    pub seconds: u32,
+    /// Its subseconds, in units of 1/2^32 of a second.
+    pub sub: u32,
+    /// A text, followed by zeros.
+    pub description: [u8; 32],
+}
+
+/// What is wrong with a file's header, in the order tested.
+#[derive(Clone, Copy, Debug, PartialEq, Eq, Error)]
+pub enum HeaderFault {
+    /// There are fewer than 64 bytes.
+    #[error("a file header has 64 bytes")]
+    Short,
+    /// The content type is not that of cFE's files.
+    #[error("the content type is not that of a cFE file")]
+    BadContent,
+}
+
+/// The number in four bytes at a place.
+fn u32_at(bytes: &[u8], place: usize) -> u32
+    requires { place + 4 ≤ length bytes.now }
+    ensures { result ≡ four_at place bytes.now }
+{
+    BigEndian::read_u32(&bytes[place..])
+}
+
+/// The description field of a header.
+fn description_of(bytes: &[u8]) -> [u8; 32]
+    requires { header_len ≤ length bytes.now }
+    ensures { result ≡ piece 32 32 bytes.now }
+{
+    let mut description = [0; 32];
+    description.copy_from_slice(&bytes[32..HEADER_LENGTH]);
+    description
+}
+
+/// Reads the header at the front of a file. Of its fields the content type alone is tested.
+pub fn read_file_header(bytes: &[u8]) -> Result<FileHeader, HeaderFault>
+    ensures ok { OnOk result (header_flaw bytes.now ≡ None) }
+    ensures err { IfErr result (λ fault. header_flaw bytes.now ≡ Some (header_flaw_of fault)) }
+    ensures header { IfOk result (λ header. header_of header ≡ header_in bytes.now) }
+{
+    if bytes.len() < HEADER_LENGTH {
+        return Err(HeaderFault::Short);
+    }
+    if u32_at(bytes, 0) != CONTENT_TYPE {
+        return Err(HeaderFault::BadContent);
+    }
+    Ok(FileHeader {
+        subtype: u32_at(bytes, 4),
+        length: u32_at(bytes, 8),
+        spacecraft: u32_at(bytes, 12),
+        processor: u32_at(bytes, 16),
+        application: u32_at(bytes, 20),
+        seconds: u32_at(bytes, 24),
+        sub: u32_at(bytes, 28),
+        description: description_of(bytes),
+    })
+}
+
+/// Appends a number in four bytes.
+fn put_u32(out: &mut Bytes, number: u32)
+    requires { 4 ≤ out.old.spare }
+    ensures bytes { out.new.list ≡ out.old.list ++ four number }
+    ensures room { out.old.spare ≤ out.new.spare + 4 }
+{
+    out.append(&number.to_be_bytes());
+}
+
+/// Appends a file header, 64 bytes.
+#[tactic(auto, unfolding(tbl_kinds::specs::Headers::file_header))]
+pub fn write_file_header(out: &mut Bytes, header: &FileHeader)
+    requires { header_len ≤ out.old.spare }
+    ensures bytes { out.new.list ≡ out.old.list ++ file_header (header_of header.now) }
+    ensures room { out.old.spare ≤ out.new.spare + header_len }
+{
+    put_u32(out, CONTENT_TYPE);
+    put_u32(out, header.subtype);
+    put_u32(out, header.length);
+    put_u32(out, header.spacecraft);
+    put_u32(out, header.processor);
+    put_u32(out, header.application);
+    put_u32(out, header.seconds);
+    put_u32(out, header.sub);
+    out.append(&header.description);
+}

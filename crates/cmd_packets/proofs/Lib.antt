@@ -1,0 +1,3 @@
+mod CodedForms
+mod ReadCommands
+mod SpelledCommands

@@ -1,0 +1,122 @@
+ghost use Rattle.std.specs.Prelude.{◌≡◌, ◌≢◌, ◌+◌, ◌^◌, ◌<◌, ◌≤◌, ◌∷◌, ◌++◌, [], length, IfSome, Some, is_some};
+ghost use Rattle.std.specs.List.{list_all};
+ghost use Rattle.tbl_kinds.specs.Names.{is_zero, name_field};
+ghost use Rattle.tbl_kinds.specs.Numbers.{two, four};
+ghost use Rattle.tbl_kinds.specs.Records as records;
+ghost use Rattle.tbl_kinds.specs.Records.{FitsField};
+ghost use Rattle.tbl_kinds.specs.Heads.{is_name_field};
+
+use tbl_kinds::{Bytes, Name};
+
+/// What spells that there is no validator.
+const NO_VALIDATOR: u8 = 0xFF;
+
+fn are_zeros(bytes: &[u8]) -> bool
+    ensures { result ≡ list_all is_zero bytes.now }
+{
+    bytes.iter().all(|byte| *byte == 0)
+}
+
+/// The name in a field of `N` bytes, none where a byte behind the field's first zero byte isn't zero.
+#[tactic(auto, using(tbl_kinds::proofs::NameFields::written_again))]
+pub fn read_name<const N: usize>(field: &[u8]) -> Option<Name<N>>
+    requires { length field.now ≡ N }
+    ensures right { is_some result ≡ is_name_field field.now }
+    ensures field { IfSome result (λ name. name_field N name ≡ field.now) }
+    ensures fits { IfSome result (λ name. FitsField N name) }
+{
+    let name = Name::<N>::of(field);
+    let (_, behind) = field.split_at(name.bytes().len());
+    if !are_zeros(behind) {
+        return None;
+    }
+    Some(name)
+}
+
+/// The number in the first two bytes, and the bytes behind them.
+pub fn read_two(bytes: &[u8]) -> (u16, &[u8])
+    requires { 2 ≤ length bytes.now }
+    ensures parts { bytes.now ≡ two result.0 ++ result.1.now }
+    ensures len { length result.1.now + 2 ≡ length bytes.now }
+{
+    let number = u16::from_be_bytes([bytes[0], bytes[1]]);
+    let (_, rest) = bytes.split_at(2);
+    (number, rest)
+}
+
+/// The number in the first four bytes, and the bytes behind them.
+pub fn read_four(bytes: &[u8]) -> (u32, &[u8])
+    requires { 4 ≤ length bytes.now }
+    ensures parts { bytes.now ≡ four result.0 ++ result.1.now }
+    ensures len { length result.1.now + 4 ≡ length bytes.now }
+{
+    let number = u32::from_be_bytes([bytes[0], bytes[1], bytes[2], bytes[3]]);
+    let (_, rest) = bytes.split_at(4);
+    (number, rest)
+}
+
+/// The validator's number in the last byte of a body.
+pub fn read_validator(bytes: &[u8]) -> Option<u8>
+    requires { length bytes.now ≡ 1 }
+    ensures byte { bytes.now ≡ records.validator_number result ∷ [] }
+    ensures number { records.validator_number result < 2 ^ 8 }
+    ensures none_255 { result ≢ Some 255 }
+{
+    match bytes[0] {
+        NO_VALIDATOR => None,
+        number => Some(number),
+    }
+}
+
+/// How many bytes the name's field has.
+pub fn field_len<const N: usize>(name: &Name<N>) -> usize
+    ensures len { result ≡ length (name_field N name.now) }
+    ensures width { result ≡ N }
+{
+    let _bytes = name.bytes();
+    N
+}
+
+/// Puts the name and then zeros behind the bytes, `N` in all.
+pub fn append_name<const N: usize>(out: &mut Bytes, name: &Name<N>)
+    requires { length (name_field N name.now) ≤ out.old.spare }
+    ensures bytes { out.new.list ≡ out.old.list ++ name_field N name.now }
+    ensures room { out.old.spare ≤ out.new.spare + length (name_field N name.now) }
+    ensures fits { FitsField N name.now }
+{
+    let bytes = name.bytes();
+    let zeros = [0; N];
+    let (_, behind) = zeros.as_slice().split_at(bytes.len());
+    out.append(bytes);
+    out.append(behind);
+}
+
+pub fn append_two(out: &mut Bytes, number: u16)
+    requires { 2 ≤ out.old.spare }
+    ensures bytes { out.new.list ≡ out.old.list ++ two number }
+    ensures room { out.old.spare ≤ out.new.spare + 2 }
+    ensures fits { number < 2 ^ 16 }
+{
+    out.append(&number.to_be_bytes());
+}
+
+pub fn append_four(out: &mut Bytes, number: u32)
+    requires { 4 ≤ out.old.spare }
+    ensures bytes { out.new.list ≡ out.old.list ++ four number }
+    ensures room { out.old.spare ≤ out.new.spare + 4 }
+    ensures fits { number < 2 ^ 32 }
+{
+    out.append(&number.to_be_bytes());
+}
+
+pub fn append_validator(out: &mut Bytes, validator: Option<u8>)
+    requires { 1 ≤ out.old.spare }
+    ensures bytes { out.new.list ≡ out.old.list ++ records.validator_number validator ∷ [] }
+    ensures fits { records.validator_number validator < 2 ^ 8 }
+{
+    let number = match validator {
+        None => NO_VALIDATOR,
+        Some(number) => number,
+    };
+    out.append(&[number]);
+}

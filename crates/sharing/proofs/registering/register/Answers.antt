@@ -1,0 +1,11 @@
+use Rattle.std.proofs.lemmas.Result.{IfOk-weaker}
+use Rattle.sharing.proofs.Passing.{registers}
+use Rattle.sharing.proofs.registering.register.Goals as goal
+
+pub returns-clause-effect : goal.returns-clause-effect
+returns-clause-effect c =
+    IfOk-weaker c.by_name.result _ _
+    (λ answer told s tables apps kit.
+    rw (registers s c.args.apps.now c.args.app c.args.short.now c.in-Some.name c.args.size c.args.flags c.args.validator apps c.in-Some.ensures.name c.in_default-fault_of.ensures)
+    (told s tables))
+    c.by_name.ensures.effect

@@ -1,0 +1,11 @@
+//! Applications and the tables that they register: the layer above may rely on it that each call is one step of what runs and is registered.
+#![tactic(auto)]
+
+mod apps;
+mod registering;
+
+pub use apps::{Apps, plan_name};
+pub use registering::register;
+
+#[cfg(test)]
+mod tests;

@@ -1,0 +1,116 @@
+ghost use Rattle.std.specs.Prelude.{◌≡◌, ◌<◌, ◌≤◌, [], None, Some, IfOk, OnErr};
+ghost use Rattle.tbl_kinds.specs.State.{State};
+ghost use Rattle.tbl_kinds.specs.Tables.{option_bits, table_at};
+ghost use Rattle.tbl_kinds.specs.TableSteps.{find, least_free};
+ghost use Rattle.tbl_kinds.specs.Applications.{table_limit, are_options, duplicate_effect, add_effect, by_name_effect, register_effect};
+ghost use Rattle.sharing.specs.Registering.{answered_with, fault_of};
+
+use crate::apps::{Apps, plan_name};
+use bitflags::Flags;
+use tbl_kinds::{Answer, Memory, Name16, Name40, Options, Status};
+use tbl_registry::{AddFault, NewTable, RowView, Tables};
+
+/// The largest table (`CFE_PLATFORM_TBL_MAX_SNGL_TABLE_SIZE`), in bytes.
+const TABLE_LIMIT: u32 = 16_384;
+
+/// The first thing that can't be asked for: the name, the size, the options, the validation function.
+fn fault_of(short: &Name16, size: u32, flags: u16, validator: Option<u8>) -> Option<Status>
+    ensures { result ≡ fault_of short.now size flags validator }
+{
+    if !short.is_name() {
+        return Some(Status::ERR_INVALID_NAME);
+    }
+    if size == 0 || size > TABLE_LIMIT {
+        return Some(Status::ERR_INVALID_SIZE);
+    }
+    if flags != 0 {
+        return Some(Status::ERR_INVALID_OPTIONS);
+    }
+    if validator.is_some() {
+        return Some(Status::ERR_NO_VALIDATOR);
+    }
+    None
+}
+
+/// The answer where a table of this name is there.
+fn duplicate(tables: &Tables, row: u8, app: u8, size: u32) -> Answer
+    ensures { (s : State) → s.tables ≡ tables.now → duplicate_effect s app size (table_at tables.now row) ≡ answered_with s result tables.now }
+{
+    let Some(table) = tables.row(row) else {
+        return Answer::plain(Status::ERR_REGISTRY_FULL);
+    };
+    if table.owner != app {
+        return Answer::plain(Status::ERR_DUPLICATE_NOT_OWNED);
+    }
+    if table.size != size {
+        return Answer::plain(Status::ERR_DUPLICATE_DIFF_SIZE);
+    }
+    Answer {
+        status: Status::WARN_DUPLICATE,
+        detail: table.handle as u32,
+    }
+}
+
+/// Adds a table whose name is new.
+fn add(tables: &mut Tables, app: u8, name: Name40, size: u32) -> Result<Answer, Memory>
+    requires new { find name tables.old ≡ None }
+    requires some_bytes { 0 < size }
+    requires within { size ≤ table_limit }
+    ensures effect { IfOk result (λ answer. (s : State) → s.tables ≡ tables.old → add_effect s app name size 0 None (least_free tables.old.rows) (least_free tables.old.handles) ≡ answered_with s answer tables.new) }
+    ensures err { OnErr result (tables.new ≡ tables.old) }
+{
+    let plan = NewTable {
+        name,
+        size,
+        flags: Options::from_bits_retain(0),
+        validator: None,
+    };
+    match tables.add(app, plan) {
+        Ok(handle) => Ok(Answer {
+            status: Status::SUCCESS,
+            detail: handle as u32,
+        }),
+        Err(AddFault::RegistryFull) => Ok(Answer::plain(Status::ERR_REGISTRY_FULL)),
+        Err(AddFault::HandlesFull) => Ok(Answer::plain(Status::ERR_HANDLES_FULL)),
+        Err(AddFault::Memory) => Err(Memory),
+    }
+}
+
+/// Registers a table under its full name.
+fn by_name(tables: &mut Tables, app: u8, name: Name40, size: u32) -> Result<Answer, Memory>
+    requires some_bytes { 0 < size }
+    requires within { size ≤ table_limit }
+    ensures effect { IfOk result (λ answer. (s : State) → s.tables ≡ tables.old → by_name_effect s app name size 0 None (find name s.tables) ≡ answered_with s answer tables.new) }
+    ensures err { OnErr result (tables.new ≡ tables.old) }
+{
+    match tables.find(name.bytes()) {
+        Some(row) => Ok(duplicate(tables, row, app, size)),
+        None => add(tables, app, name, size),
+    }
+}
+
+/// Registers a table for an application, under its name, a dot and the short name (`CFE_TBL_Register`), where no
+/// validation function stands in the kit. A new table's handle is the detail, and also that of a table which
+/// the application has registered already under this name and with this size (`WARN_DUPLICATE`).
+/// After want of memory nothing was changed.
+#[tactic(auto, unfolding(tbl_kinds::specs::Applications::register_effect))]
+pub fn register(
+    tables: &mut Tables,
+    apps: &Apps,
+    app: u8,
+    short: &Name16,
+    size: u32,
+    flags: u16,
+    validator: Option<u8>,
+) -> Result<Answer, Memory>
+    ensures effect { IfOk result (λ answer. (s : State) → s.tables ≡ tables.old → s.apps ≡ apps.now → s.kit ≡ [] → register_effect s app short.now size flags validator ≡ answered_with s answer tables.new) }
+    ensures err { OnErr result (tables.new ≡ tables.old) }
+{
+    let Some(name) = plan_name(apps, app, short) else {
+        return Ok(Answer::plain(Status::ERR_BAD_APP));
+    };
+    if let Some(fault) = fault_of(short, size, flags, validator) {
+        return Ok(Answer::plain(fault));
+    }
+    by_name(tables, app, name, size)
+}

@@ -1,0 +1,22 @@
+use Rattle.std.proofs.Common.{refl}
+use Rattle.tbl_core.specs.Counters.{tally_view}
+use Rattle.tbl_core.proofs.Quiet.{answer_plays}
+use Rattle.tbl_core.proofs.parts.Parts.release.Goals as goal
+
+pub returns-clause-plays : goal.returns-clause-plays
+returns-clause-plays c =
+    let told = c.in_ok-empty.ensures in
+    answer_plays _ _ c.args.app _ c.in_ok-empty.empty c.answer_in-reply.result c.release-answer.result.status c.release-answer.result.detail tt c.requires.fits refl c.requires.few
+    (c.release-answer.ensures _ refl refl) (record {
+      entries = c.ready.new.log.entries;
+      counts = c.ready.new.log.counts;
+      tally = tally_view c.none.result;
+      reply_is = c.answer_in-reply.ensures;
+      no_bytes = told.bytes;
+      no_packets = told.packets;
+      entries_stayed = told.entries;
+      counts_stayed = told.counts;
+      no_counting = c.none.ensures;
+      added = c.enter.ensures.entries;
+      counted = c.enter.ensures.counts;
+    })

@@ -1,0 +1,29 @@
+-- What the history shows.
+use Rattle.std.specs.Prelude.{ℕ, ◌≤◌, List, [], ◌∷◌, length, None}
+use Rattle.tbl_kinds.specs.Counts.{Counts}
+use Rattle.tbl_kinds.specs.History.{untouched}
+use Rattle.tbl_kinds.specs.declared.request.Actor.{Actor}
+use Rattle.tbl_kinds.specs.declared.request.Request.{Request}
+use Rattle.tbl_kinds.specs.declared.entry.Entry.{Entry}
+use Rattle.tbl_kinds.specs.declared.entry.Reply.{Reply}
+
+-- the entries, what is counted over them, and room for so many entries more
+pub record Logged : Type 0 where
+  pub entries : List Entry
+  pub counts : Counts
+  pub spare : ℕ
+
+-- a reply has at most this many bytes, and its packets too
+abbrev pub reply_limit : ℕ
+reply_limit = 66000
+
+pub record IsSmallReply (reply : Reply) : Type 0 where
+  pub bytes : length reply.bytes.list ≤ reply_limit
+  pub packets : length reply.packets.list ≤ reply_limit
+
+abbrev pub IsSmall : Entry → Type 0
+IsSmall e = IsSmallReply e.reply
+
+-- an entry that touched no store and asked no validation function
+abbrev pub entry_of : Actor → Request → Reply → Entry
+entry_of actor request reply = record { actor = actor; request = request; reply = reply; note = untouched; verdicts = None ∷ None ∷ [] }

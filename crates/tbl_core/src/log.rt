@@ -1,0 +1,98 @@
+//! The history, and what telemetry counts over it.
+
+ghost use Rattle.std.specs.Prelude.{◌≡◌, ◌<◌, ◌∷◌, [], ◌++◌, OnOk, All};
+ghost use Rattle.tbl_kinds.specs.Counts.{no_counts};
+ghost use Rattle.tbl_kinds.specs.CountsAfter.{counts_after};
+ghost use Rattle.tbl_core.specs.Log.{IsSmall, IsSmallReply, entry_of};
+
+use crate::counters::{Counters, Tally};
+use std::alloc::Global;
+use std::marker::Model;
+use tbl_kinds::{Actor, BankNote, Entry, Memory, Outcome, Reply, Request, Slots};
+
+/// The entries in their order, the running numbers of telemetry, and reserved room for further entries.
+#[derive(Debug, Drop)]
+pub(crate) struct Log {
+    entries: Vec<Entry>,
+    counters: Counters,
+}
+
+impl Model for Log {
+    ghost use Rattle.tbl_core.specs.Log.{Logged};
+
+    ghost Value = { Logged };
+
+    ghost use Rattle.std.specs.Prelude.{◌-◌, All, vec_len, vec_capacity};
+    ghost use Rattle.tbl_core.specs.Log.{IsSmall};
+    ghost use Rattle.tbl_core.specs.Counters.{counts_view};
+
+    ghost view = { λ l. record { entries = l.entries.items; counts = counts_view l.counters; spare = vec_capacity l.entries - vec_len l.entries } };
+
+    ghost invariant = { λ l. All IsSmall l.entries.items };
+}
+
+impl Log {
+    ghost use Rattle.tbl_core.specs.Counters.{counts_view, tally_view};
+
+    /// An empty history.
+    pub(crate) fn make(alloc: Global) -> Log
+        ensures entries { result.entries ≡ [] }
+        ensures counts { result.counts ≡ no_counts }
+    {
+        Log {
+            entries: Vec::new(alloc),
+            counters: Counters::make(),
+        }
+    }
+
+    /// The entries.
+    pub(crate) fn entries(&self) -> &[Entry]
+        ensures entries { result.now ≡ self.now.entries }
+        ensures small { All IsSmall result.now }
+    {
+        self.entries.as_slice()
+    }
+
+    /// The running numbers.
+    pub(crate) fn counters(&self) -> &Counters
+        ensures { counts_view result.now ≡ self.now.counts }
+    {
+        &self.counters
+    }
+
+    /// Reserves room for one entry more.
+    pub(crate) fn reserve(&mut self) -> Result<(), Memory>
+        ensures entries { self.new.entries ≡ self.old.entries }
+        ensures counts { self.new.counts ≡ self.old.counts }
+        ensures room { OnOk result (0 < self.new.spare) }
+    {
+        self.entries.reserve(1)?;
+        Ok(())
+    }
+
+    /// Adds an entry that touched no store and asked no validation function, and counts it.
+    pub(crate) fn enter(&mut self, actor: Actor, request: Request, reply: Reply, tally: Tally)
+        requires room { 0 < self.old.spare }
+        requires small { IsSmallReply reply }
+        ensures entries { self.new.entries ≡ self.old.entries ++ entry_of actor request reply ∷ [] }
+        ensures counts { self.new.counts ≡ counts_after self.old.counts (tally_view tally) }
+    {
+        let note = BankNote {
+            outcome: Outcome::Untouched,
+            done: 0,
+            gate: false,
+            old: false,
+            ended: false,
+            restored: None,
+            found: Slots::make(),
+        };
+        self.entries.push_reserved(Entry {
+            actor,
+            request,
+            reply,
+            note,
+            verdicts: [None, None],
+        });
+        self.counters.add(tally);
+    }
+}

@@ -1,0 +1,182 @@
+//! Replies, for which all memory is taken before anything is changed.
+
+ghost use Rattle.std.specs.Prelude.{◌≡◌, ℕ, ◌+◌, ◌<◌, ◌≤◌, [], ◌++◌, length, IfOk, OnOk};
+ghost use Rattle.tbl_kinds.specs.Packets.{telemetry_packet, event_id, housekeeping_id};
+ghost use Rattle.tbl_kinds.specs.Telemetry.{event_body, housekeeping_body};
+ghost use Rattle.tbl_core.specs.Counters.{counts_view};
+ghost use Rattle.tbl_core.specs.Log.{IsSmallReply};
+ghost use Rattle.tbl_core.specs.Service.{head_of, housekeeping_at};
+ghost use Rattle.tbl_kinds.specs.Applications.{table_limit};
+
+use crate::counters::Counters;
+use crate::log::Log;
+use crate::service::StepFault;
+use std::alloc::Global;
+use tbl_kinds::{Answer, Bytes, Event, Housekeeping, Memory, Name, Reply, Status, TlmHead};
+use tbl_registry::Tables;
+use tlm_packets::{write_event, write_housekeeping};
+
+/// The length of an event packet.
+pub(crate) const EVENT_LENGTH: usize = 24;
+
+/// The length of a housekeeping packet.
+const HOUSEKEEPING_LENGTH: usize = 290;
+
+/// The working buffers that tables share.
+const SHARED_BUFFERS: u8 = 4;
+
+/// An empty reply with room for packets, and room for its entry.
+pub(crate) fn ready(log: &mut Log, alloc: Global, room: usize) -> Result<Reply, StepFault>
+    ensures entries { log.new.entries ≡ log.old.entries }
+    ensures counts { log.new.counts ≡ log.old.counts }
+    ensures spare { OnOk result (0 < log.new.spare) }
+    ensures status { IfOk result (λ reply. reply.status ≡ Status.SUCCESS) }
+    ensures detail { IfOk result (λ reply. reply.detail ≡ 0) }
+    ensures bytes { IfOk result (λ reply. reply.bytes.list ≡ []) }
+    ensures packets { IfOk result (λ reply. reply.packets.list ≡ []) }
+    ensures room { IfOk result (λ reply. reply.packets.spare ≡ room) }
+{
+    match (
+        log.reserve(),
+        Bytes::make(alloc, 0),
+        Bytes::make(alloc, room),
+    ) {
+        (Ok(()), Ok(bytes), Ok(packets)) => Ok(Reply {
+            status: Status::SUCCESS,
+            detail: 0,
+            bytes,
+            packets,
+        }),
+        _ => Err(StepFault::Memory),
+    }
+}
+
+/// The reply with this status and detail.
+pub(crate) fn answer_in(mut reply: Reply, answer: Answer) -> Reply
+    ensures { result ≡ record reply { status = answer.status; detail = answer.detail } }
+{
+    reply.status = answer.status;
+    reply.detail = answer.detail;
+    reply
+}
+
+/// A reply that gives bytes of an image.
+pub(crate) fn reply_with_bytes(
+    log: &mut Log,
+    alloc: Global,
+    piece: &[u8],
+) -> Result<Reply, StepFault>
+    requires { length piece.now ≤ table_limit }
+    ensures entries { log.new.entries ≡ log.old.entries }
+    ensures counts { log.new.counts ≡ log.old.counts }
+    ensures spare { OnOk result (0 < log.new.spare) }
+    ensures status { IfOk result (λ reply. reply.status ≡ Status.SUCCESS) }
+    ensures detail { IfOk result (λ reply. reply.detail ≡ 0) }
+    ensures bytes { IfOk result (λ reply. reply.bytes.list ≡ piece.now) }
+    ensures packets { IfOk result (λ reply. reply.packets.list ≡ []) }
+    ensures small { IfOk result IsSmallReply }
+{
+    let mut reply = ready(log, alloc, 0)?;
+    let mut bytes = Bytes::make(alloc, piece.len())?;
+    bytes.append(piece);
+    reply.bytes = bytes;
+    Ok(reply)
+}
+
+/// A reply whose one packet is this event, with its status. Where the event refuses, its detail is the reply's.
+pub(crate) fn reply_with_event(
+    log: &mut Log,
+    alloc: Global,
+    event: &Event,
+    detail: u32,
+) -> Result<Reply, StepFault>
+    ensures entries { log.new.entries ≡ log.old.entries }
+    ensures counts { log.new.counts ≡ log.old.counts }
+    ensures spare { OnOk result (0 < log.new.spare) }
+    ensures status { IfOk result (λ reply. reply.status ≡ event.now.status) }
+    ensures detail { IfOk result (λ reply. reply.detail ≡ detail) }
+    ensures bytes { IfOk result (λ reply. reply.bytes.list ≡ []) }
+    ensures packets { IfOk result (λ reply. reply.packets.list ≡ telemetry_packet event_id (head_of log.old.counts.events) (event_body event.now)) }
+    ensures small { IfOk result IsSmallReply }
+{
+    let mut reply = ready(log, alloc, EVENT_LENGTH)?;
+    put_event(&mut reply.packets, log.counters(), event);
+    reply.status = event.status;
+    reply.detail = detail;
+    Ok(reply)
+}
+
+/// Appends an event packet, at the service's time.
+pub(crate) fn put_event(packets: &mut Bytes, counters: &Counters, event: &Event)
+    requires { 24 ≤ packets.old.spare }
+    ensures bytes { packets.new.list ≡ packets.old.list ++ telemetry_packet event_id (head_of (counts_view counters.now).events) (event_body event.now) }
+    ensures len { length packets.new.list ≡ length packets.old.list + 24 }
+{
+    let head = TlmHead {
+        count: counters.events,
+        seconds: 0,
+        sub: 0,
+    };
+    write_event(packets, &head, event);
+}
+
+/// A reply whose one packet is housekeeping.
+pub(crate) fn reply_with_housekeeping(
+    log: &mut Log,
+    alloc: Global,
+    tables: &Tables,
+) -> Result<Reply, StepFault>
+    ensures entries { log.new.entries ≡ log.old.entries }
+    ensures counts { log.new.counts ≡ log.old.counts }
+    ensures spare { OnOk result (0 < log.new.spare) }
+    ensures status { IfOk result (λ reply. reply.status ≡ Status.SUCCESS) }
+    ensures detail { IfOk result (λ reply. reply.detail ≡ 0) }
+    ensures bytes { IfOk result (λ reply. reply.bytes.list ≡ []) }
+    ensures packets { IfOk result (λ reply. reply.packets.list ≡ telemetry_packet housekeeping_id (head_of log.old.counts.housekeepings) (housekeeping_body (housekeeping_at log.old.counts tables.now))) }
+    ensures small { IfOk result IsSmallReply }
+{
+    let mut reply = ready(log, alloc, HOUSEKEEPING_LENGTH)?;
+    put_housekeeping(&mut reply.packets, log.counters(), tables);
+    Ok(reply)
+}
+
+/// Appends a housekeeping packet, at the service's time.
+fn put_housekeeping(packets: &mut Bytes, counters: &Counters, tables: &Tables)
+    requires { 290 ≤ packets.old.spare }
+    ensures bytes { packets.new.list ≡ packets.old.list ++ telemetry_packet housekeeping_id (head_of (counts_view counters.now).housekeepings) (housekeeping_body (housekeeping_at (counts_view counters.now) tables.now)) }
+    ensures len { length packets.new.list ≡ length packets.old.list + 290 }
+{
+    let head = TlmHead {
+        count: counters.housekeepings,
+        seconds: 0,
+        sub: 0,
+    };
+    write_housekeeping(packets, &head, &housekeeping(counters, tables));
+}
+
+/// The body of a housekeeping packet.
+fn housekeeping(counters: &Counters, tables: &Tables) -> Housekeeping
+    ensures { result ≡ housekeeping_at (counts_view counters.now) tables.now }
+{
+    Housekeeping {
+        accepted: counters.accepted,
+        refused: counters.refused,
+        tables: tables.count(),
+        loads: 0,
+        finished: 0,
+        check: 0,
+        verdict: 0,
+        active: 0,
+        good: 0,
+        bad: 0,
+        requests: 0,
+        free: SHARED_BUFFERS,
+        seconds: counters.update.seconds,
+        sub: counters.update.sub,
+        validated: Name::of(&[]),
+        updated: counters.update.name.copy(),
+        loaded_file: Name::of(&[]),
+        dumped_file: Name::of(&[]),
+        loaded: counters.loaded.copy(),
+    }
+}

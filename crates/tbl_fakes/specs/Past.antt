@@ -1,0 +1,36 @@
+-- What a bank in memory keeps of its writes, and the contents that it had.
+use Rattle.std.specs.Prelude.{◌≡◌, ℕ, Bool, ◌&&◌, nat_lt, nat_le, List, [], ◌∷◌, length, take, drop, sum_by}
+use Rattle.tbl_outside.specs.Bank.{overwritten}
+use Rattle.tbl_fakes.specs.declared.past.Span.{Span}
+
+-- the ranges written, oldest first, the bytes that stood in each before, and the room that is left
+pub record Kept : Type 0 where
+  pub spans : List Span
+  pub olds : List ℕ
+  pub writes : ℕ
+  pub room : ℕ
+
+-- as many bytes are kept as the ranges have
+abbrev pub IsWhole : List Span → List ℕ → Type 0
+IsWhole spans olds = length olds ≡ sum_by (λ span. span.length) spans
+
+-- there is room for one more write, and for so many bytes
+abbrev pub fits : Kept → ℕ → Bool
+fits kept count = nat_lt 0 kept.writes && nat_le count kept.room
+
+-- a write: the bytes as they stood before it, and its range
+pub record Passed : Type 0 where
+  pub before : List ℕ
+  pub span : Span
+
+-- the bytes as they stood before the first of these writes, where these bytes stand after the last
+abbrev pub undone : List Span → List ℕ → List ℕ → List ℕ
+undone [] olds bytes = bytes
+undone (span ∷ spans) olds bytes =
+    overwritten (undone spans (drop span.length olds) bytes) span.at (take span.length olds)
+
+-- each of these writes with the bytes before it
+abbrev pub passed : List Span → List ℕ → List ℕ → List Passed
+passed [] olds bytes = []
+passed (span ∷ spans) olds bytes =
+    record { before = undone (span ∷ spans) olds bytes; span = span } ∷ passed spans (drop span.length olds) bytes

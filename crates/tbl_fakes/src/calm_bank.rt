@@ -1,0 +1,98 @@
+// A bank that never fails.
+ghost use Rattle.std.specs.Prelude.{◌≡◌, ◌+◌, ◌<◌, ◌≤◌, ◌^◌, ℕ, List, length, IsOk, ⊤, refl};
+ghost use Rattle.tbl_outside.specs.Bank.{piece, overwritten};
+
+use std::marker::Model;
+use tbl_kinds::Bytes;
+use tbl_outside::{Bank, Failed, Written};
+
+/// Preserved memory that never fails and is never stopped. It keeps no record, so it tells its bytes and not its moments.
+#[derive(Debug, Drop)]
+pub struct CalmBank {
+    bytes: Bytes,
+}
+
+impl Model for CalmBank {
+    ghost use Rattle.std.specs.Prelude.{List, ℕ, ◌<◌, ◌^◌, length};
+
+    ghost Value = { List ℕ };
+
+    ghost view = { λ b. b.bytes.list };
+
+    ghost invariant = { λ b. length b.bytes.list < 2 ^ 32 };
+}
+
+impl CalmBank {
+    /// A bank of these bytes.
+    pub fn make(bytes: Bytes) -> CalmBank
+        requires { length bytes.list < 2 ^ 32 }
+        ensures { result ≡ bytes.list }
+    {
+        CalmBank { bytes }
+    }
+
+    /// Its bytes.
+    pub fn bytes(&self) -> &[u8]
+        ensures { result.now ≡ self.now }
+    {
+        self.bytes.bytes()
+    }
+}
+
+impl Bank for CalmBank {
+    ghost tells = { ⊤ };
+
+    ghost tells_moments = { ⊥ };
+
+    ghost size = { length };
+
+    ghost now = { λ b. b };
+
+    ghost may_leave = { λ _ _. ⊥ };
+
+    ghost clock = { λ _. 0 };
+
+    ghost left_since = { λ _ _ _. ⊥ };
+
+    ghost faults = { λ _. 0 };
+
+    ghost stops = { λ _. 0 };
+
+    ghost tells_both = { λ untold. absurd untold };
+
+    ghost whole = { λ bank told. refl };
+
+    ghost leaves_now = { λ bank untold. untold };
+
+    ghost leaves_only_now = { λ bank image untold left. absurd untold };
+
+    ghost counts_now = { λ bank t image untold le now. untold };
+
+    ghost only_now = { λ bank image untold left. untold };
+
+    fn size(&self) -> u32
+        ensures { result ≡ length self.now }
+    {
+        self.bytes.bytes().len() as u32
+    }
+
+    fn read_at(&mut self, at: u32, into: &mut [u8]) -> Result<(), Failed>
+        requires { at + length into.old ≤ length self.old }
+        ensures ok { IsOk result }
+        ensures read { into.new ≡ piece self.old at (length into.old) }
+        ensures kept { self.new ≡ self.old }
+    {
+        let from = at as usize;
+        into.copy_from_slice(&self.bytes.bytes()[from..from + into.len()]);
+        Ok(())
+    }
+
+    fn write_at(&mut self, at: u32, bytes: &[u8]) -> Written
+        requires { at + length bytes.now ≤ length self.old }
+        ensures done { result ≡ Written.Done }
+        ensures stands { self.new ≡ overwritten self.old at bytes.now }
+    {
+        self.bytes.write_over(at as usize, bytes);
+        Written::Done
+    }
+}

@@ -1,0 +1,83 @@
+// The writes that a bank in memory was asked for, with the bytes that stood before them.
+ghost use Rattle.std.specs.Prelude.{◌≡◌, ◌+◌, ◌<◌, ◌^◌, [], ◌∷◌, ◌++◌, ◌-◌, IfOk, IsTrue, length};
+ghost use Rattle.tbl_fakes.specs.Past.{fits};
+
+use std::alloc::Global;
+use std::marker::Model;
+use tbl_kinds::{Bytes, Memory};
+
+/// The range of a write: where it begins, and how many bytes it has.
+#[derive(Clone, Copy, Debug, PartialEq, Eq)]
+pub struct Span {
+    pub at: u32,
+    pub length: u32,
+}
+
+/// The ranges written, oldest first, and the bytes that stood in each before, one after another; besides the room that is
+/// left for further writes and their bytes.
+#[derive(Debug, Drop)]
+pub(crate) struct Past {
+    spans: Vec<Span>,
+    olds: Bytes,
+    writes: usize,
+    room: usize,
+}
+
+impl Model for Past {
+    ghost use Rattle.std.specs.Prelude.{◌+◌, ◌≤◌, vec_len, vec_capacity};
+    ghost use Rattle.tbl_fakes.specs.Past.{Kept, IsWhole};
+
+    ghost Value = { Kept };
+
+    ghost view = { λ p. record { spans = p.spans.items; olds = p.olds.list; writes = p.writes; room = p.room } };
+
+    ghost invariant = { λ p. (vec_len p.spans + p.writes ≤ vec_capacity p.spans)
+        × (p.room ≤ p.olds.spare)
+        × IsWhole p.spans.items p.olds.list };
+}
+
+impl Past {
+    ghost use Rattle.tbl_fakes.specs.Past.{IsWhole};
+
+    /// No write yet, and room for so many with so many bytes in all.
+    pub(crate) fn make(alloc: Global, writes: u32, room: u32) -> Result<Past, Memory>
+        ensures { IfOk result (λ p. p ≡ record { spans = []; olds = []; writes = writes; room = room }) }
+    {
+        Ok(Past {
+            spans: Vec::with_capacity(alloc, writes as usize)?,
+            olds: Bytes::make(alloc, room as usize)?,
+            writes: writes as usize,
+            room: room as usize,
+        })
+    }
+
+    /// Whether there is room for a write of so many bytes.
+    pub(crate) fn has_room(&self, length: usize) -> bool
+        ensures { result ≡ fits self.now length }
+    {
+        0 < self.writes && length <= self.room
+    }
+
+    /// Keeps the range of a write and the bytes that stand in it.
+    pub(crate) fn keep(&mut self, at: u32, old: &[u8])
+        requires room { IsTrue (fits self.old (length old.now)) }
+        requires size { length old.now < 2 ^ 32 }
+        ensures spans { self.new.spans ≡ self.old.spans ++ record { at = at; length = length old.now } ∷ [] }
+        ensures olds { self.new.olds ≡ self.old.olds ++ old.now }
+        ensures writes { self.new.writes ≡ self.old.writes - 1 }
+        ensures room { self.new.room ≡ self.old.room - length old.now }
+        ensures whole { IsWhole self.old.spans self.old.olds }
+    {
+        let length = old.len() as u32;
+        let _ = self.spans.push(Span { at, length });
+        self.olds.append(old);
+        self.writes -= 1;
+        self.room -= old.len();
+    }
+
+    pub(crate) fn spans(&self) -> &[Span]
+        ensures { result.now ≡ self.now.spans }
+    {
+        self.spans.as_slice()
+    }
+}

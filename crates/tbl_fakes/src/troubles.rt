@@ -1,0 +1,144 @@
+// What goes wrong in a bank in memory, and how often it did.
+ghost use Rattle.std.specs.Prelude.{◌≡◌, ◌≤◌, IfOk};
+ghost use Rattle.tbl_fakes.specs.Troubles.{none_yet, next_break, is_bad_read, reach_of, how_ends};
+ghost use Rattle.tbl_fakes.specs.Troubles.{one_write, one_read, one_fault, one_end};
+
+use std::alloc::Global;
+use std::marker::Model;
+use tbl_kinds::Memory;
+use tbl_outside::Written;
+
+/// A write of a `MemBank` that breaks off: its number, counted from 1, after how many of its bytes, and whether the bank
+/// is stopped or fails. A number of bytes above the piece's means the whole piece.
+#[derive(Clone, Copy, Debug, PartialEq, Eq)]
+pub struct Break {
+    pub write: u32,
+    pub after: u32,
+    pub stop: bool,
+}
+
+/// The writes that break off and the reads that fail, how many of both were made, and how often the bank failed and was
+/// stopped. Each count stands still at 2^64 - 1.
+#[derive(Debug, Drop)]
+pub(crate) struct Troubles {
+    breaks: Vec<Break>,
+    bad_reads: Vec<u32>,
+    writes: u64,
+    reads: u64,
+    faults: u64,
+    stops: u64,
+}
+
+impl Model for Troubles {
+    ghost use Rattle.tbl_fakes.specs.Troubles.{Trouble};
+
+    ghost Value = { Trouble };
+
+    ghost view = { λ t. record {
+      breaks = t.breaks.items;
+      bad_reads = t.bad_reads.items;
+      writes = t.writes;
+      reads = t.reads;
+      faults = t.faults;
+      stops = t.stops;
+    } };
+}
+
+/// How many bytes of a piece a write takes.
+pub(crate) fn reach(planned: Option<Break>, length: usize) -> usize
+    ensures exact { result ≡ reach_of planned length }
+    ensures within { result ≤ length }
+{
+    match planned {
+        None => length,
+        Some(broken) => (broken.after as usize).min(length),
+    }
+}
+
+impl Troubles {
+    pub(crate) fn make(
+        alloc: Global,
+        breaks: &[Break],
+        bad_reads: &[u32],
+    ) -> Result<Troubles, Memory>
+        ensures { IfOk result (λ t. t ≡ none_yet breaks.now bad_reads.now) }
+    {
+        Ok(Troubles {
+            breaks: breaks.to_vec(alloc)?,
+            bad_reads: bad_reads.to_vec(alloc)?,
+            writes: 0,
+            reads: 0,
+            faults: 0,
+            stops: 0,
+        })
+    }
+
+    /// Counts a write, and says how it breaks off.
+    pub(crate) fn next_write(&mut self) -> Option<Break>
+        ensures answer { result ≡ next_break self.old }
+        ensures counted { self.new ≡ one_write self.old }
+    {
+        self.writes = self.writes.saturating_add(1);
+        self.breaks
+            .iter()
+            .copied()
+            .find(|broken| u64::from(broken.write) == self.writes)
+    }
+
+    /// Says how a write ends, and counts it.
+    pub(crate) fn end_write(&mut self, planned: Option<Break>) -> Written
+        ensures ends { result ≡ how_ends planned }
+        ensures counted { self.new ≡ one_end planned self.old }
+        ensures faults { self.old.faults ≤ self.new.faults }
+        ensures stops { self.old.stops ≤ self.new.stops }
+    {
+        match planned {
+            None => Written::Done,
+            Some(broken) if broken.stop => {
+                self.stops = self.stops.saturating_add(1);
+                Written::Stopped
+            }
+            Some(_) => {
+                self.fault();
+                Written::Failed
+            }
+        }
+    }
+
+    /// Counts a read, and says whether it fails.
+    pub(crate) fn next_read_fails(&mut self) -> bool
+        ensures answer { result ≡ is_bad_read self.old }
+        ensures counted { self.new ≡ one_read self.old }
+    {
+        self.reads = self.reads.saturating_add(1);
+        self.bad_reads
+            .iter()
+            .any(|number| u64::from(*number) == self.reads)
+    }
+
+    /// Counts a failure.
+    pub(crate) fn fault(&mut self)
+        ensures counted { self.new ≡ one_fault self.old }
+        ensures no_less { self.old.faults ≤ self.new.faults }
+    {
+        self.faults = self.faults.saturating_add(1);
+    }
+
+    pub(crate) fn writes(&self) -> u64
+        ensures { result ≡ self.now.writes }
+    {
+        self.writes
+    }
+
+    pub(crate) fn faults(&self) -> u64
+        ensures { result ≡ self.now.faults }
+    {
+        self.faults
+    }
+
+    pub(crate) fn stops(&self) -> u64
+        ensures { result ≡ self.now.stops }
+    {
+        self.stops
+    }
+}

@@ -1,0 +1,70 @@
+-- The names of tables.
+use Rattle.std.proofs.Common.{◌≡◌, ◌≢◌, ◌<◌, ℕ, List, length, position, slice_index_or, slice_set, Bool, true, false, cond, nat_lt, Option, Some, None, refl, ap, sym, ◌∙◌, inl, inr, arith}
+use Rattle.std.specs.List.{position_or_len}
+use Rattle.std.specs.Str.{bytes_eq}
+use Rattle.std.proofs.lemmas.Bool.{cases_eq, cases_lt, cases_Bool}
+use Rattle.std.proofs.lemmas.Bool.Decides.{nat_tests}
+use Rattle.std.proofs.lemmas.List.{length-set, get_or-set_same, get_or-set_other, get_or_past}
+use Rattle.std.proofs.lemmas.List.Folds.{position_or_len-set}
+use Rattle.std.proofs.lemmas.List.Sums.{position_or_len_is}
+use Rattle.std.proofs.lemmas.Option.{same_Some}
+use Rattle.std.proofs.lemmas.Slice.Eq.{bytes_eq-Decides}
+use Rattle.tbl_kinds.specs.State.{Table}
+use Rattle.tbl_kinds.specs.TableSteps.{has_name}
+use Rattle.tbl_registry.specs.Sound.{AreNamed}
+use Rattle.tbl_registry.proofs.Places.{position-None}
+
+same_name : (name : List ℕ) → bytes_eq name name ≡ true
+same_name name = (bytes_eq-Decides name name).1 refl
+
+other_name : (a b : List ℕ) → bytes_eq a b ≡ false → bytes_eq b a ≡ false
+other_name a b other =
+    elim (cases_Bool (bytes_eq b a)) [
+      | inl same ↦ absurd (cc ((bytes_eq-Decides a b).1 (sym ((bytes_eq-Decides b a).0 same)), other))
+      | inr differ ↦ differ
+    ]
+
+position-set : {X : Type 0} (p : X → Bool) (xs : List X) (n : ℕ) (y d : X) → p y ≡ p (slice_index_or xs n d) → position p (slice_set xs n y) ≡ position p xs
+position-set p xs n y d same = rw (position_or_len-set p xs n y d same, length-set xs n y) refl
+
+some_at : (n all : ℕ) → n < all → cond (nat_lt n all) (Some n) None ≡ Some n
+some_at n all within = grind (arith, nat_tests)
+
+within_row : (rows : List (Option Table)) (row : ℕ) (t : Table) → slice_index_or rows row None ≡ Some t → row < length rows
+within_row rows row t there =
+    elim (cases_lt row (length rows)) [
+      | inl within ↦ within
+      | inr past ↦ absurd (cc (get_or_past rows row None past))
+    ]
+
+-- a table is changed and keeps its name
+pub named_kept : (rows : List (Option Table)) (row : ℕ) (t u : Table) → slice_index_or rows row None ≡ Some t → u.name ≡ t.name → AreNamed rows → AreNamed (slice_set rows row (Some u))
+named_kept rows row t u there same named k x is =
+    let stays : position (has_name x.name) (slice_set rows row (Some u)) ≡ position (has_name x.name) rows =
+    position-set (has_name x.name) rows row (Some u) None (rw (there, same) refl) in
+    elim (cases_eq k row) [
+      | inl here ↦
+          let at : slice_index_or (slice_set rows row (Some u)) row None ≡ Some x = rw here at is in
+          let x_is : u ≡ x = same_Some u x (sym (get_or-set_same rows row (Some u) None (within_row rows row t there)) ∙ at) in
+          let x_name : x.name ≡ t.name = ap (λ (v : Table). v.name) (sym x_is) ∙ same in
+          rw (stays, here, x_name) (named row t there)
+      | inr other ↦ stays ∙ named k x (sym (get_or-set_other rows row k (Some u) None other) ∙ is)
+    ]
+
+-- a table with a new name comes into a free row
+pub named_added : (rows : List (Option Table)) (row : ℕ) (t : Table) → slice_index_or rows row None ≡ None → row < length rows → position (has_name t.name) rows ≡ None → AreNamed rows → AreNamed (slice_set rows row (Some t))
+named_added rows row t free within new named k x is =
+    let rows' : List (Option Table) = slice_set rows row (Some t) in
+    let added : slice_index_or rows' row None ≡ Some t = get_or-set_same rows row (Some t) None within in
+    elim (cases_eq k row) [
+      | inl here ↦
+          let x_is : t ≡ x = same_Some t x (sym added ∙ rw here at is) in
+          let first : position_or_len (has_name t.name) rows' ≡ row = position_or_len_is (has_name t.name) rows' row None (rw (length-set rows row (Some t)) (omega arith))
+          (λ j before. let apart : j ≢ row = omega arith in rw (get_or-set_other rows row j (Some t) None apart) (position-None (has_name t.name) rows j None new refl))
+          (λ _. rw added (same_name t.name)) in
+          rw (← x_is, here, first, length-set rows row (Some t)) (some_at row (length rows) within)
+      | inr other ↦
+          let at : slice_index_or rows k None ≡ Some x = sym (get_or-set_other rows row k (Some t) None other) ∙ is in
+          let differ : bytes_eq x.name t.name ≡ false = rw at at (position-None (has_name t.name) rows k None new refl) in
+          position-set (has_name x.name) rows row (Some t) None (rw free (other_name x.name t.name differ)) ∙ named k x at
+    ]
