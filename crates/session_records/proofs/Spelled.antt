@@ -33,6 +33,7 @@ app_sender number len least most e = (grind (arith, nat_tests), grind (arith, na
 sender_fits : (number len : ℕ) (request : Request) → IsBuilt request → HasNoValidator255 request → is_good_head (kind_of request) number len ≡ true → Fits (actor_at number) request
 unfolding is_good_head
 sender_fits number len (ask.Command bytes) built none good = let ground : number ≡ 0 = grind (arith, nat_tests) in rw ground tt
+sender_fits number len (ask.File name bytes) built none good = let ground : number ≡ 0 = grind (arith, nat_tests) in rw ground tt
 sender_fits number len (ask.Start name) built none good =
     let a = app_sender number len 20 20 good in app_fits number (ask.Start name) a.0 a.1 (λ no. no) none
 sender_fits number len (ask.Register name size flags validator) built none good =

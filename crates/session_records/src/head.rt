@@ -44,6 +44,7 @@ impl Head {
         let from_app = 1 <= self.actor && self.actor <= 16;
         match self.kind {
             0x01 => from_ground && self.len <= BODY_LIMIT,
+            0x02 => from_ground && 64 <= self.len && self.len <= BODY_LIMIT,
             0x10 => from_app && self.len == 20,
             0x11 => from_app && self.len == 23,
             0x14 => from_app && 2 <= self.len && self.len <= BODY_LIMIT,

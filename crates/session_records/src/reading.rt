@@ -41,6 +41,20 @@ fn command(alloc: Global, body: &[u8]) -> Result<Request, Memory>
     Ok(Request::Command { bytes })
 }
 
+fn file(alloc: Global, body: &[u8]) -> Result<Option<Request>, Memory>
+    requires { 64 ≤ length body.now }
+    ensures right { IfOk result (λ found. is_some found ≡ has_name 0 64 body.now) }
+    ensures spelled { IfOk result (λ found. IfSome found (λ request. IsSpelledBy 0x02 body.now request)) }
+    ensures memory { OnErr result (IsTrue (has_name 0 64 body.now)) }
+{
+    let (field, contents) = body.split_at(64);
+    let Some(name) = read_name::<64>(field) else {
+        return Ok(None);
+    };
+    let bytes = copy_of(alloc, contents)?;
+    Ok(Some(Request::File { name, bytes }))
+}
+
 fn start(body: &[u8]) -> Option<Request>
     requires { length body.now ≡ 20 }
     ensures right { is_some result ≡ is_name_field body.now }
@@ -110,6 +124,7 @@ fn request_of(alloc: Global, head: Head, body: &[u8]) -> Result<Option<Request>,
 {
     match head.kind {
         0x01 => Ok(Some(command(alloc, body)?)),
+        0x02 => file(alloc, body),
         0x10 => Ok(start(body)),
         0x11 => Ok(register(body)),
         0x14 => Ok(Some(load_image(alloc, body)?)),

@@ -12,6 +12,13 @@ const INPUT: [u8; 24] = [
     0x18, 0x0C, 0xC0, 0x00, 0x00, 0x01, 0x00, 0x2A,
 ];
 
+/// The file `/d` with the bytes 010203.
+const FILE: [u8; 71] = [
+    0x02, 0x00, 0x00, 0x43, 0x2F, 0x64, 0, 0, 0, 0, 0, 0, 0, 0, 0, 0, 0, 0, 0, 0, 0, 0, 0, 0, 0, 0,
+    0, 0, 0, 0, 0, 0, 0, 0, 0, 0, 0, 0, 0, 0, 0, 0, 0, 0, 0, 0, 0, 0, 0, 0, 0, 0, 0, 0, 0, 0, 0, 0,
+    0, 0, 0, 0, 0, 0, 0, 0, 0, 0, 0x01, 0x02, 0x03,
+];
+
 /// Application 1 starts as `AB`.
 const START: [u8; 24] = [
     0x10, 0x01, 0x00, 0x14, 0x41, 0x42, 0, 0, 0, 0, 0, 0, 0, 0, 0, 0, 0, 0, 0, 0, 0, 0, 0, 0,
@@ -150,6 +157,23 @@ fn written(rt: &HostRuntime, actor: Actor, request: Request) -> Result<Bytes, Fa
 }
 
 #[test]
+fn reads_and_writes_a_file(rt: HostRuntime) -> Result<(), Fail> {
+    match item(&rt, &FILE)? {
+        Request::File { name, bytes } => {
+            assert_eq!(rt; name.bytes(), b"/d".as_slice());
+            assert_eq!(rt; bytes.bytes(), [1, 2, 3].as_slice());
+        }
+        _ => return Err("File".into()),
+    }
+    let name = Name::of(b"/d");
+    let mut bytes = Bytes::make(rt.alloc(), 3)?;
+    bytes.append(&[1, 2, 3]);
+    let file = written(&rt, Actor::Ground, Request::File { name, bytes })?;
+    assert_eq!(rt; file.bytes(), FILE.as_slice());
+    Ok(())
+}
+
+#[test]
 fn writes_requests_of_applications(rt: HostRuntime) -> Result<(), Fail> {
     let name = Name::of(b"AB");
     let start = written(&rt, Actor::App(1), Request::Start { name })?;
@@ -193,15 +217,22 @@ fn allows(rt: &HostRuntime, kind: u8, actor: u8, len: u16) -> Result<bool, Fail>
 
 #[test]
 fn tells_the_lengths_of_bodies(rt: HostRuntime) -> Result<(), Fail> {
-    for (kind, least, most) in [
-        (0x10u8, 20u16, 20u16),
-        (0x11, 23, 23),
-        (0x14, 2, 32_832),
-        (0x1B, 2, 2),
-        (0x1C, 10, 10),
-        (0x1D, 2, 2),
+    for (kind, from_ground, least, most) in [
+        (0x02u8, true, 64u16, 32_832u16),
+        (0x10, false, 20, 20),
+        (0x11, false, 23, 23),
+        (0x14, false, 2, 32_832),
+        (0x1B, false, 2, 2),
+        (0x1C, false, 10, 10),
+        (0x1D, false, 2, 2),
     ] {
-        for (actor, may) in [(0u8, false), (1, true), (16, true), (17, false)] {
+        for (actor, is_ground, is_app) in [
+            (0u8, true, false),
+            (1, false, true),
+            (16, false, true),
+            (17, false, false),
+        ] {
+            let may = if from_ground { is_ground } else { is_app };
             for (len, is_right) in [
                 (least - 1, false),
                 (least, may),
@@ -225,6 +256,10 @@ fn a_part_of_a_record_is_short(rt: HostRuntime) -> Result<(), Fail> {
         let next = next_record(rt.alloc(), &REGISTER[..len])?;
         assert!(rt; matches!(next, Next::Short), "{len} bytes");
     }
+    for len in 1..71 {
+        let next = next_record(rt.alloc(), &FILE[..len])?;
+        assert!(rt; matches!(next, Next::Short), "{len} bytes");
+    }
     Ok(())
 }
 
@@ -246,5 +281,8 @@ fn a_byte_behind_a_name_is_bad(rt: HostRuntime) -> Result<(), Fail> {
     let mut register = REGISTER;
     register[19] = 0x54;
     assert!(rt; matches!(next_record(rt.alloc(), &register)?, Next::Bad));
+    let mut file = FILE;
+    file[67] = 0x64;
+    assert!(rt; matches!(next_record(rt.alloc(), &file)?, Next::Bad));
     Ok(())
 }

@@ -7,7 +7,7 @@ ghost use Rattle.tbl_kinds.specs.declared.request.Request.TheVariants as ask;
 
 use crate::fields::{append_four, append_name, append_two, append_validator, field_len};
 use crate::head::HEAD_LEN;
-use tbl_kinds::{Actor, Bytes, Memory, Name16, Request};
+use tbl_kinds::{Actor, Bytes, Memory, Name16, Name64, Request};
 
 fn kind_of(request: &Request) -> u8
     requires { IsBuilt request.now }
@@ -15,6 +15,7 @@ fn kind_of(request: &Request) -> u8
 {
     match request {
         Request::Command { .. } => 0x01,
+        Request::File { .. } => 0x02,
         Request::Start { .. } => 0x10,
         Request::Register { .. } => 0x11,
         Request::LoadImage { .. } => 0x14,
@@ -42,6 +43,7 @@ pub fn body_len(request: &Request) -> usize
 {
     match request {
         Request::Command { bytes } => bytes.bytes().len(),
+        Request::File { name, bytes } => field_len(name) + bytes.bytes().len(),
         Request::Start { name } => field_len(name),
         Request::Register { name, .. } => field_len(name) + 7,
         Request::LoadImage { image, .. } => 2 + image.bytes().len(),
@@ -49,6 +51,15 @@ pub fn body_len(request: &Request) -> usize
         Request::Read { .. } => 10,
         _ => unreachable!(),
     }
+}
+
+fn append_file(out: &mut Bytes, name: &Name64, bytes: &Bytes)
+    requires { length (body_of (ask.File name.now bytes.now)) ≤ out.old.spare }
+    ensures bytes { out.new.list ≡ out.old.list ++ body_of (ask.File name.now bytes.now) }
+    ensures sized { IsSized (ask.File name.now bytes.now) }
+{
+    append_name(out, name);
+    out.append(bytes.bytes());
 }
 
 fn append_register(out: &mut Bytes, name: &Name16, size: u32, flags: u16, validator: Option<u8>)
@@ -89,6 +100,7 @@ fn append_body(out: &mut Bytes, request: &Request)
 {
     match request {
         Request::Command { bytes } => out.append(bytes.bytes()),
+        Request::File { name, bytes } => append_file(out, name, bytes),
         Request::Start { name } => append_name(out, name),
         Request::Register {
             name,

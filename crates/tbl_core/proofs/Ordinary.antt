@@ -4,10 +4,12 @@ use Rattle.std.specs.Option.{option_map_or, option_map}
 use Rattle.std.specs.Prelude.{option_and_then, ◌==◌, not, ◌&&◌, ◌||◌, nat_lt, is_some, length}
 use Rattle.tbl_kinds.specs.Names.{is_name}
 use Rattle.std.proofs.lemmas.Option.{same_Some}
-use Rattle.tbl_kinds.specs.State.{State, Table, Handle, Tables}
+use Rattle.tbl_kinds.specs.State.{State, Table, Handle, Tables, no_tables}
 use Rattle.tbl_kinds.specs.Tables.{table_at, is_double, is_dump_only, in_use}
 use Rattle.tbl_kinds.specs.TableSteps.{is_that, Access, access_by, access_of, Step, stays, check, check_handle, check_row, handle_at, find, least_free, locker, with_table, with_handle, with_image, put, put_in, set_time, set_time_in, let_go, get_address, release, read, read_of, new_table}
 use Rattle.tbl_kinds.specs.Effects.{Effect, answered}
+use Rattle.tbl_kinds.specs.Drawer.{is_full_for}
+use Rattle.tbl_kinds.specs.Uplinks.{file_limit, file_effect}
 use Rattle.tbl_kinds.specs.GroundCommands.{GroundCommand, housekeeping, noop, reset_counters, code_of, command_in}
 use Rattle.tbl_kinds.specs.Commands.{effect_by, command_effect}
 use Rattle.tbl_kinds.specs.declared.entry.Answer.{Answer}
@@ -18,8 +20,8 @@ use Rattle.tbl_kinds.specs.declared.request.Actor.TheVariants.{Ground, App}
 use Rattle.tbl_kinds.specs.declared.request.Request.{Request}
 use Rattle.tbl_kinds.specs.declared.request.Request.TheVariants as ask
 use Rattle.tbl_kinds.specs.declared.status.Status.{Status}
-use Rattle.tbl_kinds.specs.declared.status.TheConstants.Status.{SUCCESS, INFO_UPDATED, INFO_STOPPED, INFO_TABLE_LOCKED, WARN_DUPLICATE, ERR_BAD_APP, ERR_INVALID_HANDLE, ERR_NO_ACCESS, ERR_UNREGISTERED, ERR_INVALID_NAME, ERR_INVALID_SIZE, ERR_INVALID_OPTIONS, ERR_NO_VALIDATOR, ERR_DUPLICATE_NOT_OWNED, ERR_DUPLICATE_DIFF_SIZE, ERR_REGISTRY_FULL, ERR_HANDLES_FULL, ERR_DUMP_ONLY, ERR_LOAD_IN_PROGRESS, ERR_IMAGE_SIZE, ERR_APP_RUNNING, ERR_ALREADY_PINNED, ERR_NEVER_LOADED, ERR_NOT_PINNED, ERR_BAD_CODE}
-use Rattle.tbl_registry.proofs.Places.{AtEachPlace-set}
+use Rattle.tbl_kinds.specs.declared.status.TheConstants.Status.{SUCCESS, INFO_UPDATED, INFO_STOPPED, INFO_TABLE_LOCKED, WARN_DUPLICATE, ERR_BAD_APP, ERR_INVALID_HANDLE, ERR_NO_ACCESS, ERR_UNREGISTERED, ERR_INVALID_NAME, ERR_INVALID_SIZE, ERR_INVALID_OPTIONS, ERR_NO_VALIDATOR, ERR_DUPLICATE_NOT_OWNED, ERR_DUPLICATE_DIFF_SIZE, ERR_REGISTRY_FULL, ERR_HANDLES_FULL, ERR_DUMP_ONLY, ERR_LOAD_IN_PROGRESS, ERR_IMAGE_SIZE, ERR_APP_RUNNING, ERR_ALREADY_PINNED, ERR_NEVER_LOADED, ERR_NOT_PINNED, ERR_BAD_CODE, ERR_BAD_NAME, ERR_FILE_TOO_LARGE, ERR_DRAWER_FULL}
+use Rattle.tbl_registry.proofs.Places.{AtEachPlace-set, get_or-replicate_None}
 use Rattle.tbl_core.specs.Service.{HasFewImages}
 use Rattle.tbl_core.proofs.CommandAnswers.{AnswerGoesOn, answer_goes_on}
 
@@ -29,6 +31,12 @@ GoesOn status = eqb status.0 INFO_STOPPED.0 ≡ false
 -- one entry more leaves room for one image more
 pub few_more : (tables : Tables) (n : ℕ) → HasFewImages tables n → HasFewImages tables (suc n)
 few_more tables n few row t there = let h = few row t there in omega arith
+
+-- and at first there is no table
+pub few_at_first : (tables : Tables) (n : ℕ) → tables ≡ no_tables → HasFewImages tables n
+few_at_first tables n is row t there =
+    let none : table_at tables row ≡ None = rw is (get_or-replicate_None {X = Table} 128 row) in
+    absurd (cc (none, there))
 
 few_with : (tables : Tables) (n row : ℕ) (t : Table) → HasFewImages tables n → t.count ≤ n → HasFewImages (with_table row t tables) n
 few_with tables n row t few low = AtEachPlace-set (λ (u : Table). u.count ≤ n) tables.rows row (Some t) few (λ u is. subst (λ (v : Table). v.count ≤ n) (same_Some t u is) low)
@@ -227,8 +235,13 @@ module _ (s : State) (n : ℕ) (live : s.ended ≡ false) (few : HasFewImages s.
   command_ordinary : (bytes : List ℕ) → IsOrdinary n (command_effect s bytes)
   command_ordinary bytes = asked_ordinary (command_in bytes) (answer_goes_on bytes)
 
+  file_ordinary : (name contents : List ℕ) → IsOrdinary n (file_effect s name contents)
+  file_ordinary name contents = either (not (is_name name)) _ _ (said ERR_BAD_NAME 0 refl) (either (nat_lt file_limit (length contents)) _ _ (said ERR_FILE_TOO_LARGE 0 refl)
+      (either (is_full_for s.drawer name) _ _ (said ERR_DRAWER_FULL 0 refl) (record { goes_on = refl; few = few_more s.tables n few; live = live })))
+
   pub ordinary : (actor : Actor) (request : Request) (given : Given) → IsOrdinary n (effect_of s actor request given)
   ordinary Ground (ask.Command bytes) given = command_ordinary bytes.list
+  ordinary Ground (ask.File name bytes) given = file_ordinary name bytes.list
   ordinary Ground request given = said SUCCESS 0 refl
   ordinary (App app) (ask.Start name) given = start_ordinary app name
   ordinary (App app) (ask.Register name size flags validator) given = register_ordinary app name size flags validator

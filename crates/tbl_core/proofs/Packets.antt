@@ -1,5 +1,5 @@
 -- The packets of each kind of reply, and what it adds to the counts.
-use Rattle.std.proofs.Common.{◌≡◌, ℕ, ◌+◌, ◌%◌, eqb, true, false, Ok, List, [], ◌∷◌, ◌++◌, length, refl, ap, ◌∙◌, add-zero}
+use Rattle.std.proofs.Common.{◌≡◌, ℕ, ◌+◌, ◌%◌, eqb, true, false, Ok, List, [], ◌∷◌, ◌++◌, refl, ap, ◌∙◌, add-zero}
 use Rattle.std.specs.Prelude.{count_by, sum_by}
 use Rattle.std.specs.List.{after_last}
 use Rattle.std.proofs.lemmas.List.{append-nil}

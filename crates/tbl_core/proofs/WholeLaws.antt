@@ -23,9 +23,11 @@ use Rattle.tbl_kinds.specs.declared.request.Actor.TheVariants.{Ground, App}
 use Rattle.tbl_kinds.specs.declared.request.Request.{Request}
 use Rattle.tbl_kinds.specs.declared.request.Request.TheVariants as ask
 use Rattle.tbl_kinds.specs.declared.status.Status.{Status}
-use Rattle.tbl_kinds.specs.declared.status.TheConstants.Status.{SUCCESS, INFO_UPDATED, INFO_TABLE_LOCKED, INFO_STOPPED, WARN_DUPLICATE, ERR_BAD_APP, ERR_INVALID_HANDLE, ERR_NO_ACCESS, ERR_UNREGISTERED, ERR_INVALID_NAME, ERR_INVALID_SIZE, ERR_INVALID_OPTIONS, ERR_NO_VALIDATOR, ERR_DUPLICATE_NOT_OWNED, ERR_DUPLICATE_DIFF_SIZE, ERR_REGISTRY_FULL, ERR_HANDLES_FULL, ERR_DUMP_ONLY, ERR_LOAD_IN_PROGRESS, ERR_ALREADY_PINNED, ERR_NEVER_LOADED, ERR_NOT_PINNED, ERR_OUT_OF_RANGE, ERR_APP_RUNNING, ERR_BAD_CODE, ERR_IMAGE_SIZE}
+use Rattle.tbl_kinds.specs.declared.status.TheConstants.Status.{SUCCESS, INFO_UPDATED, INFO_TABLE_LOCKED, INFO_STOPPED, WARN_DUPLICATE, ERR_BAD_APP, ERR_INVALID_HANDLE, ERR_NO_ACCESS, ERR_UNREGISTERED, ERR_INVALID_NAME, ERR_INVALID_SIZE, ERR_INVALID_OPTIONS, ERR_NO_VALIDATOR, ERR_DUPLICATE_NOT_OWNED, ERR_DUPLICATE_DIFF_SIZE, ERR_REGISTRY_FULL, ERR_HANDLES_FULL, ERR_DUMP_ONLY, ERR_LOAD_IN_PROGRESS, ERR_ALREADY_PINNED, ERR_NEVER_LOADED, ERR_NOT_PINNED, ERR_OUT_OF_RANGE, ERR_APP_RUNNING, ERR_BAD_CODE, ERR_IMAGE_SIZE, ERR_BAD_NAME, ERR_FILE_TOO_LARGE, ERR_DRAWER_FULL}
 use Rattle.tbl_kinds.specs.TableSteps.{handle_at, access_of, Access, find, least_free, is_that, pins, is_in_way, locker, image_of, check_row, check_handle, let_go, with_table, with_handle, with_image, put, set_time, Step, stays, pin_last, get_address_of, release_of, read_of, new_table, new_handle}
 use Rattle.tbl_kinds.specs.Applications.{name_of, has_dot, full_name, start_effect, by_app, by_check, if_handle, stepped, duplicate_effect, add_effect, by_name_effect, register_effect, activate_effect, if_free, load_image_of, load_image_effect, get_effect, release_effect, read_answer, read_effect}
+use Rattle.tbl_kinds.specs.Drawer.{is_full_for}
+use Rattle.tbl_kinds.specs.Uplinks.{file_limit, file_effect}
 use Rattle.tbl_kinds.specs.GroundCommands.{GroundCommand, housekeeping, noop, reset_counters, code_of, command_in}
 use Rattle.tbl_kinds.specs.Commands.{housekeeping_effect, effect_by, command_effect}
 use Rattle.tbl_kinds.specs.declared.entry.Answer.{Answer}
@@ -525,6 +527,19 @@ module _ (s : State) (bytes : Buffer) where
     by_asked (Ok reset_counters) goes_on = leaves (answered s SUCCESS 0) refl refl
     by_asked (Ok asked) goes_on = leaves (answered s ERR_BAD_CODE (code_of asked)) refl refl
 
+-- and so does an uplinked file
+module _ (s : State) (name : List ℕ) (bytes : Buffer) where
+  abbrev uplink : Request
+  uplink = ask.File name bytes
+
+  file_fair : Fair s Ground uplink (file_effect s name bytes.list)
+  file_fair =
+      unless_refused (not (is_name name)) ERR_BAD_NAME _ refl (unless_refused (nat_lt file_limit (length bytes.list)) ERR_FILE_TOO_LARGE _ refl
+      (unless_refused (is_full_for s.drawer name) ERR_DRAWER_FULL _ refl (fair_unnamed s Ground uplink _ (stays_keeps s.tables) refl refl))) where
+        unless_refused : (b : Bool) (status : Status) (rest : Effect) → is_refusal status ≡ true → Fair s Ground uplink rest → Fair s Ground uplink (cond b (answered s status 0) rest)
+        unless_refused true status rest is passes = fair_refused s Ground uplink status 0 is
+        unless_refused false status rest is passes = passes
+
 -- a granted call, whether or not an image came since the handle was told
 granted : (b : Bool) → (is_done (cond b INFO_UPDATED SUCCESS) ≡ true) × (eqb (cond b INFO_UPDATED SUCCESS).0 INFO_STOPPED.0 ≡ false)
 granted true = (refl, refl)
@@ -657,11 +672,12 @@ module _ (s : State) (app : ℕ) where
 -- each request that is built, by who may make it
 request_fair : (s : State) (actor : Actor) (request : Request) (given : Given) → IsBuilt request → Fits actor request → Fair s actor request (effect_of s actor request given)
 request_fair s Ground (ask.Command bytes) given built fits = command_fair s bytes
-request_fair s Ground (ask.File name bytes) given built fits = absurd built
+request_fair s Ground (ask.File name bytes) given built fits = file_fair s name bytes
 request_fair s Ground (ask.Time seconds sub) given built fits = absurd built
 request_fair s Ground (ask.Reset kind) given built fits = absurd built
 request_fair s Ground _ given built fits = absurd fits
 request_fair s (App app) (ask.Command bytes) given built fits = absurd (fits.2 tt)
+request_fair s (App app) (ask.File name bytes) given built fits = absurd (fits.2 tt)
 request_fair s (App app) (ask.Start name) given built fits = start_fair s app name
 request_fair s (App app) (ask.Register name size flags validator) given built fits = register_fair s app name size flags validator
 request_fair s (App app) (ask.LoadImage handle image) given built fits = load_fair s app handle image

@@ -3,6 +3,7 @@ use Rattle.std.specs.Prelude.{◌≡◌, ℕ, ◌%◌, ◌≤◌, List, [], ◌�
 use Rattle.std.specs.Option.{ForSome}
 use Rattle.tbl_kinds.specs.State.{State, Tables, first_state}
 use Rattle.tbl_kinds.specs.Tables.{table_at}
+use Rattle.tbl_kinds.specs.Drawer.{File}
 use Rattle.tbl_kinds.specs.Effects.{Effect}
 use Rattle.tbl_kinds.specs.Counts.{Told, Counts, counts_of}
 use Rattle.tbl_kinds.specs.CountsAfter.{Tally, counts_after}
@@ -53,11 +54,11 @@ abbrev pub told : State → Actor → Request → Effect → Told
 told s actor request effect = record { actor = actor; request = request; before = s; effect = effect }
 
 -- the whole state: what is kept of it, and the rest as at first
-abbrev pub state_of : Tables → List (Option (List ℕ)) → State
-state_of tables apps = record (first_state [] []) { tables = tables; apps = apps }
+abbrev pub state_of : Tables → List (Option (List ℕ)) → List File → State
+state_of tables apps drawer = record (first_state [] []) { tables = tables; apps = apps; drawer = drawer }
 
 abbrev pub kept_of : Parts → Kept
-kept_of parts = record { entries = parts.log.entries; state = state_of parts.tables parts.apps; counts = parts.log.counts }
+kept_of parts = record { entries = parts.log.entries; state = state_of parts.tables parts.apps parts.drawer; counts = parts.log.counts }
 
 -- the head of a packet before which so many of its kind were sent. The time stands still
 abbrev pub head_of : ℕ → TlmHead
@@ -69,6 +70,6 @@ pub record Enters (old new : Kept) (actor : Actor) (request : Request) (reply : 
   pub state : new.state ≡ old.state
   pub counts : new.counts ≡ counts_after old.counts tally
 
--- what housekeeping tells over these counts and tables. No field of it is about the applications that run
+-- what housekeeping tells over these counts and tables. No field of it is about applications or files
 abbrev pub housekeeping_at : Counts → Tables → Housekeeping
-housekeeping_at counts tables = housekeeping_of counts (state_of tables [])
+housekeeping_at counts tables = housekeeping_of counts (state_of tables [] [])

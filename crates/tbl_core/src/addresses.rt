@@ -152,6 +152,7 @@ impl Parts {
         ensures counts { self.new.log.counts ≡ self.old.log.counts }
         ensures tables { self.new.tables ≡ self.old.tables }
         ensures apps { self.new.apps ≡ self.old.apps }
+        ensures drawer { self.new.drawer ≡ self.old.drawer }
         ensures spare { OnOk result (0 < self.new.log.spare) }
         ensures effect { IfOk result (λ reply. (s : State) → s.tables ≡ self.old.tables → s.apps ≡ self.old.apps → read_effect s app handle offset len ≡ record (answered s reply.status reply.detail) { bytes = reply.bytes.list }) }
         ensures packets { IfOk result (λ reply. reply.packets.list ≡ []) }

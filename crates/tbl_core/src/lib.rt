@@ -5,6 +5,7 @@ mod addresses;
 mod applications;
 mod commands;
 mod counters;
+mod files;
 mod loads;
 mod log;
 mod parts;

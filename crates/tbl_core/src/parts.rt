@@ -9,6 +9,7 @@ ghost use Rattle.tbl_core.specs.Service.{Plays, HasFewImages, kept_of};
 
 use crate::log::Log;
 use crate::service::StepFault;
+use file_drawer::Drawer;
 use sharing::Apps;
 use std::alloc::Global;
 use tbl_kinds::{Actor, Memory, Request};
@@ -21,21 +22,24 @@ pub(crate) struct Parts {
     pub log: Log,
     pub tables: Tables,
     pub apps: Apps,
+    pub drawer: Drawer,
 }
 
 impl Parts {
-    /// Nothing runs, nothing is registered, and the history is empty.
+    /// Nothing runs, nothing is registered, no file is there, and the history is empty.
     pub(crate) fn make(alloc: Global) -> Result<Parts, Memory>
         ensures entries { IfOk result (λ parts. parts.log.entries ≡ []) }
         ensures counts { IfOk result (λ parts. parts.log.counts ≡ no_counts) }
         ensures tables { IfOk result (λ parts. parts.tables ≡ no_tables) }
         ensures apps { IfOk result (λ parts. parts.apps ≡ replicate 16 None) }
+        ensures drawer { IfOk result (λ parts. parts.drawer ≡ []) }
     {
         Ok(Parts {
             alloc,
             log: Log::make(alloc),
             tables: Tables::make(alloc)?,
             apps: Apps::make(),
+            drawer: Drawer::make(alloc)?,
         })
     }
 
@@ -58,6 +62,7 @@ impl Parts {
     {
         match (actor, request) {
             (Actor::Ground, Request::Command { bytes }) => self.command(bytes),
+            (Actor::Ground, Request::File { name, bytes }) => self.file(name, bytes),
             (Actor::App(app), request) => self.application(app, request),
             _ => unreachable!(),
         }

@@ -1,6 +1,7 @@
 //! Replies, for which all memory is taken before anything is changed.
 
-ghost use Rattle.std.specs.Prelude.{◌≡◌, ℕ, ◌+◌, ◌<◌, ◌≤◌, [], ◌++◌, length, IfOk, OnOk};
+ghost use Rattle.std.specs.Prelude.{◌≡◌, ℕ, ◌+◌, ◌<◌, ◌≤◌, [], ◌++◌, length, count_by, is_none, IfOk, OnOk};
+ghost use Rattle.tbl_kinds.specs.Tables.{free_buffers};
 ghost use Rattle.tbl_kinds.specs.Packets.{telemetry_packet, event_id, housekeeping_id};
 ghost use Rattle.tbl_kinds.specs.Telemetry.{event_body, housekeeping_body};
 ghost use Rattle.tbl_core.specs.Counters.{counts_view};
@@ -21,9 +22,6 @@ pub(crate) const EVENT_LENGTH: usize = 24;
 
 /// The length of a housekeeping packet.
 const HOUSEKEEPING_LENGTH: usize = 290;
-
-/// The working buffers that tables share.
-const SHARED_BUFFERS: u8 = 4;
 
 /// An empty reply with room for packets, and room for its entry.
 pub(crate) fn ready(log: &mut Log, alloc: Global, room: usize) -> Result<Reply, StepFault>
@@ -154,6 +152,20 @@ fn put_housekeeping(packets: &mut Bytes, counters: &Counters, tables: &Tables)
     write_housekeeping(packets, &head, &housekeeping(counters, tables));
 }
 
+/// How many of the buffers no row uses.
+fn free_in(rows: &[Option<u8>; 4]) -> usize
+    ensures { result ≡ count_by is_none rows.now }
+{
+    rows.iter().filter(|row| row.is_none()).count()
+}
+
+/// How many of the shared working buffers are free.
+fn free_buffers(tables: &Tables) -> u8
+    ensures { result ≡ free_buffers tables.now }
+{
+    free_in(&tables.in_use()) as u8
+}
+
 /// The body of a housekeeping packet.
 fn housekeeping(counters: &Counters, tables: &Tables) -> Housekeeping
     ensures { result ≡ housekeeping_at (counts_view counters.now) tables.now }
@@ -170,7 +182,7 @@ fn housekeeping(counters: &Counters, tables: &Tables) -> Housekeeping
         good: 0,
         bad: 0,
         requests: 0,
-        free: SHARED_BUFFERS,
+        free: free_buffers(tables),
         seconds: counters.update.seconds,
         sub: counters.update.sub,
         validated: Name::of(&[]),

@@ -253,6 +253,72 @@ fn counters_are_cleared(rt: HostRuntime) -> Result<(), Fail> {
     Ok(())
 }
 
+/// Uplinks a file, which sends nothing. The status and the detail.
+fn uplinks(
+    rt: &impl Abort,
+    alloc: Global,
+    core: &mut Core,
+    name: &[u8],
+    bytes: Bytes,
+) -> Result<(u32, u32), Fail> {
+    assert!(rt; name.len() <= 64);
+    let name = Name::of(name);
+    plays(
+        rt,
+        core,
+        Actor::Ground,
+        Request::File { name, bytes },
+        &[],
+        &[],
+    )
+}
+
+#[test]
+fn files_are_refused(rt: HostRuntime) -> Result<(), Fail> {
+    let alloc = rt.alloc();
+    let mut core = Core::start(alloc)?;
+    for (name, status) in [
+        (b"/d".as_slice(), 0),
+        (b"".as_slice(), 84),
+        (b"/ d".as_slice(), 84),
+        (b"/d".as_slice(), 0),
+    ] {
+        let bytes = bytes_of(alloc, &[1, 2, 3])?;
+        let answer = uplinks(&rt, alloc, &mut core, name, bytes)?;
+        assert_eq!(rt; answer, (status, 0));
+    }
+    let mut large = Bytes::make(alloc, 0)?;
+    for _ in 0..32_769 {
+        large.reserve(1)?;
+        large.append(&[0]);
+    }
+    let answer = uplinks(&rt, alloc, &mut core, b"/d", large)?;
+    assert_eq!(rt; answer, (52, 0));
+    Ok(())
+}
+
+#[test]
+fn the_drawer_is_full(rt: HostRuntime) -> Result<(), Fail> {
+    let alloc = rt.alloc();
+    let mut core = Core::start(alloc)?;
+    for place in 0..64u8 {
+        let bytes = bytes_of(alloc, &[place])?;
+        let name = [b'/', b'!' + place];
+        let answer = uplinks(&rt, alloc, &mut core, &name, bytes)?;
+        assert_eq!(rt; answer, (0, 0));
+    }
+    for (name, status) in [
+        (b"/!".as_slice(), 0),
+        (b"/`".as_slice(), 0),
+        (b"/a".as_slice(), 71),
+    ] {
+        let bytes = bytes_of(alloc, &[1])?;
+        let answer = uplinks(&rt, alloc, &mut core, name, bytes)?;
+        assert_eq!(rt; answer, (status, 0));
+    }
+    Ok(())
+}
+
 #[test]
 fn the_command_counter_wraps(rt: HostRuntime) -> Result<(), Fail> {
     let alloc = rt.alloc();

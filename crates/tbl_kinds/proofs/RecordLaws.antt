@@ -29,6 +29,9 @@ length-spelling p = omega (arith, length-append (head_of p) (body_of p.request))
 app_allowed : (number len least most : ℕ) → 1 ≤ number → number ≤ 16 → least ≤ len → len ≤ most → (nat_le 1 number && nat_le number 16 && nat_le least len && nat_le len most) ≡ true
 app_allowed number len least most low high few many = rw (le-leb 1 number low, le-leb number 16 high, le-leb least len few, le-leb len most many) refl
 
+length-file : (name contents : List ℕ) → FitsField 64 name → length (name_field 64 name ++ contents) ≡ 64 + length contents
+length-file name contents fits = omega (arith, length-name_field 64 name fits, length-append (name_field 64 name) contents)
+
 length-register : (name : List ℕ) (size flags validator : ℕ) → FitsField 16 name → length (name_field 16 name ++ four size ++ two flags ++ validator ∷ []) ≡ 23
 length-register name size flags validator fits =
     let field = name_field 16 name in
@@ -39,7 +42,9 @@ good_head : (actor : Actor) (request : Request) → IsBuilt request → Fits act
     → is_good_head (kind_of request) (actor_number actor) (length (body_of request)) ≡ true
 unfolding is_good_head
 good_head Ground (ask.Command bytes) built fits sized within = rw (le-leb (length bytes.list) 32832 within, le-leb 0 (length bytes.list) (omega arith)) refl
-good_head Ground (ask.File name bytes) built fits sized within = absurd built
+good_head Ground (ask.File name bytes) built fits sized within =
+    let len = length-file name bytes.list sized in
+    rw (le-leb (length (body_of (ask.File name bytes))) 32832 within, le-leb 64 (length (body_of (ask.File name bytes))) (omega (arith, len))) refl
 good_head Ground (ask.Time seconds sub) built fits sized within = absurd built
 good_head Ground (ask.Reset kind) built fits sized within = absurd built
 good_head Ground request built fits sized within = absurd fits
@@ -67,6 +72,7 @@ has_name_first width name more body fits e =
 right_body : (request : Request) → IsBuilt request → IsSized request → is_right_body (kind_of request) (body_of request) ≡ true
 unfolding is_right_body
 right_body (ask.Command bytes) built sized = refl
+right_body (ask.File name bytes) built sized = rw (has_name_first 64 name bytes.list (name_field 64 name ++ bytes.list) sized refl) refl
 right_body (ask.Start name) built sized = rw (is_name_field-name_field 20 name sized) refl
 right_body (ask.Register name size flags validator) built sized =
     let parts : body_of (ask.Register name size flags validator) ≡ name_field 16 name ++ (four size ++ two flags ++ validator_number validator ∷ []) = simp append_assoc in
@@ -165,11 +171,12 @@ register_in field rest = ask.Register (name_in field) (four_at 0 rest) (two_at 4
 request_in : ℕ → List ℕ → Request
 request_in kind body =
     if kind == 0x01 then ask.Command (record { list = body; spare = 0 }) else
+    (if kind == 0x02 then ask.File (name_in (take 64 body)) (record { list = drop 64 body; spare = 0 }) else
     (if kind == 0x10 then ask.Start (name_in body) else
     (if kind == 0x11 then register_in (take 16 body) (drop 16 body) else
     (if kind == 0x14 then ask.LoadImage (two_at 0 body) (record { list = drop 2 body; spare = 0 }) else
     (if kind == 0x1B then ask.Get (two_at 0 body) else
-    (if kind == 0x1C then ask.Read (two_at 0 body) (four_at 2 body) (four_at 6 body) else ask.Release (two_at 0 body))))))
+    (if kind == 0x1C then ask.Read (two_at 0 body) (four_at 2 body) (four_at 6 body) else ask.Release (two_at 0 body)))))))
 
 register_again : (name : List ℕ) (size flags : ℕ) (validator : Option ℕ) → FitsField 16 name → size < 2 ^ 32 → flags < 2 ^ 16 → validator ≢ Some 255
     → register_in (name_field 16 name) (four size ++ two flags ++ validator_number validator ∷ []) ≡ ask.Register name size flags validator
@@ -180,6 +187,9 @@ register_again name size flags validator fits s f v =
 request_again : (request : Request) → IsBuilt request → IsSized request → HasNoValidator255 request → request_in (kind_of request) (body_of request) ≡ without_room request
 unfolding request_in
 request_again (ask.Command bytes) built sized v = refl
+request_again (ask.File name bytes) built sized v =
+    let len = length-name_field 64 name sized in
+    rw (take_at (name_field 64 name) bytes.list 64 len, drop_at (name_field 64 name) bytes.list 64 len, name_in-name_field 64 name sized) refl
 request_again (ask.Start name) built sized v = rw (name_in-name_field 20 name sized) refl
 request_again (ask.Register name size flags validator) built sized v =
     let field = name_field 16 name in

@@ -4,6 +4,7 @@ use Rattle.std.proofs.Common.{ℤ}
 use Rattle.tbl_kinds.specs.State.{State}
 use Rattle.tbl_kinds.specs.Effects.{Effect, answered}
 use Rattle.tbl_kinds.specs.Commands.{command_effect}
+use Rattle.tbl_kinds.specs.Uplinks.{file_effect}
 use Rattle.tbl_kinds.specs.Applications.{start_effect, register_effect, load_image_effect, get_effect, read_effect, release_effect}
 use Rattle.tbl_kinds.specs.declared.note.BankNote.{BankNote}
 use Rattle.tbl_kinds.specs.declared.request.Actor.{Actor}
@@ -19,6 +20,7 @@ pub record Given : Type 0 where
 
 abbrev pub ground_effect : State → Request → Given → Effect
 ground_effect s (ask.Command bytes) given = command_effect s bytes.list
+ground_effect s (ask.File name bytes) given = file_effect s name bytes.list
 ground_effect s _ given = answered s SUCCESS 0
 
 abbrev pub app_effect : State → ℕ → Request → Given → Effect

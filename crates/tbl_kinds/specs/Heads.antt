@@ -28,6 +28,7 @@ has_name place width body = is_name_field (piece place width body)
 abbrev pub kinds : List Kind
 kinds =
     record { number = 0x01; from_ground = true; least = 0; most = body_limit; is_right = any_body }
+    ∷ record { number = 0x02; from_ground = true; least = 64; most = body_limit; is_right = has_name 0 64 }
     ∷ record { number = 0x10; from_ground = false; least = 20; most = 20; is_right = is_name_field }
     ∷ record { number = 0x11; from_ground = false; least = 23; most = 23; is_right = has_name 0 16 }
     ∷ record { number = 0x14; from_ground = false; least = 2; most = body_limit; is_right = any_body }

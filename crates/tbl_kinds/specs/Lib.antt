@@ -18,6 +18,8 @@ pub mod Deeds
 pub mod Effects
 pub mod TableSteps
 pub mod Applications
+pub mod Drawer
+pub mod Uplinks
 pub mod Commands
 pub mod Dispatch
 pub mod Check

@@ -109,6 +109,7 @@ without_room request = request
 -- the requests that the service knows today
 abbrev pub IsBuilt : Request → Type 0
 IsBuilt (ask.Command bytes) = Unit {0}
+IsBuilt (ask.File name bytes) = Unit {0}
 IsBuilt (ask.Start name) = Unit {0}
 IsBuilt (ask.Register name size flags validator) = Unit {0}
 IsBuilt (ask.LoadImage handle image) = Unit {0}

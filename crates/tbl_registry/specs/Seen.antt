@@ -1,5 +1,5 @@
 -- How what the registry keeps is seen.
-use Rattle.std.specs.Prelude.{ℕ, ◌-◌, List, map, if◌then◌else◌, slice_index_or, Option, Some, None}
+use Rattle.std.specs.Prelude.{ℕ, ◌-◌, List, ◌++◌, length, replicate, map, if◌then◌else◌, slice_index_or, Option, Some, None}
 use Rattle.std.specs.Option.{option_map, option_map_or}
 use Rattle.tbl_kinds.specs.State.{Table, Handle, Tables}
 use Rattle.access_desc.specs.Steps.{with_pin, with_told}
@@ -23,3 +23,7 @@ tables_of rows handles = record { rows = rows; handles = map (option_map (handle
 -- it pins the last of so many images, and was told of all
 abbrev pub with_last : ℕ → HandleView → HandleView
 with_last count h = with_told count (with_pin h)
+
+-- the rows that use the four shared buffers, and none for each that is free
+abbrev pub padded : List ℕ → List (Option ℕ)
+padded rows = map (λ (row : ℕ). Some row) rows ++ replicate (4 - length rows) None

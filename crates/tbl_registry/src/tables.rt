@@ -4,11 +4,12 @@ ghost use Rattle.std.specs.Borrow.{Bor};
 ghost use Rattle.tbl_kinds.specs.Applications.{are_options, table_limit};
 ghost use Rattle.access_desc.specs.Steps.{at_place, changed_at};
 ghost use Rattle.tbl_registry.specs.Sound.{IsPlain};
-ghost use Rattle.tbl_registry.specs.Seen.{handle_of, tables_of, with_last};
+ghost use Rattle.tbl_registry.specs.Seen.{handle_of, tables_of, with_last, padded};
 ghost use Rattle.tbl_kinds.specs.State.{no_tables, Table};
 ghost use Rattle.tbl_kinds.specs.Tables.{table_count, handle_count, load_count, in_use, option_bits, table_at};
 ghost use Rattle.tbl_kinds.specs.TableSteps.{has_name as row_has_name, find, check, handle_at, access_of, get_address, release, read, locker, put, set_time, least_free, new_table, new_handle, with_table, with_handle};
 
+use crate::idle::Idle;
 use crate::row::{NewTable, Row, RowView};
 use access_desc::{HandleView, Handles};
 use buffer_pairs::Buffers;
@@ -38,6 +39,7 @@ pub struct Tables {
     alloc: Global,
     rows: Vec<Option<Row>>,
     handles: Handles,
+    idle: Idle,
 }
 
 impl Model for Tables {
@@ -165,6 +167,7 @@ impl Tables {
             alloc,
             rows: free_rows(alloc)?,
             handles: Handles::make(alloc)?,
+            idle: Idle::make(alloc)?,
         })
     }
 
@@ -342,6 +345,14 @@ impl Tables {
     {
         let _table = table_in(&self.rows, row)?;
         self.handles.pinned_any(row)
+    }
+
+    /// The rows that use the shared working buffers, ascending, and then None.
+    pub fn in_use(&self) -> [Option<u8>; 4]
+        ensures rows { result ≡ padded (in_use self.now) }
+        ensures none { in_use self.now ≡ [] }
+    {
+        self.idle.rows()
     }
 
     /// An image becomes the last one of the table of a row.

@@ -93,6 +93,7 @@ fn registered_tables(rt: HostRuntime) -> Result<(), Fail> {
         (handle.app, handle.row, handle.pinned),
         (1, Some(1), false)
     );
+    assert_eq!(rt; tables.in_use(), [None, None, None, None]);
     Ok(())
 }
 

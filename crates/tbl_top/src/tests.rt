@@ -148,6 +148,35 @@ fn noop_entries(alloc: Global, count: u16) -> Result<Vec<u8>, Memory> {
     Ok(entries)
 }
 
+/// The ground uplinks a file of one byte.
+fn uplink(name: [u8; 2]) -> [u8; 69] {
+    let mut record = [0; 69];
+    record[0] = 0x02;
+    record[3] = 65;
+    record[4] = name[0];
+    record[5] = name[1];
+    record[68] = 7;
+    record
+}
+
+/// The ground uplinks so many files.
+fn uplinks(alloc: Global, count: u8) -> Result<Vec<u8>, Memory> {
+    let mut input = Vec::new(alloc);
+    for number in 0..count {
+        input.extend_from_slice(&uplink([b'/', b'!' + number % 64]))?;
+    }
+    Ok(input)
+}
+
+/// The entries of so many requests of the ground that are accepted.
+fn accepted_entries(alloc: Global, count: u8) -> Result<Vec<u8>, Memory> {
+    let mut entries = Vec::new(alloc);
+    for place in 0..count {
+        entries.extend_from_slice(&entry(place, 0, 0, 0))?;
+    }
+    Ok(entries)
+}
+
 /// Application 1 starts and registers so many tables.
 fn registrations(alloc: Global, count: u8) -> Result<Vec<u8>, Memory> {
     let mut input = Vec::new(alloc);
@@ -579,6 +608,23 @@ fn the_registry_is_full(rt: HostRuntime) -> Result<(), Fail> {
         ],
     )?;
     let outcome = play(alloc, &registrations(alloc, 129)?, &[], 3000, &[])?;
+    assert_eq!(rt; outcome.status, 0);
+    assert_eq!(rt; outcome.sink.taken(), told.as_slice());
+    Ok(())
+}
+
+// 64 files are in the drawer. One of them is replaced, and there is no room for one more.
+#[test]
+fn the_drawer_is_full(rt: HostRuntime) -> Result<(), Fail> {
+    let alloc = rt.alloc();
+    let files = uplinks(alloc, 64)?;
+    let input = joined(alloc, &[&files, &uplink(*b"/!"), &uplink(*b"/a")])?;
+    let accepted = accepted_entries(alloc, 65)?;
+    let told = joined(
+        alloc,
+        &[&accepted, &entry(65, 0, 71, 0), &end_record(0, 66, 4554)],
+    )?;
+    let outcome = play(alloc, &input, &[], 2000, &[])?;
     assert_eq!(rt; outcome.status, 0);
     assert_eq!(rt; outcome.sink.taken(), told.as_slice());
     Ok(())

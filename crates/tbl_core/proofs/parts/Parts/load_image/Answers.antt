@@ -8,6 +8,7 @@ use Rattle.tbl_kinds.specs.Telemetry.{event_body}
 use Rattle.tbl_kinds.specs.Events.{event}
 use Rattle.tbl_kinds.specs.declared.status.TheConstants.Status.{SUCCESS}
 use Rattle.tbl_kinds.specs.CountsAfter.{counts_after}
+use Rattle.tbl_kinds.specs.declared.request.Actor.TheVariants.{App}
 use Rattle.tbl_core.proofs.Quiet.{answer_plays}
 use Rattle.tbl_core.proofs.Images.{load_plays}
 use Rattle.tbl_core.proofs.parts.Parts.load_image.Goals as goal
@@ -38,8 +39,8 @@ returns-in-Ok-clause-plays c =
 pub returns-in-Err-clause-plays : goal.returns-in-Err-clause-plays
 returns-in-Err-clause-plays c =
     let told = c.in_ok-empty.ensures in
-    let after : Tables → Effect = λ tables. record (answered (kept_of c.args.self.now).state c.in-Err.answer.status c.in-Err.answer.detail) { next = state_of tables c.args.self.now.apps } in
-    answer_plays _ _ c.args.app _ c.in_ok-empty.empty c.answer_in-reply.result c.in-Err.answer.status c.in-Err.answer.detail tt c.requires.fits refl c.requires.few
+    let after : Tables → Effect = λ tables. record (answered (kept_of c.args.self.now).state c.in-Err.answer.status c.in-Err.answer.detail) { next = state_of tables c.args.self.now.apps c.args.self.now.drawer } in
+    answer_plays _ _ (App c.args.app) _ c.in_ok-empty.empty c.answer_in-reply.result c.in-Err.answer.status c.in-Err.answer.detail tt tt c.requires.fits refl c.requires.few
     (rw (← c.bytes.ensures) (c.in-Err.ensures.err _ refl refl) ∙ ap after (sym c.in-Err.ensures.kept)) (record {
       entries = c.ready.new.log.entries;
       counts = c.ready.new.log.counts;

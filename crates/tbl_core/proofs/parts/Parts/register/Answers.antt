@@ -1,12 +1,13 @@
 use Rattle.std.proofs.Common.{refl}
 use Rattle.tbl_core.specs.Counters.{tally_view}
+use Rattle.tbl_kinds.specs.declared.request.Actor.TheVariants.{App}
 use Rattle.tbl_core.proofs.Quiet.{answer_plays}
 use Rattle.tbl_core.proofs.parts.Parts.register.Goals as goal
 
 pub returns-clause-plays : goal.returns-clause-plays
 returns-clause-plays c =
     let told = c.in_ok-empty.ensures in
-    answer_plays _ _ c.args.app _ c.in_ok-empty.empty c.answer_in.result c.in_ok-answer.answer.status c.in_ok-answer.answer.detail tt c.requires.fits refl c.requires.few
+    answer_plays _ _ (App c.args.app) _ c.in_ok-empty.empty c.answer_in.result c.in_ok-answer.answer.status c.in_ok-answer.answer.detail tt tt c.requires.fits refl c.requires.few
     (c.in_ok-answer.ensures.effect _ refl refl refl) (record {
       entries = c.ready.new.log.entries;
       counts = c.ready.new.log.counts;

@@ -1,0 +1,9 @@
+//! The uplinked files, by name: the layer above may rely on it that they are a list in order of first uplink, which each call changes by one step.
+#![tactic(auto)]
+
+mod drawer;
+
+pub use drawer::{Drawer, PutFault};
+
+#[cfg(test)]
+mod tests;

@@ -1,0 +1,10 @@
+//! The four shared working buffers of the tables: the layer above may rely on it that each call changes one buffer and that the others stay.
+#![tactic(auto)]
+
+mod buffer;
+mod working;
+
+pub use working::Working;
+
+#[cfg(test)]
+mod tests;

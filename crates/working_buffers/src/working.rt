@@ -1,0 +1,110 @@
+ghost use Rattle.std.specs.Prelude.{◌≡◌, ◌<◌, ◌↔◌, None, is_some, is_none, IsSome, IsNone, IfOk, IfSome, IfNone, map, position, count_by, length, replicate, slice_set};
+ghost use Rattle.std.specs.Option.{option_map};
+ghost use Rattle.working_buffers.specs.Places.{at_place, IsTaken};
+
+use crate::buffer::Buffer;
+use std::alloc::Global;
+use std::marker::Model;
+use tbl_kinds::Memory;
+
+/// The four working buffers that single-buffered tables share for their loads (cFE User's Guide, Table Services;
+/// `CFE_PLATFORM_TBL_MAX_SIMULTANEOUS_LOADS`), numbered from 0 to 3. Each is free, or out: then a registry row has it.
+/// What the bytes of a free buffer are isn't said.
+#[derive(Debug, Drop)]
+pub struct Working {
+    buffers: Vec<Buffer>,
+}
+
+impl Model for Working {
+    ghost use Rattle.std.specs.Prelude.{◌≡◌, List, Option, length, map};
+    ghost use Rattle.working_buffers.specs.Buffers.{place_of};
+    ghost use Rattle.working_buffers.specs.Places.{Held};
+
+    ghost Value = { List (Option Held) };
+
+    ghost view = { λ w. map place_of w.buffers.items };
+
+    ghost invariant = { λ w. length w.buffers.items ≡ 4 };
+}
+
+/// The least free buffer.
+fn first_free(buffers: &[Buffer]) -> Option<usize>
+    ensures least { result ≡ position (λ kept. is_none kept.row) buffers.now }
+    ensures within { IfSome result (λ n. n < length buffers.now) }
+{
+    buffers.iter().position(|buffer| buffer.row().is_none())
+}
+
+impl Working {
+    ghost use Rattle.std.specs.Borrow.{sem};
+    ghost use Rattle.working_buffers.specs.Lending.{LendsPlace};
+
+    /// Four free buffers of 16,384 bytes. All memory that the calls below need is taken here.
+    pub fn make(alloc: Global) -> Result<Working, Memory>
+        ensures { IfOk result (λ w. w ≡ replicate 4 None) }
+    {
+        let first = Buffer::make(alloc)?;
+        let second = Buffer::make(alloc)?;
+        let third = Buffer::make(alloc)?;
+        let fourth = Buffer::make(alloc)?;
+        Ok(Working {
+            buffers: vec![in alloc; first, second, third, fourth]?,
+        })
+    }
+
+    /// Gives the least free buffer to a row.
+    pub fn take(&mut self, row: u8) -> Option<u8>
+        ensures least_free { result ≡ position is_none self.old }
+        ensures none_where_out { IsNone result ↔ (count_by is_some self.old ≡ 4) }
+        ensures taken { IfSome result (λ n. IsTaken self.old self.new n row) }
+        ensures out { IfSome result (λ n. IsSome (at_place self.new n)) }
+        ensures within { IfSome result (λ n. n < 4) }
+        ensures none_left { IfNone result (self.new ≡ self.old) }
+    {
+        let free = first_free(&self.buffers)?;
+        self.buffers[free].set_row(Some(row));
+        Some(free as u8)
+    }
+
+    /// The buffer is free again.
+    pub fn give(&mut self, buffer: u8)
+        requires { IsSome (at_place self.old buffer) }
+        ensures { self.new ≡ slice_set self.old buffer None }
+    {
+        self.buffers[buffer as usize].set_row(None);
+    }
+
+    /// The bytes of a buffer.
+    pub fn bytes(&self, buffer: u8) -> &[u8]
+        requires { IsSome (at_place self.now buffer) }
+        ensures bytes { IfSome (at_place self.now buffer) (λ held. result.now ≡ held.bytes) }
+        ensures size { length result.now ≡ 16384 }
+    {
+        self.buffers[buffer as usize].bytes()
+    }
+
+    /// The bytes of a buffer, to be written.
+    pub fn bytes_mut(&mut self, buffer: u8) -> &mut [u8]
+        requires { IsSome (at_place self.old buffer) }
+        ensures* writes_back { sem 𝓛 (LendsPlace self.entry buffer result) }
+        ensures bytes { IfSome (at_place self.old buffer) (λ held. result.now ≡ held.bytes) }
+        ensures size { length result.now ≡ 16384 }
+    {
+        self.buffers[buffer as usize].bytes_mut()
+    }
+
+    /// Which row has each of the buffers, None for a free one.
+    pub fn rows(&self) -> [Option<u8>; 4]
+        ensures { result ≡ map (option_map (λ held. held.row)) self.now }
+    {
+        match self.buffers.as_slice() {
+            [first, second, third, fourth] => [
+                first.row(),
+                second.row(),
+                third.row(),
+                fourth.row(),
+            ],
+            _ => unreachable!(),
+        }
+    }
+}
