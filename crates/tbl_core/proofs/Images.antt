@@ -1,45 +1,65 @@
 -- A load that nothing refuses, and what its entry tells.
-use Rattle.std.proofs.Common.{◌≡◌, ℕ, eqb, eq-eqb, true, false, List, [], ◌∷◌, ◌++◌, length, Option, Some, None, refl, sym, ap, ◌∙◌}
-use Rattle.std.specs.Prelude.{IfNone}
+use Rattle.std.proofs.Common.{◌≡◌, ◌==◌, ℕ, Bool, not, cond, is_some, true, false, List, [], ◌∷◌, ◌++◌, length, Option, Some, None, refl, sym, ap, ◌∙◌}
 use Rattle.std.proofs.lemmas.List.{append-nil}
 use Rattle.tbl_kinds.specs.Buffers.{Buffer}
 use Rattle.tbl_kinds.specs.State.{State, Table, Tables}
-use Rattle.tbl_kinds.specs.Tables.{in_use}
+use Rattle.tbl_kinds.specs.Tables.{table_at, in_use}
 use Rattle.tbl_kinds.specs.TableSteps.{locker}
 use Rattle.tbl_kinds.specs.Requests.{Fits}
 use Rattle.tbl_kinds.specs.Packets.{telemetry_packet, event_id}
 use Rattle.tbl_kinds.specs.Telemetry.{event_body}
 use Rattle.tbl_kinds.specs.Dispatch.{effect_of}
 use Rattle.tbl_kinds.specs.Events.{event}
-use Rattle.tbl_kinds.specs.Applications.{if_free, load_image_of, activate_effect}
+use Rattle.tbl_kinds.specs.Applications.{if_handle, load_image_effect, if_free, load_image_of, activate_effect}
 use Rattle.tbl_kinds.specs.Counts.{Told, Counts, counts_of, name_at}
 use Rattle.tbl_kinds.specs.CountsAfter.{Tally, no_tally, tally_of, counts_after}
 use Rattle.tbl_kinds.specs.Replies.{head_at, packets_of}
 use Rattle.tbl_registry.specs.Sound.{IsPlain}
-use Rattle.tbl_core.specs.Loads.{activates}
+use Rattle.tbl_core.specs.Loads.{activates, refused_effect, plainly, by_lock, image_refusal}
+use Rattle.tbl_core.specs.declared.loads.Refused.{Refused}
+use Rattle.tbl_core.specs.declared.loads.Refused.TheVariants.{NoBuffer}
 use Rattle.tbl_core.specs.Log.{entry_of}
 use Rattle.tbl_core.specs.Service.{Kept, Plays, HasFewImages, head_of, told}
 use Rattle.tbl_core.proofs.Steps.{none_given, did_play}
 use Rattle.tbl_kinds.specs.declared.request.Actor.TheVariants.{App}
 use Rattle.tbl_kinds.specs.declared.request.Request.TheVariants.{LoadImage}
 use Rattle.tbl_kinds.specs.declared.entry.Reply.{Reply}
-use Rattle.tbl_kinds.specs.declared.status.TheConstants.Status.{SUCCESS}
+use Rattle.tbl_kinds.specs.Effects.{Effect, answered}
+use Rattle.tbl_kinds.specs.declared.status.TheConstants.Status.{SUCCESS, ERR_LOAD_IN_PROGRESS, ERR_IMAGE_SIZE, ERR_NO_BUFFER_AVAIL}
 
-pub where_none : {X : Type 0} (found : Option X) (P : Type 0) → P → IfNone found P
-where_none None P p = p
-where_none (Some x) P p = tt
+module _ (s : State) where
+  -- what is answered for a refusal, or else this
+  abbrev pub by_refusal : Option Refused → Effect → Effect
+  by_refusal (Some refused) effect = refused_effect s refused
+  by_refusal None effect = effect
 
--- a plain table that isn't locked takes an image of its size
-pub taken : (s : State) (tables : Tables) (row : ℕ) (t : Table) (image : List ℕ) → s.tables ≡ tables → IsPlain t → length image ≡ t.size → locker tables row t ≡ None → in_use tables ≡ []
-    → load_image_of s row (Some t) image ≡ activate_effect s row t image
-taken s tables row t image same plain size free none =
-    let sized : eqb (length image) t.size ≡ true = eq-eqb (length image) t.size size in
-    let unlocked : locker s.tables row t ≡ None = rw same free in
-    let shared : in_use s.tables ≡ [] = rw same none in
-    let active = activate_effect s row t image in
-    let asked : load_image_of s row (Some t) image ≡ if_free s row t (locker s.tables row t) active = rw (plain.options, plain.load, sized) refl in
-    let taken : if_free s row t None active ≡ active = rw (plain.options, shared) refl in
-    asked ∙ ap (λ lock. if_free s row t lock active) unlocked ∙ taken
+  full_or : (full : Bool) (e : Effect) → cond full (record (answered s ERR_NO_BUFFER_AVAIL 0) { bytes = in_use s.tables }) e ≡ by_refusal (cond full (Some NoBuffer) None) e
+  full_or true e = refl
+  full_or false e = refl
+
+  -- the last tests of a single-buffered table
+  lock_plain : (t : Table) → IsPlain t → (lock : Option ℕ) (e : Effect) → if_free s t lock e ≡ by_refusal (by_lock lock (length (in_use s.tables))) e
+  lock_plain t plain (Some handle) e = refl
+  lock_plain t plain None e = rw plain.options (full_or (length (in_use s.tables) == 4) e)
+
+  -- and the tests before them
+  before_lock : (load other : Bool) (e f : Effect) (r : Option Refused) → f ≡ by_refusal r e
+      → cond load (answered s ERR_LOAD_IN_PROGRESS 0) (cond other (answered s ERR_IMAGE_SIZE 0) f) ≡ by_refusal (cond load (Some (plainly ERR_LOAD_IN_PROGRESS)) (cond other (Some (plainly ERR_IMAGE_SIZE)) r)) e
+  before_lock true other e f r is = refl
+  before_lock false true e f r is = refl
+  before_lock false false e f r is = is
+
+  pub image_plain : (row : ℕ) (t : Table) (image : List ℕ) → IsPlain t → load_image_of s row (Some t) image ≡ by_refusal (image_refusal t (locker s.tables row t) (length (in_use s.tables)) (length image)) (activate_effect s row t image)
+  image_plain row t image plain =
+      let asked : load_image_of s row (Some t) image ≡ cond (is_some t.load) (answered s ERR_LOAD_IN_PROGRESS 0) (cond (not (length image == t.size)) (answered s ERR_IMAGE_SIZE 0) (if_free s t (locker s.tables row t) (activate_effect s row t image))) = rw plain.options refl in
+      asked ∙ before_lock (is_some t.load) (not (length image == t.size)) _ _ _ (lock_plain t plain (locker s.tables row t) (activate_effect s row t image))
+
+  -- the effect of a load whose handle may be used, by its refusal
+  pub load_by : (app handle row : ℕ) (t : Table) (image : List ℕ) (r : Option Refused) → if_handle s app handle true (λ at. load_image_of s at (table_at s.tables at) image) ≡ load_image_of s row (table_at s.tables row) image
+      → table_at s.tables row ≡ Some t → IsPlain t → r ≡ image_refusal t (locker s.tables row t) (length (in_use s.tables)) (length image) → load_image_effect s app handle image ≡ by_refusal r (activate_effect s row t image)
+  unfolding load_image_effect
+  load_by app handle row t image r checked there plain first =
+      checked ∙ ap (λ (found : Option Table). load_image_of s row found image) there ∙ image_plain row t image plain ∙ sym (ap (λ (r : Option Refused). by_refusal r (activate_effect s row t image)) first)
 
 -- ---- what its entry tells
 

@@ -1,3 +1,4 @@
+pub mod Buffers
 pub mod CommandAnswers
 pub mod Ordinary
 pub mod Steps
@@ -5,4 +6,6 @@ pub mod Packets
 pub mod CommandLemmas
 pub mod Quiet
 pub mod Images
+pub mod GroundLoads
 pub mod WholeLaws
+pub mod Places

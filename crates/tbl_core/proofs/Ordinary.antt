@@ -6,21 +6,23 @@ use Rattle.tbl_kinds.specs.Names.{is_name}
 use Rattle.std.proofs.lemmas.Option.{same_Some}
 use Rattle.tbl_kinds.specs.State.{State, Table, Handle, Tables, no_tables}
 use Rattle.tbl_kinds.specs.Tables.{table_at, is_double, is_dump_only, in_use}
-use Rattle.tbl_kinds.specs.TableSteps.{is_that, Access, access_by, access_of, Step, stays, check, check_handle, check_row, handle_at, find, least_free, locker, with_table, with_handle, with_image, put, put_in, set_time, set_time_in, let_go, get_address, release, read, read_of, new_table}
+use Rattle.tbl_kinds.specs.TableSteps.{base, unchecked, patched, changed, changed_in, patch, set_file, is_that, Access, access_by, access_of, Step, stays, check, check_handle, check_row, handle_at, find, least_free, locker, with_table, with_handle, with_image, put, put_in, set_time, set_time_in, let_go, get_address, release, read, read_of, new_table}
 use Rattle.tbl_kinds.specs.Effects.{Effect, answered}
-use Rattle.tbl_kinds.specs.Drawer.{is_full_for}
+use Rattle.tbl_kinds.specs.Drawer.{contents_of, is_full_for}
+use Rattle.tbl_kinds.specs.TableFiles.{TableFile, FileFlaw, no_std_header, bad_content, bad_subtype, no_table_header, incomplete, too_big, file_flaw, file_status, table_file_in}
+use Rattle.tbl_kinds.specs.GroundLoads.{loaded_effect, if_open, is_part, load_into, load_found, load_file_effect, load_by, load_from, load_effect}
 use Rattle.tbl_kinds.specs.Uplinks.{file_limit, file_effect}
-use Rattle.tbl_kinds.specs.GroundCommands.{GroundCommand, housekeeping, noop, reset_counters, code_of, command_in}
+use Rattle.tbl_kinds.specs.GroundCommands.{GroundCommand, housekeeping, noop, reset_counters, load, code_of, command_in}
 use Rattle.tbl_kinds.specs.Commands.{effect_by, command_effect}
 use Rattle.tbl_kinds.specs.declared.entry.Answer.{Answer}
-use Rattle.tbl_kinds.specs.Applications.{name_of, has_dot, table_limit, are_options, may_use, start_effect, by_app, by_check, stepped, duplicate_effect, add_effect, by_name_effect, register_effect, full_name, activate_effect, if_free, load_image_of, load_image_effect, get_effect, release_effect, read_answer, read_effect}
+use Rattle.tbl_kinds.specs.Applications.{name_of, has_dot, table_limit, are_options, may_use, start_effect, by_app, by_check, stepped, duplicate_effect, add_effect, by_name_effect, register_effect, full_name, activate_effect, if_buffer, if_free, load_image_of, load_image_effect, get_effect, release_effect, read_answer, read_effect}
 use Rattle.tbl_kinds.specs.Dispatch.{Given, effect_of}
 use Rattle.tbl_kinds.specs.declared.request.Actor.{Actor}
 use Rattle.tbl_kinds.specs.declared.request.Actor.TheVariants.{Ground, App}
 use Rattle.tbl_kinds.specs.declared.request.Request.{Request}
 use Rattle.tbl_kinds.specs.declared.request.Request.TheVariants as ask
 use Rattle.tbl_kinds.specs.declared.status.Status.{Status}
-use Rattle.tbl_kinds.specs.declared.status.TheConstants.Status.{SUCCESS, INFO_UPDATED, INFO_STOPPED, INFO_TABLE_LOCKED, WARN_DUPLICATE, ERR_BAD_APP, ERR_INVALID_HANDLE, ERR_NO_ACCESS, ERR_UNREGISTERED, ERR_INVALID_NAME, ERR_INVALID_SIZE, ERR_INVALID_OPTIONS, ERR_NO_VALIDATOR, ERR_DUPLICATE_NOT_OWNED, ERR_DUPLICATE_DIFF_SIZE, ERR_REGISTRY_FULL, ERR_HANDLES_FULL, ERR_DUMP_ONLY, ERR_LOAD_IN_PROGRESS, ERR_IMAGE_SIZE, ERR_APP_RUNNING, ERR_ALREADY_PINNED, ERR_NEVER_LOADED, ERR_NOT_PINNED, ERR_BAD_CODE, ERR_BAD_NAME, ERR_FILE_TOO_LARGE, ERR_DRAWER_FULL}
+use Rattle.tbl_kinds.specs.declared.status.TheConstants.Status.{SUCCESS, INFO_UPDATED, INFO_STOPPED, INFO_TABLE_LOCKED, WARN_DUPLICATE, ERR_BAD_APP, ERR_INVALID_HANDLE, ERR_NO_ACCESS, ERR_UNREGISTERED, ERR_INVALID_NAME, ERR_INVALID_SIZE, ERR_INVALID_OPTIONS, ERR_NO_VALIDATOR, ERR_DUPLICATE_NOT_OWNED, ERR_DUPLICATE_DIFF_SIZE, ERR_REGISTRY_FULL, ERR_HANDLES_FULL, ERR_DUMP_ONLY, ERR_LOAD_IN_PROGRESS, ERR_IMAGE_SIZE, ERR_APP_RUNNING, ERR_ALREADY_PINNED, ERR_NEVER_LOADED, ERR_NOT_PINNED, ERR_BAD_CODE, ERR_BAD_NAME, ERR_FILE_TOO_LARGE, ERR_DRAWER_FULL, ERR_FILE_NOT_FOUND, ERR_NO_SUCH_TABLE, ERR_UPDATE_PENDING, ERR_ZERO_LOAD, ERR_PAST_END, ERR_PARTIAL_LOAD}
 use Rattle.tbl_registry.proofs.Places.{AtEachPlace-set, get_or-replicate_None}
 use Rattle.tbl_core.specs.Service.{HasFewImages}
 use Rattle.tbl_core.proofs.CommandAnswers.{AnswerGoesOn, answer_goes_on}
@@ -105,6 +107,13 @@ module _ (tables : Tables) (n : ℕ) (few : HasFewImages tables n) where
     here None at = few
     here (Some t) at = few_with tables n row (record t { seconds = seconds; sub = sub }) few (few row t at)
 
+  -- a change of a table that takes no image
+  changed_few : (row : ℕ) (change : Table → Table) → ((t : Table) → (change t).count ≡ t.count) → HasFewImages (changed row change tables) n
+  changed_few row change same = here (table_at tables row) refl where
+    here : (found : Option Table) → table_at tables row ≡ found → HasFewImages (changed_in tables row change found) n
+    here None at = few
+    here (Some t) at = few_with tables n row (change t) few (rw (same t) (few row t at))
+
 -- ---- the checks that all calls with a handle have in common
 
 abbrev CheckGoesOn : Result ℕ Status → Type 0
@@ -136,6 +145,15 @@ read_if false x y p q = q
 read_goes_on : (offset len : ℕ) (found : Option Access) → ReadGoesOn (option_map_or (λ (a : Access). read_of a.handle a.table offset len) found (Err ERR_INVALID_HANDLE))
 read_goes_on offset len None = refl
 read_goes_on offset len (Some a) = read_if (not (is_some a.handle.pin)) _ _ refl (read_if (nat_lt a.table.size (offset + len)) _ _ refl tt)
+
+-- no flaw of a table file is told as that of a stopped service
+pub file_status_goes_on : (flaw : FileFlaw) → GoesOn (file_status flaw)
+file_status_goes_on no_std_header = refl
+file_status_goes_on bad_content = refl
+file_status_goes_on bad_subtype = refl
+file_status_goes_on no_table_header = refl
+file_status_goes_on incomplete = refl
+file_status_goes_on too_big = refl
 
 -- ---- effects
 
@@ -200,18 +218,21 @@ module _ (s : State) (n : ℕ) (live : s.ended ≡ false) (few : HasFewImages s.
   active_ordinary : (row : ℕ) (t : Table) (image : List ℕ) → IsOrdinary n (activate_effect s row t image)
   active_ordinary row t image = record { goes_on = refl; few = time_few (put row image s.tables) (suc n) (put_few s.tables n few row image) row s.seconds s.sub; live = live }
 
-  free_ordinary : (row : ℕ) (t : Table) (lock : Option ℕ) (e : Effect) → IsOrdinary n e → IsOrdinary n (if_free s row t lock e)
-  free_ordinary row t (Some handle) e p = said INFO_TABLE_LOCKED handle refl
-  free_ordinary row t None e p = either (not (is_double t) && length (in_use s.tables) == 4) _ _ (record { goes_on = refl; few = few_more s.tables n few; live = live }) p
+  buffer_ordinary : (t : Table) (e : Effect) → IsOrdinary n e → IsOrdinary n (if_buffer s t e)
+  buffer_ordinary t e p = either (not (is_double t) && length (in_use s.tables) == 4) _ _ (record { goes_on = refl; few = few_more s.tables n few; live = live }) p
+
+  free_ordinary : (t : Table) (lock : Option ℕ) (e : Effect) → IsOrdinary n e → IsOrdinary n (if_free s t lock e)
+  free_ordinary t (Some handle) e p = said INFO_TABLE_LOCKED handle refl
+  free_ordinary t None e p = buffer_ordinary t e p
 
   image_ordinary : (row : ℕ) (found : Option Table) (image : List ℕ) → IsOrdinary n (load_image_of s row found image)
   image_ordinary row None image = said ERR_UNREGISTERED 0 refl
   image_ordinary row (Some t) image = either (is_dump_only t) _ _ (said ERR_DUMP_ONLY 0 refl) (either (is_some t.load) _ _ (said ERR_LOAD_IN_PROGRESS 0 refl) (either (not (length image == t.size)) _ _ (said ERR_IMAGE_SIZE 0 refl)
-      (free_ordinary row t (locker s.tables row t) (activate_effect s row t image) (active_ordinary row t image))))
+      (free_ordinary t (locker s.tables row t) (activate_effect s row t image) (active_ordinary row t image))))
 
-  load_ordinary : (app handle : ℕ) (image : List ℕ) → IsOrdinary n (load_image_effect s app handle image)
+  load_image_ordinary : (app handle : ℕ) (image : List ℕ) → IsOrdinary n (load_image_effect s app handle image)
   unfolding load_image_effect
-  load_ordinary app handle image = with_handle_of app handle true _ (λ row. image_ordinary row (table_at s.tables row) image)
+  load_image_ordinary app handle image = with_handle_of app handle true _ (λ row. image_ordinary row (table_at s.tables row) image)
 
   get_ordinary : (app handle : ℕ) → IsOrdinary n (get_effect s app handle)
   unfolding get_effect
@@ -225,11 +246,48 @@ module _ (s : State) (n : ℕ) (live : s.ended ≡ false) (few : HasFewImages s.
   unfolding read_effect
   read_ordinary app handle offset len = with_handle_of app handle false _ (λ row. answer_ordinary (read handle offset len s.tables) (read_goes_on offset len (access_of s.tables handle)))
 
+  loaded_ordinary : (name : List ℕ) (file : TableFile) (row : ℕ) → IsOrdinary n (loaded_effect s name file row)
+  loaded_ordinary name file row = record {
+    goes_on = refl;
+    few = few_more (set_file row name (patch row file.offset file.image s.tables)) n (changed_few (patch row file.offset file.image s.tables) n (changed_few s.tables n few row (λ t. record t { load = unchecked (patched (base t) file.offset file.image) }) (λ t. refl)) row (λ t. record t { file = name }) (λ t. refl));
+    live = live;
+  }
+
+  open_ordinary : (row : ℕ) (t : Table) (e : Effect) → IsOrdinary n e → IsOrdinary n (if_open s row t e)
+  open_ordinary row t e p = either (is_some t.load) _ _ p (free_ordinary t (if is_double t then locker s.tables row t else None) e p)
+
+  into_ordinary : (name : List ℕ) (file : TableFile) (row : ℕ) (found : Option Table) → IsOrdinary n (load_into s name file row found)
+  into_ordinary name file row None = said ERR_NO_SUCH_TABLE 0 refl
+  into_ordinary name file row (Some t) = either (is_dump_only t) _ _ (said ERR_DUMP_ONLY 0 refl) (either t.activation _ _ (said ERR_UPDATE_PENDING 0 refl)
+      (either (length file.image == 0) _ _ (said ERR_ZERO_LOAD 0 refl) (either (nat_lt t.size (file.offset + length file.image)) _ _ (said ERR_PAST_END 0 refl)
+      (either ((t.count == 0) && is_part t file) _ _ (said ERR_PARTIAL_LOAD 0 refl) (open_ordinary row t (loaded_effect s name file row) (loaded_ordinary name file row))))))
+
+  found_ordinary : (name : List ℕ) (file : TableFile) (row : Option ℕ) → IsOrdinary n (load_found s name file row)
+  found_ordinary name file None = said ERR_NO_SUCH_TABLE 0 refl
+  found_ordinary name file (Some row) = let p = into_ordinary name file row (table_at s.tables row) in record { goes_on = p.goes_on; few = p.few; live = p.live }
+
+  load_file_ordinary : (name : List ℕ) (file : TableFile) → IsOrdinary n (load_file_effect s name file)
+  unfolding load_file_effect
+  load_file_ordinary name file = found_ordinary name file (find file.name s.tables)
+
+  by_flaw_ordinary : (name contents : List ℕ) (flaw : Option FileFlaw) → IsOrdinary n (load_by s name contents flaw)
+  by_flaw_ordinary name contents (Some flaw) = said (file_status flaw) 0 (file_status_goes_on flaw)
+  by_flaw_ordinary name contents None = load_file_ordinary name (table_file_in contents)
+
+  from_ordinary : (name : List ℕ) (contents : Option (List ℕ)) → IsOrdinary n (load_from s name contents)
+  from_ordinary name None = said ERR_FILE_NOT_FOUND 0 refl
+  from_ordinary name (Some contents) = by_flaw_ordinary name contents (file_flaw contents)
+
+  load_ordinary : (name : List ℕ) → IsOrdinary n (load_effect s name)
+  unfolding load_effect
+  load_ordinary name = from_ordinary name (contents_of s.drawer name)
+
   asked_ordinary : (asked : Result GroundCommand Answer) → AnswerGoesOn asked → IsOrdinary n (effect_by s asked)
   asked_ordinary (Err answer) goes = said answer.status answer.detail goes
   asked_ordinary (Ok housekeeping) goes = record { goes_on = refl; few = few_more s.tables n few; live = live }
   asked_ordinary (Ok noop) goes = said SUCCESS 0 refl
   asked_ordinary (Ok reset_counters) goes = said SUCCESS 0 refl
+  asked_ordinary (Ok (load file)) goes = load_ordinary file
   asked_ordinary (Ok command) goes = said ERR_BAD_CODE (code_of command) refl
 
   command_ordinary : (bytes : List ℕ) → IsOrdinary n (command_effect s bytes)
@@ -245,7 +303,7 @@ module _ (s : State) (n : ℕ) (live : s.ended ≡ false) (few : HasFewImages s.
   ordinary Ground request given = said SUCCESS 0 refl
   ordinary (App app) (ask.Start name) given = start_ordinary app name
   ordinary (App app) (ask.Register name size flags validator) given = register_ordinary app name size flags validator
-  ordinary (App app) (ask.LoadImage handle image) given = load_ordinary app handle image.list
+  ordinary (App app) (ask.LoadImage handle image) given = load_image_ordinary app handle image.list
   ordinary (App app) (ask.Get handle) given = get_ordinary app handle
   ordinary (App app) (ask.Read handle offset len) given = read_ordinary app handle offset len
   ordinary (App app) (ask.Release handle) given = release_ordinary app handle

@@ -1,5 +1,5 @@
 -- The packets of each kind of reply, and what it adds to the counts.
-use Rattle.std.proofs.Common.{◌≡◌, ℕ, ◌+◌, ◌%◌, eqb, true, false, Ok, List, [], ◌∷◌, ◌++◌, refl, ap, ◌∙◌, add-zero}
+use Rattle.std.proofs.Common.{◌≡◌, ℕ, ◌+◌, ◌%◌, eqb, true, false, Ok, List, [], ◌∷◌, ◌++◌, Option, refl, ap, ◌∙◌, add-zero}
 use Rattle.std.specs.Prelude.{count_by, sum_by}
 use Rattle.std.specs.List.{after_last}
 use Rattle.std.proofs.lemmas.List.{append-nil}
@@ -10,17 +10,17 @@ use Rattle.tbl_kinds.specs.Statuses.{is_success}
 use Rattle.tbl_kinds.specs.Packets.{telemetry_packet, event_id, housekeeping_id}
 use Rattle.tbl_kinds.specs.GroundCommands.{housekeeping, command_in}
 use Rattle.tbl_kinds.specs.Telemetry.{event_body, housekeeping_body}
-use Rattle.tbl_kinds.specs.Effects.{answered}
 use Rattle.tbl_kinds.specs.Commands.{asks_housekeeping, asked_code, housekeeping_effect}
-use Rattle.tbl_kinds.specs.Events.{event}
+use Rattle.tbl_kinds.specs.Events.{row_field, event}
 use Rattle.tbl_kinds.specs.Counts.{Told, counts_of, clears_counters, adds_accepted, adds_refused, adds_request, deeds_by, is_finished, is_finished_well, is_finished_badly}
 use Rattle.tbl_kinds.specs.CountsAfter.{no_tally, tally_of, counts_after}
 use Rattle.tbl_kinds.specs.Replies.{head_at, housekeeping_of, packets_of}
 use Rattle.tbl_kinds.proofs.CountsLaws.{counts_push}
 use Rattle.tbl_core.specs.Service.{told}
+use Rattle.tbl_core.specs.Settling.{settled, refused_tally}
 use Rattle.tbl_kinds.specs.declared.request.Actor.TheVariants.{Ground}
 use Rattle.tbl_kinds.specs.declared.request.Request.TheVariants.{Command}
-use Rattle.tbl_kinds.specs.declared.status.Status.{Status}
+use Rattle.tbl_kinds.specs.declared.entry.Reply.{Reply}
 use Rattle.tbl_kinds.specs.declared.status.TheConstants.Status.{SUCCESS, INFO_STOPPED}
 
 -- what was counted below m stays where nothing is added
@@ -40,25 +40,27 @@ stays past s =
     let requests = stays_below (count_by (λ t. adds_request t.request t.effect) counted) 256 in
     cc
 
-module _ (s : State) (bytes : Buffer) where
-  -- a refused command sends one event
-  pub refused_packets : (past : List Told) (status : Status) (detail : ℕ) → is_success status ≡ false → eqb status.0 INFO_STOPPED.0 ≡ false
-      → packets_of past (told s Ground (Command bytes) (answered s status detail))
-      ≡ telemetry_packet event_id (head_at s (counts_of past).events) (event_body (event 2 status 0xFFFF detail))
-  unfolding packets_of
-  refused_packets past status detail refused goes_on = rw (goes_on, refused) (simp append-nil)
+-- a command that is answered sends one event
+module _ (s next : State) (bytes : Buffer) (reply : Reply) (row : Option ℕ) where
+  abbrev settled_told : Told
+  settled_told = told s Ground (Command bytes) (settled s next reply row)
 
-  pub refused_tally : (status : Status) (detail : ℕ) → is_success status ≡ false → eqb status.0 INFO_STOPPED.0 ≡ false
-      → tally_of (told s Ground (Command bytes) (answered s status detail)) ≡ record no_tally { refused = true; events = 1 }
-  refused_tally status detail refused goes_on = rw (goes_on, refused) refl
+  pub refused_packets : (past : List Told) → is_success reply.status ≡ false → eqb reply.status.0 INFO_STOPPED.0 ≡ false
+      → packets_of past settled_told ≡ telemetry_packet event_id (head_at s (counts_of past).events) (event_body (event 2 reply.status (row_field row) reply.detail))
+  unfolding packets_of
+  refused_packets past refused goes_on = rw (goes_on, refused) (simp append-nil)
+
+  pub refused_adds : is_success reply.status ≡ false → eqb reply.status.0 INFO_STOPPED.0 ≡ false → tally_of settled_told ≡ refused_tally
+  refused_adds refused goes_on = rw (goes_on, refused) refl
 
   -- an accepted one too, unless it asks for housekeeping
-  pub accepted_packets : (past : List Told) (code : ℕ) → asks_housekeeping (command_in bytes.list) ≡ false → asked_code (command_in bytes.list) ≡ code
-      → packets_of past (told s Ground (Command bytes) (answered s SUCCESS 0))
-      ≡ telemetry_packet event_id (head_at s (counts_of past).events) (event_body (event 1 SUCCESS 0xFFFF code))
+  pub accepted_packets : (past : List Told) (code : ℕ) → is_success reply.status ≡ true → eqb reply.status.0 INFO_STOPPED.0 ≡ false
+      → asks_housekeeping (command_in bytes.list) ≡ false → asked_code (command_in bytes.list) ≡ code
+      → packets_of past settled_told ≡ telemetry_packet event_id (head_at s (counts_of past).events) (event_body (event 1 SUCCESS (row_field row) code))
   unfolding packets_of
-  accepted_packets past code other is = rw (other, is) (simp append-nil)
+  accepted_packets past code ok goes_on other is = rw (goes_on, ok, other, is) (simp append-nil)
 
+module _ (s : State) (bytes : Buffer) where
   pub housekeeping_tally : command_in bytes.list ≡ Ok housekeeping
       → tally_of (told s Ground (Command bytes) (housekeeping_effect s)) ≡ record no_tally { housekeeping = true }
   housekeeping_tally asked = rw asked refl

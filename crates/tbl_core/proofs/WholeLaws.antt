@@ -23,12 +23,14 @@ use Rattle.tbl_kinds.specs.declared.request.Actor.TheVariants.{Ground, App}
 use Rattle.tbl_kinds.specs.declared.request.Request.{Request}
 use Rattle.tbl_kinds.specs.declared.request.Request.TheVariants as ask
 use Rattle.tbl_kinds.specs.declared.status.Status.{Status}
-use Rattle.tbl_kinds.specs.declared.status.TheConstants.Status.{SUCCESS, INFO_UPDATED, INFO_TABLE_LOCKED, INFO_STOPPED, WARN_DUPLICATE, ERR_BAD_APP, ERR_INVALID_HANDLE, ERR_NO_ACCESS, ERR_UNREGISTERED, ERR_INVALID_NAME, ERR_INVALID_SIZE, ERR_INVALID_OPTIONS, ERR_NO_VALIDATOR, ERR_DUPLICATE_NOT_OWNED, ERR_DUPLICATE_DIFF_SIZE, ERR_REGISTRY_FULL, ERR_HANDLES_FULL, ERR_DUMP_ONLY, ERR_LOAD_IN_PROGRESS, ERR_ALREADY_PINNED, ERR_NEVER_LOADED, ERR_NOT_PINNED, ERR_OUT_OF_RANGE, ERR_APP_RUNNING, ERR_BAD_CODE, ERR_IMAGE_SIZE, ERR_BAD_NAME, ERR_FILE_TOO_LARGE, ERR_DRAWER_FULL}
-use Rattle.tbl_kinds.specs.TableSteps.{handle_at, access_of, Access, find, least_free, is_that, pins, is_in_way, locker, image_of, check_row, check_handle, let_go, with_table, with_handle, with_image, put, set_time, Step, stays, pin_last, get_address_of, release_of, read_of, new_table, new_handle}
+use Rattle.tbl_kinds.specs.declared.status.TheConstants.Status.{SUCCESS, INFO_UPDATED, INFO_TABLE_LOCKED, INFO_STOPPED, WARN_DUPLICATE, ERR_BAD_APP, ERR_INVALID_HANDLE, ERR_NO_ACCESS, ERR_UNREGISTERED, ERR_INVALID_NAME, ERR_INVALID_SIZE, ERR_INVALID_OPTIONS, ERR_NO_VALIDATOR, ERR_DUPLICATE_NOT_OWNED, ERR_DUPLICATE_DIFF_SIZE, ERR_REGISTRY_FULL, ERR_HANDLES_FULL, ERR_DUMP_ONLY, ERR_LOAD_IN_PROGRESS, ERR_ALREADY_PINNED, ERR_NEVER_LOADED, ERR_NOT_PINNED, ERR_OUT_OF_RANGE, ERR_APP_RUNNING, ERR_BAD_CODE, ERR_IMAGE_SIZE, ERR_BAD_NAME, ERR_FILE_TOO_LARGE, ERR_DRAWER_FULL, ERR_FILE_NOT_FOUND, ERR_NO_SUCH_TABLE, ERR_UPDATE_PENDING, ERR_ZERO_LOAD, ERR_PAST_END, ERR_PARTIAL_LOAD}
+use Rattle.tbl_kinds.specs.TableSteps.{handle_at, access_of, Access, find, least_free, is_that, pins, is_in_way, locker, image_of, check_row, check_handle, let_go, with_table, with_handle, with_image, put, set_time, base, unchecked, patched, changed, changed_in, patch, set_file, Step, stays, pin_last, get_address_of, release_of, read_of, new_table, new_handle}
 use Rattle.tbl_kinds.specs.Applications.{name_of, has_dot, full_name, start_effect, by_app, by_check, if_handle, stepped, duplicate_effect, add_effect, by_name_effect, register_effect, activate_effect, if_free, load_image_of, load_image_effect, get_effect, release_effect, read_answer, read_effect}
-use Rattle.tbl_kinds.specs.Drawer.{is_full_for}
+use Rattle.tbl_kinds.specs.Drawer.{contents_of, is_full_for}
+use Rattle.tbl_kinds.specs.TableFiles.{TableFile, FileFlaw, no_std_header, bad_content, bad_subtype, no_table_header, incomplete, too_big, file_flaw, table_file_in}
+use Rattle.tbl_kinds.specs.GroundLoads.{loaded_effect, if_open, load_into, load_found, load_file_effect, load_by, load_from, load_effect}
 use Rattle.tbl_kinds.specs.Uplinks.{file_limit, file_effect}
-use Rattle.tbl_kinds.specs.GroundCommands.{GroundCommand, housekeeping, noop, reset_counters, code_of, command_in}
+use Rattle.tbl_kinds.specs.GroundCommands.{GroundCommand, housekeeping, noop, reset_counters, load as load_command, code_of, command_in}
 use Rattle.tbl_kinds.specs.Commands.{housekeeping_effect, effect_by, command_effect}
 use Rattle.tbl_kinds.specs.declared.entry.Answer.{Answer}
 use Rattle.tbl_core.proofs.CommandAnswers.{AnswerGoesOn, answer_goes_on}
@@ -226,6 +228,67 @@ put_keeps tables row t image seconds sub there free size =
     (λ n g p u is stood near. subst (λ (v : Table). Gives v p new) (same_Some t u (sym there ∙ stood))
     (image_gives tables.handles n g row p t image seconds sub is (none_passes (is_in_way row t) tables.handles n g free is.place)))
     (λ all. record { some = λ some. refl; sized = λ other is. ap length (sym (same_Some image other is)) ∙ size }))
+
+-- what handles that pin an image of a table see of it: its images, and what it keeps as long as it is registered
+record Held : Type 0 where
+  count : ℕ
+  last : Option (List ℕ)
+  before : Option (List ℕ)
+  kept : ℕ × ℕ × ℕ
+
+abbrev held : Table → Held
+held t = record { count = t.count; last = t.last; before = t.before; kept = kept t }
+
+-- a table of which they see the same
+same_gives : (t u : Table) (p : ℕ) → held u ≡ held t → IsNear p t → Gives t p u
+same_gives t u p same near =
+    let count : u.count ≡ t.count = ap (λ (k : Held). k.count) same in record {
+      same = ap (λ (k : Held). k.kept) same;
+      near = rw count near;
+      image = ap (λ (k : Held). cond (eqb p k.count) k.last k.before) same;
+    }
+
+same_loaded : (t u : Table) → held u ≡ held t → IsLoaded t → IsLoaded u
+same_loaded t u same loaded =
+    let count : u.count ≡ t.count = ap (λ (k : Held). k.count) same in
+    let last : u.last ≡ t.last = ap (λ (k : Held). k.last) same in
+    let size : u.size ≡ t.size = ap (λ (k : Held). k.kept.0) same in
+    record { some = λ some. rw last (loaded.some (rw count at some)); sized = λ image is. loaded.sized image (sym last ∙ is) ∙ sym size }
+
+-- a table changes, but not what is seen of it by pins
+changed_keeps : (tables : Tables) (row : ℕ) (change : Table → Table) → ((t : Table) → held (change t) ≡ held t) → Keeps tables (changed row change tables)
+changed_keeps tables row change same = here (table_at tables row) refl where
+  here : (found : Option Table) → table_at tables row ≡ found → Keeps tables (changed_in tables row change found)
+  here None at = stays_keeps tables
+  here (Some t) at =
+      set_keeps tables row (change t) tables.handles (λ n h p at pin. at)
+      (λ n h p u is stood near. subst (λ (v : Table). Gives v p (change t)) (same_Some t u (sym at ∙ stood)) (same_gives t (change t) p (same t) (subst (IsNear p) (sym (same_Some t u (sym at ∙ stood))) near)))
+      (λ all. same_loaded t (change t) (same t) (all row t at))
+
+-- one change after another
+then_keeps : (old mid new : Tables) → Keeps old mid → Keeps mid new → Keeps old new
+then_keeps old mid new first second = record {
+  remains = λ n h p at pin.
+      let later = second.remains n h p at pin in
+      let sooner = first.remains n h p later.was pin in record {
+        was = sooner.was;
+        goes_on = λ row t of there near.
+            let one : GoesOn mid.rows row p t = sooner.goes_on row t of there near in
+            let two : GoesOn new.rows row p one.table = later.goes_on row one.table of one.there one.gives.near in record {
+              table = two.table;
+              there = two.there;
+              gives = record { same = two.gives.same ∙ one.gives.same; near = two.gives.near; image = two.gives.image ∙ one.gives.image };
+            };
+      };
+  loaded = λ all. second.loaded (first.loaded all);
+}
+
+-- bytes of a file go into a load
+file_keeps : (tables : Tables) (row offset : ℕ) (bytes name : List ℕ) → Keeps tables (set_file row name (patch row offset bytes tables))
+file_keeps tables row offset bytes name =
+    then_keeps tables (patch row offset bytes tables) _
+    (changed_keeps tables row (λ t. record t { load = unchecked (patched (base t) offset bytes) }) (λ t. refl))
+    (changed_keeps (patch row offset bytes tables) row (λ t. record t { file = name }) (λ t. refl))
 
 -- ---- what an entry does to the pins
 
@@ -510,7 +573,64 @@ module _ (s : State) (actor : Actor) (request : Request) where
       let parts = or_parts (is_done status) (eqb status.0 INFO_STOPPED.0) (not-true _ refuses) in
       fair_keeps (answered s status detail) (stays_keeps s.tables) parts.1 (λ n h p at pin done. absurd (cc (done, parts.0)))
 
--- a ground command leaves the tables as they are
+-- a load from a file: it fills a load, or it is refused
+module _ (s : State) (actor : Actor) (request : Request) (unnamed : named request ≡ None) where
+  abbrev IsFair : Effect → Type 0
+  IsFair = Fair s actor request
+
+  declines : (status : Status) (detail : ℕ) → is_refusal status ≡ true → IsFair (answered s status detail)
+  declines = fair_refused s actor request
+
+  -- a test that refuses stands before the rest
+  unless_declined : (b : Bool) (status : Status) (detail : ℕ) (rest : Effect) → is_refusal status ≡ true → IsFair rest → IsFair (cond b (answered s status detail) rest)
+  unless_declined true status detail rest is passes = declines status detail is
+  unless_declined false status detail rest is passes = passes
+
+  -- a load opens only where a buffer is free for it
+  if_free_fair : (t : Table) (by : Option ℕ) (effect : Effect) → IsFair effect → IsFair (if_free s t by effect)
+  if_free_fair t (Some handle) effect passes = declines INFO_TABLE_LOCKED handle refl
+  if_free_fair t None effect passes =
+      cond_both (not (is_double t) && eqb (length (in_use s.tables)) 4) _ _ IsFair (λ _. fair_unnamed s actor request _ (stays_keeps s.tables) refl unnamed) (λ _. passes)
+
+  if_open_fair : (row : ℕ) (t : Table) (effect : Effect) → IsFair effect → IsFair (if_open s row t effect)
+  if_open_fair row t effect passes = cond_both (is_some t.load) _ _ IsFair (λ _. passes) (λ _. if_free_fair t (cond (is_double t) (locker s.tables row t) None) effect passes)
+
+  module _ (name : List ℕ) (file : TableFile) where
+    into_fair : (row : ℕ) (o : Option Table) → IsFair (load_into s name file row o)
+    into_fair row None = declines ERR_NO_SUCH_TABLE 0 refl
+    into_fair row (Some t) =
+        unless_declined _ ERR_DUMP_ONLY 0 _ refl (unless_declined _ ERR_UPDATE_PENDING 0 _ refl (unless_declined _ ERR_ZERO_LOAD 0 _ refl
+        (unless_declined _ ERR_PAST_END 0 _ refl (unless_declined _ ERR_PARTIAL_LOAD 0 _ refl
+        (if_open_fair row t (loaded_effect s name file row) (fair_unnamed s actor request _ (file_keeps s.tables row file.offset file.image name) refl unnamed))))))
+
+    -- which row an effect tells doesn't matter
+    found_fair : (row : Option ℕ) → IsFair (load_found s name file row)
+    found_fair None = declines ERR_NO_SUCH_TABLE 0 refl
+    found_fair (Some row) = let fair = into_fair row (table_at s.tables row) in record { pins = fair.pins; loaded = fair.loaded }
+
+    load_file_fair : IsFair (load_file_effect s name file)
+    unfolding load_file_effect
+    load_file_fair = found_fair (find file.name s.tables)
+
+  module _ (name : List ℕ) where
+    load_by_fair : (contents : List ℕ) (flaw : Option FileFlaw) → IsFair (load_by s name contents flaw)
+    load_by_fair contents (Some no_std_header) = declines _ 0 refl
+    load_by_fair contents (Some bad_content) = declines _ 0 refl
+    load_by_fair contents (Some bad_subtype) = declines _ 0 refl
+    load_by_fair contents (Some no_table_header) = declines _ 0 refl
+    load_by_fair contents (Some incomplete) = declines _ 0 refl
+    load_by_fair contents (Some too_big) = declines _ 0 refl
+    load_by_fair contents None = load_file_fair name (table_file_in contents)
+
+    load_from_fair : (contents : Option (List ℕ)) → IsFair (load_from s name contents)
+    load_from_fair None = declines ERR_FILE_NOT_FOUND 0 refl
+    load_from_fair (Some contents) = load_by_fair contents (file_flaw contents)
+
+    load_command_fair : IsFair (load_effect s name)
+    unfolding load_effect
+    load_command_fair = load_from_fair (contents_of s.drawer name)
+
+-- a ground command changes nothing but a load
 module _ (s : State) (bytes : Buffer) where
   abbrev command : Request
   command = ask.Command bytes
@@ -525,6 +645,7 @@ module _ (s : State) (bytes : Buffer) where
     by_asked (Ok housekeeping) goes_on = leaves (housekeeping_effect s) refl refl
     by_asked (Ok noop) goes_on = leaves (answered s SUCCESS 0) refl refl
     by_asked (Ok reset_counters) goes_on = leaves (answered s SUCCESS 0) refl refl
+    by_asked (Ok (load_command file)) goes_on = load_command_fair s Ground command refl file
     by_asked (Ok asked) goes_on = leaves (answered s ERR_BAD_CODE (code_of asked)) refl refl
 
 -- and so does an uplinked file
@@ -598,7 +719,7 @@ module _ (s : State) (app : ℕ) where
     load = ask.LoadImage m image
 
     -- the image becomes the last unless the table is locked, or no buffer is free
-    free_fair : (row : ℕ) (t : Table) (by : Option ℕ) → table_at s.tables row ≡ Some t → length image.list ≡ t.size → locker s.tables row t ≡ by → AppFair load (if_free s row t by (activate_effect s row t image.list))
+    free_fair : (row : ℕ) (t : Table) (by : Option ℕ) → table_at s.tables row ≡ Some t → length image.list ≡ t.size → locker s.tables row t ≡ by → AppFair load (if_free s t by (activate_effect s row t image.list))
     free_fair row t (Some handle) there size locks = refuses load INFO_TABLE_LOCKED handle refl
     free_fair row t None there size free =
         cond_both (not (is_double t) && eqb (length (in_use s.tables)) 4) _ _ (AppFair load) (λ _. fair_unnamed s (App app) load _ (stays_keeps s.tables) refl refl)

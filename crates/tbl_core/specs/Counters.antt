@@ -17,6 +17,7 @@ counts_view c = record no_counts {
   housekeepings = c.housekeepings;
   update = update_view c.update;
   loaded = c.loaded;
+  loaded_file = c.loaded_file;
 }
 
 abbrev pub tally_view : Tally → Adds
@@ -28,4 +29,5 @@ tally_view t = record no_tally {
   housekeeping = t.housekeeping;
   update = option_map update_view t.update;
   loaded = t.loaded;
+  loaded_file = t.loaded_file;
 }

@@ -2,3 +2,4 @@ pub mod Counters
 pub mod Loads
 pub mod Log
 pub mod Service
+pub mod Settling

@@ -15,7 +15,7 @@ use Rattle.tbl_kinds.specs.declared.request.Request.{Request}
 use Rattle.tbl_kinds.specs.declared.telemetry.Housekeeping.{Housekeeping}
 use Rattle.tbl_kinds.specs.declared.telemetry.TlmHead.{TlmHead}
 use Rattle.tbl_kinds.specs.declared.entry.Reply.{Reply}
-use Rattle.tbl_core.specs.Log.{entry_of}
+use Rattle.tbl_core.specs.Log.{Logged, entry_of}
 use Rattle.tbl_core.specs.declared.parts.Parts.{Parts}
 
 -- the history, the state that stands, and the running numbers of telemetry
@@ -59,6 +59,10 @@ state_of tables apps drawer = record (first_state [] []) { tables = tables; apps
 
 abbrev pub kept_of : Parts → Kept
 kept_of parts = record { entries = parts.log.entries; state = state_of parts.tables parts.apps parts.drawer; counts = parts.log.counts }
+
+-- what was kept when a request came in this state, and its entry wasn't added yet
+abbrev pub came_in : State → Logged → Kept
+came_in s log = record { entries = log.entries; state = s; counts = log.counts }
 
 -- the head of a packet before which so many of its kind were sent. The time stands still
 abbrev pub head_of : ℕ → TlmHead

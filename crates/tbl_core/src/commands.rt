@@ -1,21 +1,24 @@
 //! Telecommands.
 
-ghost use Rattle.std.specs.Prelude.{◌≡◌, false, length, Ok, OnOk, OnErr};
+ghost use Rattle.std.specs.Prelude.{◌≡◌, ◌<◌, ◌≤◌, [], false, length, Ok, OnOk, OnErr};
 ghost use Rattle.tbl_kinds.specs.State.{State};
 ghost use Rattle.tbl_kinds.specs.Statuses.{is_success};
 ghost use Rattle.tbl_kinds.specs.Effects.{answered};
 ghost use Rattle.tbl_kinds.specs.GroundCommands.{housekeeping, noop, reset_counters, command_in};
 ghost use Rattle.tbl_kinds.specs.Commands.{asks_housekeeping, asked_code, command_effect};
+ghost use Rattle.tbl_kinds.specs.Events.{row_field};
 ghost use Rattle.tbl_kinds.specs.CountsAfter.{tally_of};
 ghost use Rattle.tbl_core.specs.Counters.{tally_view};
-ghost use Rattle.tbl_core.specs.Service.{Plays, HasFewImages, kept_of, told};
+ghost use Rattle.tbl_core.specs.Log.{reply_limit};
+ghost use Rattle.tbl_core.specs.Service.{Plays, HasFewImages, kept_of, came_in, told};
+ghost use Rattle.tbl_core.specs.Settling.{settling_event, settling_tally, Settles};
 
 use crate::counters::Tally;
 use crate::parts::Parts;
-use crate::replies::{reply_with_event, reply_with_housekeeping};
+use crate::replies::{EVENT_LENGTH, answer_in, put_event, ready, reply_with_housekeeping};
 use crate::service::StepFault;
 use cmd_packets::{Ground, read_command};
-use tbl_kinds::{Actor, Answer, Bytes, Event, Request, Status};
+use tbl_kinds::{Actor, Answer, Bytes, Event, Reply, Request, Status};
 
 /// The row field of an event that is about no table.
 const NO_ROW: u16 = 0xFFFF;
@@ -31,6 +34,50 @@ fn not_built(code: u8) -> Answer
     }
 }
 
+/// The row field of an event.
+fn row_field(row: Option<u8>) -> u16
+    ensures { result ≡ row_field row }
+{
+    match row {
+        Some(row) => row as u16,
+        None => NO_ROW,
+    }
+}
+
+/// The event that tells of a command's reply.
+fn settling_event(reply: &Reply, row: Option<u8>, code: u8) -> Event
+    ensures { result ≡ settling_event reply.now row code }
+{
+    if reply.status != Status::SUCCESS {
+        return Event {
+            number: 2,
+            status: reply.status,
+            row: row_field(row),
+            detail: reply.detail,
+        };
+    }
+    Event {
+        number: 1,
+        status: Status::SUCCESS,
+        row: row_field(row),
+        detail: code as u32,
+    }
+}
+
+/// What a command adds to the running numbers, if this is what it adds where it is accepted.
+fn settling_tally(reply: &Reply, accepted: Tally) -> Tally
+    ensures { tally_view result ≡ settling_tally reply.now (tally_view accepted) }
+{
+    if reply.status != Status::SUCCESS {
+        return Tally {
+            refused: true,
+            events: 1,
+            ..Tally::none()
+        };
+    }
+    accepted
+}
+
 impl Parts {
     /// Plays a telecommand.
     pub(crate) fn command(&mut self, bytes: Bytes) -> Result<(), StepFault>
@@ -43,7 +90,7 @@ impl Parts {
             Ok(Ground::Housekeeping) => self.housekeeping(bytes),
             Ok(Ground::Noop) => self.noop(bytes),
             Ok(Ground::ResetCounters) => self.reset_counters(bytes),
-            Ok(Ground::Load { .. }) => self.refuse(bytes, not_built(2)),
+            Ok(Ground::Load { file }) => self.load(bytes, file),
             Ok(Ground::Dump { .. }) => self.refuse(bytes, not_built(3)),
             Ok(Ground::Validate { .. }) => self.refuse(bytes, not_built(4)),
             Ok(Ground::Activate { .. }) => self.refuse(bytes, not_built(5)),
@@ -54,6 +101,29 @@ impl Parts {
         }
     }
 
+    /// Enters a command that was answered: one event tells of it, and it counts as accepted or as refused.
+    pub(crate) fn settle(
+        &mut self,
+        bytes: Bytes,
+        mut reply: Reply,
+        row: Option<u8>,
+        code: u8,
+        accepted: Tally,
+    )
+        requires room { 0 < self.old.log.spare }
+        requires event { 24 ≤ reply.packets.spare }
+        requires no_packets { reply.packets.list ≡ [] }
+        requires small { length reply.bytes.list ≤ reply_limit }
+        // In whatever state it came, what was answered is its effect, and what the parts keep now is the state that it leaves.
+        ensures plays { (before : State) → Settles before (kept_of self.old).state self.old.log.entries bytes reply row code (tally_view accepted) → Plays (came_in before self.old.log) (kept_of self.new) Actor.Ground (Request.Command bytes) }
+    {
+        let event = settling_event(&reply, row, code);
+        let tally = settling_tally(&reply, accepted);
+        put_event(&mut reply.packets, self.log.counters(), &event);
+        self.log
+            .enter(Actor::Ground, Request::Command { bytes }, reply, tally);
+    }
+
     /// Refuses a command.
     fn refuse(&mut self, bytes: Bytes, answer: Answer) -> Result<(), StepFault>
         requires few { HasFewImages self.old.tables (length self.old.log.entries) }
@@ -62,20 +132,8 @@ impl Parts {
         ensures plays { OnOk result (Plays (kept_of self.old) (kept_of self.new) Actor.Ground (Request.Command bytes)) }
         ensures err { OnErr result (kept_of self.new ≡ kept_of self.old) }
     {
-        let event = Event {
-            number: 2,
-            status: answer.status,
-            row: NO_ROW,
-            detail: answer.detail,
-        };
-        let reply = reply_with_event(&mut self.log, self.alloc, &event, answer.detail)?;
-        let tally = Tally {
-            refused: true,
-            events: 1,
-            ..Tally::none()
-        };
-        self.log
-            .enter(Actor::Ground, Request::Command { bytes }, reply, tally);
+        let empty = ready(&mut self.log, self.alloc, EVENT_LENGTH)?;
+        self.settle(bytes, answer_in(empty, answer), None, 0, Tally::none());
         Ok(())
     }
 
@@ -89,15 +147,8 @@ impl Parts {
         ensures plays { OnOk result (Plays (kept_of self.old) (kept_of self.new) Actor.Ground (Request.Command bytes)) }
         ensures err { OnErr result (kept_of self.new ≡ kept_of self.old) }
     {
-        let event = Event {
-            number: 1,
-            status: Status::SUCCESS,
-            row: NO_ROW,
-            detail: code as u32,
-        };
-        let reply = reply_with_event(&mut self.log, self.alloc, &event, 0)?;
-        self.log
-            .enter(Actor::Ground, Request::Command { bytes }, reply, tally);
+        let empty = ready(&mut self.log, self.alloc, EVENT_LENGTH)?;
+        self.settle(bytes, empty, None, code, tally);
         Ok(())
     }
 

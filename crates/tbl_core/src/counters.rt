@@ -4,7 +4,7 @@ ghost use Rattle.std.specs.Prelude.{◌≡◌, ◌+◌, ◌%◌, ◌<◌, [], un
 ghost use Rattle.tbl_kinds.specs.CountsAfter.{bit, counts_after};
 ghost use Rattle.tbl_kinds.specs.Counts.{no_counts};
 
-use tbl_kinds::Name40;
+use tbl_kinds::{Name, Name40, Name64};
 
 /// Sequence counts have 14 bits (CCSDS 133.0-B, "Packet Sequence Count").
 const SEQUENCE_COUNTS: u16 = 16_384;
@@ -48,6 +48,8 @@ pub(crate) struct Tally {
     pub update: Option<Update>,
     /// A table was loaded, by its name.
     pub loaded: Option<Name40>,
+    /// The file that it was loaded from.
+    pub loaded_file: Option<Name64>,
 }
 
 impl Tally {
@@ -66,6 +68,7 @@ impl Tally {
             housekeeping: false,
             update: None,
             loaded: None,
+            loaded_file: None,
         }
     }
 }
@@ -82,8 +85,8 @@ fn counted(known: u8, cleared: bool, more: bool) -> u8
 }
 
 /// The latest name, after a newer one if there is one.
-fn renew_name(known: &mut Name40, newer: Option<Name40>)
-    ensures { known.new ≡ unwrap_or newer known.old }
+fn renew_name<const N: usize>(known: &mut Name<N>, newer: Option<Name<N>>)
+    ensures { known.new ≡ unwrap_or newer.entry known.old }
 {
     if let Some(name) = newer {
         *known = name;
@@ -100,6 +103,7 @@ pub(crate) struct Counters {
     pub housekeepings: u16,
     pub update: Update,
     pub loaded: Name40,
+    pub loaded_file: Name64,
     ghost events_fit: { events < 16384 },
     ghost housekeepings_fit: { housekeepings < 16384 },
 }
@@ -122,6 +126,7 @@ impl Counters {
                 name: Name40::of(&[]),
             },
             loaded: Name40::of(&[]),
+            loaded_file: Name64::of(&[]),
         }
     }
 
@@ -135,5 +140,6 @@ impl Counters {
         self.housekeepings = (self.housekeepings + u16::from(tally.housekeeping)) % SEQUENCE_COUNTS;
         self.update.renew(tally.update);
         renew_name(&mut self.loaded, tally.loaded);
+        renew_name(&mut self.loaded_file, tally.loaded_file);
     }
 }

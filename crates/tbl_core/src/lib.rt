@@ -6,6 +6,7 @@ mod applications;
 mod commands;
 mod counters;
 mod files;
+mod ground_loads;
 mod loads;
 mod log;
 mod parts;

@@ -3,7 +3,7 @@
 ghost use Rattle.std.specs.Prelude.{◌≡◌, ℕ, ◌+◌, ◌-◌, ◌^◌, ◌≤◌, ◌<◌, List, [], length, None, Some, IsSome, IfSome, IfNone, OnOk, OnErr, IfOk, IfErr};
 ghost use Rattle.std.specs.Option.{ForSome};
 ghost use Rattle.tbl_kinds.specs.State.{State};
-ghost use Rattle.tbl_kinds.specs.Tables.{table_at};
+ghost use Rattle.tbl_kinds.specs.Tables.{table_at, in_use};
 ghost use Rattle.tbl_kinds.specs.TableSteps.{locker, put, set_time};
 ghost use Rattle.tbl_kinds.specs.Requests.{Fits};
 ghost use Rattle.tbl_kinds.specs.Records.{record_limit};
@@ -15,13 +15,15 @@ ghost use Rattle.tbl_kinds.specs.Counts.{name_at};
 ghost use Rattle.tbl_kinds.specs.CountsAfter.{no_tally};
 ghost use Rattle.tbl_kinds.specs.Applications.{load_image_effect, load_image_of, activate_effect};
 ghost use Rattle.tbl_core.specs.Counters.{counts_view, tally_view};
-ghost use Rattle.tbl_core.specs.Loads.{activates};
+ghost use Rattle.tbl_registry.specs.Sound.{IsPlain};
+ghost use Rattle.tbl_core.specs.Loads.{activates, refused_effect, image_refusal};
 ghost use Rattle.tbl_core.specs.Service.{Plays, HasFewImages, kept_of, head_of};
 
 use crate::addresses::check;
 use crate::counters::{Counters, Tally, Update};
+use crate::ground_loads::{BUFFERS, load_reply};
 use crate::parts::Parts;
-use crate::replies::{EVENT_LENGTH, answer_in, put_event, ready};
+use crate::replies::{EVENT_LENGTH, answer_in, put_event, ready_for};
 use crate::service::StepFault;
 use sharing::Apps;
 use tbl_kinds::{Actor, Answer, Bytes, Event, Name40, Reply, Request, Status};
@@ -38,31 +40,50 @@ pub(crate) struct Activated {
     pub name: Name40,
 }
 
+/// Why an image isn't taken.
+#[derive(Clone, Copy, Drop)]
+pub(crate) enum Refused {
+    /// It is answered so.
+    Answered(Answer),
+    /// No shared working buffer is free, and the answer names the rows that use them.
+    NoBuffer,
+}
+
 /// Why an image of so many bytes isn't taken, if it isn't.
-fn refusal(tables: &Tables, row: u8, len: usize) -> Option<Answer>
+fn refusal(tables: &Tables, row: u8, len: usize) -> Option<Refused>
     requires { IsSome (table_at tables.now row) }
-    ensures some { IfSome result (λ answer. (s : State) (image : List ℕ) → s.tables ≡ tables.now → length image ≡ len → load_image_of s row (table_at tables.now row) image ≡ answered s answer.status answer.detail) }
-    ensures none { IfNone result (ForSome (table_at tables.now row) (λ t. (s : State) (image : List ℕ) → s.tables ≡ tables.now → length image ≡ len → load_image_of s row (Some t) image ≡ activate_effect s row t image)) }
+    ensures first { ForSome (table_at tables.now row) (λ t. result ≡ image_refusal t (locker tables.now row t) (length (in_use tables.now)) len) }
+    ensures plain { ForSome (table_at tables.now row) IsPlain }
     ensures unlocked { IfNone result (ForSome (table_at tables.now row) (λ t. locker tables.now row t ≡ None)) }
+    ensures no_load { IfNone result (ForSome (table_at tables.now row) (λ t. t.load ≡ None)) }
     ensures size { IfNone result (ForSome (table_at tables.now row) (λ t. len ≡ t.size)) }
 {
     let Some(table) = tables.row(row) else {
         unreachable!();
     };
-    if len != table.size as usize {
-        return Some(Answer::plain(Status::ERR_IMAGE_SIZE));
+    if table.load {
+        return Some(Refused::Answered(Answer::plain(Status::ERR_LOAD_IN_PROGRESS)));
     }
-    let handle = tables.locker(row)?;
-    Some(Answer {
-        status: Status::INFO_TABLE_LOCKED,
-        detail: handle as u32,
-    })
+    if len != table.size as usize {
+        return Some(Refused::Answered(Answer::plain(Status::ERR_IMAGE_SIZE)));
+    }
+    if let Some(handle) = tables.locker(row) {
+        return Some(Refused::Answered(Answer {
+            status: Status::INFO_TABLE_LOCKED,
+            detail: handle as u32,
+        }));
+    }
+    if tables.all_buffers_used() {
+        return Some(Refused::NoBuffer);
+    }
+    None
 }
 
 /// Makes an image active, at the service's time.
 fn activate(tables: &mut Tables, row: u8, image: &[u8]) -> Activated
     requires table { IsSome (table_at tables.old row) }
     requires unlocked { ForSome (table_at tables.old row) (λ t. locker tables.old row t ≡ None) }
+    requires no_load { ForSome (table_at tables.old row) (λ t. t.load ≡ None) }
     requires size { ForSome (table_at tables.old row) (λ t. length image.now ≡ t.size) }
     requires few { ForSome (table_at tables.old row) (λ t. t.count < 2 ^ 32 - 1) }
     ensures row { result.row ≡ row }
@@ -94,19 +115,19 @@ fn load(
     app: u8,
     handle: u16,
     image: &[u8],
-) -> Result<Activated, Answer>
+) -> Result<Activated, Refused>
     requires few { HasFewImages tables.old record_limit }
-    ensures err { IfErr result (λ answer. (s : State) → s.tables ≡ tables.old → s.apps ≡ apps.now → load_image_effect s app handle image.now ≡ answered s answer.status answer.detail) }
+    ensures err { IfErr result (λ refused. (s : State) → s.tables ≡ tables.old → s.apps ≡ apps.now → load_image_effect s app handle image.now ≡ refused_effect s refused) }
     ensures kept { OnErr result (tables.new ≡ tables.old) }
     ensures ok { IfOk result (λ done. (s : State) → s.tables ≡ tables.old → s.apps ≡ apps.now → s.seconds ≡ 0 → s.sub ≡ 0 → load_image_effect s app handle image.now ≡ activates s done.row done.count image.now tables.new) }
     ensures name { IfOk result (λ done. (s : State) → s.tables ≡ tables.old → name_at s done.row ≡ done.name) }
 {
     let row = match check(tables, apps, app, handle, true) {
         Ok(row) => row,
-        Err(status) => return Err(Answer::plain(status)),
+        Err(status) => return Err(Refused::Answered(Answer::plain(status))),
     };
-    if let Some(answer) = refusal(tables, row, image.len()) {
-        return Err(answer);
+    if let Some(refused) = refusal(tables, row, image.len()) {
+        return Err(refused);
     }
     Ok(activate(tables, row, image))
 }
@@ -129,6 +150,24 @@ fn reply_activated(mut reply: Reply, counters: &Counters, activated: &Activated)
     };
     put_event(&mut reply.packets, counters, &event);
     reply
+}
+
+/// The reply to a load that isn't taken.
+fn reply_refused(reply: Reply, refused: Refused, tables: &Tables) -> Reply
+    requires empty { reply.bytes.list ≡ [] }
+    requires room { 4 ≤ reply.bytes.spare }
+    ensures effect { (s : State) → s.tables ≡ tables.now → refused_effect s refused ≡ record (answered s result.status result.detail) { bytes = result.bytes.list } }
+    ensures packets { result.packets ≡ reply.packets }
+    ensures len { length result.bytes.list ≤ 4 }
+{
+    match refused {
+        Refused::Answered(answer) => answer_in(reply, answer),
+        Refused::NoBuffer => load_reply(
+            reply,
+            Answer::plain(Status::ERR_NO_BUFFER_AVAIL),
+            &tables.in_use(),
+        ),
+    }
 }
 
 /// What a load adds to the running numbers.
@@ -156,7 +195,7 @@ impl Parts {
         ensures plays { OnOk result (Plays (kept_of self.old) (kept_of self.new) (Actor.App app) (Request.LoadImage handle image)) }
         ensures err { OnErr result (kept_of self.new ≡ kept_of self.old) }
     {
-        let empty = ready(&mut self.log, self.alloc, EVENT_LENGTH)?;
+        let empty = ready_for(&mut self.log, self.alloc, BUFFERS, EVENT_LENGTH)?;
         let actor = Actor::App(app);
         match load(&mut self.tables, &self.apps, app, handle, image.bytes()) {
             Ok(activated) => {
@@ -166,8 +205,8 @@ impl Parts {
                     .enter(actor, request, reply, tally_activated(activated));
                 Ok(())
             }
-            Err(answer) => {
-                let reply = answer_in(empty, answer);
+            Err(refused) => {
+                let reply = reply_refused(empty, refused, &self.tables);
                 let request = Request::LoadImage { handle, image };
                 self.log.enter(actor, request, reply, Tally::none());
                 Ok(())

@@ -1,6 +1,6 @@
 //! Replies, for which all memory is taken before anything is changed.
 
-ghost use Rattle.std.specs.Prelude.{◌≡◌, ℕ, ◌+◌, ◌<◌, ◌≤◌, [], ◌++◌, length, count_by, is_none, IfOk, OnOk};
+ghost use Rattle.std.specs.Prelude.{◌≡◌, ◌+◌, ◌<◌, ◌≤◌, [], ◌++◌, length, count_by, is_none, IfOk, OnOk};
 ghost use Rattle.tbl_kinds.specs.Tables.{free_buffers};
 ghost use Rattle.tbl_kinds.specs.Packets.{telemetry_packet, event_id, housekeeping_id};
 ghost use Rattle.tbl_kinds.specs.Telemetry.{event_body, housekeeping_body};
@@ -34,9 +34,29 @@ pub(crate) fn ready(log: &mut Log, alloc: Global, room: usize) -> Result<Reply, 
     ensures packets { IfOk result (λ reply. reply.packets.list ≡ []) }
     ensures room { IfOk result (λ reply. reply.packets.spare ≡ room) }
 {
+    ready_for(log, alloc, 0, room)
+}
+
+/// An empty reply with room for bytes and for packets, and room for its entry.
+pub(crate) fn ready_for(
+    log: &mut Log,
+    alloc: Global,
+    bytes_room: usize,
+    room: usize,
+) -> Result<Reply, StepFault>
+    ensures bytes_room { IfOk result (λ reply. reply.bytes.spare ≡ bytes_room) }
+    ensures entries { log.new.entries ≡ log.old.entries }
+    ensures counts { log.new.counts ≡ log.old.counts }
+    ensures spare { OnOk result (0 < log.new.spare) }
+    ensures status { IfOk result (λ reply. reply.status ≡ Status.SUCCESS) }
+    ensures detail { IfOk result (λ reply. reply.detail ≡ 0) }
+    ensures bytes { IfOk result (λ reply. reply.bytes.list ≡ []) }
+    ensures packets { IfOk result (λ reply. reply.packets.list ≡ []) }
+    ensures room { IfOk result (λ reply. reply.packets.spare ≡ room) }
+{
     match (
         log.reserve(),
-        Bytes::make(alloc, 0),
+        Bytes::make(alloc, bytes_room),
         Bytes::make(alloc, room),
     ) {
         (Ok(()), Ok(bytes), Ok(packets)) => Ok(Reply {
@@ -78,29 +98,6 @@ pub(crate) fn reply_with_bytes(
     let mut bytes = Bytes::make(alloc, piece.len())?;
     bytes.append(piece);
     reply.bytes = bytes;
-    Ok(reply)
-}
-
-/// A reply whose one packet is this event, with its status. Where the event refuses, its detail is the reply's.
-pub(crate) fn reply_with_event(
-    log: &mut Log,
-    alloc: Global,
-    event: &Event,
-    detail: u32,
-) -> Result<Reply, StepFault>
-    ensures entries { log.new.entries ≡ log.old.entries }
-    ensures counts { log.new.counts ≡ log.old.counts }
-    ensures spare { OnOk result (0 < log.new.spare) }
-    ensures status { IfOk result (λ reply. reply.status ≡ event.now.status) }
-    ensures detail { IfOk result (λ reply. reply.detail ≡ detail) }
-    ensures bytes { IfOk result (λ reply. reply.bytes.list ≡ []) }
-    ensures packets { IfOk result (λ reply. reply.packets.list ≡ telemetry_packet event_id (head_of log.old.counts.events) (event_body event.now)) }
-    ensures small { IfOk result IsSmallReply }
-{
-    let mut reply = ready(log, alloc, EVENT_LENGTH)?;
-    put_event(&mut reply.packets, log.counters(), event);
-    reply.status = event.status;
-    reply.detail = detail;
     Ok(reply)
 }
 
@@ -174,7 +171,7 @@ fn housekeeping(counters: &Counters, tables: &Tables) -> Housekeeping
         accepted: counters.accepted,
         refused: counters.refused,
         tables: tables.count(),
-        loads: 0,
+        loads: tables.load_count(),
         finished: 0,
         check: 0,
         verdict: 0,
@@ -187,7 +184,7 @@ fn housekeeping(counters: &Counters, tables: &Tables) -> Housekeeping
         sub: counters.update.sub,
         validated: Name::of(&[]),
         updated: counters.update.name.copy(),
-        loaded_file: Name::of(&[]),
+        loaded_file: counters.loaded_file.copy(),
         dumped_file: Name::of(&[]),
         loaded: counters.loaded.copy(),
     }

@@ -29,6 +29,13 @@ const NOOP_WITH_PAYLOAD: [u8; 9] = [0x18, 0x04, 0xC0, 0, 0, 2, 0, 0x21, 0];
 /// RESET_COUNTERS.
 const RESET_COUNTERS: [u8; 8] = [0x18, 0x04, 0xC0, 0, 0, 1, 1, 0x23];
 
+/// LOAD from the file `/f`.
+fn load_command() -> [u8; 72] {
+    let mut packet = [0; 72];
+    packet[..10].copy_from_slice(&[0x18, 0x04, 0xC0, 0, 0, 0x41, 2, 0x29, b'/', b'f']);
+    packet
+}
+
 /// What an application asks for.
 #[derive(Clone, Copy)]
 enum Ask<'a> {
@@ -294,6 +301,21 @@ fn files_are_refused(rt: HostRuntime) -> Result<(), Fail> {
     }
     let answer = uplinks(&rt, alloc, &mut core, b"/d", large)?;
     assert_eq!(rt; answer, (52, 0));
+    Ok(())
+}
+
+#[test]
+fn loads_of_no_table_file(rt: HostRuntime) -> Result<(), Fail> {
+    let alloc = rt.alloc();
+    let mut core = Core::start(alloc)?;
+    let load = load_command();
+    let answer = commands(&rt, alloc, &mut core, &load, &event(0, 2, 46, 0))?;
+    assert_eq!(rt; answer, (46, 0));
+    let bytes = bytes_of(alloc, &[1, 2, 3])?;
+    let answer = uplinks(&rt, alloc, &mut core, b"/f", bytes)?;
+    assert_eq!(rt; answer, (0, 0));
+    let answer = commands(&rt, alloc, &mut core, &load, &event(1, 2, 47, 0))?;
+    assert_eq!(rt; answer, (47, 0));
     Ok(())
 }
 

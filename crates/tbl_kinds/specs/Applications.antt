@@ -101,12 +101,16 @@ activate_effect s row t image = record (answered s SUCCESS 0) {
   next = record s { tables = set_time row s.seconds s.sub (put row image s.tables) };
 }
 
--- the table is locked, or no shared buffer is free for it
-abbrev pub if_free : State → ℕ → Table → Option ℕ → Effect → Effect
-if_free s row t (Some handle) effect = answered s INFO_TABLE_LOCKED handle
-if_free s row t None effect =
+-- no shared buffer is free for a single-buffered table
+abbrev pub if_buffer : State → Table → Effect → Effect
+if_buffer s t effect =
     if not (is_double t) && length (in_use s.tables) == 4 then record (answered s ERR_NO_BUFFER_AVAIL 0) { bytes = in_use s.tables }
     else effect
+
+-- the table is locked, or no shared buffer is free for it
+abbrev pub if_free : State → Table → Option ℕ → Effect → Effect
+if_free s t (Some handle) effect = answered s INFO_TABLE_LOCKED handle
+if_free s t None effect = if_buffer s t effect
 
 abbrev pub load_image_of : State → ℕ → Option Table → List ℕ → Effect
 load_image_of s row None image = answered s ERR_UNREGISTERED 0
@@ -114,7 +118,7 @@ load_image_of s row (Some t) image =
     if is_dump_only t then answered s ERR_DUMP_ONLY 0
     else (if is_some t.load then answered s ERR_LOAD_IN_PROGRESS 0
     else (if not (length image == t.size) then answered s ERR_IMAGE_SIZE 0
-    else if_free s row t (locker s.tables row t) (activate_effect s row t image)))
+    else if_free s t (locker s.tables row t) (activate_effect s row t image)))
 
 unfoldable pub load_image_effect : State → ℕ → ℕ → List ℕ → Effect
 load_image_effect s app handle image = if_handle s app handle true (λ row. load_image_of s row (table_at s.tables row) image)

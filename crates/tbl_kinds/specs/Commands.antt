@@ -2,6 +2,7 @@
 use Rattle.std.specs.Prelude.{ℕ, List, Bool, true, false, Result, Ok, Err}
 use Rattle.tbl_kinds.specs.State.{State}
 use Rattle.tbl_kinds.specs.Effects.{Effect, answered, housekeeping as housekeeping_packet}
+use Rattle.tbl_kinds.specs.GroundLoads.{load_effect}
 use Rattle.tbl_kinds.specs.GroundCommands.{GroundCommand, housekeeping, noop, reset_counters, load, validate, code_of, command_in}
 use Rattle.tbl_kinds.specs.declared.entry.Answer.{Answer}
 use Rattle.tbl_kinds.specs.declared.status.TheConstants.Status.{SUCCESS, ERR_BAD_CODE}
@@ -41,6 +42,7 @@ effect_by s (Err answer) = answered s answer.status answer.detail
 effect_by s (Ok housekeeping) = housekeeping_effect s
 effect_by s (Ok noop) = answered s SUCCESS 0
 effect_by s (Ok reset_counters) = answered s SUCCESS 0
+effect_by s (Ok (load file)) = load_effect s file
 effect_by s (Ok command) = answered s ERR_BAD_CODE (code_of command)
 
 abbrev pub command_effect : State → List ℕ → Effect

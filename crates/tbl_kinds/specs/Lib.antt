@@ -17,9 +17,12 @@ pub mod Tables
 pub mod Deeds
 pub mod Effects
 pub mod TableSteps
+pub mod Places
+pub mod StoreSteps
 pub mod Applications
 pub mod Drawer
 pub mod Uplinks
+pub mod GroundLoads
 pub mod Commands
 pub mod Dispatch
 pub mod Check

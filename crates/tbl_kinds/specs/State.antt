@@ -1,6 +1,6 @@
 -- The state of the service, in parts that the crates below the core can cite alone.
 use Rattle.std.specs.Prelude.{ℕ, List, [], replicate, Bool, false, Option, None}
-use Rattle.tbl_kinds.specs.declared.block.BlockKind.{BlockKind}
+use Rattle.tbl_kinds.specs.declared.block.Block.{Block}
 
 -- ---- tables and handles
 
@@ -52,22 +52,26 @@ pub record Tables : Type 0 where
 
 -- ---- the Critical Data Store
 
--- a block: its last completed image, and the images whose copy broke off since, the oldest first
-pub record Block : Type 0 where
-  pub kind : BlockKind
-  pub name : List ℕ
-  pub offset : ℕ
-  pub size : ℕ
-  pub held : Option (List ℕ)
-  pub trying : List (List ℕ)
+-- a block with what is known of its contents
+pub record Stored : Type 0 where
+  pub block : Block  -- its kind, place, size and full name
+  pub held : Option (List ℕ)  -- its last completed image
+  pub trying : List (List ℕ)  -- the images whose copy broke off since then, the oldest first
   pub doubtful : Bool  -- a write of its gate byte broke off; else it is open
+
+-- 128 directory slots
+abbrev pub Store : Type 0
+Store = List (Option Stored)
+
+abbrev pub empty_store : Store
+empty_store = replicate 128 None
 
 -- ---- the whole
 
 pub record State : Type 0 where
   pub tables : Tables
   pub pending : List (ℕ × Bool)  -- pending validations: the row, and whether of the active image
-  pub store : List (Option Block)  -- by directory slot
+  pub store : Store  -- by directory slot
   pub drawer : List (List ℕ × List ℕ)  -- uplinked files, in order of their first uplink
   pub apps : List (Option (List ℕ))  -- the name of application a stands at place a - 1
   pub kit : List (Option ℕ)  -- whose validator stands under each number
@@ -79,7 +83,7 @@ abbrev pub no_tables : Tables
 no_tables = record { rows = replicate 128 None; handles = replicate 256 None }
 
 -- how a session begins: time 0, nothing running, an empty drawer, over this store and with this kit
-abbrev pub first_state : List (Option Block) → List (Option ℕ) → State
+abbrev pub first_state : Store → List (Option ℕ) → State
 first_state store kit = record {
   tables = no_tables;
   pending = [];

@@ -1,10 +1,10 @@
 -- What is asked of the tables, and how they change: one function for each question and each change.
-use Rattle.std.specs.Prelude.{ℕ, ◌+◌, ◌-◌, ◌==◌, List, [], Bool, false, not, ◌&&◌, nat_lt, if◌then◌else◌, position, Option, Some, None, is_some, is_none, unwrap_or, option_and_then, slice_index_or, slice_set, Result, Ok, Err}
+use Rattle.std.specs.Prelude.{ℕ, ◌+◌, ◌-◌, ◌==◌, List, [], ◌++◌, take, drop, length, replicate, Bool, false, not, ◌&&◌, nat_lt, if◌then◌else◌, position, Option, Some, None, is_some, is_none, unwrap_or, option_and_then, slice_index_or, slice_set, Result, Ok, Err}
 use Rattle.std.specs.List.{list_any}
 use Rattle.std.specs.Option.{option_map, option_map_or}
 use Rattle.std.specs.Str.{bytes_eq}
 use Rattle.tbl_kinds.specs.Numbers.{piece}
-use Rattle.tbl_kinds.specs.State.{Table, Handle, Tables, quiet}
+use Rattle.tbl_kinds.specs.State.{Load, Table, Handle, Tables, quiet}
 use Rattle.tbl_kinds.specs.Tables.{table_at, is_double}
 use Rattle.tbl_kinds.specs.declared.status.Status.{Status}
 use Rattle.tbl_kinds.specs.declared.status.TheConstants.Status.{SUCCESS, INFO_UPDATED, ERR_INVALID_HANDLE, ERR_NO_ACCESS, ERR_UNREGISTERED, ERR_ALREADY_PINNED, ERR_NEVER_LOADED, ERR_NOT_PINNED, ERR_OUT_OF_RANGE}
@@ -162,6 +162,45 @@ read_of h t offset len =
 abbrev pub read : ℕ → ℕ → ℕ → Tables → Result (List ℕ) Status
 read number offset len tables =
     option_map_or (λ (a : Access). read_of a.handle a.table offset len) (access_of tables number) (Err ERR_INVALID_HANDLE)
+
+-- ---- loads
+
+-- other bytes over some of an image
+abbrev pub patched : List ℕ → ℕ → List ℕ → List ℕ
+patched image offset bytes = take offset image ++ bytes ++ drop (offset + length bytes) image
+
+-- what a load begins with: the image of the open load, else the last image, else zeros
+abbrev pub base : Table → List ℕ
+base t = option_map_or (λ (load : Load). load.image) t.load (unwrap_or t.last (replicate t.size 0))
+
+-- an image that wasn't validated yet
+abbrev pub unchecked : List ℕ → Option Load
+unchecked image = Some (record { image = image; checked = false })
+
+abbrev pub changed_in : Tables → ℕ → (Table → Table) → Option Table → Tables
+changed_in tables row change None = tables
+changed_in tables row change (Some t) = with_table row (change t) tables
+
+abbrev pub changed : ℕ → (Table → Table) → Tables → Tables
+changed row change tables = changed_in tables row change (table_at tables row)
+
+-- the load opens
+abbrev pub open_load : ℕ → Tables → Tables
+open_load row tables = changed row (λ t. record t { load = unchecked (base t) }) tables
+
+-- bytes go into the load
+abbrev pub patch : ℕ → ℕ → List ℕ → Tables → Tables
+patch row offset bytes tables = changed row (λ t. record t { load = unchecked (patched (base t) offset bytes) }) tables
+
+-- the load is marked as validated, or not
+abbrev pub set_checked : ℕ → Bool → Tables → Tables
+set_checked row checked tables = changed row (λ t. record t { load = option_map (λ (load : Load). record load { checked = checked }) t.load }) tables
+
+-- the file of the last load from a file
+abbrev pub set_file : ℕ → List ℕ → Tables → Tables
+set_file row file tables = changed row (λ t. record t { file = file }) tables
+
+-- ---- registration
 
 -- a table as its registration makes it
 abbrev pub new_table : List ℕ → ℕ → ℕ → ℕ → Option ℕ → ℕ → Table

@@ -1,7 +1,12 @@
 pub mod Add
+pub mod Changes
 pub mod Full
+pub mod Loads
 pub mod Named
 pub mod Places
 pub mod Rows
 pub mod Start
+pub mod InUse
+pub mod Lent
 pub mod Steps
+pub mod Viewed

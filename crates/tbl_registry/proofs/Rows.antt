@@ -1,13 +1,14 @@
 -- One row changes: what becomes of the handles, and of how they are seen.
-use Rattle.std.proofs.Common.{◌≡◌, ◌≢◌, ◌==◌, ◌+◌, ◌-◌, ◌<◌, ◌≤◌, position, count_by, ℕ, zero, suc, List, [], ◌∷◌, map, length, slice_index_or, slice_set, Bool, true, false, ◌&&◌, is_some, IsSome, Option, Some, None, refl, ap, sym, ◌∙◌, subst, arith, cond}
+use Rattle.std.proofs.Common.{◌≡◌, ◌≢◌, ◌==◌, ◌+◌, ◌-◌, ◌<◌, ◌≤◌, position, ℕ, zero, suc, List, [], ◌∷◌, map, length, slice_index_or, slice_set, Bool, true, false, ◌&&◌, is_some, IsSome, Option, Some, None, refl, ap, sym, ◌∙◌, subst, arith, cond}
+use Rattle.std.specs.Prelude.{IfSome}
 use Rattle.std.specs.Option.{option_map, option_map_or}
 use Rattle.std.specs.List.{list_any}
 use Rattle.std.proofs.lemmas.List.{length-set}
 use Rattle.std.proofs.lemmas.Bool.Decides.{nat_tests}
 use Rattle.std.proofs.lemmas.Option.{same_Some}
 use Rattle.tbl_kinds.specs.State.{Table, Handle, Tables}
-use Rattle.tbl_kinds.specs.Tables.{is_double, has_load, uses_buffer, rows_from}
-use Rattle.tbl_kinds.specs.TableSteps.{is_that, is_in_way, locker, put, pins as image_pins}
+use Rattle.tbl_kinds.specs.Tables.{is_double}
+use Rattle.tbl_kinds.specs.TableSteps.{is_that, is_in_way, locker, put, with_table, pins as image_pins}
 use Rattle.access_desc.specs.declared.handle_view.HandleView.{HandleView}
 use Rattle.access_desc.specs.Steps.{has, pins}
 use Rattle.tbl_registry.specs.Seen.{count_in, tables_of, handle_of}
@@ -161,35 +162,41 @@ pub put_sound : (rows : List (Option Table)) (handles : List (Option HandleView)
 put_sound rows handles row t image there sound size =
     sound_after rows handles row _ sound (rw there (omega arith)) (plain_with_image t image (sound.tables row t there) size) (named_kept rows row t _ there refl sound.named)
 
-pub time_sound : (rows : List (Option Table)) (handles : List (Option HandleView)) (row : ℕ) (t : Table) (seconds sub : ℕ) → slice_index_or rows row None ≡ Some t → IsSound rows handles
-    → IsSound (slice_set rows row (Some (record t { seconds = seconds; sub = sub }))) handles
-time_sound rows handles row t seconds sub there sound =
-    let plain : IsPlain t = sound.tables row t there in
-    sound_after rows handles row _ sound (rw there (omega arith)) record {
-      some_bytes = plain.some_bytes;
-      within = plain.within;
-      options = plain.options;
-      before = plain.before;
-      load = plain.load;
-      activation = plain.activation;
-      dump = plain.dump;
-      notice = plain.notice;
-      loaded = plain.loaded;
-      fits = plain.fits;
-    } (named_kept rows row t _ there refl sound.named)
+-- ---- a table changes, and neither its name nor how many images it has had
 
--- ---- what the layer above may rely on
+count_stays : (rows : List (Option Table)) (row k : ℕ) (u : Table) → count_in rows (Some row) ≡ u.count → count_in (slice_set rows row (Some u)) (Some k) ≡ count_in rows (Some k)
+count_stays [] row k u same = refl
+count_stays (t ∷ ts) zero zero u same = sym same
+count_stays (t ∷ ts) zero (suc k) u same = refl
+count_stays (t ∷ ts) (suc row) zero u same = refl
+count_stays (t ∷ ts) (suc row) (suc k) u same = count_stays ts row k u same
 
--- no load is open, and no table uses a shared buffer
-pub no_load : (rows : List (Option Table)) → AtEachPlace IsPlain rows → count_by has_load rows ≡ 0
-no_load [] plain = refl
-no_load (None ∷ rows) plain = no_load rows (λ k. plain (suc k))
-no_load (Some t ∷ rows) plain = rw ((plain zero t refl).load) (no_load rows (λ k. plain (suc k)))
+row_count_stays : (rows : List (Option Table)) (row : ℕ) (u : Table) (k : Option ℕ) → count_in rows (Some row) ≡ u.count → count_in (slice_set rows row (Some u)) k ≡ count_in rows k
+row_count_stays rows row u None same = refl
+row_count_stays rows row u (Some k) same = count_stays rows row k u same
 
-plain_uses_none : (t : Table) → IsPlain t → uses_buffer (Some t) ≡ false
-plain_uses_none t plain = rw (plain.options, plain.load) refl
+pub change_seen : (rows : List (Option Table)) (handles : List (Option HandleView)) (row : ℕ) (t u : Table) → slice_index_or rows row None ≡ Some t → u.count ≡ t.count → tables_of (slice_set rows row (Some u)) handles ≡ with_table row u (tables_of rows handles)
+change_seen rows handles row t u there same =
+    let counts : count_in rows (Some row) ≡ u.count = rw there (sym same) in
+    ap (λ (hs : List (Option Handle)). tables_with (slice_set rows row (Some u)) hs)
+    (map-agree (handle_of (slice_set rows row (Some u))) (handle_of rows) handles (λ n h is. rw (row_count_stays rows row u h.row counts) refl))
 
-pub no_buffer : (rows : List (Option Table)) (row : ℕ) → AtEachPlace IsPlain rows → rows_from row rows ≡ []
-no_buffer [] row plain = refl
-no_buffer (None ∷ rows) row plain = no_buffer rows (row + 1) (λ k. plain (suc k))
-no_buffer (Some t ∷ rows) row plain = rw (plain_uses_none t (plain zero t refl)) (no_buffer rows (row + 1) (λ k. plain (suc k)))
+pub change_sound : (rows : List (Option Table)) (handles : List (Option HandleView)) (row : ℕ) (t u : Table) → slice_index_or rows row None ≡ Some t → IsSound rows handles → u.count ≡ t.count → u.name ≡ t.name → IsPlain u → IsSound (slice_set rows row (Some u)) handles
+change_sound rows handles row t u there sound counts names plain =
+    sound_after rows handles row u sound (rw (there, counts) (omega arith)) plain (named_kept rows row t u there names sound.named)
+
+-- a table with another time, file or load is plain where the load has its size
+pub plain_with : (t u : Table) → IsPlain t → u.size ≡ t.size → u.options ≡ t.options → u.before ≡ t.before → u.activation ≡ t.activation → u.dump ≡ t.dump → u.notice ≡ t.notice → u.last ≡ t.last → u.count ≡ t.count
+    → IfSome u.load (λ load. length load.image ≡ u.size) → IsPlain u
+plain_with t u plain size options before activation dump notice last count load = record {
+  some_bytes = rw size plain.some_bytes;
+  within = rw size plain.within;
+  options = options ∙ plain.options;
+  before = before ∙ plain.before;
+  load = load;
+  activation = activation ∙ plain.activation;
+  dump = dump ∙ plain.dump;
+  notice = notice ∙ plain.notice;
+  loaded = rw (last, count) plain.loaded;
+  fits = rw (last, size) plain.fits;
+}

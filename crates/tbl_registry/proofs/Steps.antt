@@ -1,5 +1,5 @@
 -- The steps of a handle that leads to a table.
-use Rattle.std.proofs.Common.{◌≡◌, ◌==◌, ◌+◌, ◌-◌, ◌<◌, ◌≤◌, nat_lt, ℕ, List, length, take, drop, cond, slice_index_or, slice_set, Bool, true, false, not, is_some, Option, Some, None, Ok, refl, ap, sym, ◌∙◌, arith, rules, subst}
+use Rattle.std.proofs.Common.{◌≡◌, ◌==◌, ◌+◌, ◌-◌, ◌<◌, ◌≤◌, nat_lt, ℕ, List, length, take, drop, cond, slice_index_or, slice_set, Bool, true, false, not, is_some, IsSome, Option, Some, None, Ok, refl, ap, sym, ◌∙◌, arith, rules, subst}
 use Rattle.std.specs.List.{list_any}
 use Rattle.std.proofs.lemmas.List.{set-get_or, length-set}
 use Rattle.std.proofs.lemmas.Option.{same_Some}
@@ -99,3 +99,7 @@ read_lends rows handles n offset len h row t image l sound pinned last size with
     let room : nat_lt t.size (offset + len) ≡ false = grind (arith, nat_tests) in
     let stated : offset + len - offset ≡ len = omega arith in
     rw (access_is rows handles n h row t l, pinned, new, l.row_is, l.table, same, last, room, stated) refl
+
+-- a handle that leads to a table isn't one that leads to none
+pub leads_nowhere : (tables other : Tables) (n : ℕ) → tables ≡ other → access_of tables n ≡ None → IsSome (access_of other n) → ⊥
+leads_nowhere tables other n same none some = cc (rw (← same, none) at some)

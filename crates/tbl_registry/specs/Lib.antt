@@ -1,4 +1,5 @@
 pub mod Rows
+pub mod Lent
 pub mod Seen
 pub mod Sound
 pub mod Views

@@ -11,13 +11,14 @@ use Rattle.tbl_registry.specs.Seen.{count_in}
 abbrev pub AtEachPlace : {X : Type 0} → (X → Type 0) → List (Option X) → Type 0
 AtEachPlace P places = (n : ℕ) → ForSome (slice_index_or places n None) P
 
--- a single-buffered table of 1 to 16,384 bytes without pending work: it has a last image once it had one, of its size
+-- a single-buffered table of 1 to 16,384 bytes with nothing pending but a load: its images have its size, and it has a
+-- last one once it had one
 pub record IsPlain (t : Table) : Type 0 where
   pub some_bytes : 0 < t.size
   pub within : t.size ≤ table_limit
   pub options : t.options ≡ 0
   pub before : t.before ≡ None
-  pub load : t.load ≡ None
+  pub load : IfSome t.load (λ load. length load.image ≡ t.size)
   pub activation : t.activation ≡ false
   pub dump : t.dump ≡ quiet
   pub notice : t.notice ≡ None

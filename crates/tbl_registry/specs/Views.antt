@@ -1,5 +1,7 @@
 -- What can be seen of a table.
-use Rattle.tbl_kinds.specs.State.{Table}
+use Rattle.std.specs.Prelude.{false, is_some}
+use Rattle.std.specs.Option.{option_map_or}
+use Rattle.tbl_kinds.specs.State.{Load, Table}
 use Rattle.tbl_registry.specs.declared.row.RowView.{RowView}
 
 abbrev pub row_view : Table → RowView
@@ -10,4 +12,6 @@ row_view t = record {
   flags = record { 0 = t.options };
   validator = t.validator;
   count = t.count;
+  load = is_some t.load;
+  checked = option_map_or (λ (load : Load). load.checked) t.load false;
 }

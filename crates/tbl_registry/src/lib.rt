@@ -1,7 +1,7 @@
 //! The table registry: the layer above may rely on it that each call is one step of the registered tables and their handles.
 #![tactic(auto)]
 
-mod idle;
+mod buffer;
 mod row;
 mod tables;
 

@@ -1,4 +1,4 @@
-ghost use Rattle.std.specs.Prelude.{◌≡◌, ◌<◌, ◌≤◌, ◌↔◌, ◌-◌, ◌^◌, ℕ, List, [], None, Some, Ok, Err, IsTrue, IsSome, IsNone, IfOk, OnOk, IfErr, OnErr, IfSome, IfNone, if◌then◌else◌, length, position, replicate, count_by, is_some, is_none, slice_index_or, nat_lt, option_and_then};
+ghost use Rattle.std.specs.Prelude.{Option, ◌==◌, ◌≡◌, ◌<◌, ◌≤◌, ◌↔◌, ◌+◌, ◌-◌, ◌^◌, ℕ, List, [], None, Some, Ok, Err, IsTrue, IsSome, IsNone, IfOk, OnOk, IfErr, OnErr, IfSome, IfNone, if◌then◌else◌, unwrap_or, length, take, position, replicate, count_by, is_some, is_none, slice_index_or, nat_lt, option_and_then, slice_set};
 ghost use Rattle.std.specs.Option.{option_copied, option_map, ForSome};
 ghost use Rattle.std.specs.Borrow.{Bor};
 ghost use Rattle.tbl_kinds.specs.Applications.{are_options, table_limit};
@@ -7,15 +7,19 @@ ghost use Rattle.tbl_registry.specs.Sound.{IsPlain};
 ghost use Rattle.tbl_registry.specs.Seen.{handle_of, tables_of, with_last, padded};
 ghost use Rattle.tbl_kinds.specs.State.{no_tables, Table};
 ghost use Rattle.tbl_kinds.specs.Tables.{table_count, handle_count, load_count, in_use, option_bits, table_at};
-ghost use Rattle.tbl_kinds.specs.TableSteps.{has_name as row_has_name, find, check, handle_at, access_of, get_address, release, read, locker, put, set_time, least_free, new_table, new_handle, with_table, with_handle};
+ghost use Rattle.tbl_kinds.specs.TableSteps.{has_name as row_has_name, find, check, handle_at, access_of, get_address, release, read, locker, put, set_time, set_file, open_load, patch, set_checked, least_free, new_table, new_handle, with_table, with_handle};
+ghost use Rattle.tbl_kinds.specs.State.{Load};
+ghost use Rattle.tbl_registry.specs.Rows.{Kept, tables_in as viewed, has_open, open_from};
+ghost use Rattle.working_buffers.specs.Places.{Held};
 
-use crate::idle::Idle;
-use crate::row::{NewTable, Row, RowView};
+use crate::buffer::{clear, write_over};
+use crate::row::{NewTable, OpenLoad, Row, RowView};
 use access_desc::{HandleView, Handles};
 use buffer_pairs::Buffers;
 use std::alloc::{AllocError, Global};
 use std::marker::Model;
-use tbl_kinds::{Answer, Memory, Name40, Status};
+use tbl_kinds::{Answer, Memory, Name40, Name64, Status};
+use working_buffers::Working;
 
 /// How many tables there can be (`CFE_PLATFORM_TBL_MAX_NUM_TABLES`).
 const ROWS: usize = 128;
@@ -39,7 +43,7 @@ pub struct Tables {
     alloc: Global,
     rows: Vec<Option<Row>>,
     handles: Handles,
-    idle: Idle,
+    working: Working,
 }
 
 impl Model for Tables {
@@ -47,13 +51,14 @@ impl Model for Tables {
 
     ghost Value = { Tables };
 
-    ghost use Rattle.tbl_registry.specs.Sound.{IsPlain};
+    ghost use Rattle.tbl_registry.specs.Rows.{tables_in};
+    ghost use Rattle.tbl_registry.specs.Lent.{AreLent};
     ghost use Rattle.tbl_registry.specs.Seen.{tables_of};
     ghost use Rattle.tbl_registry.specs.Sound.{IsSound};
 
-    ghost view = { λ t. tables_of t.rows.items t.handles };
+    ghost view = { λ t. tables_of (tables_in t.working t.rows.items) t.handles };
 
-    ghost invariant = { λ t. IsSound t.rows.items t.handles };
+    ghost invariant = { λ t. IsSound (tables_in t.working t.rows.items) t.handles × AreLent t.working t.rows.items };
 }
 
 fn free_rows(alloc: Global) -> Result<Vec<Option<Row>>, AllocError>
@@ -68,7 +73,7 @@ fn free_rows(alloc: Global) -> Result<Vec<Option<Row>>, AllocError>
 
 /// Whether the row has a table of this full name.
 fn has_name(row: &Option<Row>, name: &[u8]) -> bool
-    ensures { result ≡ row_has_name name.now row.now }
+    ensures { result ≡ row_has_name name.now (option_map (λ (kept : Kept). kept.table) row.now) }
 {
     match row {
         Some(table) => table.has_name(name),
@@ -77,7 +82,7 @@ fn has_name(row: &Option<Row>, name: &[u8]) -> bool
 }
 
 fn row_of_name(rows: &[Option<Row>], name: &[u8]) -> Option<usize>
-    ensures row { result ≡ position (row_has_name name.now) rows.now }
+    ensures row { result ≡ position (λ row. row_has_name name.now (option_map (λ (kept : Kept). kept.table) row)) rows.now }
     ensures within { IfSome result (λ n. n < length rows.now) }
 {
     rows.iter().position(|row| has_name(row, name))
@@ -110,6 +115,23 @@ fn tables_in(rows: &[Option<Row>]) -> usize
     rows.iter().filter(|row| row.is_some()).count()
 }
 
+/// Whether the row has a table with an open load.
+fn has_load(row: &Option<Row>) -> bool
+    ensures { result ≡ has_open row.now }
+{
+    match row {
+        Some(table) => table.load().is_some(),
+        None => false,
+    }
+}
+
+fn loads_in(rows: &[Option<Row>]) -> usize
+    ensures loads { result ≡ count_by has_open rows.now }
+    ensures within { result ≤ length rows.now }
+{
+    rows.iter().filter(|row| has_load(row)).count()
+}
+
 /// The table of a row.
 fn table_in(rows: &[Option<Row>], row: u8) -> Option<&Row>
     ensures { option_copied result ≡ slice_index_or rows.now row None }
@@ -117,6 +139,46 @@ fn table_in(rows: &[Option<Row>], row: u8) -> Option<&Row>
     match rows.get(row as usize) {
         Some(Some(table)) => Some(table),
         _ => None,
+    }
+}
+
+/// Puts the row behind those that were found, where it uses a buffer. How many were found.
+fn collect(found: &mut [Option<u8>; 4], count: usize, row: u8, uses: bool) -> usize
+    requires { IsTrue uses → count < 4 }
+    ensures found { found.new ≡ (if uses then slice_set found.old count (Some row) else found.old) }
+    ensures count { result ≡ (if uses then count + 1 else count) }
+{
+    if uses {
+        found[count] = Some(row);
+        count + 1
+    } else {
+        count
+    }
+}
+
+/// The rows with an open load, ascending, and then None.
+fn rows_with_load(rows: &[Option<Row>]) -> [Option<u8>; 4]
+    requires rows { length rows.now ≤ 256 }
+    requires few { count_by has_open rows.now ≤ 4 }
+    ensures { result ≡ padded (open_from 0 rows.now) }
+{
+    let mut found = [None; 4];
+    let mut count = 0;
+    for (row, table) in rows.iter().enumerate() {
+        count = collect(&mut found, count, row as u8, has_load(table));
+    }
+    found
+}
+
+/// A load begins with the table's last image, or with zeros.
+fn begin(buffer: &mut [u8], table: &Row)
+    requires { table.now.table.size ≤ length buffer.old }
+    ensures image { take table.now.table.size buffer.new ≡ unwrap_or table.now.table.last (replicate table.now.table.size 0) }
+    ensures len { length buffer.new ≡ length buffer.old }
+{
+    match table.last() {
+        Some(image) => write_over(buffer, 0, image),
+        None => clear(buffer, table.size() as usize),
     }
 }
 
@@ -129,7 +191,7 @@ fn access<'a>(
     ensures handle { IfSome result (λ found. at_place handles.now handle ≡ Some found.0) }
     ensures row { IfSome result (λ found. found.0.row ≡ Some found.1) }
     ensures table { IfSome result (λ found. slice_index_or rows.now found.1 None ≡ Some found.2.now) }
-    ensures none { IfNone result (access_of (tables_of rows.now handles.now) handle ≡ None) }
+    ensures none { IfNone result ((buffers : List (Option Held)) → access_of (tables_of (viewed buffers rows.now) handles.now) handle ≡ None) }
 {
     let view = handles.view(handle)?;
     let row = view.row?;
@@ -167,7 +229,7 @@ impl Tables {
             alloc,
             rows: free_rows(alloc)?,
             handles: Handles::make(alloc)?,
-            idle: Idle::make(alloc)?,
+            working: Working::make(alloc)?,
         })
     }
 
@@ -177,17 +239,26 @@ impl Tables {
         ensures table { IfSome result (λ row. IsSome (table_at self.now row)) }
         ensures within { IfSome result (λ row. row < 128) }
     {
-        Some(row_of_name(&self.rows, name)? as u8)
+        match row_of_name(&self.rows, name) {
+            Some(row) => Some(row as u8),
+            None => None,
+        }
     }
 
     /// How many tables are registered.
     pub fn count(&self) -> u16
         ensures tables { result ≡ table_count self.now }
         ensures within { result ≤ 128 }
-        ensures no_load { load_count self.now ≡ 0 }
-        ensures no_buffer { in_use self.now ≡ [] }
     {
         tables_in(&self.rows) as u16
+    }
+
+    /// How many loads are open.
+    pub fn load_count(&self) -> u16
+        ensures loads { result ≡ load_count self.now }
+        ensures within { result ≤ 4 }
+    {
+        loads_in(&self.rows) as u16
     }
 
     /// Registers a table in the least free row, and gives its owner the least free handle on it.
@@ -340,7 +411,6 @@ impl Tables {
 
     /// The least handle in the way of a new image of the table of a row (cFE User's Guide, Table Services, "Locking").
     pub fn locker(&self, row: u8) -> Option<u16>
-        ensures no_buffer { in_use self.now ≡ [] }
         ensures least { result ≡ option_and_then (λ (t : Table). locker self.now row t) (table_at self.now row) }
     {
         let _table = table_in(&self.rows, row)?;
@@ -350,15 +420,33 @@ impl Tables {
     /// The rows that use the shared working buffers, ascending, and then None.
     pub fn in_use(&self) -> [Option<u8>; 4]
         ensures rows { result ≡ padded (in_use self.now) }
-        ensures none { in_use self.now ≡ [] }
+        ensures within { length (in_use self.now) ≤ 4 }
     {
-        self.idle.rows()
+        rows_with_load(&self.rows)
+    }
+
+    /// Whether all four shared working buffers are used.
+    pub fn all_buffers_used(&self) -> bool
+        ensures all { result ≡ (length (in_use self.now) == 4) }
+        ensures few { length (in_use self.now) ≤ 4 }
+    {
+        self.in_use()[3].is_some()
+    }
+
+    /// The image of the open load of the table of a row, None where there is none.
+    pub fn load(&self, row: u8) -> Option<&[u8]>
+        ensures { option_map (λ (image : Bor (List ℕ)). image.now) result ≡ option_map (λ (load : Load). load.image) (option_and_then (λ (t : Table). t.load) (table_at self.now row)) }
+    {
+        let table = table_in(&self.rows, row)?;
+        let load = table.load()?;
+        Some(&self.working.bytes(load.buffer)[..table.size() as usize])
     }
 
     /// An image becomes the last one of the table of a row.
     pub fn put(&mut self, row: u8, image: &[u8])
         requires table { IsSome (table_at self.old row) }
         requires unlocked { ForSome (table_at self.old row) (λ t. locker self.old row t ≡ None) }
+        requires no_load { ForSome (table_at self.old row) (λ t. t.load ≡ None) }
         requires size { ForSome (table_at self.old row) (λ t. length image.now ≡ t.size) }
         requires count { ForSome (table_at self.old row) (λ t. t.count < 2 ^ 32 - 1) }
         ensures tables { self.new ≡ put row image.now self.old }
@@ -379,5 +467,73 @@ impl Tables {
             unreachable!();
         };
         table.set_time(seconds, sub);
+    }
+
+    /// Sets the file of the last load from a file of the table of a row.
+    pub fn set_file(&mut self, row: u8, file: &Name64)
+        requires { IsSome (table_at self.old row) }
+        ensures { self.new ≡ set_file row file.now self.old }
+    {
+        let Some(table) = &mut self.rows[row as usize] else {
+            unreachable!();
+        };
+        table.set_file(file);
+    }
+
+    /// Opens a load of the table of a row. It begins with the last image, or with zeros, in the least shared working buffer
+    /// that is free.
+    pub fn open_load(&mut self, row: u8)
+        requires table { IsSome (table_at self.old row) }
+        requires no_load { ForSome (table_at self.old row) (λ t. t.load ≡ None) }
+        requires buffer { length (in_use self.old) < 4 }
+        ensures tables { self.new ≡ open_load row self.old }
+        ensures table { IsSome (table_at self.new row) }
+    {
+        let Some(table) = &mut self.rows[row as usize] else {
+            unreachable!();
+        };
+        let Some(buffer) = self.working.take(row) else {
+            unreachable!();
+        };
+        begin(self.working.bytes_mut(buffer), table);
+        table.set_load(OpenLoad {
+            buffer,
+            checked: false,
+        });
+    }
+
+    /// Writes bytes into the open load of the table of a row. The load isn't validated any more.
+    pub fn patch(&mut self, row: u8, offset: u32, bytes: &[u8])
+        requires table { IsSome (table_at self.old row) }
+        requires load { ForSome (table_at self.old row) (λ t. IsSome t.load) }
+        requires within { ForSome (table_at self.old row) (λ t. offset + length bytes.now ≤ t.size) }
+        ensures { self.new ≡ patch row offset bytes.now self.old }
+    {
+        let Some(table) = &mut self.rows[row as usize] else {
+            unreachable!();
+        };
+        let Some(load) = table.load() else {
+            unreachable!();
+        };
+        write_over(self.working.bytes_mut(load.buffer), offset as usize, bytes);
+        table.set_load(OpenLoad {
+            checked: false,
+            ..load
+        });
+    }
+
+    /// Marks the open load of the table of a row as validated since its last change, or takes the mark away.
+    pub fn set_checked(&mut self, row: u8, checked: bool)
+        requires table { IsSome (table_at self.old row) }
+        requires load { ForSome (table_at self.old row) (λ t. IsSome t.load) }
+        ensures { self.new ≡ set_checked row checked self.old }
+    {
+        let Some(table) = &mut self.rows[row as usize] else {
+            unreachable!();
+        };
+        let Some(load) = table.load() else {
+            unreachable!();
+        };
+        table.set_load(OpenLoad { checked, ..load });
     }
 }

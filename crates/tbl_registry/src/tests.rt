@@ -3,7 +3,7 @@ ghost use Rattle.std.specs.Prelude.{◌≤◌, length};
 use super::{AddFault, NewTable, Tables};
 use bitflags::Flags;
 use std::test::Fail;
-use tbl_kinds::{Name, Options, Status};
+use tbl_kinds::{Name, Name64, Options, Status};
 
 /// Registers a table of this size under this name for application 1, as a layer above would.
 fn register(tables: &mut Tables, name: &[u8], size: u32) -> Result<u16, AddFault>
@@ -31,7 +31,7 @@ fn load(tables: &mut Tables, handle: u16, image: &[u8]) -> u32 {
         return Status::INFO_TABLE_LOCKED.0;
     }
     match tables.row(row) {
-        Some(view) if view.size as usize == image.len() && view.count < u32::MAX => {
+        Some(view) if !view.load && view.size as usize == image.len() && view.count < u32::MAX => {
             tables.put(row, image);
             Status::SUCCESS.0
         }
@@ -71,6 +71,57 @@ fn check(tables: &Tables, app: u8, handle: u16, owner: bool) -> u32 {
     match tables.check(app, handle, owner) {
         Ok(_) => Status::SUCCESS.0,
         Err(status) => status.0,
+    }
+}
+
+/// Opens a load of the table of a row that has none, where a buffer is free. Whether it did.
+fn open_load(tables: &mut Tables, row: u8) -> bool {
+    let Some(view) = tables.row(row) else {
+        return false;
+    };
+    if view.load || tables.all_buffers_used() {
+        return false;
+    }
+    tables.open_load(row);
+    true
+}
+
+/// Writes bytes into the open load of the table of a row. Whether it did.
+fn patch(tables: &mut Tables, row: u8, offset: u32, bytes: &[u8]) -> bool {
+    match tables.row(row) {
+        Some(view)
+            if view.load
+                && bytes.len() <= 16
+                && u64::from(offset) + bytes.len() as u64 <= u64::from(view.size) => {
+            tables.patch(row, offset, bytes);
+            true
+        }
+        _ => false,
+    }
+}
+
+/// Marks the open load of the table of a row as validated. Whether it did.
+fn set_checked(tables: &mut Tables, row: u8) -> bool {
+    match tables.row(row) {
+        Some(view) if view.load => {
+            tables.set_checked(row, true);
+            true
+        }
+        _ => false,
+    }
+}
+
+/// Whether the table of a row has an open load, and whether it was validated.
+fn marks(tables: &Tables, row: u8) -> Option<(bool, bool)> {
+    let view = tables.row(row)?;
+    Some((view.load, view.checked))
+}
+
+/// Whether the open load of the table of a row has this image.
+fn has_image(tables: &Tables, row: u8, image: &[u8]) -> bool {
+    match tables.load(row) {
+        Some(load) => load == image,
+        None => false,
     }
 }
 
@@ -153,6 +204,63 @@ fn one_table_too_many(rt: HostRuntime) -> Result<(), Fail> {
         Err(AddFault::RegistryFull)
     );
     assert_eq!(rt; tables.find(b"A.hp"), Some(127));
+    Ok(())
+}
+
+#[test]
+fn loads_in_progress(rt: HostRuntime) -> Result<(), Fail> {
+    let mut tables = Tables::make(rt.alloc())?;
+    let handles = (
+        register(&mut tables, b"A.T", 4)?,
+        register(&mut tables, b"A.U", 3)?,
+    );
+    assert_eq!(rt; load(&mut tables, handles.0, &[1, 2, 3, 4]), 0);
+    assert!(rt; !patch(&mut tables, 0, 0, &[9]));
+    assert!(rt; open_load(&mut tables, 1));
+    assert!(rt; open_load(&mut tables, 0));
+    assert!(rt; !open_load(&mut tables, 0));
+    assert!(rt; has_image(&tables, 0, &[1, 2, 3, 4]));
+    assert!(rt; has_image(&tables, 1, &[0, 0, 0]));
+    assert!(rt; set_checked(&mut tables, 0));
+    assert_eq!(rt;
+        (marks(&tables, 0), marks(&tables, 1)),
+        (Some((true, true)), Some((true, false)))
+    );
+    assert!(rt; patch(&mut tables, 0, 1, &[8, 9]));
+    assert!(rt; has_image(&tables, 0, &[1, 8, 9, 4]));
+    assert!(rt; has_image(&tables, 1, &[0, 0, 0]));
+    assert_eq!(rt; marks(&tables, 0), Some((true, false)));
+    assert_eq!(rt; tables.last(0).ok_or("image")?, [1, 2, 3, 4].as_slice());
+    Ok(())
+}
+
+#[test]
+fn four_working_buffers(rt: HostRuntime) -> Result<(), Fail> {
+    let mut tables = Tables::make(rt.alloc())?;
+    let mut opened = [false; 6];
+    for (open, name) in opened.iter_mut().zip(b"abcdef") {
+        let _handle = register(&mut tables, &[b'A', b'.', *name], 1)?;
+        let row = *name - b'a';
+        *open = row != 1 && open_load(&mut tables, row);
+    }
+    assert_eq!(rt; opened, [true, false, true, true, true, false]);
+    assert_eq!(rt; tables.in_use(), [Some(0), Some(2), Some(3), Some(4)]);
+    assert_eq!(rt; (tables.load_count(), tables.count()), (4, 6));
+    assert!(rt; tables.all_buffers_used());
+    assert!(rt; tables.load(1).is_none());
+    Ok(())
+}
+
+#[test]
+fn file_of_the_last_load(rt: HostRuntime) -> Result<(), Fail> {
+    let mut tables = Tables::make(rt.alloc())?;
+    let _handle = register(&mut tables, b"A.T", 4)?;
+    let file = Name64::of(b"/f");
+    if tables.row(0).is_some() {
+        tables.set_file(0, &file);
+    }
+    assert_eq!(rt; (tables.count(), tables.load_count()), (1, 0));
+    assert_eq!(rt; tables.name(0).ok_or("name")?.bytes(), b"A.T".as_slice());
     Ok(())
 }
 

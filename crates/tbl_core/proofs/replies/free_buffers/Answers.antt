@@ -1,5 +1,6 @@
-use Rattle.std.proofs.Common.{refl}
+use Rattle.tbl_kinds.specs.Tables.{in_use}
+use Rattle.tbl_core.proofs.Buffers.{free_places}
 use Rattle.tbl_core.proofs.replies.free_buffers.Goals as goal
 
 pub returns : goal.returns
-returns c = rw (c.free_in.ensures, c.in_use.ensures.rows, c.in_use.ensures.none) refl
+returns c = rw (c.free_in.ensures, c.in_use.ensures.rows) (free_places (in_use c.args.tables.now) c.in_use.ensures.within)

@@ -9,7 +9,7 @@ use Rattle.tbl_kinds.specs.Events.{event}
 use Rattle.tbl_kinds.specs.declared.status.TheConstants.Status.{SUCCESS}
 use Rattle.tbl_kinds.specs.CountsAfter.{counts_after}
 use Rattle.tbl_kinds.specs.declared.request.Actor.TheVariants.{App}
-use Rattle.tbl_core.proofs.Quiet.{answer_plays}
+use Rattle.tbl_core.proofs.Quiet.{quiet_plays}
 use Rattle.tbl_core.proofs.Images.{load_plays}
 use Rattle.tbl_core.proofs.parts.Parts.load_image.Goals as goal
 
@@ -39,18 +39,17 @@ returns-in-Ok-clause-plays c =
 pub returns-in-Err-clause-plays : goal.returns-in-Err-clause-plays
 returns-in-Err-clause-plays c =
     let told = c.in_ok-empty.ensures in
-    let after : Tables → Effect = λ tables. record (answered (kept_of c.args.self.now).state c.in-Err.answer.status c.in-Err.answer.detail) { next = state_of tables c.args.self.now.apps c.args.self.now.drawer } in
-    answer_plays _ _ (App c.args.app) _ c.in_ok-empty.empty c.answer_in-reply.result c.in-Err.answer.status c.in-Err.answer.detail tt tt c.requires.fits refl c.requires.few
-    (rw (← c.bytes.ensures) (c.in-Err.ensures.err _ refl refl) ∙ ap after (sym c.in-Err.ensures.kept)) (record {
-      entries = c.ready.new.log.entries;
-      counts = c.ready.new.log.counts;
-      tally = tally_view c.none.result;
-      reply_is = c.answer_in-reply.ensures;
-      no_bytes = told.bytes;
-      no_packets = told.packets;
-      entries_stayed = told.entries;
-      counts_stayed = told.counts;
-      no_counting = c.none.ensures;
-      added = c.enter-in-Err.ensures.entries;
-      counted = c.enter-in-Err.ensures.counts;
+    let sent = c.reply_refused-reply.ensures in
+    let before = (kept_of c.args.self.now).state in
+    let after : Tables → Effect = λ tables. record (answered before c.reply_refused-reply.result.status c.reply_refused-reply.result.detail) { bytes = c.reply_refused-reply.result.bytes.list; next = state_of tables c.args.self.now.apps c.args.self.now.drawer } in
+    quiet_plays _ _ (App c.args.app) _ c.reply_refused-reply.result (record {
+      built = tt;
+      uncounted = tt;
+      fits = c.requires.fits;
+      live = refl;
+      few = c.requires.few;
+      effect_is = rw (← c.bytes.ensures) (c.in-Err.ensures.err _ refl refl) ∙ sent.effect before (sym c.in-Err.ensures.kept) ∙ ap after (sym c.in-Err.ensures.kept);
+      packets = ap (λ b. b.list) sent.packets ∙ told.packets;
+      entries = rw (← told.entries) c.enter-in-Err.ensures.entries;
+      counts = c.enter-in-Err.ensures.counts ∙ ap (λ k. counts_after k (tally_view c.none.result)) told.counts ∙ ap (counts_after c.args.self.now.log.counts) c.none.ensures;
     })

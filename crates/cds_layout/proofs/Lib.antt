@@ -1,0 +1,5 @@
+pub mod Restored
+pub mod EntryLaws
+pub mod Directories
+pub mod DirectoryLaws
+pub mod Texts

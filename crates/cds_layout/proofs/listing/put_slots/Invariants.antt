@@ -1,0 +1,20 @@
+use Rattle.std.proofs.Common.{◌≡◌, ◌≤◌, ◌++◌, map, drop}
+use Rattle.std.specs.Option.{option_map}
+use Rattle.tbl_outside.specs.Bank.{LeavesOnly}
+use Rattle.cds_layout.specs.Images.{stored_in}
+use Rattle.cds_layout.specs.Texts.{lines_from}
+use Rattle.cds_layout.proofs.listing.put_slots.Given as goal
+
+-- the lines so far and those of what is left are the lines of all
+abbrev pub invariant-loop-slot : goal.invariant-loop-slot
+invariant-loop-slot g l =
+    let bank = g.B.Bank in
+    let store = map (option_map (stored_in (bank.now l.fn.bank))) l.places in
+    record {
+      text : bank.tells → l.out.list ++ lines_from l.slot (drop l.slot store) ≡ l.fn.out.list ++ lines_from 0 store;
+      kept : bank.tells → bank.now l.bank ≡ bank.now l.fn.bank;
+      moments : bank.tells_moments → LeavesOnly bank.clock bank.left_since l.fn.bank l.bank (λ image. image ≡ bank.now l.fn.bank);
+      size : bank.size l.bank ≡ bank.size l.fn.bank;
+      fault_count : bank.faults l.fn.bank ≤ bank.faults l.bank;
+      stop_count : bank.stops l.fn.bank ≤ bank.stops l.bank;
+    }

@@ -1,0 +1,6 @@
+pub mod Entries
+pub mod Directory
+pub mod Images
+pub mod Texts
+pub mod Restores
+pub mod Lines

@@ -1,0 +1,50 @@
+-- The lines of a store's text, by what the directory and the blocks tell.
+use Rattle.std.specs.Prelude.{◌≡◌, ℕ, ◌+◌, ◌-◌, Bool, true, false, List, [], ◌++◌, map, codes, Option, Some, None, is_some, count_by, slice_index_or}
+use Rattle.std.specs.List.{sum_by}
+use Rattle.std.specs.Option.{option_map}
+use Rattle.std.specs.Fmt.{decimal}
+use Rattle.tbl_kinds.specs.State.{Stored}
+use Rattle.tbl_kinds.specs.Places.{bank_size, blocks_begin}
+use Rattle.tbl_kinds.specs.declared.block.Block.{Block}
+use Rattle.cds_layout.specs.Entries.{is_right}
+use Rattle.cds_layout.specs.Images.{head_len, stored_in}
+use Rattle.cds_layout.specs.Texts.{kind_letter, block_line, lines_from}
+
+-- a slot's block is one that can be there
+abbrev pub IsRightAt : Option Block → Type 0
+IsRightAt None = Unit {0}
+IsRightAt (Some b) = is_right b ≡ true
+
+abbrev pub AreRight : List (Option Block) → Type 0
+AreRight blocks = (slot : ℕ) → IsRightAt (slice_index_or blocks slot None)
+
+abbrev pub word_of : Bool → List ℕ
+word_of true = codes "whole"
+word_of false = codes "torn"
+
+-- the line of a block
+abbrev pub told_line : ℕ → Block → Bool → List ℕ
+told_line slot b whole =
+    decimal slot ++ codes " " ++ decimal b.offset ++ codes " " ++ decimal b.size ++ codes " "
+    ++ kind_letter b.kind ++ codes " " ++ b.name ++ codes " " ++ word_of whole ++ codes "\n"
+
+-- what a slot adds to the text
+abbrev pub line_at : ℕ → Option Stored → List ℕ
+line_at slot None = []
+line_at slot (Some b) = block_line slot b
+
+-- how many bytes the block of a slot takes, its head included
+abbrev pub room_at : Option Block → ℕ
+room_at None = 0
+room_at (Some b) = head_len + b.size
+
+-- the line for all blocks
+abbrev pub last_line : ℕ → ℕ → List ℕ
+last_line count room = codes "blocks " ++ decimal count ++ codes " free " ++ decimal ((bank_size - blocks_begin) - room) ++ codes "\n"
+
+abbrev pub last_line_of : List (Option Block) → List ℕ
+last_line_of blocks = last_line (count_by is_some blocks) (sum_by room_at blocks)
+
+-- the text, by the blocks of the directory and the bytes of the bank
+abbrev pub listing : List ℕ → List (Option Block) → List ℕ
+listing bytes blocks = lines_from 0 (map (option_map (stored_in bytes)) blocks) ++ last_line_of blocks

@@ -1,0 +1,35 @@
+-- What the answers of a restore tell.
+use Rattle.std.specs.Prelude.{◌≡◌, ◌≢◌, ◌⊎◌, ℕ, ◌==◌, ◌&&◌, if◌then◌else◌, List, None, Result, Ok, Err}
+use Rattle.tbl_kinds.specs.Numbers.{two_at, four_at}
+use Rattle.tbl_kinds.specs.Check.{check16}
+use Rattle.tbl_kinds.specs.declared.block.Block.{Block}
+use Rattle.cds_layout.specs.Images.{data_in, kept_length, kept_check, held_in}
+use Rattle.cds_layout.specs.declared.blocks.RestoreFault.{RestoreFault}
+use Rattle.cds_layout.specs.declared.blocks.RestoreFault.TheVariants.{Torn, Fault}
+
+-- the block holds no image: what its head states, and the check word of its bytes
+pub record IsTorn (bytes : List ℕ) (b : Block) (length kept found : ℕ) : Type 0 where
+  pub no_image : held_in bytes b ≡ None
+  pub stated : length ≡ kept_length bytes b
+  pub check : kept ≡ kept_check bytes b
+  pub computed : found ≡ check16 (data_in bytes b)
+
+abbrev pub TellsTorn : List ℕ → Block → RestoreFault → Type 0
+TellsTorn bytes b (Torn length kept found) = IsTorn bytes b length kept found
+TellsTorn bytes b Fault = Unit {0}
+
+-- a torn block has another length, or another check word
+abbrev pub SaysWhy : ℕ → RestoreFault → Type 0
+SaysWhy size (Torn length kept found) = (length ≢ size) ⊎ (kept ≢ found)
+SaysWhy size Fault = Unit {0}
+
+-- where the bytes were read, whole or torn
+abbrev pub IfRead : {A : Type 0} → Result A RestoreFault → Type 0 → Type 0
+IfRead (Ok x) P = P
+IfRead (Err (Torn length kept found)) P = P
+IfRead (Err Fault) P = Unit {0}
+
+-- a head beside bytes: whole, or torn
+abbrev pub compared : List ℕ → ℕ → List ℕ → Result Unit RestoreFault
+compared head size bytes =
+    if four_at 0 head == size && two_at 4 head == check16 bytes then Ok tt else Err (Torn (four_at 0 head) (two_at 4 head) (check16 bytes))

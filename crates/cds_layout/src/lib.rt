@@ -1,0 +1,24 @@
+//! The layout of the Critical Data Store in preserved memory: the layers above may rely on it that hostile bytes are
+//! read as a directory of blocks that can be there together, and that a block is whole exactly where its head says so.
+#![tactic(auto)]
+
+mod blocks;
+mod directory;
+mod entry;
+mod laws;
+mod listing;
+mod numbers;
+mod places;
+mod text;
+
+pub use blocks::{RestoreFault, head_bytes, read_block};
+pub use directory::{Directory, read_directory};
+pub use entry::entry_bytes;
+pub use laws::{
+    blocks_can_be_there_together, directory_stands_in_the_first_bytes, written_entries_are_read,
+    written_parts_fill_their_places,
+};
+pub use listing::{TextFault, store_text};
+
+#[cfg(test)]
+mod tests;

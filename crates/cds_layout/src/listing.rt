@@ -1,0 +1,251 @@
+//! A look into a bank: the text of the store that it holds.
+
+ghost use Rattle.std.specs.Prelude.{◌≡◌, ◌≤◌, ◌++◌, true, Err, is_some, length, map, replicate, IfOk, OnOk, OnErr};
+ghost use Rattle.std.specs.Option.{option_map};
+ghost use Rattle.tbl_kinds.specs.Places.{bank_size};
+ghost use Rattle.tbl_outside.specs.Bank.{LeavesOnly};
+ghost use Rattle.tbl_outside.specs.Counts.{Rose};
+ghost use Rattle.cds_layout.specs.Entries.{slot_count, is_right};
+ghost use Rattle.cds_layout.specs.Directory.{directory_len, directory_of};
+ghost use Rattle.cds_layout.specs.Images.{held_in, stored_in, store_of};
+ghost use Rattle.cds_layout.specs.Texts.{lines_from, text_of};
+ghost use Rattle.cds_layout.specs.Lines.{IsRightAt, AreRight, line_at, last_line_of, listing};
+
+use crate::blocks::{RestoreFault, read_block};
+use crate::directory::{DIRECTORY_LENGTH, Directory, read_directory};
+use crate::places::GREATEST_SIZE;
+use crate::text::{count_of, put_last_line, put_line, room_of};
+use std::alloc::{AllocError, Global};
+use tbl_kinds::{Block, Bytes, Memory};
+use tbl_outside::{Bank, Failed};
+use thiserror::Error;
+
+/// Why there is no text.
+#[derive(Clone, Copy, Debug, PartialEq, Eq, Error)]
+pub enum TextFault {
+    /// The bank failed.
+    #[error("the bank failed")]
+    Fault,
+    /// Memory ran out.
+    #[error("out of memory")]
+    Memory,
+}
+
+impl From<Memory> for TextFault {
+    ghost use Rattle.std.specs.Prelude.{◌≡◌};
+    ghost use Rattle.cds_layout.specs.declared.listing.TextFault.TheVariants as fault;
+
+    ghost from_gives = { λ _ e. e ≡ fault.Memory };
+
+    fn from(_memory: Memory) -> TextFault {
+        TextFault::Memory
+    }
+}
+
+impl From<AllocError> for TextFault {
+    ghost use Rattle.std.specs.Prelude.{◌≡◌};
+    ghost use Rattle.cds_layout.specs.declared.listing.TextFault.TheVariants as fault;
+
+    ghost from_gives = { λ _ e. e ≡ fault.Memory };
+
+    fn from(_error: AllocError) -> TextFault {
+        TextFault::Memory
+    }
+}
+
+impl From<Failed> for TextFault {
+    ghost use Rattle.std.specs.Prelude.{◌≡◌};
+    ghost use Rattle.cds_layout.specs.declared.listing.TextFault.TheVariants as fault;
+
+    ghost from_gives = { λ _ e. e ≡ fault.Fault };
+
+    fn from(_failed: Failed) -> TextFault {
+        TextFault::Fault
+    }
+}
+
+fn zeros(alloc: Global, len: usize) -> Result<Vec<u8>, AllocError>
+    ensures { IfOk result (λ v. v.items ≡ replicate len 0) }
+{
+    vec![in alloc; 0; len]
+}
+
+/// Whether a block is whole. What it holds is read into the front of `image`.
+fn is_whole<B: Bank>(bank: &mut B, block: &Block, image: &mut [u8]) -> Result<bool, Failed>
+    requires image { length image.old ≡ 16384 }
+    requires right { is_right block.now ≡ true }
+    requires bank { bank_size ≤ B.size bank.old }
+    ensures whole { IfOk result (λ whole. B.tells → whole ≡ is_some (held_in (B.now bank.old) block.now)) }
+
+    ensures kept { B.tells → B.now bank.new ≡ B.now bank.old }
+    ensures moments { B.tells_moments →
+        LeavesOnly B.clock B.left_since bank.old bank.new (λ image. image ≡ B.now bank.old) }
+    ensures size { B.size bank.new ≡ B.size bank.old }
+    ensures fault { OnErr result (Rose (B.faults bank.old) (B.faults bank.new)) }
+    ensures fault_count { B.faults bank.old ≤ B.faults bank.new }
+    ensures stop_count { B.stops bank.old ≤ B.stops bank.new }
+{
+    let size = block.size as usize;
+    match read_block(bank, block, &mut image[..size]) {
+        Ok(()) => Ok(true),
+        Err(RestoreFault::Torn { .. }) => Ok(false),
+        Err(RestoreFault::Fault) => Err(Failed),
+    }
+}
+
+/// Appends the line of a slot, or nothing where it has no block.
+fn put_slot<B: Bank>(
+    bank: &mut B,
+    slot: u8,
+    place: &Option<Block>,
+    image: &mut [u8],
+    out: &mut Bytes,
+) -> Result<(), TextFault>
+    requires image { length image.old ≡ 16384 }
+    requires right { IsRightAt place.now }
+    requires bank { bank_size ≤ B.size bank.old }
+    ensures text { OnOk result (B.tells →
+        out.new.list ≡ out.old.list ++ line_at slot (option_map (stored_in (B.now bank.old)) place.now)) }
+
+    ensures kept { B.tells → B.now bank.new ≡ B.now bank.old }
+    ensures moments { B.tells_moments →
+        LeavesOnly B.clock B.left_since bank.old bank.new (λ image. image ≡ B.now bank.old) }
+    ensures size { B.size bank.new ≡ B.size bank.old }
+    ensures fault { result ≡ Err TextFault.Fault → Rose (B.faults bank.old) (B.faults bank.new) }
+    ensures fault_count { B.faults bank.old ≤ B.faults bank.new }
+    ensures stop_count { B.stops bank.old ≤ B.stops bank.new }
+{
+    match place {
+        None => Ok(()),
+        Some(block) => {
+            let whole = is_whole(bank, block, image)?;
+            put_line(out, slot, block, whole)?;
+            Ok(())
+        }
+    }
+}
+
+/// Appends the lines of all slots.
+fn put_slots<B: Bank>(
+    bank: &mut B,
+    places: &[Option<Block>],
+    image: &mut [u8],
+    out: &mut Bytes,
+) -> Result<(), TextFault>
+    requires image { length image.old ≡ 16384 }
+    requires slots { length places.now ≡ slot_count }
+    requires right { AreRight places.now }
+    requires bank { bank_size ≤ B.size bank.old }
+    ensures text { OnOk result (B.tells →
+        out.new.list ≡ out.old.list ++ lines_from 0 (map (option_map (stored_in (B.now bank.old))) places.now)) }
+
+    ensures kept { B.tells → B.now bank.new ≡ B.now bank.old }
+    ensures moments { B.tells_moments →
+        LeavesOnly B.clock B.left_since bank.old bank.new (λ image. image ≡ B.now bank.old) }
+    ensures size { B.size bank.new ≡ B.size bank.old }
+    ensures fault { result ≡ Err TextFault.Fault → Rose (B.faults bank.old) (B.faults bank.new) }
+    ensures fault_count { B.faults bank.old ≤ B.faults bank.new }
+    ensures stop_count { B.stops bank.old ≤ B.stops bank.new }
+{
+    for (slot, place) in places.iter().enumerate() {
+        put_slot(bank, slot as u8, place, image, out)?;
+    }
+    Ok(())
+}
+
+/// Appends the line for all blocks.
+fn put_summary(out: &mut Bytes, places: &[Option<Block>]) -> Result<(), Memory>
+    requires { length places.now ≡ slot_count }
+    ensures { OnOk result (out.new.list ≡ out.old.list ++ last_line_of places.now) }
+{
+    put_last_line(out, count_of(places), room_of(places))
+}
+
+/// Reads the directory of a bank, by way of a buffer of its size.
+fn fill_directory<B: Bank>(
+    bank: &mut B,
+    bytes: &mut [u8],
+    directory: &mut Directory,
+) -> Result<(), Failed>
+    requires buffer { length bytes.old ≡ directory_len }
+    requires bank { bank_size ≤ B.size bank.old }
+    ensures read { OnOk result (B.tells → directory.new ≡ directory_of (B.now bank.old)) }
+    ensures right { OnOk result (AreRight directory.new) }
+
+    ensures kept { B.tells → B.now bank.new ≡ B.now bank.old }
+    ensures moments { B.tells_moments →
+        LeavesOnly B.clock B.left_since bank.old bank.new (λ image. image ≡ B.now bank.old) }
+    ensures size { B.size bank.new ≡ B.size bank.old }
+    ensures fault { OnErr result (Rose (B.faults bank.old) (B.faults bank.new)) }
+    ensures fault_count { B.faults bank.old ≤ B.faults bank.new }
+    ensures stop_count { B.stops bank.old ≤ B.stops bank.new }
+{
+    bank.read_at(0, bytes)?;
+    read_directory(bytes, directory);
+    Ok(())
+}
+
+/// Reads the directory of a bank.
+fn load_directory<B: Bank>(alloc: Global, bank: &mut B) -> Result<Directory, TextFault>
+    requires { bank_size ≤ B.size bank.old }
+    ensures read { IfOk result (λ directory. B.tells → directory ≡ directory_of (B.now bank.old)) }
+    ensures right { IfOk result AreRight }
+
+    ensures kept { B.tells → B.now bank.new ≡ B.now bank.old }
+    ensures moments { B.tells_moments →
+        LeavesOnly B.clock B.left_since bank.old bank.new (λ image. image ≡ B.now bank.old) }
+    ensures size { B.size bank.new ≡ B.size bank.old }
+    ensures fault { result ≡ Err TextFault.Fault → Rose (B.faults bank.old) (B.faults bank.new) }
+    ensures fault_count { B.faults bank.old ≤ B.faults bank.new }
+    ensures stop_count { B.stops bank.old ≤ B.stops bank.new }
+{
+    let mut directory = Directory::make(alloc)?;
+    let mut bytes = zeros(alloc, DIRECTORY_LENGTH)?;
+    fill_directory(bank, &mut bytes, &mut directory)?;
+    Ok(directory)
+}
+
+/// The lines of all slots, and the line for all blocks.
+fn listed<B: Bank>(
+    alloc: Global,
+    bank: &mut B,
+    places: &[Option<Block>],
+) -> Result<Bytes, TextFault>
+    requires slots { length places.now ≡ slot_count }
+    requires right { AreRight places.now }
+    requires bank { bank_size ≤ B.size bank.old }
+    ensures text { IfOk result (λ text. B.tells → text.list ≡ listing (B.now bank.old) places.now) }
+
+    ensures kept { B.tells → B.now bank.new ≡ B.now bank.old }
+    ensures moments { B.tells_moments →
+        LeavesOnly B.clock B.left_since bank.old bank.new (λ image. image ≡ B.now bank.old) }
+    ensures size { B.size bank.new ≡ B.size bank.old }
+    ensures fault { result ≡ Err TextFault.Fault → Rose (B.faults bank.old) (B.faults bank.new) }
+    ensures fault_count { B.faults bank.old ≤ B.faults bank.new }
+    ensures stop_count { B.stops bank.old ≤ B.stops bank.new }
+{
+    let mut image = zeros(alloc, GREATEST_SIZE as usize)?;
+    let mut out = Bytes::make(alloc, 0)?;
+    put_slots(bank, places, &mut image, &mut out)?;
+    put_summary(&mut out, places)?;
+    Ok(out)
+}
+
+/// The text of the store in a bank: a line for each open block, by slot, with its slot, its offset, its size, T for a
+/// table's and A for an application's, its full name and whether it is whole or torn, and at the end `blocks N free M`
+/// with the number of blocks and the bytes behind the directory that none of them takes. The bank is read and not written.
+pub fn store_text<B: Bank>(alloc: Global, bank: &mut B) -> Result<Bytes, TextFault>
+    requires { bank_size ≤ B.size bank.old }
+    ensures text { IfOk result (λ text. B.tells → text.list ≡ text_of (store_of (B.now bank.old))) }
+
+    ensures kept { B.tells → B.now bank.new ≡ B.now bank.old }
+    ensures moments { B.tells_moments →
+        LeavesOnly B.clock B.left_since bank.old bank.new (λ image. image ≡ B.now bank.old) }
+    ensures size { B.size bank.new ≡ B.size bank.old }
+    ensures fault { result ≡ Err TextFault.Fault → Rose (B.faults bank.old) (B.faults bank.new) }
+    ensures fault_count { B.faults bank.old ≤ B.faults bank.new }
+    ensures stop_count { B.stops bank.old ≤ B.stops bank.new }
+{
+    let directory = load_directory(alloc, bank)?;
+    listed(alloc, bank, directory.places())
+}

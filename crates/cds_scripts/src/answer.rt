@@ -1,0 +1,154 @@
+//! What a call of the store answers, as the table states it and as it is shown.
+
+use crate::fault::ScriptFault;
+use crate::image::expand;
+use crate::reader::Reader;
+use std::alloc::Global;
+use std::fmt;
+
+/// What a call of the store answered.
+#[derive(Debug, PartialEq, Eq, Drop)]
+pub(crate) enum Answer {
+    /// A copy or a deletion is done.
+    Done,
+    /// A boot is done, and found these slots open.
+    Found(Vec<u8>),
+    /// A block is reserved in this slot.
+    Slot(u8),
+    NoRoom,
+    Image(Vec<u8>),
+    Torn {
+        length: u32,
+        kept: u16,
+        found: u16,
+    },
+    /// A write broke off.
+    Broken {
+        stopped: bool,
+        gate: bool,
+        old: bool,
+    },
+    /// A boot or a restore failed.
+    Fault,
+    /// A boot was stopped.
+    Stopped,
+    /// Whether there is room.
+    Room(bool),
+    /// The call wasn't made, since the store isn't in a state for it.
+    NotMade,
+}
+
+/// Whether a byte stands for yes or no.
+fn flag(byte: u8) -> Option<bool> {
+    match byte {
+        0 => Some(false),
+        1 => Some(true),
+        _ => None,
+    }
+}
+
+fn torn_in(table: &mut Reader) -> Option<Answer> {
+    Some(Answer::Torn {
+        length: table.long()?,
+        kept: table.short()?,
+        found: table.short()?,
+    })
+}
+
+fn broken_in(table: &mut Reader) -> Option<Answer> {
+    Some(Answer::Broken {
+        stopped: flag(table.byte()?)?,
+        gate: flag(table.byte()?)?,
+        old: flag(table.byte()?)?,
+    })
+}
+
+fn slot_in(table: &mut Reader) -> Option<Answer> {
+    Some(Answer::Slot(table.byte()?))
+}
+
+/// An answer that owns no memory.
+fn plain_in(code: u8, table: &mut Reader) -> Option<Answer> {
+    match code {
+        b'o' => Some(Answer::Done),
+        b's' => slot_in(table),
+        b'n' => Some(Answer::NoRoom),
+        b't' => torn_in(table),
+        b'b' => broken_in(table),
+        b'F' => Some(Answer::Fault),
+        b'S' => Some(Answer::Stopped),
+        b'y' => Some(Answer::Room(true)),
+        b'x' => Some(Answer::Room(false)),
+        _ => None,
+    }
+}
+
+/// The answer that the table states next.
+pub(crate) fn answer_in(alloc: Global, table: &mut Reader) -> Result<Answer, ScriptFault> {
+    match table.byte().ok_or(ScriptFault::Table)? {
+        b'f' => {
+            let slots = table.short_piece().ok_or(ScriptFault::Table)?;
+            Ok(Answer::Found(slots.to_vec(alloc)?))
+        }
+        b'i' => Ok(Answer::Image(expand(alloc, table)?)),
+        code => plain_in(code, table).ok_or(ScriptFault::Table),
+    }
+}
+
+/// How many bytes of an image are shown.
+const MOST_SHOWN: usize = 32;
+
+fn show_found<W: fmt::Write>(slots: &[u8], f: &mut fmt::Formatter<W>) -> fmt::Result {
+    f.write_str("ok")?;
+    if !slots.is_empty() {
+        f.write_str(" found")?;
+    }
+    for slot in slots {
+        write!(f, " {slot}")?;
+    }
+    Ok(())
+}
+
+fn show_image<W: fmt::Write>(image: &[u8], f: &mut fmt::Formatter<W>) -> fmt::Result {
+    write!(f, "an image of {} bytes ", image.len())?;
+    for byte in image.iter().take(MOST_SHOWN) {
+        write!(f, "{byte:02x}")?;
+    }
+    if MOST_SHOWN < image.len() {
+        f.write_str("..")?;
+    }
+    Ok(())
+}
+
+fn show_broken<W: fmt::Write>(
+    stopped: bool,
+    gate: bool,
+    old: bool,
+    f: &mut fmt::Formatter<W>,
+) -> fmt::Result {
+    let how = if stopped { "stopped" } else { "fault" };
+    write!(f, "{how} gate={} old={}", u8::from(gate), u8::from(old))
+}
+
+impl fmt::Display for Answer {
+    fn fmt<W: fmt::Write>(&self, f: &mut fmt::Formatter<W>) -> fmt::Result {
+        match self {
+            Answer::Done => f.write_str("ok"),
+            Answer::Found(slots) => show_found(slots, f),
+            Answer::Slot(slot) => write!(f, "slot {slot}"),
+            Answer::NoRoom => f.write_str("no-room"),
+            Answer::Image(image) => show_image(image, f),
+            Answer::Torn {
+                length,
+                kept,
+                found,
+            } => write!(f, "torn {length} {kept:04X} {found:04X}"),
+            Answer::Broken { stopped, gate, old } => show_broken(*stopped, *gate, *old, f),
+            Answer::Fault => f.write_str("fault"),
+            Answer::Stopped => f.write_str("stopped"),
+            Answer::Room(true) => f.write_str("yes"),
+            Answer::Room(false) => f.write_str("no"),
+            Answer::NotMade => f.write_str("no call, which the store would not have served"),
+        }
+    }
+}

@@ -1,0 +1,80 @@
+//! Images and the bytes of a bank, as the table states them.
+
+ghost use Rattle.std.specs.Prelude.{◌≡◌, ◌<◌, length, IfOk};
+
+use crate::fault::ScriptFault;
+use crate::reader::Reader;
+use std::alloc::{AllocError, Global};
+use tbl_kinds::{Bytes, Memory};
+
+/// How many bytes the bank has.
+const BANK_SIZE: usize = 131_072;
+
+/// The greatest size of an image.
+const MOST_IMAGE: usize = 16_384;
+
+/// So many bytes, which repeat a pattern.
+fn repeat(alloc: Global, pattern: &[u8], len: usize) -> Result<Vec<u8>, AllocError>
+    requires { 0 < length pattern.now }
+{
+    let mut image = Vec::with_capacity(alloc, len)?;
+    for place in 0..len {
+        image.push(pattern[place % pattern.len()])?;
+    }
+    Ok(image)
+}
+
+/// An image: the bytes that are repeated, and how many there are in all.
+pub(crate) fn expand(alloc: Global, table: &mut Reader) -> Result<Vec<u8>, ScriptFault> {
+    let pattern = table.middle_piece().ok_or(ScriptFault::Table)?;
+    let len = table.long().ok_or(ScriptFault::Table)? as usize;
+    if pattern.is_empty() || MOST_IMAGE < len {
+        return Err(ScriptFault::Table);
+    }
+    Ok(repeat(alloc, pattern, len)?)
+}
+
+/// Writes a patch over the bytes of a bank: where it begins, and its bytes.
+fn patch(bytes: &mut [u8], table: &mut Reader) -> Option<()>
+    ensures { length bytes.new ≡ length bytes.old }
+{
+    let from = table.long()? as usize;
+    let piece = table.long_piece()?;
+    let into = bytes.get_mut(from..)?.get_mut(..piece.len())?;
+    into.copy_from_slice(piece);
+    Some(())
+}
+
+fn patch_all(bytes: &mut [u8], table: &mut Reader) -> Option<()>
+    ensures { length bytes.new ≡ length bytes.old }
+{
+    let count = table.short()?;
+    for _ in 0..count {
+        patch(bytes, table)?;
+    }
+    Some(())
+}
+
+fn zeros(alloc: Global) -> Result<Vec<u8>, AllocError>
+    ensures { IfOk result (λ v. length v.items ≡ 131072) }
+{
+    vec![in alloc; 0; BANK_SIZE]
+}
+
+/// The bytes of a bank: zeros, and the patches that the table states.
+pub(crate) fn bank_bytes(alloc: Global, table: &mut Reader) -> Result<Vec<u8>, ScriptFault>
+    ensures { IfOk result (λ v. length v.items ≡ 131072) }
+{
+    let mut bytes = zeros(alloc)?;
+    patch_all(&mut bytes, table).ok_or(ScriptFault::Table)?;
+    Ok(bytes)
+}
+
+/// The same bytes as the service keeps them.
+pub(crate) fn kept(alloc: Global, bytes: &[u8]) -> Result<Bytes, Memory>
+    ensures { IfOk result (λ b. b.list ≡ bytes.now) }
+{
+    let mut kept = Bytes::make(alloc, bytes.len())?;
+    kept.append(bytes);
+    Ok(kept)
+}

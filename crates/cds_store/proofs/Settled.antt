@@ -1,0 +1,333 @@
+-- The blocks that a boot leaves.
+use Rattle.std.proofs.Common.{◌≡◌, inl, inr, ℕ, zero, suc, ◌+◌, ◌<◌, ◌≤◌, ◌==◌, ◌&&◌, List, [], ◌∷◌, length, map, replicate, slice_index_or, Bool, true, false, Option, Some, None, is_some, Result, Ok, Err, OnOk, IfOk, refl, sym, ◌∙◌, ap, subst, arith}
+use Rattle.std.specs.List.{list_any, filter, range_with_len}
+use Rattle.std.specs.Option.{option_map, ForSome}
+use Rattle.std.proofs.lemmas.Bool.{cases_Bool, cases_lt}
+use Rattle.std.proofs.lemmas.List.{length-map, length-replicate, get_or_past, ext_get_or}
+use Rattle.std.proofs.lemmas.Option.{same_Some}
+use Rattle.std.proofs.Math.ListN.{get_or-map}
+use Rattle.tbl_kinds.specs.State.{Stored, Store as Blocks, empty_store}
+use Rattle.tbl_kinds.specs.StoreSteps.{stored_at, MayGive, MayShow, shown, settled, settled_from, booted}
+use Rattle.tbl_kinds.specs.Places.{bank_size}
+use Rattle.tbl_kinds.specs.declared.block.Block.{Block}
+use Rattle.tbl_kinds.specs.declared.request.ResetKind.{ResetKind}
+use Rattle.tbl_kinds.specs.declared.request.ResetKind.TheVariants.{Processor, PowerOn}
+use Rattle.cds_layout.specs.Entries.{slot_count}
+use Rattle.cds_layout.specs.Directory.{directory_len, directory_of}
+use Rattle.cds_layout.specs.Images.{held_in, stored_in, store_of}
+use Rattle.cds_layout.proofs.Directories.{length-directory_of}
+use Rattle.cds_layout.proofs.DirectoryLaws.{directory-right, directory-agree_both}
+use Rattle.cds_store.specs.Boots.{SameStore, IsTidy, IsCleared, Clears, BeginsAt, opened_slot, is_doubtful_slot, is_doubtful_at, is_found, found_open, found_in, found_to}
+use Rattle.cds_store.specs.Moments.{ShowsIn, BootLeaves}
+use Rattle.cds_store.specs.Sound.{slot_at, AreTogether, EntryIs, Matches, IsSound, IsKept}
+use Rattle.cds_store.specs.Standing.{Kept, StandsFor, kept, slot_of, AreHeld}
+use Rattle.cds_store.specs.declared.slot.Slot.{Slot}
+use Rattle.cds_store.proofs.Changes.{Stands}
+use Rattle.cds_store.proofs.Closing.{stands_for}
+use Rattle.cds_store.proofs.Found.{found_has}
+use Rattle.cds_store.proofs.Steps.{may_give_alike}
+use Rattle.cds_store.proofs.Strays.{stored_there, length-store, shows_alike, emptied_shows}
+
+-- ---- the slots of a directory
+
+opened_parts : (o : Option Block) (s : Slot) → option_map opened_slot o ≡ Some s → (o ≡ Some s.block) × (s.doubtful ≡ false)
+opened_parts None s is = absurd (cc is)
+opened_parts (Some b) s is = rw (← same_Some (opened_slot b) s is) (refl, refl)
+
+slots_at : (directory : List (Option Block)) (n : ℕ) → slot_at (map (option_map opened_slot) directory) n ≡ option_map opened_slot (slice_index_or directory n None)
+slots_at directory n = get_or-map (option_map opened_slot) directory n None
+
+pub directory_together : (bytes : List ℕ) → AreTogether (map (option_map opened_slot) (directory_of bytes))
+directory_together bytes = record {
+  all_slots = length-map (directory_of bytes) (option_map opened_slot) ∙ length-directory_of bytes;
+  right = λ n s there. directory-right bytes n s.block (opened_parts (slice_index_or (directory_of bytes) n None) s (sym (slots_at (directory_of bytes) n) ∙ there)).0;
+  apart = λ n m differ a at_n b at_m.
+      directory-agree_both bytes n m a.block b.block differ
+      (opened_parts (slice_index_or (directory_of bytes) n None) a (sym (slots_at (directory_of bytes) n) ∙ at_n)).0
+      (opened_parts (slice_index_or (directory_of bytes) m None) b (sym (slots_at (directory_of bytes) m) ∙ at_m)).0;
+}
+
+pub tidy_matches : (old now : List ℕ) → IsTidy old now → Matches now (map (option_map opened_slot) (directory_of old))
+tidy_matches old now tidy = record {
+  live = tidy.live;
+  entries = λ n lt. subst (EntryIs now n) (sym (slots_at (directory_of old) n)) (tidy.entries n lt);
+}
+
+-- ---- the blocks, settled
+
+settled_at : (found : List ℕ) (k : ℕ) (blocks : Blocks) (n : ℕ) → stored_at (settled_from found k blocks) n ≡ settled found (k + n) (stored_at blocks n)
+settled_at found k [] n = refl
+settled_at found k (b ∷ bs) zero = let same : k + 0 ≡ k = omega arith in ap (λ i. settled found i b) (sym same)
+settled_at found k (b ∷ bs) (suc n) =
+    let same : k + 1 + n ≡ k + suc n = omega arith in
+    settled_at found (k + 1) bs n ∙ ap (λ i. settled found i (stored_at bs n)) same
+
+length-settled : (found : List ℕ) (k : ℕ) (blocks : Blocks) → length (settled_from found k blocks) ≡ length blocks
+length-settled found k [] = refl
+length-settled found k (b ∷ bs) = ap (λ n. suc n) (length-settled found (k + 1) bs)
+
+-- what is known of one slot after a boot
+record Settles (found : List ℕ) (old : List ℕ) (n : ℕ) (o : Option Stored) (left : Option Block) : Type 0 where
+  slot : option_map slot_of (settled found n o) ≡ option_map opened_slot left
+  holds : ForSome (settled found n o) (λ b. MayGive b (held_in old b.block) × (left ≡ Some b.block))
+
+sure_settles : (found : List ℕ) (old : List ℕ) (n : ℕ) (b : Stored) (d : Block) → b.doubtful ≡ false → stored_in old d ≡ shown b (held_in old d) → MayGive b (held_in old d) → Settles found old n (Some b) (Some d)
+sure_settles found old n b d sure is gives =
+    let same : d ≡ b.block = ap (λ (s : Stored). s.block) is in
+    let stays : settled found n (Some b) ≡ Some b = rw sure refl in
+    record {
+      slot = rw (stays, same, sure) refl;
+      holds = λ c there.
+          let c_is : b ≡ c = same_Some b c (sym stays ∙ there) in
+          (subst (λ (e : Stored). MayGive e (held_in old e.block)) c_is (subst (λ (e : Block). MayGive b (held_in old e)) same gives), ap (λ (e : Block). Some e) (same ∙ ap (λ (e : Stored). e.block) c_is));
+    }
+
+found_settles : (found : List ℕ) (old : List ℕ) (n : ℕ) (b : Stored) (d : Block) → b.doubtful ≡ true → list_any (λ m. m == n) found ≡ true → stored_in old d ≡ shown b (held_in old d) → MayGive b (held_in old d) → Settles found old n (Some b) (Some d)
+found_settles found old n b d doubt among is gives =
+    let same : d ≡ b.block = ap (λ (s : Stored). s.block) is in
+    let then_sure : Stored = record b { doubtful = false } in
+    let stays : settled found n (Some b) ≡ Some (record b { doubtful = false }) = rw (doubt, among) refl in
+    record {
+      slot = rw (stays, same) refl;
+      holds = λ c there.
+          let c_is : (record b { doubtful = false }) ≡ c = same_Some (record b { doubtful = false }) c (sym stays ∙ there) in (
+            subst (λ (e : Stored). MayGive e (held_in old e.block)) c_is
+                (may_give_alike b.trying b (record b { doubtful = false }) (held_in old b.block) refl refl (subst (λ (e : Block). MayGive b (held_in old e)) same gives)),
+            ap (λ (e : Block). Some e) (same ∙ ap (λ (e : Stored). e.block) c_is),
+          );
+    }
+
+gone_settles : (found : List ℕ) (old : List ℕ) (n : ℕ) (b : Stored) → b.doubtful ≡ true → list_any (λ m. m == n) found ≡ false → Settles found old n (Some b) None
+gone_settles found old n b doubt not_among =
+    let goes : settled found n (Some b) ≡ None = rw (doubt, not_among) refl in
+    record {
+      slot = rw goes refl;
+      holds = λ c there. absurd (cc (sym goes ∙ there));
+    }
+
+-- whether a block in doubt was found open
+abbrev Finds : List ℕ → ℕ → Option Stored → Option Block → Type 0
+Finds found n o left = (b : Stored) → o ≡ Some b → b.doubtful ≡ true → list_any (λ m. m == n) found ≡ is_some left
+
+settles : (found : List ℕ) (old : List ℕ) (n : ℕ) (o : Option Stored) (left : Option Block) → MayShow o (option_map (stored_in old) left) → Finds found n o left → Settles found old n o left
+settles found old n None None shows finds = record { slot = refl; holds = λ b is. absurd (cc is) }
+settles found old n None (Some d) shows finds = absurd (cc shows)
+settles found old n (Some b) None shows finds = gone_settles found old n b shows (finds b refl shows)
+settles found old n (Some b) (Some d) shows finds =
+    elim (cases_Bool b.doubtful) [
+      | inl doubt ↦ found_settles found old n b d doubt (finds b refl doubt) shows.0 shows.1
+      | inr sure ↦ sure_settles found old n b d sure shows.0 shows.1
+    ]
+
+module _ (old now : List ℕ) (found : List ℕ) (blocks : Blocks) (tidy : IsTidy old now) (shows : ShowsIn blocks old) (finds : (n : ℕ) → n < slot_count → Finds found n (stored_at blocks n) (slice_index_or (directory_of old) n None)) where
+  long : length blocks ≡ slot_count
+  long = sym shows.as_long ∙ length-store old
+
+  settles_at : (n : ℕ) → n < slot_count → Settles found old n (stored_at blocks n) (slice_index_or (directory_of old) n None)
+  settles_at n lt = settles found old n (stored_at blocks n) (slice_index_or (directory_of old) n None) (subst (MayShow (stored_at blocks n)) (stored_there old n) (shows.each n)) (finds n lt)
+
+  at_zero : (n : ℕ) → stored_at (settled_from found 0 blocks) n ≡ settled found n (stored_at blocks n)
+  at_zero n = let same : 0 + n ≡ n = omega arith in settled_at found 0 blocks n ∙ ap (λ i. settled found i (stored_at blocks n)) same
+
+  settled_same : map (option_map opened_slot) (directory_of old) ≡ map (option_map slot_of) (settled_from found 0 blocks)
+  settled_same =
+      ext_get_or None (map (option_map opened_slot) (directory_of old)) (map (option_map slot_of) (settled_from found 0 blocks))
+      (length-map (directory_of old) (option_map opened_slot) ∙ length-directory_of old ∙ sym long ∙ sym (length-settled found 0 blocks) ∙ sym (length-map (settled_from found 0 blocks) (option_map slot_of)))
+      (λ n lt.
+      let within : n < slot_count = omega (arith, lt, length-map (directory_of old) (option_map opened_slot), length-directory_of old) in
+      slots_at (directory_of old) n ∙ sym (settles_at n within).slot ∙ ap (option_map slot_of) (sym (at_zero n)) ∙ sym (get_or-map (option_map slot_of) (settled_from found 0 blocks) n None))
+
+  settled_within : (n : ℕ) (b : Stored) → stored_at (settled_from found 0 blocks) n ≡ Some b → n < slot_count
+  settled_within n b there =
+      elim (cases_lt n slot_count) [
+        | inl lt ↦ lt
+        | inr past ↦ absurd (cc (sym (get_or_past (settled_from found 0 blocks) n None (omega (arith, past, long, length-settled found 0 blocks))) ∙ there))
+      ]
+
+  pub settled_stands : Stands now (map (option_map opened_slot) (directory_of old)) (settled_from found 0 blocks)
+  settled_stands = record {
+    same = settled_same;
+    together = directory_together old;
+    matches = tidy_matches old now tidy;
+    held = λ n b there.
+        let gives = (settles_at n (settled_within n b there)).holds b (sym (at_zero n) ∙ there) in
+        subst (MayGive b) (sym (tidy.same.held n b.block gives.1)) gives.0;
+  }
+
+-- ---- which are found
+
+abbrev pub DoubtKnown : List (Option Slot) → Blocks → Type 0
+DoubtKnown slots blocks = (n : ℕ) (b : Stored) → stored_at blocks n ≡ Some b → b.doubtful ≡ true → is_doubtful_at slots n ≡ true
+
+pub doubt_known : (slots : List (Option Slot)) (blocks : Blocks) → slots ≡ map (option_map slot_of) blocks → DoubtKnown slots blocks
+doubt_known slots blocks same n b there doubt =
+    ap is_doubtful_slot (ap (λ (l : List (Option Slot)). slot_at l n) same ∙ get_or-map (option_map slot_of) blocks n None ∙ ap (option_map slot_of) there) ∙ doubt
+
+shown_sure : (bytes : List ℕ) (o : Option Block) (b : Stored) → option_map (stored_in bytes) o ≡ Some b → b.doubtful ≡ false
+shown_sure bytes None b is = absurd (cc is)
+shown_sure bytes (Some d) b is = rw (← same_Some (stored_in bytes d) b is) refl
+
+pub shown_known : (slots : List (Option Slot)) (bytes : List ℕ) → DoubtKnown slots (store_of bytes)
+shown_known slots bytes n b there doubt = absurd (cc (sym (shown_sure bytes (slice_index_or (directory_of bytes) n None) b (sym (stored_there bytes n) ∙ there)) ∙ doubt))
+
+pub finds_open : (slots : List (Option Slot)) (directory : List (Option Block)) (blocks : Blocks) → DoubtKnown slots blocks → (n : ℕ) → n < slot_count → Finds (found_open slots directory) n (stored_at blocks n) (slice_index_or directory n None)
+finds_open slots directory blocks known n lt b there doubt =
+    found_has (is_found slots directory) slot_count n lt ∙ ap (λ d. d && is_some (slice_index_or directory n None)) (known n b there doubt)
+
+-- a store shows itself
+shows_own : (bytes : List ℕ) (o : Option Block) → MayShow (option_map (stored_in bytes) o) (option_map (stored_in bytes) o)
+shows_own bytes None = refl
+shows_own bytes (Some d) = (refl, refl)
+
+pub shows_itself : (bytes : List ℕ) → ShowsIn (store_of bytes) bytes
+shows_itself bytes = record {
+  as_long = refl;
+  each = λ n. subst (λ o. MayShow o o) (sym (stored_there bytes n)) (shows_own bytes (slice_index_or (directory_of bytes) n None));
+}
+
+stored_is_some : (bytes : List ℕ) (o : Option Block) → is_some (option_map (stored_in bytes) o) ≡ is_some o
+stored_is_some bytes None = refl
+stored_is_some bytes (Some b) = refl
+
+found_alike : (p q : ℕ → Bool) → ((n : ℕ) → p n ≡ q n) → (count : ℕ) → found_to count p ≡ found_to count q
+unfolding found_to
+found_alike p q same count = by (range_with_len 0 count)
+  where
+    by : (xs : List ℕ) → filter p xs ≡ filter q xs
+    by [] = refl
+    by (x ∷ xs) = rw (same x, by xs) refl
+
+pub found_shown : (slots : List (Option Slot)) (bytes : List ℕ) → found_open slots (directory_of bytes) ≡ found_in slots (store_of bytes)
+found_shown slots bytes =
+    found_alike (is_found slots (directory_of bytes)) (λ n. is_doubtful_at slots n && is_some (stored_at (store_of bytes) n))
+    (λ n. ap (λ s. is_doubtful_at slots n && s) (sym (stored_is_some bytes (slice_index_or (directory_of bytes) n None)) ∙ sym (ap is_some (stored_there bytes n))))
+    slot_count
+
+-- ---- after a power-on
+
+none_at : (k n : ℕ) → slot_at (replicate k None) n ≡ None
+none_at zero n = refl
+none_at (suc k) zero = refl
+none_at (suc k) (suc n) = none_at k n
+
+map-none : (k : ℕ) → replicate k None ≡ map (option_map slot_of) (replicate k None)
+map-none zero = refl
+map-none (suc k) = ap (λ (l : List (Option Slot)). None ∷ l) (map-none k)
+
+none_stored : (k n : ℕ) (b : Stored) → stored_at (replicate k None) n ≡ Some b → ⊥
+none_stored zero n b there = cc there
+none_stored (suc k) zero b there = cc there
+none_stored (suc k) (suc n) b there = none_stored k n b there
+
+none_together : (k : ℕ) → k ≡ slot_count → AreTogether (replicate k None)
+none_together k is = record {
+  all_slots = length-replicate k None ∙ is;
+  right = λ n s there. absurd (cc (sym (none_at k n) ∙ there));
+  apart = λ n m differ a there b there_b. absurd (cc (sym (none_at k n) ∙ there));
+}
+
+pub no_slots_together : AreTogether (replicate slot_count None)
+no_slots_together = none_together slot_count refl
+
+pub cleared_stands : (now : List ℕ) → IsCleared now → Stands now (replicate slot_count None) empty_store
+cleared_stands now cleared = record {
+  same = map-none slot_count;
+  together = no_slots_together;
+  matches = record {
+    live = cleared.live;
+    entries = λ n lt. subst (EntryIs now n) (sym (none_at slot_count n)) (cleared.shut n lt);
+  };
+  held = λ n b there. absurd (none_stored slot_count n b there);
+}
+
+-- ---- a boot as a whole
+
+module _ {B : Type 0} (tells : Type 0) (size : B → ℕ) (now : B → List ℕ) (slots : List (Option Slot)) (bank : B) where
+  begins_shows : tells → (blocks : Blocks) → BeginsAt tells now (kept slots bank) blocks → ShowsIn blocks (now bank)
+  begins_shows told blocks (inl stands) = stands.shows told
+  begins_shows told blocks (inr own) = subst (λ (l : Blocks). ShowsIn l (now bank)) (sym own.1) (shows_itself (now bank))
+
+  begins_known : (blocks : Blocks) → BeginsAt tells now (kept slots bank) blocks → DoubtKnown slots blocks
+  begins_known blocks (inl stands) = doubt_known slots blocks stands.slots
+  begins_known blocks (inr own) = subst (DoubtKnown slots) (sym own.1) (shown_known slots (now bank))
+
+  pub processor_leaves : tells → (blocks : Blocks) → BeginsAt tells now (kept slots bank) blocks → (image : List ℕ) → SameStore (now bank) image → BootLeaves Processor blocks image
+  processor_leaves told blocks begins image same = inl (shows_alike (now bank) image blocks same (begins_shows told blocks begins))
+
+  pub power_on_leaves : tells → (blocks : Blocks) → BeginsAt tells now (kept slots bank) blocks → (image : List ℕ) → Clears (now bank) image → BootLeaves PowerOn blocks image
+  power_on_leaves told blocks begins image (inl same) = inl (subst (ShowsIn blocks) (sym same) (begins_shows told blocks begins))
+  power_on_leaves told blocks begins image (inr emptied) = inr (refl, emptied_shows image emptied)
+
+  module _ (new_slots : List (Option Slot)) (new : B) (directory : List (Option Block)) (is : tells → directory ≡ directory_of (now bank)) (new_is : new_slots ≡ map (option_map opened_slot) directory) (tidy : tells → IsTidy (now bank) (now new)) where
+    pub processor_sound : (front : List ℕ) → directory ≡ directory_of front → bank_size ≤ size new → IsSound tells size now (kept new_slots new)
+    processor_sound front told_by room = record {
+      together = subst AreTogether (sym (new_is ∙ ap (map (option_map opened_slot)) told_by)) (directory_together front);
+      room = room;
+      matches = λ booted_is told. subst (Matches (now new)) (sym (new_is ∙ ap (map (option_map opened_slot)) (is told))) (tidy_matches (now bank) (now new) (tidy told));
+    }
+
+    pub processor_stands : (found : List ℕ) → found ≡ found_open slots directory → tells → (blocks : Blocks) → BeginsAt tells now (kept slots bank) blocks → StandsFor tells now (kept new_slots new) (booted Processor found blocks)
+    processor_stands found found_is told blocks begins =
+        let told_is : found ≡ found_open slots (directory_of (now bank)) = found_is ∙ ap (found_open slots) (is told) in
+        let stands : Stands (now new) (map (option_map opened_slot) (directory_of (now bank))) (settled_from found 0 blocks) =
+        settled_stands (now bank) (now new) found blocks (tidy told) (begins_shows told blocks begins)
+        (λ n lt b there doubt. ap (list_any (λ m. m == n)) told_is ∙ finds_open slots (directory_of (now bank)) blocks (begins_known blocks begins) n lt b there doubt) in
+        subst (λ (l : List (Option Slot)). StandsFor tells now (kept l new) (settled_from found 0 blocks)) (sym (new_is ∙ ap (map (option_map opened_slot)) (is told)))
+        (stands_for tells now (map (option_map opened_slot) (directory_of (now bank))) new (settled_from found 0 blocks) stands.same (λ told_again. stands))
+
+  module _ (new_slots : List (Option Slot)) (new : B) (count : ℕ) (all : count ≡ slot_count) (new_is : new_slots ≡ replicate count None) (cleared_is : tells → IsCleared (now new)) where
+    none_new : new_slots ≡ replicate slot_count None
+    none_new = new_is ∙ ap (λ k. replicate k None) all
+
+    pub power_on_sound : bank_size ≤ size new → IsSound tells size now (kept new_slots new)
+    power_on_sound room = record {
+      together = subst AreTogether (sym none_new) no_slots_together;
+      room = room;
+      matches = λ booted_is told. subst (Matches (now new)) (sym none_new) (cleared_stands (now new) (cleared_is told)).matches;
+    }
+
+    pub power_on_stands : (found : List ℕ) → tells → (blocks : Blocks) → StandsFor tells now (kept new_slots new) (booted PowerOn found blocks)
+    power_on_stands found told blocks =
+        let stands = cleared_stands (now new) (cleared_is told) in
+        subst (λ (l : List (Option Slot)). StandsFor tells now (kept l new) empty_store) (sym none_new)
+        (stands_for tells now (replicate slot_count None) new empty_store stands.same (λ told_again. stands))
+
+-- the bank was only read
+pub begins_again : {B : Type 0} (tells : Type 0) (now : B → List ℕ) (slots : List (Option Slot)) (bank mid : B) (blocks : Blocks) → (tells → now mid ≡ now bank) → BeginsAt tells now (kept slots bank) blocks → BeginsAt tells now (kept slots mid) blocks
+begins_again tells now slots bank mid blocks same (inl stands) = inl (record {
+  slots = stands.slots;
+  shows = λ told. subst (ShowsIn blocks) (sym (same told)) (stands.shows told);
+  holds = λ told. subst (λ (l : List ℕ). AreHeld l blocks) (sym (same told)) (stands.holds told);
+})
+begins_again tells now slots bank mid blocks same (inr own) = inr (own.0, own.1 ∙ ap store_of (sym (same own.0)))
+
+pub read_leaves : {B : Type 0} (tells : Type 0) (now : B → List ℕ) (slots : List (Option Slot)) (bank : B) (kind : ResetKind) (blocks : Blocks) → tells → BeginsAt tells now (kept slots bank) blocks → (image : List ℕ) → image ≡ now bank → BootLeaves kind blocks image
+read_leaves tells now slots bank kind blocks told (inl stands) image same = inl (subst (ShowsIn blocks) (sym same) (stands.shows told))
+read_leaves tells now slots bank kind blocks told (inr own) image same = inl (subst (ShowsIn blocks) (sym same) (subst (λ (l : Blocks). ShowsIn l (now bank)) (sym own.1) (shows_itself (now bank))))
+
+-- ---- several clauses of one result
+
+pub on_ok_two : {T E P Q R : Type 0} (r : Result T E) → (P → Q → R) → OnOk r P → OnOk r Q → OnOk r R
+on_ok_two (Ok x) both p q = both p q
+on_ok_two (Err e) both p q = tt
+
+pub if_ok_two : {T E Q S : Type 0} (P R : T → Type 0) (r : Result T E) → ((x : T) → P x → Q → S → R x) → IfOk r P → OnOk r Q → OnOk r S → IfOk r R
+if_ok_two P R (Ok x) both p q s = both x p q s
+if_ok_two P R (Err e) both p q s = tt
+
+-- whether the store was booted before doesn't matter
+pub begins_kept : {B : Type 0} (tells : Type 0) (now : B → List ℕ) (k : Kept B) (blocks : Blocks) → BeginsAt tells now k blocks → BeginsAt tells now (kept k.slots k.bank) blocks
+begins_kept tells now k blocks (inl stands) = inl (record { slots = stands.slots; shows = stands.shows; holds = stands.holds })
+begins_kept tells now k blocks (inr own) = inr own
+
+-- a store that was just made
+pub made_kept : {B : Type 0} (tells : Type 0) (size : B → ℕ) (now : B → List ℕ) (slots : List (Option Slot)) (bank : B) (front : List ℕ) → slots ≡ replicate slot_count None → bank_size ≤ size bank → length front ≡ directory_len
+    → IsKept tells size now (record { slots = slots; bank = bank; booted = false }) front
+made_kept tells size now slots bank front free room len = record {
+  sound = record {
+    together = subst AreTogether (sym free) no_slots_together;
+    room = room;
+    matches = λ booted_is told. absurd (cc booted_is);
+  };
+  len = len;
+}

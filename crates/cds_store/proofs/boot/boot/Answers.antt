@@ -1,0 +1,39 @@
+use Rattle.std.proofs.lemmas.Result.{IfOk-weaker}
+use Rattle.tbl_kinds.specs.State.{Store as Blocks}
+use Rattle.tbl_kinds.specs.StoreSteps.{booted}
+use Rattle.tbl_outside.proofs.Moments.{goes_on, leaves_among}
+use Rattle.cds_store.specs.Boots.{BeginsAt}
+use Rattle.cds_store.specs.Standing.{StandsFor, kept}
+use Rattle.cds_store.proofs.Settled.{begins_again, read_leaves}
+use Rattle.cds_store.proofs.boot.boot.Goals as goal
+
+pub returns-in_err-read_front-clause-left : goal.returns-in_err-read_front-clause-left
+returns-in_err-read_front-clause-left g c told blocks begins =
+    let b = g.B.Bank in
+    read_leaves b.tells b.now c.args.slots.now.items c.args.bank.now c.args.kind blocks told begins (b.now c.read_front.new.bank) (c.read_front.ensures.kept told)
+
+pub returns-in_err-read_front-clause-moments : goal.returns-in_err-read_front-clause-moments
+returns-in_err-read_front-clause-moments g c told blocks begins =
+    let b = g.B.Bank in
+    leaves_among (c.read_front.ensures.moments told) (read_leaves b.tells b.now c.args.slots.now.items c.args.bank.now c.args.kind blocks (g.met.B.Bank.tells_both told) begins)
+
+pub returns-clause-ok : goal.returns-clause-ok
+returns-clause-ok g c =
+    let b = g.B.Bank in
+    IfOk-weaker c.boot_as.result
+    (λ found. b.tells → (blocks : Blocks) → BeginsAt b.tells b.now (kept c.args.slots.now.items c.read_front.new.bank) blocks → StandsFor b.tells b.now (kept c.boot_as.new.slots.items c.boot_as.new.bank) (booted c.args.kind found blocks)) _
+    (λ found stands told blocks begins. stands told blocks (begins_again b.tells b.now c.args.slots.now.items c.args.bank.now c.read_front.new.bank blocks c.read_front.ensures.kept begins))
+    c.boot_as.ensures.ok
+
+pub returns-clause-left : goal.returns-clause-left
+returns-clause-left g c told blocks begins =
+    let b = g.B.Bank in
+    c.boot_as.ensures.left told blocks (begins_again b.tells b.now c.args.slots.now.items c.args.bank.now c.read_front.new.bank blocks c.read_front.ensures.kept begins)
+
+pub returns-clause-moments : goal.returns-clause-moments
+returns-clause-moments g c told blocks begins =
+    let b = g.B.Bank in
+    goes_on
+    (leaves_among (c.read_front.ensures.moments told) (read_leaves b.tells b.now c.args.slots.now.items c.args.bank.now c.args.kind blocks (g.met.B.Bank.tells_both told) begins))
+    (c.boot_as.ensures.moments told blocks (begins_again b.tells b.now c.args.slots.now.items c.args.bank.now c.read_front.new.bank blocks c.read_front.ensures.kept begins))
+    (λ image leaves. leaves)

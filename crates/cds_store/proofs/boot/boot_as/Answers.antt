@@ -1,0 +1,76 @@
+use Rattle.std.proofs.Common.{◌≡◌, ◌≤◌, List, [], length, Option, ◌∙◌, ap, arith}
+use Rattle.std.proofs.lemmas.Result.{IfOk-weaker}
+use Rattle.tbl_kinds.specs.Places.{bank_size}
+use Rattle.tbl_kinds.specs.declared.block.Block.{Block}
+use Rattle.tbl_outside.proofs.Moments.{leaves_among}
+use Rattle.cds_layout.proofs.Directories.{length-directory_of}
+use Rattle.cds_store.specs.Boots.{found_open}
+use Rattle.cds_store.proofs.Settled.{on_ok_two, if_ok_two, processor_sound, processor_stands, processor_leaves, power_on_sound, power_on_stands, power_on_leaves, found_shown}
+use Rattle.cds_store.proofs.boot.boot_as.Goals as goal
+
+pub boot_processor-requires-clause-directory : goal.boot_processor-requires-clause-directory
+boot_processor-requires-clause-directory g c = ap (λ (l : List (Option Block)). length l) c.requires.directory ∙ length-directory_of c.args.front.now
+
+pub returns-in-Processor-clause-sound : goal.returns-in-Processor-clause-sound
+returns-in-Processor-clause-sound g c =
+    let b = g.B.Bank in
+    let room : bank_size ≤ b.size c.boot_processor.new.bank = omega (arith, c.requires.room, c.boot_processor.ensures.steady.size_kept) in
+    on_ok_two c.boot_processor.result
+    (λ slots tidy. processor_sound b.tells b.size b.now c.args.slots.now.items c.args.bank.now c.boot_processor.new.slots.items c.boot_processor.new.bank c.args.directory.now (λ told. (c.requires.read told).told) slots tidy c.args.front.now c.requires.directory room)
+    c.boot_processor.ensures.slots c.boot_processor.ensures.tidy
+
+pub returns-in-Processor-clause-ok : goal.returns-in-Processor-clause-ok
+returns-in-Processor-clause-ok g c =
+    let b = g.B.Bank in
+    rw c.in-Processor.is
+    (if_ok_two (λ found. found ≡ found_open c.args.slots.now.items c.args.directory.now) _ c.boot_processor.result
+    (λ found is slots tidy. processor_stands b.tells b.size b.now c.args.slots.now.items c.args.bank.now c.boot_processor.new.slots.items c.boot_processor.new.bank c.args.directory.now (λ told. (c.requires.read told).told) slots tidy found is)
+    c.boot_processor.ensures.found c.boot_processor.ensures.slots c.boot_processor.ensures.tidy)
+
+pub returns-in-Processor-clause-found : goal.returns-in-Processor-clause-found
+returns-in-Processor-clause-found g c =
+    let b = g.B.Bank in
+    rw c.in-Processor.is
+    (IfOk-weaker c.boot_processor.result (λ found. found ≡ found_open c.args.slots.now.items c.args.directory.now) _
+    (λ found is told. is ∙ ap (found_open c.args.slots.now.items) (c.requires.read told).told ∙ found_shown c.args.slots.now.items (b.now c.args.bank.now))
+    c.boot_processor.ensures.found)
+
+pub returns-in-Processor-clause-left : goal.returns-in-Processor-clause-left
+returns-in-Processor-clause-left g c told blocks begins =
+    let b = g.B.Bank in
+    rw c.in-Processor.is
+    (processor_leaves b.tells b.size b.now c.args.slots.now.items c.args.bank.now told blocks begins (b.now c.boot_processor.new.bank) (c.boot_processor.ensures.same told))
+
+pub returns-in-Processor-clause-moments : goal.returns-in-Processor-clause-moments
+returns-in-Processor-clause-moments g c told blocks begins =
+    let b = g.B.Bank in
+    rw c.in-Processor.is
+    (leaves_among (c.boot_processor.ensures.moments told) (processor_leaves b.tells b.size b.now c.args.slots.now.items c.args.bank.now (g.met.B.Bank.tells_both told) blocks begins))
+
+pub returns-in-PowerOn-clause-sound : goal.returns-in-PowerOn-clause-sound
+returns-in-PowerOn-clause-sound g c =
+    let b = g.B.Bank in
+    let room : bank_size ≤ b.size c.boot_power_on.new.bank = omega (arith, c.requires.room, c.boot_power_on.ensures.steady.size_kept) in
+    on_ok_two c.boot_power_on.result
+    (λ slots cleared. power_on_sound b.tells b.size b.now c.args.slots.now.items c.args.bank.now c.boot_power_on.new.slots.items c.boot_power_on.new.bank (length c.args.slots.now.items) c.requires.slots slots cleared room)
+    c.boot_power_on.ensures.slots c.boot_power_on.ensures.cleared
+
+pub returns-in-PowerOn-clause-ok : goal.returns-in-PowerOn-clause-ok
+returns-in-PowerOn-clause-ok g c =
+    let b = g.B.Bank in
+    rw c.in-PowerOn.is
+    (if_ok_two (λ found. found ≡ []) _ c.boot_power_on.result
+    (λ found is slots cleared told blocks begins. power_on_stands b.tells b.size b.now c.args.slots.now.items c.args.bank.now c.boot_power_on.new.slots.items c.boot_power_on.new.bank (length c.args.slots.now.items) c.requires.slots slots cleared found told blocks)
+    c.boot_power_on.ensures.found c.boot_power_on.ensures.slots c.boot_power_on.ensures.cleared)
+
+pub returns-in-PowerOn-clause-left : goal.returns-in-PowerOn-clause-left
+returns-in-PowerOn-clause-left g c told blocks begins =
+    let b = g.B.Bank in
+    rw c.in-PowerOn.is
+    (power_on_leaves b.tells b.size b.now c.args.slots.now.items c.args.bank.now told blocks begins (b.now c.boot_power_on.new.bank) (c.boot_power_on.ensures.left told))
+
+pub returns-in-PowerOn-clause-moments : goal.returns-in-PowerOn-clause-moments
+returns-in-PowerOn-clause-moments g c told blocks begins =
+    let b = g.B.Bank in
+    rw c.in-PowerOn.is
+    (leaves_among (c.boot_power_on.ensures.moments told) (power_on_leaves b.tells b.size b.now c.args.slots.now.items c.args.bank.now (g.met.B.Bank.tells_both told) blocks begins))

@@ -1,0 +1,36 @@
+use Rattle.std.proofs.Common.{sym, ◌∙◌}
+use Rattle.std.proofs.lemmas.Result.{on_ok_weaker}
+use Rattle.tbl_outside.proofs.Moments.{leaves_among}
+use Rattle.cds_store.proofs.Emptied.{dead_clears, dead_tidy}
+use Rattle.cds_store.proofs.Strays.{live_front, tidied_is_tidy}
+use Rattle.cds_store.proofs.boot.tidy.Goals as goal
+
+pub tidy_live-requires-clause-live : goal.tidy_live-requires-clause-live
+tidy_live-requires-clause-live g c told =
+    sym (live_front c.args.front.now c.args.directory.now (g.B.Bank.now c.args.bank.now) (c.requires.read told)) ∙ sym c.is_live.ensures ∙ c.if-is_live.true
+
+pub returns-then-is_live-clause-tidy : goal.returns-then-is_live-clause-tidy
+returns-then-is_live-clause-tidy g c =
+    on_ok_weaker c.tidy_live.result (λ done told. tidied_is_tidy (g.B.Bank.now c.args.bank.now) (g.B.Bank.now c.tidy_live.new.bank) (done told)) c.tidy_live.ensures.done
+
+pub returns-else-is_live-clause-tidy : goal.returns-else-is_live-clause-tidy
+returns-else-is_live-clause-tidy g c =
+    on_ok_weaker c.clear_all.result
+    (λ done told.
+    dead_tidy (g.B.Bank.now c.args.bank.now) (g.B.Bank.now c.clear_all.new.bank)
+    (sym (live_front c.args.front.now c.args.directory.now (g.B.Bank.now c.args.bank.now) (c.requires.read told)) ∙ sym c.is_live.ensures ∙ c.if-is_live.false) (done told))
+    c.clear_all.ensures.done
+
+pub returns-else-is_live-clause-same : goal.returns-else-is_live-clause-same
+returns-else-is_live-clause-same g c told =
+    dead_clears (g.B.Bank.now c.args.bank.now) (g.B.Bank.now c.clear_all.new.bank)
+    (sym (live_front c.args.front.now c.args.directory.now (g.B.Bank.now c.args.bank.now) (c.requires.read told)) ∙ sym c.is_live.ensures ∙ c.if-is_live.false)
+    (c.clear_all.ensures.left told)
+
+pub returns-else-is_live-clause-moments : goal.returns-else-is_live-clause-moments
+returns-else-is_live-clause-moments g c told =
+    leaves_among (c.clear_all.ensures.moments told)
+    (λ image clears.
+    dead_clears (g.B.Bank.now c.args.bank.now) image
+    (sym (live_front c.args.front.now c.args.directory.now (g.B.Bank.now c.args.bank.now) (c.requires.read (g.met.B.Bank.tells_both told))) ∙ sym c.is_live.ensures ∙ c.if-is_live.false)
+    clears)

@@ -1,0 +1,9 @@
+use Rattle.std.proofs.Common.{rules, ◌≡◌, ◌∙◌}
+use Rattle.cds_store.specs.Slots.{open_slot}
+use Rattle.cds_store.proofs.Reservations.{open_same}
+use Rattle.cds_store.proofs.store.Store.find.Goals as goal
+
+pub returns-clause-block : goal.returns-clause-block
+returns-clause-block g c blocks stands =
+    let slot : c.find_open.result ≡ open_slot c.args.kind c.args.name.now c.args.self.now.slots = search rules in
+    slot ∙ open_same c.args.kind c.args.name.now c.args.self.now.slots blocks stands.slots

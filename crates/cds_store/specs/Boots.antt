@@ -1,0 +1,101 @@
+-- What a boot reads and writes.
+use Rattle.std.specs.Prelude.{◌≡◌, ◌⊎◌, ℕ, ◌<◌, ◌≤◌, ◌==◌, ◌&&◌, List, [], ◌∷◌, replicate, Bool, true, false, not, Option, Some, None, is_some, slice_index, slice_index_or}
+use Rattle.std.specs.List.{filter, range_with_len}
+use Rattle.std.specs.Option.{option_map}
+use Rattle.tbl_kinds.specs.Numbers.{piece, byte_at}
+use Rattle.tbl_kinds.specs.State.{Store as Blocks}
+use Rattle.tbl_kinds.specs.StoreSteps.{stored_at}
+use Rattle.tbl_kinds.specs.declared.block.Block.{Block}
+use Rattle.tbl_kinds.specs.declared.request.ResetKind.{ResetKind}
+use Rattle.tbl_kinds.specs.declared.request.ResetKind.TheVariants.{Processor, PowerOn}
+use Rattle.cds_layout.specs.Entries.{slot_count, gate_open, gate_at}
+use Rattle.cds_layout.specs.Directory.{is_live, directory_len, directory_of}
+use Rattle.cds_layout.specs.Images.{held_in, store_of}
+use Rattle.cds_store.specs.Sound.{slot_at, EntryIs}
+use Rattle.cds_store.specs.Standing.{Kept, StandsFor}
+use Rattle.cds_store.specs.declared.slot.Slot.{Slot}
+
+-- the first bytes of the bank, and the directory that they tell
+pub record IsFront (front : List ℕ) (directory : List (Option Block)) (bytes : List ℕ) : Type 0 where
+  pub read : front ≡ piece 0 directory_len bytes
+  pub told : directory ≡ directory_of bytes
+
+-- the same blocks stand open, with the same images
+pub record SameStore (old image : List ℕ) : Type 0 where
+  pub directory : directory_of image ≡ directory_of old
+  pub held : (n : ℕ) (b : Block) → slice_index_or (directory_of old) n None ≡ Some b → held_in image b ≡ held_in old b
+
+-- of the first slots, the gates that tell no block of the directory are closed
+pub record Tidied (old now : List ℕ) (count : ℕ) : Type 0 where
+  pub same : SameStore old now
+  pub live : is_live now ≡ true
+  pub shut : (n : ℕ) → n < count → n < slot_count → slice_index_or (directory_of old) n None ≡ None → (gate_at now n == gate_open) ≡ false
+  pub rest : (n : ℕ) → count ≤ n → n < slot_count → gate_at now n ≡ gate_at old n
+
+-- no block stands open
+abbrev pub IsEmptied : List ℕ → Type 0
+IsEmptied image = directory_of image ≡ replicate slot_count None
+
+-- the slot of a block that stands open
+abbrev pub opened_slot : Block → Slot
+opened_slot b = record { block = b; doubtful = false }
+
+-- the bytes match the directory of the old ones
+pub record IsTidy (old now : List ℕ) : Type 0 where
+  pub same : SameStore old now
+  pub live : is_live now ≡ true
+  pub entries : (n : ℕ) → n < slot_count → EntryIs now n (option_map opened_slot (slice_index_or (directory_of old) n None))
+
+abbrev pub is_doubtful_slot : Option Slot → Bool
+is_doubtful_slot None = false
+is_doubtful_slot (Some s) = s.doubtful
+
+abbrev pub is_doubtful_at : List (Option Slot) → ℕ → Bool
+is_doubtful_at slots n = is_doubtful_slot (slot_at slots n)
+
+-- the first numbers that pass a test, in their order
+unfoldable pub found_to : ℕ → (ℕ → Bool) → List ℕ
+found_to count test = filter test (range_with_len 0 count)
+
+-- the slots in doubt whose blocks stand open
+abbrev pub is_found : List (Option Slot) → List (Option Block) → ℕ → Bool
+is_found slots directory n = is_doubtful_at slots n && is_some (slice_index_or directory n None)
+
+abbrev pub found_open : List (Option Slot) → List (Option Block) → List ℕ
+found_open slots directory = found_to slot_count (is_found slots directory)
+
+abbrev pub found_in : List (Option Slot) → Blocks → List ℕ
+found_in slots shown = found_to slot_count (λ n. is_doubtful_at slots n && is_some (stored_at shown n))
+
+-- the blocks with which a boot begins: those that the store stands for, or those that its bank shows
+abbrev pub BeginsAt : {B : Type 0} → Type 0 → (B → List ℕ) → Kept B → Blocks → Type 0
+BeginsAt tells now kept blocks = StandsFor tells now kept blocks ⊎ (tells × (blocks ≡ store_of (now kept.bank)))
+
+-- the first byte of the live mark isn't there
+abbrev pub is_dead : List ℕ → Bool
+is_dead bytes = not (byte_at 0 bytes == 0x43)
+
+-- behind the first byte, the rest of the live mark
+abbrev pub HasMark : List ℕ → Type 0
+HasMark bytes = piece 1 3 bytes ≡ 0x44 ∷ 0x53 ∷ 0x31 ∷ []
+
+-- all gates are closed
+abbrev pub AllShut : List ℕ → Type 0
+AllShut bytes = (n : ℕ) → n < slot_count → (gate_at bytes n == gate_open) ≡ false
+
+-- a live bank whose gates are closed
+pub record IsCleared (bytes : List ℕ) : Type 0 where
+  pub live : is_live bytes ≡ true
+  pub shut : AllShut bytes
+
+abbrev pub AreZeros : List ℕ → Type 0
+AreZeros bytes = (i : ℕ) → slice_index bytes i ≡ 0
+
+-- a bank that is cleared is as it was until it shows no block
+abbrev pub Clears : List ℕ → List ℕ → Type 0
+Clears old image = (image ≡ old) ⊎ IsEmptied image
+
+-- the slots that a boot finds open
+abbrev pub found_by : ResetKind → List (Option Slot) → Blocks → List ℕ
+found_by Processor slots shown = found_in slots shown
+found_by PowerOn slots shown = []

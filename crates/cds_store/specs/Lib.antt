@@ -1,0 +1,7 @@
+pub mod Boots
+pub mod Calls
+pub mod Moments
+pub mod Slots
+pub mod Sound
+pub mod Standing
+pub mod Writes

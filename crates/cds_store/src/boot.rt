@@ -1,0 +1,249 @@
+//! A boot reads the directory and makes it match the slots.
+
+ghost use Rattle.std.specs.Prelude.{◌≡◌, ◌⊎◌, ◌≤◌, true, List, ℕ, [], length, map, replicate, None, IfOk, OnOk, OnErr, IfErr};
+ghost use Rattle.std.specs.Option.{option_map};
+ghost use Rattle.tbl_kinds.specs.Numbers.{piece, byte_at};
+ghost use Rattle.tbl_kinds.specs.Places.{bank_size};
+ghost use Rattle.tbl_kinds.specs.State.{Store as Blocks};
+ghost use Rattle.tbl_kinds.specs.StoreSteps.{booted};
+ghost use Rattle.tbl_outside.specs.Bank.{LeavesOnly};
+ghost use Rattle.cds_layout.specs.Directory.{directory_len, directory_of, is_live};
+ghost use Rattle.cds_layout.specs.Entries.{slot_count};
+ghost use Rattle.cds_store.specs.Boots.{IsFront, SameStore, IsTidy, IsCleared, Clears, AreZeros, BeginsAt, opened_slot, found_open, found_by};
+ghost use Rattle.cds_layout.specs.Images.{store_of};
+ghost use Rattle.cds_store.specs.Calls.{Steady, IsCaused};
+ghost use Rattle.cds_store.specs.Moments.{BootLeaves};
+ghost use Rattle.cds_store.specs.Sound.{IsSound};
+ghost use Rattle.cds_store.specs.Standing.{StandsFor, kept};
+
+use crate::clearing::clear;
+use crate::fault::BankFault;
+use crate::settling::{find_found, forget_all, open_all};
+use crate::slot::Slot;
+use crate::tidying::tidy_live;
+use cds_layout::{Directory, read_directory};
+use tbl_kinds::{ResetKind, Slots};
+use tbl_outside::{Bank, Failed};
+
+/// Where the entries begin, behind the live mark and twelve zeros.
+const ENTRIES_PLACE: usize = 16;
+
+/// The live mark of the bank.
+const LIVE_MARK: [u8; 4] = *b"CDS1";
+
+/// Reads the first bytes of the bank, and the directory that they tell.
+pub(crate) fn read_front<B: Bank>(
+    bank: &mut B,
+    front: &mut [u8],
+    directory: &mut Directory,
+) -> Result<(), BankFault>
+    requires len { length front.old ≡ directory_len }
+    requires room { bank_size ≤ B.size bank.old }
+    ensures front { OnOk result (B.tells → IsFront front.new directory.new (B.now bank.old)) }
+    ensures directory { OnOk result (directory.new ≡ directory_of front.new) }
+    ensures len { length front.new ≡ directory_len }
+    ensures kept { B.tells → B.now bank.new ≡ B.now bank.old }
+    ensures moments { B.tells_moments →
+        LeavesOnly B.clock B.left_since bank.old bank.new (λ image. image ≡ B.now bank.old) }
+    ensures steady { Steady B.size B.faults B.stops bank.old bank.new }
+    ensures cause { IfErr result (IsCaused B.faults B.stops bank.old bank.new) }
+{
+    match bank.read_at(0, front) {
+        Ok(()) => {
+            read_directory(front, directory);
+            Ok(())
+        }
+        Err(Failed) => Err(BankFault::Fault {
+            gate: false,
+            old: false,
+        }),
+    }
+}
+
+/// Whether the bank is live.
+fn is_live(front: &[u8]) -> bool
+    requires { length front.now ≡ directory_len }
+    ensures { result ≡ is_live front.now }
+{
+    &front[..LIVE_MARK.len()] == LIVE_MARK.as_slice()
+}
+
+#[tactic(auto, using(crate::proofs::Emptied::zeros_replicate))]
+fn zero_all(bytes: &mut [u8])
+    ensures len { length bytes.new ≡ length bytes.old }
+    ensures zeros { AreZeros bytes.new }
+{
+    bytes.fill(0);
+}
+
+/// The bytes of the entries.
+fn entries_of(bytes: &[u8]) -> &[u8]
+    requires { length bytes.now ≡ directory_len }
+    ensures len { length result.now ≡ 8192 }
+    ensures zeros { AreZeros bytes.now → AreZeros result.now }
+{
+    &bytes[ENTRIES_PLACE..]
+}
+
+/// The first of the bytes.
+fn first_of(bytes: &[u8]) -> u8
+    requires { length bytes.now ≡ directory_len }
+    ensures { result ≡ byte_at 0 bytes.now }
+{
+    bytes[0]
+}
+
+/// Clears the whole directory. The bytes that were read are used up.
+pub(crate) fn clear_all<B: Bank>(bank: &mut B, front: &mut [u8]) -> Result<(), BankFault>
+    requires len { length front.old ≡ directory_len }
+    requires room { bank_size ≤ B.size bank.old }
+    requires read { B.tells → front.old ≡ piece 0 directory_len (B.now bank.old) }
+    ensures len { length front.new ≡ directory_len }
+    ensures done { OnOk result (B.tells → IsCleared (B.now bank.new)) }
+    ensures left { B.tells → Clears (B.now bank.old) (B.now bank.new) }
+    ensures moments { B.tells_moments → LeavesOnly B.clock B.left_since bank.old bank.new (Clears (B.now bank.old)) }
+    ensures steady { Steady B.size B.faults B.stops bank.old bank.new }
+    ensures cause { IfErr result (IsCaused B.faults B.stops bank.old bank.new) }
+{
+    let first = first_of(front);
+    zero_all(front);
+    clear(bank, first, entries_of(front))
+}
+
+/// Closes the gates of a live bank that tell no block, and clears a bank that isn't live.
+fn tidy<B: Bank>(bank: &mut B, front: &mut [u8], directory: &Directory) -> Result<(), BankFault>
+    requires len { length front.old ≡ directory_len }
+    requires room { bank_size ≤ B.size bank.old }
+    requires read { B.tells → IsFront front.old directory.now (B.now bank.old) }
+    ensures len { length front.new ≡ directory_len }
+    ensures tidy { OnOk result (B.tells → IsTidy (B.now bank.old) (B.now bank.new)) }
+    ensures same { B.tells → SameStore (B.now bank.old) (B.now bank.new) }
+    ensures moments { B.tells_moments →
+        LeavesOnly B.clock B.left_since bank.old bank.new (SameStore (B.now bank.old)) }
+    ensures steady { Steady B.size B.faults B.stops bank.old bank.new }
+    ensures cause { IfErr result (IsCaused B.faults B.stops bank.old bank.new) }
+{
+    if is_live(front) {
+        tidy_live(bank, front, directory)
+    } else {
+        clear_all(bank, front)
+    }
+}
+
+/// Boots after a reset of the processor: each block that stands open is there, and those in doubt are settled.
+pub(crate) fn boot_processor<B: Bank>(
+    bank: &mut B,
+    slots: &mut Vec<Option<Slot>>,
+    front: &mut [u8],
+    directory: &Directory,
+) -> Result<Slots, BankFault>
+    requires slots { length slots.old.items ≡ slot_count }
+    requires directory { length directory.now ≡ slot_count }
+    requires len { length front.old ≡ directory_len }
+    requires room { bank_size ≤ B.size bank.old }
+    requires read { B.tells → IsFront front.old directory.now (B.now bank.old) }
+    ensures len { length front.new ≡ directory_len }
+    ensures found { IfOk result (λ found. found ≡ found_open slots.old.items directory.now) }
+    ensures slots { OnOk result (slots.new.items ≡ map (option_map opened_slot) directory.now) }
+    ensures tidy { OnOk result (B.tells → IsTidy (B.now bank.old) (B.now bank.new)) }
+    ensures err { OnErr result (slots.new.items ≡ slots.old.items) }
+    ensures same { B.tells → SameStore (B.now bank.old) (B.now bank.new) }
+    ensures moments { B.tells_moments →
+        LeavesOnly B.clock B.left_since bank.old bank.new (SameStore (B.now bank.old)) }
+    ensures steady { Steady B.size B.faults B.stops bank.old bank.new }
+    ensures cause { IfErr result (IsCaused B.faults B.stops bank.old bank.new) }
+{
+    tidy(bank, front, directory)?;
+    let found = find_found(slots, directory);
+    open_all(slots, directory);
+    Ok(found)
+}
+
+/// Boots after a power-on: no block is there.
+pub(crate) fn boot_power_on<B: Bank>(
+    bank: &mut B,
+    slots: &mut Vec<Option<Slot>>,
+    front: &mut [u8],
+) -> Result<Slots, BankFault>
+    requires slots { length slots.old.items ≡ slot_count }
+    requires len { length front.old ≡ directory_len }
+    requires room { bank_size ≤ B.size bank.old }
+    requires read { B.tells → front.old ≡ piece 0 directory_len (B.now bank.old) }
+    ensures len { length front.new ≡ directory_len }
+    ensures found { IfOk result (λ found. found ≡ []) }
+    ensures slots { OnOk result (slots.new.items ≡ replicate (length slots.old.items) None) }
+    ensures cleared { OnOk result (B.tells → IsCleared (B.now bank.new)) }
+    ensures err { OnErr result (slots.new.items ≡ slots.old.items) }
+    ensures left { B.tells → Clears (B.now bank.old) (B.now bank.new) }
+    ensures moments { B.tells_moments → LeavesOnly B.clock B.left_since bank.old bank.new (Clears (B.now bank.old)) }
+    ensures steady { Steady B.size B.faults B.stops bank.old bank.new }
+    ensures cause { IfErr result (IsCaused B.faults B.stops bank.old bank.new) }
+{
+    clear_all(bank, front)?;
+    forget_all(slots);
+    Ok(Slots::make())
+}
+
+/// Boots, once the first bytes were read.
+fn boot_as<B: Bank>(
+    bank: &mut B,
+    slots: &mut Vec<Option<Slot>>,
+    front: &mut [u8],
+    directory: &Directory,
+    kind: ResetKind,
+) -> Result<Slots, BankFault>
+    requires slots { length slots.old.items ≡ slot_count }
+    requires len { length front.old ≡ directory_len }
+    requires directory { directory.now ≡ directory_of front.old }
+    requires room { bank_size ≤ B.size bank.old }
+    requires read { B.tells → IsFront front.old directory.now (B.now bank.old) }
+    ensures len { length front.new ≡ directory_len }
+    ensures sound { OnOk result (IsSound B.tells B.size B.now (kept slots.new.items bank.new)) }
+    ensures ok { IfOk result (λ found. B.tells → (blocks : Blocks) →
+        BeginsAt B.tells B.now (kept slots.old.items bank.old) blocks →
+        StandsFor B.tells B.now (kept slots.new.items bank.new) (booted kind found blocks)) }
+    ensures found { IfOk result (λ found. B.tells → found ≡ found_by kind slots.old.items (store_of (B.now bank.old))) }
+    ensures err { OnErr result (slots.new.items ≡ slots.old.items) }
+    ensures left { B.tells → (blocks : Blocks) → BeginsAt B.tells B.now (kept slots.old.items bank.old) blocks →
+        BootLeaves kind blocks (B.now bank.new) }
+    ensures moments { B.tells_moments → (blocks : Blocks) →
+        BeginsAt B.tells B.now (kept slots.old.items bank.old) blocks →
+        LeavesOnly B.clock B.left_since bank.old bank.new (BootLeaves kind blocks) }
+    ensures steady { Steady B.size B.faults B.stops bank.old bank.new }
+    ensures cause { IfErr result (IsCaused B.faults B.stops bank.old bank.new) }
+{
+    match kind {
+        ResetKind::Processor => boot_processor(bank, slots, front, directory),
+        ResetKind::PowerOn => boot_power_on(bank, slots, front),
+    }
+}
+
+/// Reads the first bytes of the bank, and boots.
+pub(crate) fn boot<B: Bank>(
+    bank: &mut B,
+    slots: &mut Vec<Option<Slot>>,
+    front: &mut [u8],
+    directory: &mut Directory,
+    kind: ResetKind,
+) -> Result<Slots, BankFault>
+    requires slots { length slots.old.items ≡ slot_count }
+    requires len { length front.old ≡ directory_len }
+    requires room { bank_size ≤ B.size bank.old }
+    ensures len { length front.new ≡ directory_len }
+    ensures sound { OnOk result (IsSound B.tells B.size B.now (kept slots.new.items bank.new)) }
+    ensures ok { IfOk result (λ found. B.tells → (blocks : Blocks) →
+        BeginsAt B.tells B.now (kept slots.old.items bank.old) blocks →
+        StandsFor B.tells B.now (kept slots.new.items bank.new) (booted kind found blocks)) }
+    ensures found { IfOk result (λ found. B.tells → found ≡ found_by kind slots.old.items (store_of (B.now bank.old))) }
+    ensures err { OnErr result (slots.new.items ≡ slots.old.items) }
+    ensures left { B.tells → (blocks : Blocks) → BeginsAt B.tells B.now (kept slots.old.items bank.old) blocks →
+        BootLeaves kind blocks (B.now bank.new) }
+    ensures moments { B.tells_moments → (blocks : Blocks) →
+        BeginsAt B.tells B.now (kept slots.old.items bank.old) blocks →
+        LeavesOnly B.clock B.left_since bank.old bank.new (BootLeaves kind blocks) }
+    ensures steady { Steady B.size B.faults B.stops bank.old bank.new }
+    ensures cause { IfErr result (IsCaused B.faults B.stops bank.old bank.new) }
+{
+    read_front(bank, front, directory)?;
+    boot_as(bank, slots, front, directory, kind)
+}

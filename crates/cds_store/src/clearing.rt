@@ -1,0 +1,108 @@
+//! The whole directory is cleared.
+
+ghost use Rattle.std.specs.Prelude.{◌≡◌, ◌≤◌, true, length, OnOk, IfErr};
+ghost use Rattle.tbl_kinds.specs.Numbers.{byte_at};
+ghost use Rattle.tbl_kinds.specs.Places.{bank_size};
+ghost use Rattle.tbl_outside.specs.Bank.{Torn, LeavesOnly};
+ghost use Rattle.cds_store.specs.Boots.{is_dead, HasMark, AllShut, AreZeros, IsCleared, IsEmptied, Clears};
+ghost use Rattle.cds_store.specs.Calls.{Steady, IsCaused};
+
+use crate::fault::BankFault;
+use crate::writes::write;
+use tbl_outside::Bank;
+
+/// The first byte of the live mark `CDS1`.
+const LIVE: u8 = 0x43;
+
+/// Where the rest of the mark begins, and twelve zeros.
+const MARK_PLACE: u32 = 1;
+
+/// Where the entries begin.
+const ENTRIES_PLACE: u32 = 16;
+
+/// Takes the first byte of the live mark away, where it is there: from then on the bank shows no block.
+fn close_live<B: Bank>(bank: &mut B, first: u8) -> Result<(), BankFault>
+    requires room { bank_size ≤ B.size bank.old }
+    requires read { B.tells → first ≡ byte_at 0 (B.now bank.old) }
+    ensures done { OnOk result (B.tells → is_dead (B.now bank.new) ≡ true) }
+    ensures left { B.tells → Clears (B.now bank.old) (B.now bank.new) }
+    ensures moments { B.tells_moments → LeavesOnly B.clock B.left_since bank.old bank.new (Clears (B.now bank.old)) }
+    ensures steady { Steady B.size B.faults B.stops bank.old bank.new }
+    ensures cause { IfErr result (IsCaused B.faults B.stops bank.old bank.new) }
+{
+    if first == LIVE {
+        write(bank, 0, &[0], false, false)
+    } else {
+        Ok(())
+    }
+}
+
+/// Writes the rest of the live mark, while the bank isn't live.
+fn write_mark<B: Bank>(bank: &mut B) -> Result<(), BankFault>
+    requires room { bank_size ≤ B.size bank.old }
+    requires dead { B.tells → is_dead (B.now bank.old) ≡ true }
+    ensures mark { OnOk result (B.tells → HasMark (B.now bank.new)) }
+    ensures dead { B.tells → is_dead (B.now bank.new) ≡ true }
+    ensures left { B.tells → IsEmptied (B.now bank.new) }
+    ensures moments { B.tells_moments → LeavesOnly B.clock B.left_since bank.old bank.new IsEmptied }
+    ensures steady { Steady B.size B.faults B.stops bank.old bank.new }
+    ensures cause { IfErr result (IsCaused B.faults B.stops bank.old bank.new) }
+{
+    write(
+        bank,
+        MARK_PLACE,
+        b"DS1\0\0\0\0\0\0\0\0\0\0\0\0",
+        false,
+        false,
+    )
+}
+
+/// Writes zeros over all entries, while the bank isn't live.
+fn write_entries<B: Bank>(bank: &mut B, zeros: &[u8]) -> Result<(), BankFault>
+    requires room { bank_size ≤ B.size bank.old }
+    requires dead { B.tells → is_dead (B.now bank.old) ≡ true }
+    requires mark { B.tells → HasMark (B.now bank.old) }
+    requires len { length zeros.now ≡ 8192 }
+    requires zeros { AreZeros zeros.now }
+    ensures mark { B.tells → HasMark (B.now bank.new) }
+    ensures shut { OnOk result (B.tells → AllShut (B.now bank.new)) }
+    ensures left { B.tells → IsEmptied (B.now bank.new) }
+    ensures moments { B.tells_moments → LeavesOnly B.clock B.left_since bank.old bank.new IsEmptied }
+    ensures steady { Steady B.size B.faults B.stops bank.old bank.new }
+    ensures cause { IfErr result (IsCaused B.faults B.stops bank.old bank.new) }
+{
+    write(bank, ENTRIES_PLACE, zeros, false, false)
+}
+
+/// Sets the first byte of the live mark, over closed gates.
+fn open_live<B: Bank>(bank: &mut B) -> Result<(), BankFault>
+    requires room { bank_size ≤ B.size bank.old }
+    requires mark { B.tells → HasMark (B.now bank.old) }
+    requires shut { B.tells → AllShut (B.now bank.old) }
+    ensures done { OnOk result (B.tells → IsCleared (B.now bank.new)) }
+    ensures left { B.tells → IsEmptied (B.now bank.new) }
+    ensures moments { B.tells_moments → LeavesOnly B.clock B.left_since bank.old bank.new IsEmptied }
+    ensures steady { Steady B.size B.faults B.stops bank.old bank.new }
+    ensures cause { IfErr result (IsCaused B.faults B.stops bank.old bank.new) }
+{
+    write(bank, 0, &[LIVE], false, false)
+}
+
+/// Clears the directory of a bank whose first byte was read: it is live then, and no gate is open. The first byte of the
+/// live mark goes first and comes last, so that no reset finds a part of the directory.
+pub(crate) fn clear<B: Bank>(bank: &mut B, first: u8, zeros: &[u8]) -> Result<(), BankFault>
+    requires room { bank_size ≤ B.size bank.old }
+    requires read { B.tells → first ≡ byte_at 0 (B.now bank.old) }
+    requires len { length zeros.now ≡ 8192 }
+    requires zeros { AreZeros zeros.now }
+    ensures done { OnOk result (B.tells → IsCleared (B.now bank.new)) }
+    ensures left { B.tells → Clears (B.now bank.old) (B.now bank.new) }
+    ensures moments { B.tells_moments → LeavesOnly B.clock B.left_since bank.old bank.new (Clears (B.now bank.old)) }
+    ensures steady { Steady B.size B.faults B.stops bank.old bank.new }
+    ensures cause { IfErr result (IsCaused B.faults B.stops bank.old bank.new) }
+{
+    close_live(bank, first)?;
+    write_mark(bank)?;
+    write_entries(bank, zeros)?;
+    open_live(bank)
+}

@@ -1,0 +1,63 @@
+//! The gate of a slot that is taken is closed.
+
+ghost use Rattle.std.specs.Prelude.{◌≡◌, ◌<◌, ◌≤◌, true, None, length, slice_set, IsSome, OnOk, OnErr, IfErr};
+ghost use Rattle.std.specs.Option.{option_map};
+ghost use Rattle.tbl_kinds.specs.State.{Store as Blocks};
+ghost use Rattle.tbl_kinds.specs.StoreSteps.{deleted, delete_broken};
+ghost use Rattle.tbl_outside.specs.Bank.{LeavesOnly};
+ghost use Rattle.cds_store.specs.Calls.{Steady, IsCaused, HasFlags};
+ghost use Rattle.cds_store.specs.Moments.{DeleteLeaves};
+ghost use Rattle.cds_store.specs.Sound.{slot_at, IsSound};
+ghost use Rattle.cds_store.specs.Standing.{StandsFor, kept, doubted};
+
+use crate::fault::BankFault;
+use crate::slot::Slot;
+use crate::writes::set_gate;
+use tbl_outside::Bank;
+
+/// The gate byte of a closed slot.
+const CLOSED: u8 = 0;
+
+/// From now on the gate of this slot is in doubt.
+fn doubt(slots: &mut Vec<Option<Slot>>, slot: u8)
+    requires { slot < length slots.old.items }
+    ensures { slots.new.items ≡ slice_set slots.old.items slot (option_map doubted (slot_at slots.old.items slot)) }
+{
+    if let Some(taken) = &mut slots[slot as usize] {
+        taken.doubtful = true;
+    }
+}
+
+/// Closes the gate of a slot that is taken, and frees the slot. Where the write breaks off, the slot is in doubt.
+pub(crate) fn close<B: Bank>(
+    bank: &mut B,
+    slots: &mut Vec<Option<Slot>>,
+    slot: u8,
+    old: bool,
+) -> Result<(), BankFault>
+    requires sound { IsSound B.tells B.size B.now (kept slots.old.items bank.old) }
+    requires taken { IsSome (slot_at slots.old.items slot) }
+    ensures sound { IsSound B.tells B.size B.now (kept slots.new.items bank.new) }
+    ensures ok { OnOk result ((blocks : Blocks) → StandsFor B.tells B.now (kept slots.old.items bank.old) blocks →
+        StandsFor B.tells B.now (kept slots.new.items bank.new) (deleted slot blocks)) }
+    ensures err { OnErr result ((blocks : Blocks) → StandsFor B.tells B.now (kept slots.old.items bank.old) blocks →
+        StandsFor B.tells B.now (kept slots.new.items bank.new) (delete_broken slot blocks)) }
+    ensures moments { B.tells_moments → (blocks : Blocks) →
+        StandsFor B.tells B.now (kept slots.old.items bank.old) blocks →
+        LeavesOnly B.clock B.left_since bank.old bank.new (DeleteLeaves slot blocks) }
+    ensures freed { OnOk result (slots.new.items ≡ slice_set slots.old.items slot None) }
+    ensures steady { Steady B.size B.faults B.stops bank.old bank.new }
+    ensures cause { IfErr result (IsCaused B.faults B.stops bank.old bank.new) }
+    ensures flags { IfErr result (HasFlags true old) }
+{
+    match set_gate(bank, slot, CLOSED, old) {
+        Ok(()) => {
+            slots[slot as usize] = None;
+            Ok(())
+        }
+        Err(fault) => {
+            doubt(slots, slot);
+            Err(fault)
+        }
+    }
+}

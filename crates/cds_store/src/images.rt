@@ -1,0 +1,80 @@
+//! The image of an open block is copied and restored.
+
+ghost use Rattle.std.specs.Prelude.{◌≡◌, ◌≤◌, [], Some, Err, false, length, OnOk, OnErr, IfErr};
+ghost use Rattle.std.specs.Option.{ForSome};
+ghost use Rattle.tbl_kinds.specs.State.{Store as Blocks};
+ghost use Rattle.tbl_kinds.specs.StoreSteps.{stored_at, copied, copy_broken, restored};
+ghost use Rattle.tbl_outside.specs.Bank.{LeavesOnly};
+ghost use Rattle.tbl_outside.specs.Counts.{Rose};
+ghost use Rattle.cds_layout.specs.Images.{store_of};
+ghost use Rattle.cds_layout.specs.Restores.{TellsTorn, SaysWhy};
+ghost use Rattle.cds_store.specs.Calls.{Steady, IsCaused, HasFlags};
+ghost use Rattle.cds_store.specs.Moments.{CopyTears, CopyLeaves};
+ghost use Rattle.cds_store.specs.Sound.{slot_at, IsSound, IsOpenOf};
+ghost use Rattle.cds_store.specs.Standing.{StandsFor, kept, after_fault, held_at, ComesBack};
+
+use crate::fault::BankFault;
+use crate::slot::Slot;
+use crate::writes::write_image;
+use cds_layout::{RestoreFault, read_block};
+use tbl_outside::Bank;
+
+/// Copies an image into an open block.
+pub(crate) fn copy<B: Bank>(
+    bank: &mut B,
+    slots: &[Option<Slot>],
+    slot: u8,
+    image: &[u8],
+) -> Result<(), BankFault>
+    requires sound { IsSound B.tells B.size B.now (kept slots.now bank.old) }
+    requires can { IsOpenOf (length image.now) (slot_at slots.now slot) }
+    ensures sound { IsSound B.tells B.size B.now (kept slots.now bank.new) }
+    ensures ok { OnOk result ((blocks : Blocks) → StandsFor B.tells B.now (kept slots.now bank.old) blocks →
+        StandsFor B.tells B.now (kept slots.now bank.new) (copied slot image.now blocks)) }
+    ensures err { OnErr result ((blocks : Blocks) → StandsFor B.tells B.now (kept slots.now bank.old) blocks →
+        StandsFor B.tells B.now (kept slots.now bank.new) (copy_broken slot image.now blocks)) }
+    ensures moments { B.tells_moments → (blocks : Blocks) → StandsFor B.tells B.now (kept slots.now bank.old) blocks →
+        LeavesOnly B.clock B.left_since bank.old bank.new (CopyLeaves slot image.now blocks) }
+    ensures bytewise { B.tells_moments → ForSome (slot_at slots.now slot) (λ s.
+        LeavesOnly B.clock B.left_since bank.old bank.new (CopyTears s.block image.now (B.now bank.old))) }
+    ensures steady { Steady B.size B.faults B.stops bank.old bank.new }
+    ensures cause { IfErr result (IsCaused B.faults B.stops bank.old bank.new) }
+    ensures flags { IfErr result (HasFlags false false) }
+{
+    match &slots[slot as usize] {
+        Some(taken) => write_image(bank, &taken.block, image),
+        None => unreachable!(),
+    }
+}
+
+/// Reads the image of an open block.
+pub(crate) fn restore<B: Bank>(
+    bank: &mut B,
+    slots: &[Option<Slot>],
+    slot: u8,
+    into: &mut [u8],
+) -> Result<(), RestoreFault>
+    requires sound { IsSound B.tells B.size B.now (kept slots.now bank.old) }
+    requires can { IsOpenOf (length into.old) (slot_at slots.now slot) }
+    ensures sound { IsSound B.tells B.size B.now (kept slots.now bank.new) }
+    ensures image { OnOk result (B.tells → held_at slot (store_of (B.now bank.old)) ≡ Some into.new) }
+    ensures ok { OnOk result ((blocks : Blocks) → StandsFor B.tells B.now (kept slots.now bank.old) blocks →
+        StandsFor B.tells B.now (kept slots.now bank.new) (restored slot (Some into.new) blocks)) }
+    ensures comes_back { B.tells → (blocks : Blocks) → StandsFor B.tells B.now (kept slots.now bank.old) blocks →
+        ForSome (stored_at blocks slot) (λ b. b.trying ≡ [] → ComesBack result b.held into.new) }
+    ensures torn { IfErr result (λ fault. B.tells → ForSome (slot_at slots.now slot) (λ s.
+        TellsTorn (B.now bank.old) s.block fault)) }
+    ensures why { IfErr result (SaysWhy (length into.old)) }
+    ensures err { IfErr result (λ fault. (blocks : Blocks) → StandsFor B.tells B.now (kept slots.now bank.old) blocks →
+        StandsFor B.tells B.now (kept slots.now bank.new) (after_fault fault slot blocks)) }
+    ensures bytes { B.tells → B.now bank.new ≡ B.now bank.old }
+    ensures moments { B.tells_moments →
+        LeavesOnly B.clock B.left_since bank.old bank.new (λ image. image ≡ B.now bank.old) }
+    ensures steady { Steady B.size B.faults B.stops bank.old bank.new }
+    ensures cause { result ≡ Err RestoreFault.Fault → Rose (B.faults bank.old) (B.faults bank.new) }
+{
+    match &slots[slot as usize] {
+        Some(taken) => read_block(bank, &taken.block, into),
+        None => unreachable!(),
+    }
+}

@@ -1,0 +1,27 @@
+//! The Critical Data Store: the layer above may rely on it that after a reset at any moment, also inside a write, each block
+//! comes back as its last completed image, or one whose copy broke off since, or none, and that each call is the
+//! definition's step on the blocks.
+#![tactic(auto)]
+
+mod block_list;
+mod boot;
+mod clearing;
+mod fault;
+mod gates;
+mod images;
+mod lookups;
+mod making;
+mod reserving;
+mod settling;
+mod slot;
+mod store;
+mod tidying;
+mod writes;
+
+pub use cds_layout::RestoreFault;
+pub use fault::{BankFault, ReserveFault};
+pub use slot::Slot;
+pub use store::Store;
+
+#[cfg(test)]
+mod tests;

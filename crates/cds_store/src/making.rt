@@ -1,0 +1,78 @@
+//! A block is made in a free slot.
+
+ghost use Rattle.std.specs.Prelude.{◌≡◌, ◌⊎◌, ◌<◌, ◌≤◌, None, Some, true, false, List, ℕ, is_err, OnOk, IfErr};
+ghost use Rattle.tbl_kinds.specs.State.{Store as Blocks};
+ghost use Rattle.tbl_outside.specs.Bank.{LeavesOnly};
+ghost use Rattle.cds_layout.specs.Entries.{tail_at, block_in};
+ghost use Rattle.cds_layout.specs.Images.{held_in};
+ghost use Rattle.cds_store.specs.Calls.{Steady, IsCaused, HasFlags, is_gate, is_old};
+ghost use Rattle.cds_store.specs.Moments.{ShowsIn};
+ghost use Rattle.cds_store.specs.Sound.{slot_at, IsSound, IsNew};
+ghost use Rattle.cds_store.specs.Standing.{StandsFor, kept, with_new, made_or_not};
+
+use crate::fault::BankFault;
+use crate::slot::Slot;
+use crate::writes::{prepare, set_gate};
+use tbl_kinds::Block;
+use tbl_outside::Bank;
+
+/// The gate byte of an open slot.
+const OPEN: u8 = 0xA5;
+
+/// Opens the gate of a free slot whose entry tells a block that holds no image. Where the write breaks off, the slot is
+/// in doubt.
+fn open_gate<B: Bank>(
+    bank: &mut B,
+    slots: &mut Vec<Option<Slot>>,
+    slot: u8,
+    block: Block,
+) -> Result<(), BankFault>
+    requires sound { IsSound B.tells B.size B.now (kept slots.old.items bank.old) }
+    requires new { IsNew slot slots.old.items block }
+    requires entry { B.tells → block_in (tail_at (B.now bank.old) slot) ≡ Some block }
+    requires wiped { B.tells → held_in (B.now bank.old) block ≡ None }
+    ensures sound { IsSound B.tells B.size B.now (kept slots.new.items bank.new) }
+    ensures made { (blocks : Blocks) → StandsFor B.tells B.now (kept slots.old.items bank.old) blocks →
+        StandsFor B.tells B.now (kept slots.new.items bank.new) (with_new (is_err result) slot block blocks) }
+    ensures moments { B.tells_moments → (blocks : Blocks) →
+        StandsFor B.tells B.now (kept slots.old.items bank.old) blocks →
+        LeavesOnly B.clock B.left_since bank.old bank.new (ShowsIn (with_new true slot block blocks)) }
+    ensures steady { Steady B.size B.faults B.stops bank.old bank.new }
+    ensures cause { IfErr result (IsCaused B.faults B.stops bank.old bank.new) }
+    ensures flags { IfErr result (HasFlags true false) }
+{
+    let written = set_gate(bank, slot, OPEN, false);
+    slots[slot as usize] = Some(Slot {
+        block,
+        doubtful: written.is_err(),
+    });
+    written
+}
+
+/// Makes a block in a free slot: its head is wiped, the entry is written, and then the gate is opened. Where a write
+/// breaks off before, the slot stays free; where that of the gate does, it is in doubt.
+pub(crate) fn make<B: Bank>(
+    bank: &mut B,
+    slots: &mut Vec<Option<Slot>>,
+    slot: u8,
+    block: Block,
+) -> Result<(), BankFault>
+    requires sound { IsSound B.tells B.size B.now (kept slots.old.items bank.old) }
+    requires new { IsNew slot slots.old.items block }
+    ensures sound { IsSound B.tells B.size B.now (kept slots.new.items bank.new) }
+    ensures ok { OnOk result ((blocks : Blocks) → StandsFor B.tells B.now (kept slots.old.items bank.old) blocks →
+        StandsFor B.tells B.now (kept slots.new.items bank.new) (with_new false slot block blocks)) }
+    ensures err { IfErr result (λ fault. (blocks : Blocks) →
+        StandsFor B.tells B.now (kept slots.old.items bank.old) blocks →
+        StandsFor B.tells B.now (kept slots.new.items bank.new) (made_or_not (is_gate fault) slot block blocks)) }
+    ensures moments { B.tells_moments → (blocks : Blocks) →
+        StandsFor B.tells B.now (kept slots.old.items bank.old) blocks →
+        LeavesOnly B.clock B.left_since bank.old bank.new
+        (λ image. ShowsIn blocks image ⊎ ShowsIn (with_new true slot block blocks) image) }
+    ensures steady { Steady B.size B.faults B.stops bank.old bank.new }
+    ensures cause { IfErr result (IsCaused B.faults B.stops bank.old bank.new) }
+    ensures flags { IfErr result (λ fault. is_old fault ≡ false) }
+{
+    prepare(bank, slot, &block)?;
+    open_gate(bank, slots, slot, block)
+}

@@ -1,0 +1,301 @@
+ghost use Rattle.std.specs.Prelude.{◌≡◌, ◌≤◌, ◌<◌, None, Some, Err, true, false, not, List, ℕ, [], length, replicate, is_ok, IsSome, IfSome, IfOk, OnOk, OnErr, IfErr};
+ghost use Rattle.std.specs.Option.{ForSome, option_map, option_copied};
+ghost use Rattle.tbl_kinds.specs.Names.{is_name};
+ghost use Rattle.tbl_kinds.specs.Places.{bank_size};
+ghost use Rattle.tbl_kinds.specs.State.{Stored, Store as Blocks};
+ghost use Rattle.tbl_kinds.specs.StoreSteps.{stored_at, open_of, doubtful_of, has_room, closed, reserved, reserve_broken, booted, copied, copy_broken, restored, deleted, delete_broken};
+ghost use Rattle.tbl_kinds.specs.TableSteps.{least_free};
+ghost use Rattle.tbl_outside.specs.Bank.{LeavesOnly};
+ghost use Rattle.tbl_outside.specs.Counts.{Rose};
+ghost use Rattle.cds_layout.specs.Directory.{directory_len};
+ghost use Rattle.cds_layout.specs.Images.{store_of};
+ghost use Rattle.cds_layout.specs.Restores.{TellsTorn, SaysWhy};
+ghost use Rattle.cds_store.specs.Boots.{BeginsAt, found_by};
+ghost use Rattle.cds_store.specs.Calls.{Steady, IsCaused, HasFlags, IfBank, lacks_room, is_gate, is_old};
+ghost use Rattle.cds_store.specs.Moments.{BootLeaves, ReserveLeaves, CopyLeaves, CopyTears, DeleteLeaves};
+ghost use Rattle.cds_store.specs.Slots.{open_slot, doubtful_slot, block_of};
+ghost use Rattle.cds_store.specs.Sound.{slot_at, IsOpenOf};
+ghost use Rattle.cds_store.specs.Standing.{StandsFor, after_fault, held_at, ComesBack};
+
+use crate::boot::boot;
+use crate::fault::{BankFault, ReserveFault};
+use crate::gates::close;
+use crate::images::{copy, restore};
+use crate::lookups::{block_in, find_doubtful, find_open, room_for};
+use crate::reserving::reserve;
+use crate::slot::Slot;
+use cds_layout::{Directory, RestoreFault};
+use std::alloc::{AllocError, Global};
+use std::marker::Model;
+use tbl_kinds::{Block, BlockKind, Memory, Name40, ResetKind, Slots};
+use tbl_outside::{Back, Bank};
+
+/// How many slots there are.
+const SLOTS: usize = 128;
+
+/// How many bytes the live mark and the directory have.
+const FRONT_LENGTH: usize = 8_208;
+
+/// The Critical Data Store in a bank: what is known of the 128 slots of its directory, and the bank. It takes all its
+/// memory when it is made.
+#[derive(Drop)]
+pub struct Store<B: Bank> {
+    slots: Vec<Option<Slot>>,
+    bank: B,
+    booted: bool,
+    directory: Directory,
+    /// Into which a boot reads the first bytes of the bank.
+    front: Vec<u8>,
+}
+
+impl<B: Bank> Model for Store<B> {
+    ghost use Rattle.cds_store.specs.Standing.{Kept};
+    ghost use Rattle.cds_store.specs.Sound.{IsKept};
+
+    ghost Value = { Kept B };
+
+    ghost view = { λ s. record { slots = s.slots.items; bank = s.bank; booted = s.booted } };
+
+    ghost invariant = { λ s. IsKept B.tells B.size B.now (record { slots = s.slots.items; bank = s.bank; booted = s.booted }) s.front.items };
+}
+
+/// 128 free slots.
+fn free_slots(alloc: Global) -> Result<Vec<Option<Slot>>, AllocError>
+    ensures { IfOk result (λ slots. slots.items ≡ replicate 128 None) }
+{
+    let mut slots = Vec::with_capacity(alloc, SLOTS)?;
+    for _ in 0..SLOTS {
+        slots.push(None)?;
+    }
+    Ok(slots)
+}
+
+/// As many zeros as the live mark and the directory have bytes.
+fn front_bytes(alloc: Global) -> Result<Vec<u8>, AllocError>
+    ensures { IfOk result (λ front. length front.items ≡ directory_len) }
+{
+    let mut front = Vec::with_capacity(alloc, FRONT_LENGTH)?;
+    for _ in 0..FRONT_LENGTH {
+        front.push(0)?;
+    }
+    Ok(front)
+}
+
+/// What a store takes from memory.
+#[derive(Drop)]
+struct Room {
+    slots: Vec<Option<Slot>>,
+    directory: Directory,
+    front: Vec<u8>,
+}
+
+impl Room {
+    fn make(alloc: Global) -> Result<Room, Memory>
+        ensures slots { IfOk result (λ room. room.slots.items ≡ replicate 128 None) }
+        ensures front { IfOk result (λ room. length room.front.items ≡ directory_len) }
+    {
+        Ok(Room {
+            slots: free_slots(alloc)?,
+            directory: Directory::make(alloc)?,
+            front: front_bytes(alloc)?,
+        })
+    }
+}
+
+impl<B: Bank> Store<B> {
+    /// A store over a bank, of which nothing was read. All memory that it needs is taken here.
+    pub fn make(alloc: Global, bank: B) -> Result<Store<B>, Back<Memory, B>>
+        requires { bank_size ≤ B.size bank }
+        ensures slots { IfOk result (λ store. store.slots ≡ replicate 128 None) }
+        ensures bank { IfOk result (λ store. store.bank ≡ bank) }
+        ensures booted { IfOk result (λ store. store.booted ≡ false) }
+        ensures err { IfErr result (λ back. back.bank ≡ bank) }
+    {
+        match Room::make(alloc) {
+            Ok(room) => Ok(Store {
+                slots: room.slots,
+                bank,
+                booted: false,
+                directory: room.directory,
+                front: room.front,
+            }),
+            Err(cause) => Err(Back { cause, bank }),
+        }
+    }
+
+    /// The bank.
+    pub fn end(self) -> B
+        ensures { result ≡ self.bank }
+    {
+        self.bank
+    }
+
+    /// Reads the directory, and answers which slots in doubt it found open. After a reset of the processor each block
+    /// that stands open is there, and gates that tell none are closed; after a power-on, and over a bank that isn't live,
+    /// the directory is cleared. After an `Err` boot again.
+    pub fn boot(&mut self, kind: ResetKind) -> Result<Slots, BankFault>
+        ensures booted { self.new.booted ≡ is_ok result }
+        ensures ok { IfOk result (λ found. B.tells → (blocks : Blocks) → BeginsAt B.tells B.now self.old blocks →
+            StandsFor B.tells B.now self.new (booted kind found blocks)) }
+        ensures found { IfOk result (λ found. B.tells →
+            found ≡ found_by kind self.old.slots (store_of (B.now self.old.bank))) }
+        ensures err { OnErr result (self.new.slots ≡ self.old.slots) }
+
+        // The bank is left as a reset inside the call may leave it.
+        ensures left { B.tells → (blocks : Blocks) → BeginsAt B.tells B.now self.old blocks →
+            BootLeaves kind blocks (B.now self.new.bank) }
+        ensures moments { B.tells_moments → (blocks : Blocks) → BeginsAt B.tells B.now self.old blocks →
+            LeavesOnly B.clock B.left_since self.old.bank self.new.bank (BootLeaves kind blocks) }
+        ensures steady { Steady B.size B.faults B.stops self.old.bank self.new.bank }
+        ensures cause { IfErr result (IsCaused B.faults B.stops self.old.bank self.new.bank) }
+    {
+        self.booted = false;
+        let found = boot(
+            &mut self.bank,
+            &mut self.slots,
+            &mut self.front,
+            &mut self.directory,
+            kind,
+        )?;
+        self.booted = true;
+        Ok(found)
+    }
+
+    /// The slot of the open block of this kind and name.
+    pub fn find(&self, kind: BlockKind, name: &Name40) -> Option<u8>
+        ensures slot { result ≡ open_slot kind name.now self.now.slots }
+        ensures block { (blocks : Blocks) → StandsFor B.tells B.now self.now blocks →
+            result ≡ open_of kind name.now blocks }
+    {
+        find_open(&self.slots, kind, name)
+    }
+
+    /// The slot of the doubtful block of this kind and name.
+    pub fn doubtful(&self, kind: BlockKind, name: &Name40) -> Option<u8>
+        ensures slot { result ≡ doubtful_slot kind name.now self.now.slots }
+        ensures block { (blocks : Blocks) → StandsFor B.tells B.now self.now blocks →
+            result ≡ doubtful_of kind name.now blocks }
+    {
+        find_doubtful(&self.slots, kind, name)
+    }
+
+    /// The block of a slot, open or in doubt.
+    pub fn block(&self, slot: u8) -> Option<&Block>
+        ensures slot { option_copied result ≡ option_map block_of (slot_at self.now.slots slot) }
+        ensures block { (blocks : Blocks) → StandsFor B.tells B.now self.now blocks →
+            option_copied result ≡ option_map (λ (b : Stored). b.block) (stored_at blocks slot) }
+    {
+        block_in(&self.slots, slot)
+    }
+
+    /// Whether a slot and a place are there for a block of this size, the named slot counted as free.
+    pub fn room(&self, size: u32, without: Option<u8>) -> bool
+        requires { IfSome without (λ slot. slot < 128) }
+        ensures { (blocks : Blocks) → StandsFor B.tells B.now self.now blocks → result ≡ has_room size without blocks }
+    {
+        room_for(&self.slots, size, without).is_some()
+    }
+
+    /// Reserves a block for an image of this size in the least free slot, at the least place, and answers the slot. It
+    /// holds no image. A doubtful block of this kind and name is closed first.
+    pub fn reserve_block(
+        &mut self,
+        kind: BlockKind,
+        name: &Name40,
+        size: u32,
+    ) -> Result<u8, ReserveFault>
+        requires booted { self.old.booted ≡ true }
+        requires named { is_name name.now ≡ true }
+        requires some { 1 ≤ size }
+        requires within { size ≤ 16384 }
+        requires none_open { open_slot kind name.now self.old.slots ≡ None }
+        ensures booted { self.new.booted ≡ true }
+        ensures ok { OnOk result ((blocks : Blocks) → StandsFor B.tells B.now self.old blocks →
+            StandsFor B.tells B.now self.new (reserved kind name.now size blocks)) }
+        ensures slot { IfOk result (λ slot. (blocks : Blocks) → StandsFor B.tells B.now self.old blocks →
+            least_free (closed kind name.now blocks) ≡ Some slot) }
+
+        // There is no room exactly where the definition has none, and then nothing was done.
+        ensures full { (blocks : Blocks) → StandsFor B.tells B.now self.old blocks →
+            lacks_room result ≡ not (has_room size (doubtful_of kind name.now blocks) blocks) }
+        ensures untouched { lacks_room result ≡ true → self.new ≡ self.old }
+        ensures err { IfErr result (λ fault. IfBank fault (λ fault. (blocks : Blocks) →
+            StandsFor B.tells B.now self.old blocks →
+            StandsFor B.tells B.now self.new (reserve_broken (is_gate fault) (is_old fault) kind name.now size blocks))) }
+        ensures flags { IfErr result (λ fault. IfBank fault (λ fault. is_old fault ≡ true →
+            (is_gate fault ≡ true) × IsSome (doubtful_slot kind name.now self.old.slots))) }
+        ensures moments { B.tells_moments → (blocks : Blocks) → StandsFor B.tells B.now self.old blocks →
+            LeavesOnly B.clock B.left_since self.old.bank self.new.bank (ReserveLeaves kind name.now size blocks) }
+        ensures steady { Steady B.size B.faults B.stops self.old.bank self.new.bank }
+        ensures cause { IfErr result (λ fault. IfBank fault (IsCaused B.faults B.stops self.old.bank self.new.bank)) }
+    {
+        reserve(&mut self.bank, &mut self.slots, kind, name, size)
+    }
+
+    /// Copies an image into an open block of its size: the bytes, and then the head with their check word.
+    pub fn copy(&mut self, slot: u8, image: &[u8]) -> Result<(), BankFault>
+        requires booted { self.old.booted ≡ true }
+        requires can { IsOpenOf (length image.now) (slot_at self.old.slots slot) }
+        ensures booted { self.new.booted ≡ true }
+        ensures slots { self.new.slots ≡ self.old.slots }
+        ensures ok { OnOk result ((blocks : Blocks) → StandsFor B.tells B.now self.old blocks →
+            StandsFor B.tells B.now self.new (copied slot image.now blocks)) }
+        ensures err { OnErr result ((blocks : Blocks) → StandsFor B.tells B.now self.old blocks →
+            StandsFor B.tells B.now self.new (copy_broken slot image.now blocks)) }
+        ensures moments { B.tells_moments → (blocks : Blocks) → StandsFor B.tells B.now self.old blocks →
+            LeavesOnly B.clock B.left_since self.old.bank self.new.bank (CopyLeaves slot image.now blocks) }
+        ensures bytewise { B.tells_moments → ForSome (slot_at self.old.slots slot) (λ s.
+            LeavesOnly B.clock B.left_since self.old.bank self.new.bank
+            (CopyTears s.block image.now (B.now self.old.bank))) }
+        ensures steady { Steady B.size B.faults B.stops self.old.bank self.new.bank }
+        ensures cause { IfErr result (IsCaused B.faults B.stops self.old.bank self.new.bank) }
+        ensures flags { IfErr result (HasFlags false false) }
+    {
+        copy(&mut self.bank, &self.slots, slot, image)
+    }
+
+    /// Reads the image of an open block. After a fault `into` is left open.
+    pub fn restore(&mut self, slot: u8, into: &mut [u8]) -> Result<(), RestoreFault>
+        requires booted { self.old.booted ≡ true }
+        requires can { IsOpenOf (length into.old) (slot_at self.old.slots slot) }
+        ensures booted { self.new.booted ≡ true }
+        ensures slots { self.new.slots ≡ self.old.slots }
+        ensures image { OnOk result (B.tells → held_at slot (store_of (B.now self.old.bank)) ≡ Some into.new) }
+        ensures ok { OnOk result ((blocks : Blocks) → StandsFor B.tells B.now self.old blocks →
+            StandsFor B.tells B.now self.new (restored slot (Some into.new) blocks)) }
+
+        // A block whose copies were all completed comes back as the last of them, or as none where it has had none.
+        ensures comes_back { B.tells → (blocks : Blocks) → StandsFor B.tells B.now self.old blocks →
+            ForSome (stored_at blocks slot) (λ b. b.trying ≡ [] → ComesBack result b.held into.new) }
+        ensures torn { IfErr result (λ fault. B.tells → ForSome (slot_at self.old.slots slot) (λ s.
+            TellsTorn (B.now self.old.bank) s.block fault)) }
+        ensures why { IfErr result (SaysWhy (length into.old)) }
+        ensures err { IfErr result (λ fault. (blocks : Blocks) → StandsFor B.tells B.now self.old blocks →
+            StandsFor B.tells B.now self.new (after_fault fault slot blocks)) }
+        ensures bytes { B.tells → B.now self.new.bank ≡ B.now self.old.bank }
+        ensures moments { B.tells_moments →
+            LeavesOnly B.clock B.left_since self.old.bank self.new.bank (λ image. image ≡ B.now self.old.bank) }
+        ensures steady { Steady B.size B.faults B.stops self.old.bank self.new.bank }
+        ensures cause { result ≡ Err RestoreFault.Fault → Rose (B.faults self.old.bank) (B.faults self.new.bank) }
+    {
+        restore(&mut self.bank, &self.slots, slot, into)
+    }
+
+    /// Closes a slot that is taken, and frees it. Where the write breaks off, the slot is in doubt.
+    pub fn delete_block(&mut self, slot: u8) -> Result<(), BankFault>
+        requires booted { self.old.booted ≡ true }
+        requires taken { IsSome (slot_at self.old.slots slot) }
+        ensures booted { self.new.booted ≡ true }
+        ensures ok { OnOk result ((blocks : Blocks) → StandsFor B.tells B.now self.old blocks →
+            StandsFor B.tells B.now self.new (deleted slot blocks)) }
+        ensures err { OnErr result ((blocks : Blocks) → StandsFor B.tells B.now self.old blocks →
+            StandsFor B.tells B.now self.new (delete_broken slot blocks)) }
+        ensures moments { B.tells_moments → (blocks : Blocks) → StandsFor B.tells B.now self.old blocks →
+            LeavesOnly B.clock B.left_since self.old.bank self.new.bank (DeleteLeaves slot blocks) }
+        ensures steady { Steady B.size B.faults B.stops self.old.bank self.new.bank }
+        ensures cause { IfErr result (IsCaused B.faults B.stops self.old.bank self.new.bank) }
+        ensures flags { IfErr result (HasFlags true false) }
+    {
+        close(&mut self.bank, &mut self.slots, slot, false)
+    }
+}

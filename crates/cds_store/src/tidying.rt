@@ -1,0 +1,88 @@
+//! The gates of a live bank that tell no block are closed.
+
+ghost use Rattle.std.specs.Prelude.{◌≡◌, ◌≤◌, ◌<◌, ◌+◌, ◌==◌, ◌&&◌, List, ℕ, None, true, length, is_none, slice_index_or, OnOk, IfErr};
+ghost use Rattle.tbl_kinds.specs.Places.{bank_size};
+ghost use Rattle.tbl_outside.specs.Bank.{LeavesOnly};
+ghost use Rattle.cds_layout.specs.Directory.{directory_len, is_live};
+ghost use Rattle.cds_layout.specs.Entries.{slot_count, gate_open, gate_at};
+ghost use Rattle.cds_store.specs.Boots.{IsFront, SameStore, Tidied};
+ghost use Rattle.cds_store.specs.Calls.{Steady, IsCaused};
+
+use crate::fault::BankFault;
+use crate::writes::set_gate;
+use cds_layout::Directory;
+use tbl_outside::Bank;
+
+/// Where the first entry begins, behind the live mark and twelve zeros.
+const FIRST_ENTRY: usize = 16;
+
+/// How many bytes an entry has.
+const ENTRY_LENGTH: usize = 64;
+
+/// The gate byte of an open slot.
+const OPEN: u8 = 0xA5;
+
+/// The gate byte of a closed slot.
+const CLOSED: u8 = 0;
+
+/// How many slots there are.
+const SLOTS: u8 = 128;
+
+/// Whether the gate of a slot is open, and its entry tells no block of the directory.
+fn is_stray(front: &[u8], directory: &Directory, slot: u8) -> bool
+    requires len { length front.now ≡ directory_len }
+    requires within { slot < slot_count }
+    ensures { result ≡ ((gate_at front.now slot == gate_open) && is_none (slice_index_or directory.now slot None)) }
+{
+    front[FIRST_ENTRY + ENTRY_LENGTH * slot as usize] == OPEN && directory.slot(slot).is_none()
+}
+
+/// Closes the gate of a slot, where it tells no block of the directory. The first bytes and the directory are those with
+/// which the boot began.
+fn tidy_slot<B: Bank>(
+    bank: &mut B,
+    front: &[u8],
+    directory: &Directory,
+    slot: u8,
+) -> Result<(), BankFault>
+    requires len { length front.now ≡ directory_len }
+    requires within { slot < slot_count }
+    requires room { bank_size ≤ B.size bank.old }
+    ensures done { OnOk result (B.tells → (old : List ℕ) → IsFront front.now directory.now old →
+        Tidied old (B.now bank.old) slot → Tidied old (B.now bank.new) (slot + 1)) }
+    ensures same { B.tells → (old : List ℕ) → IsFront front.now directory.now old →
+        Tidied old (B.now bank.old) slot → SameStore old (B.now bank.new) }
+    ensures moments { B.tells_moments → (old : List ℕ) → IsFront front.now directory.now old →
+        Tidied old (B.now bank.old) slot → LeavesOnly B.clock B.left_since bank.old bank.new (SameStore old) }
+    ensures steady { Steady B.size B.faults B.stops bank.old bank.new }
+    ensures cause { IfErr result (IsCaused B.faults B.stops bank.old bank.new) }
+{
+    if is_stray(front, directory, slot) {
+        set_gate(bank, slot, CLOSED, false)
+    } else {
+        Ok(())
+    }
+}
+
+/// Closes each gate that tells no block of the directory, from the first slot to the last.
+pub(crate) fn tidy_live<B: Bank>(
+    bank: &mut B,
+    front: &[u8],
+    directory: &Directory,
+) -> Result<(), BankFault>
+    requires len { length front.now ≡ directory_len }
+    requires room { bank_size ≤ B.size bank.old }
+    requires read { B.tells → IsFront front.now directory.now (B.now bank.old) }
+    requires live { B.tells → is_live (B.now bank.old) ≡ true }
+    ensures done { OnOk result (B.tells → Tidied (B.now bank.old) (B.now bank.new) slot_count) }
+    ensures same { B.tells → SameStore (B.now bank.old) (B.now bank.new) }
+    ensures moments { B.tells_moments →
+        LeavesOnly B.clock B.left_since bank.old bank.new (SameStore (B.now bank.old)) }
+    ensures steady { Steady B.size B.faults B.stops bank.old bank.new }
+    ensures cause { IfErr result (IsCaused B.faults B.stops bank.old bank.new) }
+{
+    for slot in 0..SLOTS {
+        tidy_slot(bank, front, directory, slot)?;
+    }
+    Ok(())
+}
