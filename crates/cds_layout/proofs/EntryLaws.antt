@@ -4,7 +4,7 @@ use Rattle.std.proofs.lemmas.List.{take_at}
 use Rattle.std.proofs.lemmas.Bool.{and_parts, leb-true, ltb-true}
 use Rattle.std.proofs.lemmas.Nat.{from_be_bytes-to_be_bytes_4}
 use Rattle.std.specs.Prelude.{nat_le, nat_lt}
-use Rattle.tbl_kinds.specs.Applications.{table_limit}
+use Rattle.tbl_kinds.specs.Limits.{table_limit}
 use Rattle.tbl_kinds.specs.Numbers.{piece, byte_at, four_at}
 use Rattle.tbl_kinds.specs.Names.{is_name, name_in, name_field}
 use Rattle.tbl_kinds.specs.Heads.{is_name_field}

@@ -4,7 +4,7 @@ use Rattle.std.specs.List.{sum_by, filter_map}
 use Rattle.std.specs.Option.{option_map}
 use Rattle.std.proofs.lemmas.List.{drop_more, get_or-map, length-map}
 use Rattle.std.proofs.lemmas.List.Sums.{sum_by-cons}
-use Rattle.tbl_kinds.specs.State.{Stored, Store}
+use Rattle.tbl_kinds.specs.Blocks.{Stored, Store}
 use Rattle.tbl_kinds.specs.StoreSteps.{taken}
 use Rattle.tbl_kinds.specs.declared.block.Block.{Block}
 use Rattle.cds_layout.specs.Directory.{directory_of}

@@ -4,7 +4,7 @@ use Rattle.tbl_kinds.specs.Numbers.{four, piece, byte_at, four_at}
 use Rattle.tbl_kinds.specs.Names.{is_name, name_in, name_field}
 use Rattle.tbl_kinds.specs.Heads.{is_name_field}
 use Rattle.tbl_kinds.specs.Places.{is_inside}
-use Rattle.tbl_kinds.specs.Applications.{table_limit}
+use Rattle.tbl_kinds.specs.Limits.{table_limit}
 use Rattle.tbl_kinds.specs.declared.block.Block.{Block}
 use Rattle.tbl_kinds.specs.declared.block.BlockKind.{BlockKind}
 use Rattle.tbl_kinds.specs.declared.block.BlockKind.TheVariants.{Table, App}

@@ -3,7 +3,7 @@ use Rattle.std.specs.Prelude.{ℕ, ◌+◌, ◌==◌, Bool, false, ◌&&◌, if�
 use Rattle.std.specs.Option.{option_map}
 use Rattle.tbl_kinds.specs.Numbers.{two, four, piece, two_at, four_at}
 use Rattle.tbl_kinds.specs.Check.{check16}
-use Rattle.tbl_kinds.specs.State.{Stored, Store}
+use Rattle.tbl_kinds.specs.Blocks.{Stored, Store}
 use Rattle.tbl_kinds.specs.declared.block.Block.{Block}
 use Rattle.cds_layout.specs.Directory.{directory_of}
 

@@ -3,7 +3,7 @@ use Rattle.std.specs.Prelude.{◌≡◌, ℕ, ◌+◌, ◌-◌, Bool, true, fals
 use Rattle.std.specs.List.{sum_by}
 use Rattle.std.specs.Option.{option_map}
 use Rattle.std.specs.Fmt.{decimal}
-use Rattle.tbl_kinds.specs.State.{Stored}
+use Rattle.tbl_kinds.specs.Blocks.{Stored}
 use Rattle.tbl_kinds.specs.Places.{bank_size, blocks_begin}
 use Rattle.tbl_kinds.specs.declared.block.Block.{Block}
 use Rattle.cds_layout.specs.Entries.{is_right}

@@ -1,7 +1,7 @@
 -- A store as text, a line for each block and one for all.
 use Rattle.std.specs.Prelude.{ℕ, ◌+◌, ◌-◌, List, [], ◌∷◌, ◌++◌, length, sum_by, codes, Option, Some, None}
 use Rattle.std.specs.Fmt.{decimal}
-use Rattle.tbl_kinds.specs.State.{Stored, Store}
+use Rattle.tbl_kinds.specs.Blocks.{Stored, Store}
 use Rattle.tbl_kinds.specs.Places.{bank_size, blocks_begin}
 use Rattle.tbl_kinds.specs.StoreSteps.{taken}
 use Rattle.tbl_kinds.specs.declared.block.Block.{Block}

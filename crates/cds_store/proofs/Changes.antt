@@ -3,7 +3,7 @@ use Rattle.std.proofs.Common.{◌≡◌, ◌≢◌, inl, inr, ℕ, ◌<◌, ◌=
 use Rattle.std.specs.Option.{option_map, ForSome}
 use Rattle.std.proofs.lemmas.Bool.{cases_eq}
 use Rattle.std.proofs.lemmas.List.{map-set, get_or-set_same, get_or-set_other}
-use Rattle.tbl_kinds.specs.State.{Stored, Store as Blocks}
+use Rattle.tbl_kinds.specs.Blocks.{Stored, Store as Blocks}
 use Rattle.tbl_kinds.specs.StoreSteps.{stored_at, MayGive, Shows}
 use Rattle.cds_layout.specs.Entries.{slot_count, gate_open, gate_at, tail_at, block_in}
 use Rattle.cds_layout.specs.Directory.{is_live}

@@ -5,7 +5,7 @@ use Rattle.std.proofs.lemmas.List.{map-set}
 use Rattle.std.proofs.lemmas.Option.{same_Some}
 use Rattle.std.proofs.Math.ListN.{get_or-map}
 use Rattle.tbl_kinds.specs.Places.{bank_size}
-use Rattle.tbl_kinds.specs.State.{Stored, Store as Blocks}
+use Rattle.tbl_kinds.specs.Blocks.{Stored, Store as Blocks}
 use Rattle.tbl_kinds.specs.StoreSteps.{stored_at, in_doubt, deleted, delete_broken}
 use Rattle.tbl_outside.specs.Bank.{Torn}
 use Rattle.cds_layout.specs.Entries.{gate_open, gate_at, gate_place, slot_count}

@@ -5,7 +5,7 @@ use Rattle.std.proofs.lemmas.List.{set-get_or, get_or_default}
 use Rattle.std.proofs.lemmas.Option.{same_Some}
 use Rattle.std.proofs.Math.ListN.{get_or-map}
 use Rattle.tbl_kinds.specs.Places.{bank_size, end_of}
-use Rattle.tbl_kinds.specs.State.{Stored, Store as Blocks}
+use Rattle.tbl_kinds.specs.Blocks.{Stored, Store as Blocks}
 use Rattle.tbl_kinds.specs.StoreSteps.{stored_at, MayGiveAfter, changed, with_held, with_try, copied, copy_broken, restored}
 use Rattle.tbl_kinds.specs.declared.block.Block.{Block}
 use Rattle.tbl_outside.specs.Bank.{Torn, overwritten}

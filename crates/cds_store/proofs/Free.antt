@@ -4,7 +4,7 @@ use Rattle.std.specs.List.{position_or_len, filter_map}
 use Rattle.std.specs.Option.{option_map}
 use Rattle.std.proofs.lemmas.Bool.Decides.{nat_tests}
 use Rattle.std.proofs.lemmas.List.{length-take, length-set}
-use Rattle.tbl_kinds.specs.TableSteps.{least_free}
+use Rattle.tbl_kinds.specs.Free.{least_free}
 
 first_set : {X : Type 0} (xs : List (Option X)) (n : ℕ) → n < length xs → position_or_len is_none (slice_set xs n None) ≡ position_or_len is_none (take n xs)
 first_set [] n lt = absurd (omega (arith, lt))

@@ -2,7 +2,7 @@
 use Rattle.std.proofs.Common.{◌≡◌, ℕ, ◌≤◌, ◌==◌, List, slice_set, Bool, true, false, Option, Some, None, Result, Ok, Err, OnOk, IfErr, is_err, sym, ap, subst}
 use Rattle.std.proofs.lemmas.Option.{same_Some}
 use Rattle.tbl_kinds.specs.Places.{bank_size}
-use Rattle.tbl_kinds.specs.State.{Store as Blocks}
+use Rattle.tbl_kinds.specs.Blocks.{Store as Blocks}
 use Rattle.tbl_kinds.specs.StoreSteps.{new_block}
 use Rattle.tbl_kinds.specs.declared.block.Block.{Block}
 use Rattle.tbl_outside.specs.Bank.{Torn}

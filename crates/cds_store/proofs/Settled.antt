@@ -6,7 +6,7 @@ use Rattle.std.proofs.lemmas.Bool.{cases_Bool, cases_lt}
 use Rattle.std.proofs.lemmas.List.{length-map, length-replicate, get_or_past, ext_get_or}
 use Rattle.std.proofs.lemmas.Option.{same_Some}
 use Rattle.std.proofs.Math.ListN.{get_or-map}
-use Rattle.tbl_kinds.specs.State.{Stored, Store as Blocks, empty_store}
+use Rattle.tbl_kinds.specs.Blocks.{Stored, Store as Blocks, empty_store}
 use Rattle.tbl_kinds.specs.StoreSteps.{stored_at, MayGive, MayShow, shown, settled, settled_from, booted}
 use Rattle.tbl_kinds.specs.Places.{bank_size}
 use Rattle.tbl_kinds.specs.declared.block.Block.{Block}

@@ -4,7 +4,7 @@ use Rattle.std.specs.Option.{option_map, ForSome}
 use Rattle.std.proofs.lemmas.Bool.{cases_Bool, cases_lt}
 use Rattle.std.proofs.lemmas.List.{length-map, get_or_past}
 use Rattle.std.proofs.Math.ListN.{get_or-map}
-use Rattle.tbl_kinds.specs.State.{Stored, Store as Blocks}
+use Rattle.tbl_kinds.specs.Blocks.{Stored, Store as Blocks}
 use Rattle.tbl_kinds.specs.StoreSteps.{stored_at, MayGive, MayShow, Shows}
 use Rattle.cds_layout.specs.Entries.{slot_count}
 use Rattle.cds_layout.specs.Directory.{directory_of}

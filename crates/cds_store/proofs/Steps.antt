@@ -4,7 +4,7 @@ use Rattle.std.specs.Option.{option_map}
 use Rattle.std.proofs.lemmas.List.{set-get_or}
 use Rattle.std.proofs.lemmas.Option.{same_Some}
 use Rattle.tbl_kinds.specs.Places.{bank_size, end_of}
-use Rattle.tbl_kinds.specs.State.{Stored, Store as Blocks}
+use Rattle.tbl_kinds.specs.Blocks.{Stored, Store as Blocks}
 use Rattle.tbl_kinds.specs.StoreSteps.{stored_at, MayGive, MayGiveAfter, with_held, with_try, in_doubt, new_block, copy_broken, deleted, delete_broken, restored}
 use Rattle.tbl_kinds.specs.declared.block.Block.{Block}
 use Rattle.tbl_outside.specs.Bank.{Torn}

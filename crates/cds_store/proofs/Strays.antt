@@ -6,7 +6,7 @@ use Rattle.std.specs.Str.{bytes_eq}
 use Rattle.std.proofs.lemmas.Bool.{cases_Bool, cases_eq, cases_lt, and_parts, and_cases}
 use Rattle.std.proofs.lemmas.List.{length-map, take-take, get_or_past, get_or_push, get_or_append_left, get_or-replicate, get_or-take, length-replicate, ext_get_or}
 use Rattle.std.proofs.Math.ListN.{get_or-map}
-use Rattle.tbl_kinds.specs.State.{Stored, Store as Blocks, empty_store}
+use Rattle.tbl_kinds.specs.Blocks.{Stored, Store as Blocks, empty_store}
 use Rattle.tbl_kinds.specs.StoreSteps.{stored_at, MayShow}
 use Rattle.tbl_kinds.specs.declared.block.Block.{Block}
 use Rattle.tbl_outside.specs.Bank.{Torn}

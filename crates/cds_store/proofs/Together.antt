@@ -7,7 +7,7 @@ use Rattle.std.proofs.lemmas.List.{length-set, get_or-set_same, get_or-set_other
 use Rattle.std.proofs.lemmas.Option.{same_Some}
 use Rattle.std.proofs.lemmas.Slice.Eq.{bytes_eq-Decides}
 use Rattle.std.proofs.Math.Bool.{or_comm}
-use Rattle.tbl_kinds.specs.Applications.{table_limit}
+use Rattle.tbl_kinds.specs.Limits.{table_limit}
 use Rattle.tbl_kinds.specs.Names.{is_name}
 use Rattle.tbl_kinds.specs.Places.{bank_size, blocks_begin, end_of, are_apart, is_inside}
 use Rattle.tbl_kinds.specs.StoreSteps.{same_kind, same_block}

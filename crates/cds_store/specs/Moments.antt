@@ -1,6 +1,6 @@
 -- What a reset inside a call of the store may leave.
 use Rattle.std.specs.Prelude.{◌≡◌, ◌⊎◌, ℕ, List, Bool, true, Option}
-use Rattle.tbl_kinds.specs.State.{Store as Blocks, empty_store}
+use Rattle.tbl_kinds.specs.Blocks.{Store as Blocks, empty_store}
 use Rattle.tbl_kinds.specs.StoreSteps.{Shows, freed, reserved, reserve_broken, copied, copy_broken, deleted, delete_broken}
 use Rattle.tbl_kinds.specs.declared.block.Block.{Block}
 use Rattle.tbl_kinds.specs.declared.block.BlockKind.{BlockKind}

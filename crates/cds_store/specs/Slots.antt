@@ -4,7 +4,7 @@ use Rattle.std.specs.List.{filter_map}
 use Rattle.std.specs.Option.{option_map}
 use Rattle.tbl_kinds.specs.Places.{place}
 use Rattle.tbl_kinds.specs.StoreSteps.{is_of}
-use Rattle.tbl_kinds.specs.TableSteps.{least_free}
+use Rattle.tbl_kinds.specs.Free.{least_free}
 use Rattle.tbl_kinds.specs.declared.block.Block.{Block}
 use Rattle.tbl_kinds.specs.declared.block.BlockKind.{BlockKind}
 use Rattle.cds_store.specs.declared.slot.Slot.{Slot}

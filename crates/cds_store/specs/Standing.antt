@@ -1,7 +1,7 @@
 -- Which lists of blocks a store stands for.
 use Rattle.std.specs.Prelude.{◌≡◌, ℕ, List, map, slice_set, Bool, true, false, Option, Some, None, Result, Ok, Err, option_and_then}
 use Rattle.std.specs.Option.{option_map, ForSome}
-use Rattle.tbl_kinds.specs.State.{Stored, Store as Blocks}
+use Rattle.tbl_kinds.specs.Blocks.{Stored, Store as Blocks}
 use Rattle.tbl_kinds.specs.StoreSteps.{Shows, stored_at, MayGive, new_block, freed, delete_broken, restored}
 use Rattle.tbl_kinds.specs.declared.block.Block.{Block}
 use Rattle.cds_layout.specs.declared.blocks.RestoreFault.{RestoreFault}

@@ -2,7 +2,7 @@
 
 ghost use Rattle.std.specs.Prelude.{◌≡◌, ◌≤◌, [], Some, Err, false, length, OnOk, OnErr, IfErr};
 ghost use Rattle.std.specs.Option.{ForSome};
-ghost use Rattle.tbl_kinds.specs.State.{Store as Blocks};
+ghost use Rattle.tbl_kinds.specs.Blocks.{Store as Blocks};
 ghost use Rattle.tbl_kinds.specs.StoreSteps.{stored_at, copied, copy_broken, restored};
 ghost use Rattle.tbl_outside.specs.Bank.{LeavesOnly};
 ghost use Rattle.tbl_outside.specs.Counts.{Rose};

@@ -4,7 +4,7 @@ ghost use Rattle.std.specs.Prelude.{◌≡◌, ◌+◌, ◌<◌, ◌≤◌, [], 
 ghost use Rattle.std.specs.Option.{option_copied, option_map};
 ghost use Rattle.tbl_kinds.specs.Places.{place};
 ghost use Rattle.tbl_kinds.specs.StoreSteps.{is_of};
-ghost use Rattle.tbl_kinds.specs.TableSteps.{least_free};
+ghost use Rattle.tbl_kinds.specs.Free.{least_free};
 ghost use Rattle.cds_store.specs.Slots.{is_open_slot, is_doubtful_slot, open_slot, doubtful_slot, without_slot, block_of, blocks_of, room_in};
 ghost use Rattle.cds_store.specs.Sound.{slot_at};
 

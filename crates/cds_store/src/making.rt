@@ -1,7 +1,7 @@
 //! A block is made in a free slot.
 
 ghost use Rattle.std.specs.Prelude.{◌≡◌, ◌⊎◌, ◌<◌, ◌≤◌, None, Some, true, false, List, ℕ, is_err, OnOk, IfErr};
-ghost use Rattle.tbl_kinds.specs.State.{Store as Blocks};
+ghost use Rattle.tbl_kinds.specs.Blocks.{Store as Blocks};
 ghost use Rattle.tbl_outside.specs.Bank.{LeavesOnly};
 ghost use Rattle.cds_layout.specs.Entries.{tail_at, block_in};
 ghost use Rattle.cds_layout.specs.Images.{held_in};

@@ -2,9 +2,9 @@
 
 ghost use Rattle.std.specs.Prelude.{◌≡◌, ◌⊎◌, ◌≤◌, None, Some, Err, true, false, not, length, IsSome, IfSome, IfOk, OnOk, IfErr};
 ghost use Rattle.tbl_kinds.specs.Names.{is_name};
-ghost use Rattle.tbl_kinds.specs.State.{Store as Blocks};
+ghost use Rattle.tbl_kinds.specs.Blocks.{Store as Blocks};
 ghost use Rattle.tbl_kinds.specs.StoreSteps.{freed, closed, reserved, reserve_broken, doubtful_of, has_room};
-ghost use Rattle.tbl_kinds.specs.TableSteps.{least_free};
+ghost use Rattle.tbl_kinds.specs.Free.{least_free};
 ghost use Rattle.tbl_outside.specs.Bank.{LeavesOnly};
 ghost use Rattle.cds_store.specs.Calls.{Steady, IsCaused, HasFlags, IfBank, lacks_room, is_gate, is_old};
 ghost use Rattle.cds_store.specs.Moments.{ShowsIn, MakeLeaves, ReserveLeaves};

@@ -2,9 +2,9 @@ ghost use Rattle.std.specs.Prelude.{◌≡◌, ◌≤◌, ◌<◌, None, Some, E
 ghost use Rattle.std.specs.Option.{ForSome, option_map, option_copied};
 ghost use Rattle.tbl_kinds.specs.Names.{is_name};
 ghost use Rattle.tbl_kinds.specs.Places.{bank_size};
-ghost use Rattle.tbl_kinds.specs.State.{Stored, Store as Blocks};
+ghost use Rattle.tbl_kinds.specs.Blocks.{Stored, Store as Blocks};
 ghost use Rattle.tbl_kinds.specs.StoreSteps.{stored_at, open_of, doubtful_of, has_room, closed, reserved, reserve_broken, booted, copied, copy_broken, restored, deleted, delete_broken};
-ghost use Rattle.tbl_kinds.specs.TableSteps.{least_free};
+ghost use Rattle.tbl_kinds.specs.Free.{least_free};
 ghost use Rattle.tbl_outside.specs.Bank.{LeavesOnly};
 ghost use Rattle.tbl_outside.specs.Counts.{Rose};
 ghost use Rattle.cds_layout.specs.Directory.{directory_len};

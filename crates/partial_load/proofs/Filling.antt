@@ -1,12 +1,12 @@
 -- What a load from a file does to a table of today's kind.
 use Rattle.std.proofs.Common.{◌≡◌, ◌+◌, ◌<◌, ◌≤◌, ◌==◌, ℕ, List, [], ◌∷◌, length, slice_index_or, inl, inr, Bool, true, false, not, ◌&&◌, nat_lt, cond, Option, Some, None, is_some, IsSome, refl, ap, sym, ◌∙◌, arith}
 use Rattle.std.specs.Option.{option_or}
-use Rattle.tbl_kinds.specs.State.{State, Table, Tables}
-use Rattle.tbl_kinds.specs.Tables.{table_at, in_use}
-use Rattle.tbl_kinds.specs.TableSteps.{find, patched, base, unchecked, patch, set_file, open_load}
+use Rattle.tbl_model.specs.State.{State, Table, Tables}
+use Rattle.tbl_model.specs.Tables.{table_at, in_use}
+use Rattle.tbl_model.specs.TableSteps.{find, patched, base, unchecked, patch, set_file, open_load}
 use Rattle.tbl_kinds.specs.TableFiles.{TableFile}
-use Rattle.tbl_kinds.specs.GroundLoads.{loaded_effect, load_into, load_file_effect}
-use Rattle.tbl_kinds.specs.Effects.{Effect, answered}
+use Rattle.tbl_model.specs.GroundLoads.{loaded_effect, load_into, load_file_effect}
+use Rattle.tbl_model.specs.Effects.{Effect, answered}
 use Rattle.std.proofs.lemmas.Bool.{cases_lt}
 use Rattle.std.proofs.lemmas.List.{get_or_past, get_or-set_same, set-set}
 use Rattle.tbl_registry.specs.Seen.{padded}

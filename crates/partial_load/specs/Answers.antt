@@ -1,8 +1,8 @@
 -- What a load from a file is answered.
 use Rattle.std.specs.Prelude.{ℕ, ◌==◌, [], if◌then◌else◌, Option}
-use Rattle.tbl_kinds.specs.State.{State, Tables}
-use Rattle.tbl_kinds.specs.Tables.{in_use}
-use Rattle.tbl_kinds.specs.Effects.{Effect, answered}
+use Rattle.tbl_model.specs.State.{State, Tables}
+use Rattle.tbl_model.specs.Tables.{in_use}
+use Rattle.tbl_model.specs.Effects.{Effect, answered}
 use Rattle.tbl_kinds.specs.declared.entry.Answer.{Answer}
 use Rattle.tbl_kinds.specs.declared.status.TheConstants.Status.{ERR_NO_BUFFER_AVAIL}
 

@@ -1,9 +1,9 @@
 -- Why a load from a file isn't taken by a single-buffered table with nothing pending but a load.
 use Rattle.std.specs.Prelude.{ℕ, ◌+◌, ◌==◌, [], not, ◌&&◌, nat_lt, if◌then◌else◌, Option, Some, None, is_some}
 use Rattle.std.specs.Option.{option_or}
-use Rattle.tbl_kinds.specs.State.{State, Table}
-use Rattle.tbl_kinds.specs.Tables.{in_use}
-use Rattle.tbl_kinds.specs.Effects.{Effect, answered}
+use Rattle.tbl_model.specs.State.{State, Table}
+use Rattle.tbl_model.specs.Tables.{in_use}
+use Rattle.tbl_model.specs.Effects.{Effect, answered}
 use Rattle.tbl_kinds.specs.declared.status.Status.{Status}
 use Rattle.tbl_kinds.specs.declared.status.TheConstants.Status.{ERR_PARTIAL_LOAD, ERR_ZERO_LOAD, ERR_PAST_END, ERR_NO_BUFFER_AVAIL}
 

@@ -2,11 +2,11 @@
 
 ghost use Rattle.std.specs.Prelude.{◌≡◌, ◌+◌, ◌≤◌, ◌<◌, ◌||◌, ◌&&◌, ◌==◌, not, is_some, nat_lt, ℕ, List, length, Some, None, IsSome, IfSome, IfNone, if◌then◌else◌};
 ghost use Rattle.std.specs.Option.{ForSome};
-ghost use Rattle.tbl_kinds.specs.State.{State, Table};
-ghost use Rattle.tbl_kinds.specs.Tables.{table_at, in_use};
-ghost use Rattle.tbl_kinds.specs.TableSteps.{find, patch, set_file};
-ghost use Rattle.tbl_kinds.specs.GroundLoads.{load_file_effect, load_into};
-ghost use Rattle.tbl_kinds.specs.Effects.{answered};
+ghost use Rattle.tbl_model.specs.State.{State, Table};
+ghost use Rattle.tbl_model.specs.Tables.{table_at, in_use};
+ghost use Rattle.tbl_model.specs.TableSteps.{find, patch, set_file};
+ghost use Rattle.tbl_model.specs.GroundLoads.{load_file_effect, load_into};
+ghost use Rattle.tbl_model.specs.Effects.{answered};
 ghost use Rattle.table_files.specs.Files.{with_image};
 ghost use Rattle.partial_load.specs.Answers.{load_answered};
 ghost use Rattle.partial_load.specs.Refusals.{misfit_of, refusal_of};

@@ -4,7 +4,7 @@ use Rattle.std.proofs.lemmas.List.Folds.{length-prefix_len, prefix_len-append}
 use Rattle.std.proofs.Math.Seq.{take-length}
 use Rattle.std.specs.List.{prefix_len}
 use Rattle.tbl_kinds.specs.Names.{is_zero, name_in, HasNoZero}
-use Rattle.tbl_kinds.specs.Applications.{full_name}
+use Rattle.tbl_model.specs.Applications.{full_name}
 
 abbrev stands : ℕ → Bool
 stands b = not (is_zero b)

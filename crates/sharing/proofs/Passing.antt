@@ -4,10 +4,11 @@ use Rattle.std.specs.Option.{option_map}
 use Rattle.std.proofs.lemmas.Option.{same_Some}
 use Rattle.std.proofs.lemmas.Bool.Decides.{nat_tests}
 use Rattle.tbl_kinds.specs.Names.{is_name}
-use Rattle.tbl_kinds.specs.State.{State}
-use Rattle.tbl_kinds.specs.TableSteps.{find}
-use Rattle.tbl_kinds.specs.Effects.{Effect}
-use Rattle.tbl_kinds.specs.Applications.{table_limit, are_options, full_name, by_app, by_name_effect, register_effect}
+use Rattle.tbl_model.specs.State.{State}
+use Rattle.tbl_model.specs.TableSteps.{find}
+use Rattle.tbl_model.specs.Effects.{Effect}
+use Rattle.tbl_kinds.specs.Limits.{table_limit}
+use Rattle.tbl_model.specs.Applications.{are_options, full_name, by_app, by_name_effect, register_effect}
 use Rattle.tbl_kinds.specs.declared.status.Status.{Status}
 use Rattle.tbl_kinds.specs.declared.status.TheConstants.Status.{ERR_INVALID_NAME, ERR_INVALID_SIZE, ERR_INVALID_OPTIONS, ERR_NO_VALIDATOR}
 use Rattle.sharing.specs.Apps.{app_name}

@@ -1,9 +1,10 @@
 -- What a registration is answered, and why it is refused before the registered tables are looked at.
 use Rattle.std.specs.Prelude.{ℕ, ◌==◌, List, not, ◌||◌, nat_lt, if◌then◌else◌, Option, Some, None, is_some}
 use Rattle.tbl_kinds.specs.Names.{is_name}
-use Rattle.tbl_kinds.specs.State.{State, Tables}
-use Rattle.tbl_kinds.specs.Applications.{table_limit, are_options}
-use Rattle.tbl_kinds.specs.Effects.{Effect, answered}
+use Rattle.tbl_model.specs.State.{State, Tables}
+use Rattle.tbl_kinds.specs.Limits.{table_limit}
+use Rattle.tbl_model.specs.Applications.{are_options}
+use Rattle.tbl_model.specs.Effects.{Effect, answered}
 use Rattle.tbl_kinds.specs.declared.entry.Answer.{Answer}
 use Rattle.tbl_kinds.specs.declared.status.Status.{Status}
 use Rattle.tbl_kinds.specs.declared.status.TheConstants.Status.{ERR_INVALID_NAME, ERR_INVALID_SIZE, ERR_INVALID_OPTIONS, ERR_NO_VALIDATOR}

@@ -1,8 +1,10 @@
 ghost use Rattle.std.specs.Prelude.{◌≡◌, ◌<◌, ◌≤◌, [], None, Some, IfOk, OnErr};
-ghost use Rattle.tbl_kinds.specs.State.{State};
-ghost use Rattle.tbl_kinds.specs.Tables.{option_bits, table_at};
-ghost use Rattle.tbl_kinds.specs.TableSteps.{find, least_free};
-ghost use Rattle.tbl_kinds.specs.Applications.{table_limit, are_options, duplicate_effect, add_effect, by_name_effect, register_effect};
+ghost use Rattle.tbl_model.specs.State.{State};
+ghost use Rattle.tbl_model.specs.Tables.{option_bits, table_at};
+ghost use Rattle.tbl_kinds.specs.Free.{least_free};
+ghost use Rattle.tbl_model.specs.TableSteps.{find};
+ghost use Rattle.tbl_kinds.specs.Limits.{table_limit};
+ghost use Rattle.tbl_model.specs.Applications.{are_options, duplicate_effect, add_effect, by_name_effect, register_effect};
 ghost use Rattle.sharing.specs.Registering.{answered_with, fault_of};
 
 use crate::apps::{Apps, plan_name};

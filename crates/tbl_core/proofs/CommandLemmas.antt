@@ -4,13 +4,13 @@ use Rattle.tbl_kinds.specs.Buffers.{Buffer}
 use Rattle.tbl_kinds.specs.Statuses.{is_success}
 use Rattle.tbl_kinds.specs.Packets.{telemetry_packet, event_id, housekeeping_id}
 use Rattle.tbl_kinds.specs.Telemetry.{event_body, housekeeping_body}
-use Rattle.tbl_kinds.specs.Effects.{Effect}
-use Rattle.tbl_kinds.specs.Commands.{housekeeping_effect, effect_by}
+use Rattle.tbl_model.specs.Effects.{Effect}
+use Rattle.tbl_model.specs.Commands.{housekeeping_effect, effect_by}
 use Rattle.tbl_kinds.specs.GroundCommands.{housekeeping, command_in}
-use Rattle.tbl_kinds.specs.Events.{row_field, event}
-use Rattle.tbl_kinds.specs.Counts.{Told, Counts, counts_of}
-use Rattle.tbl_kinds.specs.CountsAfter.{Tally, no_tally, tally_of, counts_after}
-use Rattle.tbl_kinds.specs.Replies.{head_at, housekeeping_of, packets_of}
+use Rattle.tbl_model.specs.Events.{row_field, event}
+use Rattle.tbl_model.specs.Counts.{Told, Counts, counts_of}
+use Rattle.tbl_model.specs.CountsAfter.{Tally, no_tally, tally_of, counts_after}
+use Rattle.tbl_model.specs.Replies.{head_at, housekeeping_of, packets_of}
 use Rattle.tbl_core.specs.Log.{entry_of}
 use Rattle.tbl_core.specs.Settling.{settled, settling_event, refused_tally, settling_tally, Settles}
 use Rattle.tbl_core.specs.Service.{Kept, Plays, Enters, HasFewImages, head_of, told}

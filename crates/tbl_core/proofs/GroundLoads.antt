@@ -3,12 +3,12 @@ use Rattle.std.proofs.Common.{◌≡◌, ℕ, zero, suc, ◌+◌, ◌<◌, ◌�
 use Rattle.std.specs.Prelude.{◌-◌, ◌==◌}
 use Rattle.std.proofs.lemmas.List.{append-nil, at_drop_more, at_drop_all}
 use Rattle.std.proofs.lemmas.List.Elements.{filter_map-append}
-use Rattle.tbl_kinds.specs.State.{State, Tables}
-use Rattle.tbl_kinds.specs.Tables.{in_use}
+use Rattle.tbl_model.specs.State.{State, Tables}
+use Rattle.tbl_model.specs.Tables.{in_use}
 use Rattle.tbl_kinds.specs.Drawer.{contents_of}
 use Rattle.tbl_kinds.specs.TableFiles.{FileFlaw, file_flaw, file_status, table_file_in}
-use Rattle.tbl_kinds.specs.Effects.{answered}
-use Rattle.tbl_kinds.specs.GroundLoads.{load_by, load_from, load_file_effect, load_effect}
+use Rattle.tbl_model.specs.Effects.{answered}
+use Rattle.tbl_model.specs.GroundLoads.{load_by, load_from, load_file_effect, load_effect}
 use Rattle.tbl_registry.specs.Seen.{padded}
 use Rattle.partial_load.specs.Answers.{load_answered}
 use Rattle.tbl_core.specs.Loads.{rows_in}

@@ -2,18 +2,18 @@
 use Rattle.std.proofs.Common.{◌≡◌, ◌==◌, ℕ, Bool, not, cond, is_some, true, false, List, [], ◌∷◌, ◌++◌, length, Option, Some, None, refl, sym, ap, ◌∙◌}
 use Rattle.std.proofs.lemmas.List.{append-nil}
 use Rattle.tbl_kinds.specs.Buffers.{Buffer}
-use Rattle.tbl_kinds.specs.State.{State, Table, Tables}
-use Rattle.tbl_kinds.specs.Tables.{table_at, in_use}
-use Rattle.tbl_kinds.specs.TableSteps.{locker}
+use Rattle.tbl_model.specs.State.{State, Table, Tables}
+use Rattle.tbl_model.specs.Tables.{table_at, in_use}
+use Rattle.tbl_model.specs.TableSteps.{locker}
 use Rattle.tbl_kinds.specs.Requests.{Fits}
 use Rattle.tbl_kinds.specs.Packets.{telemetry_packet, event_id}
 use Rattle.tbl_kinds.specs.Telemetry.{event_body}
-use Rattle.tbl_kinds.specs.Dispatch.{effect_of}
-use Rattle.tbl_kinds.specs.Events.{event}
-use Rattle.tbl_kinds.specs.Applications.{if_handle, load_image_effect, if_free, load_image_of, activate_effect}
-use Rattle.tbl_kinds.specs.Counts.{Told, Counts, counts_of, name_at}
-use Rattle.tbl_kinds.specs.CountsAfter.{Tally, no_tally, tally_of, counts_after}
-use Rattle.tbl_kinds.specs.Replies.{head_at, packets_of}
+use Rattle.tbl_model.specs.Dispatch.{effect_of}
+use Rattle.tbl_model.specs.Events.{event}
+use Rattle.tbl_model.specs.Applications.{if_handle, load_image_effect, if_free, load_image_of, activate_effect}
+use Rattle.tbl_model.specs.Counts.{Told, Counts, counts_of, name_at}
+use Rattle.tbl_model.specs.CountsAfter.{Tally, no_tally, tally_of, counts_after}
+use Rattle.tbl_model.specs.Replies.{head_at, packets_of}
 use Rattle.tbl_registry.specs.Sound.{IsPlain}
 use Rattle.tbl_core.specs.Loads.{activates, refused_effect, plainly, by_lock, image_refusal}
 use Rattle.tbl_core.specs.declared.loads.Refused.{Refused}
@@ -24,7 +24,7 @@ use Rattle.tbl_core.proofs.Steps.{none_given, did_play}
 use Rattle.tbl_kinds.specs.declared.request.Actor.TheVariants.{App}
 use Rattle.tbl_kinds.specs.declared.request.Request.TheVariants.{LoadImage}
 use Rattle.tbl_kinds.specs.declared.entry.Reply.{Reply}
-use Rattle.tbl_kinds.specs.Effects.{Effect, answered}
+use Rattle.tbl_model.specs.Effects.{Effect, answered}
 use Rattle.tbl_kinds.specs.declared.status.TheConstants.Status.{SUCCESS, ERR_LOAD_IN_PROGRESS, ERR_IMAGE_SIZE, ERR_NO_BUFFER_AVAIL}
 
 module _ (s : State) where

@@ -4,19 +4,22 @@ use Rattle.std.specs.Option.{option_map_or, option_map}
 use Rattle.std.specs.Prelude.{option_and_then, ◌==◌, not, ◌&&◌, ◌||◌, nat_lt, is_some, length}
 use Rattle.tbl_kinds.specs.Names.{is_name}
 use Rattle.std.proofs.lemmas.Option.{same_Some}
-use Rattle.tbl_kinds.specs.State.{State, Table, Handle, Tables, no_tables}
-use Rattle.tbl_kinds.specs.Tables.{table_at, is_double, is_dump_only, in_use}
-use Rattle.tbl_kinds.specs.TableSteps.{base, unchecked, patched, changed, changed_in, patch, set_file, is_that, Access, access_by, access_of, Step, stays, check, check_handle, check_row, handle_at, find, least_free, locker, with_table, with_handle, with_image, put, put_in, set_time, set_time_in, let_go, get_address, release, read, read_of, new_table}
-use Rattle.tbl_kinds.specs.Effects.{Effect, answered}
+use Rattle.tbl_model.specs.State.{State, Table, Handle, Tables, no_tables}
+use Rattle.tbl_model.specs.Tables.{table_at, is_double, is_dump_only, in_use}
+use Rattle.tbl_kinds.specs.Free.{least_free}
+use Rattle.tbl_model.specs.TableSteps.{base, unchecked, patched, changed, changed_in, patch, set_file, is_that, Access, access_by, access_of, Step, stays, check, check_handle, check_row, handle_at, find, locker, with_table, with_handle, with_image, put, put_in, set_time, set_time_in, let_go, get_address, release, read, read_of, new_table}
+use Rattle.tbl_model.specs.Effects.{Effect, answered}
 use Rattle.tbl_kinds.specs.Drawer.{contents_of, is_full_for}
 use Rattle.tbl_kinds.specs.TableFiles.{TableFile, FileFlaw, no_std_header, bad_content, bad_subtype, no_table_header, incomplete, too_big, file_flaw, file_status, table_file_in}
-use Rattle.tbl_kinds.specs.GroundLoads.{loaded_effect, if_open, is_part, load_into, load_found, load_file_effect, load_by, load_from, load_effect}
-use Rattle.tbl_kinds.specs.Uplinks.{file_limit, file_effect}
+use Rattle.tbl_model.specs.GroundLoads.{loaded_effect, if_open, is_part, load_into, load_found, load_file_effect, load_by, load_from, load_effect}
+use Rattle.tbl_kinds.specs.Limits.{file_limit}
+use Rattle.tbl_model.specs.Uplinks.{file_effect}
 use Rattle.tbl_kinds.specs.GroundCommands.{GroundCommand, housekeeping, noop, reset_counters, load, code_of, command_in}
-use Rattle.tbl_kinds.specs.Commands.{effect_by, command_effect}
+use Rattle.tbl_model.specs.Commands.{effect_by, command_effect}
 use Rattle.tbl_kinds.specs.declared.entry.Answer.{Answer}
-use Rattle.tbl_kinds.specs.Applications.{name_of, has_dot, table_limit, are_options, may_use, start_effect, by_app, by_check, stepped, duplicate_effect, add_effect, by_name_effect, register_effect, full_name, activate_effect, if_buffer, if_free, load_image_of, load_image_effect, get_effect, release_effect, read_answer, read_effect}
-use Rattle.tbl_kinds.specs.Dispatch.{Given, effect_of}
+use Rattle.tbl_kinds.specs.Limits.{table_limit}
+use Rattle.tbl_model.specs.Applications.{name_of, has_dot, are_options, may_use, start_effect, by_app, by_check, stepped, duplicate_effect, add_effect, by_name_effect, register_effect, full_name, activate_effect, if_buffer, if_free, load_image_of, load_image_effect, get_effect, release_effect, read_answer, read_effect}
+use Rattle.tbl_model.specs.Dispatch.{Given, effect_of}
 use Rattle.tbl_kinds.specs.declared.request.Actor.{Actor}
 use Rattle.tbl_kinds.specs.declared.request.Actor.TheVariants.{Ground, App}
 use Rattle.tbl_kinds.specs.declared.request.Request.{Request}

@@ -5,17 +5,17 @@ use Rattle.std.specs.List.{after_last}
 use Rattle.std.proofs.lemmas.List.{append-nil}
 use Rattle.std.proofs.Math.Nat.{mod-add-mod}
 use Rattle.tbl_kinds.specs.Buffers.{Buffer}
-use Rattle.tbl_kinds.specs.State.{State}
+use Rattle.tbl_model.specs.State.{State}
 use Rattle.tbl_kinds.specs.Statuses.{is_success}
 use Rattle.tbl_kinds.specs.Packets.{telemetry_packet, event_id, housekeeping_id}
 use Rattle.tbl_kinds.specs.GroundCommands.{housekeeping, command_in}
 use Rattle.tbl_kinds.specs.Telemetry.{event_body, housekeeping_body}
-use Rattle.tbl_kinds.specs.Commands.{asks_housekeeping, asked_code, housekeeping_effect}
-use Rattle.tbl_kinds.specs.Events.{row_field, event}
-use Rattle.tbl_kinds.specs.Counts.{Told, counts_of, clears_counters, adds_accepted, adds_refused, adds_request, deeds_by, is_finished, is_finished_well, is_finished_badly}
-use Rattle.tbl_kinds.specs.CountsAfter.{no_tally, tally_of, counts_after}
-use Rattle.tbl_kinds.specs.Replies.{head_at, housekeeping_of, packets_of}
-use Rattle.tbl_kinds.proofs.CountsLaws.{counts_push}
+use Rattle.tbl_model.specs.Commands.{asks_housekeeping, asked_code, housekeeping_effect}
+use Rattle.tbl_model.specs.Events.{row_field, event}
+use Rattle.tbl_model.specs.Counts.{Told, counts_of, clears_counters, adds_accepted, adds_refused, adds_request, deeds_by, is_finished, is_finished_well, is_finished_badly}
+use Rattle.tbl_model.specs.CountsAfter.{no_tally, tally_of, counts_after}
+use Rattle.tbl_model.specs.Replies.{head_at, housekeeping_of, packets_of}
+use Rattle.tbl_model.proofs.CountsLaws.{counts_push}
 use Rattle.tbl_core.specs.Service.{told}
 use Rattle.tbl_core.specs.Settling.{settled, refused_tally}
 use Rattle.tbl_kinds.specs.declared.request.Actor.TheVariants.{Ground}

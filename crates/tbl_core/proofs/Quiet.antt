@@ -1,15 +1,15 @@
 -- A request that sends no packet plays.
 use Rattle.std.proofs.Common.{◌≡◌, ℕ, eqb, Bool, true, false, List, [], ◌∷◌, ◌++◌, length, None, refl, sym, ap, ◌∙◌}
-use Rattle.tbl_kinds.specs.State.{State}
+use Rattle.tbl_model.specs.State.{State}
 use Rattle.tbl_kinds.specs.Requests.{Fits}
 use Rattle.tbl_kinds.specs.Records.{IsBuilt}
 use Rattle.tbl_kinds.specs.Statuses.{is_success}
-use Rattle.tbl_kinds.specs.Effects.{Effect, answered}
-use Rattle.tbl_kinds.specs.Dispatch.{effect_of}
-use Rattle.tbl_kinds.specs.Events.{events_before}
-use Rattle.tbl_kinds.specs.Counts.{Told, Counts, loaded_name}
-use Rattle.tbl_kinds.specs.CountsAfter.{Tally, no_tally, tally_of, counts_after}
-use Rattle.tbl_kinds.specs.Replies.{packets_of}
+use Rattle.tbl_model.specs.Effects.{Effect, answered}
+use Rattle.tbl_model.specs.Dispatch.{effect_of}
+use Rattle.tbl_model.specs.Events.{events_before}
+use Rattle.tbl_model.specs.Counts.{Told, Counts, loaded_name}
+use Rattle.tbl_model.specs.CountsAfter.{Tally, no_tally, tally_of, counts_after}
+use Rattle.tbl_model.specs.Replies.{packets_of}
 use Rattle.tbl_core.specs.Log.{entry_of}
 use Rattle.tbl_core.specs.Service.{Kept, Plays, HasFewImages, told}
 use Rattle.tbl_core.proofs.Ordinary.{IsOrdinary, ordinary}

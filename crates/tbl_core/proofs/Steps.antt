@@ -1,17 +1,17 @@
 -- From what a step did to the core to the legal history.
 use Rattle.std.proofs.Common.{◌≡◌, suc, false, List, [], ◌∷◌, ◌++◌, length, None, Result, Ok, Err, refl, sym, ap, subst, ◌∙◌, length-append, arith}
 use Rattle.std.specs.Prelude.{OnOk}
-use Rattle.tbl_kinds.specs.State.{State}
+use Rattle.tbl_model.specs.State.{State}
 use Rattle.tbl_kinds.specs.Requests.{Fits}
 use Rattle.tbl_kinds.specs.Records.{IsBuilt}
-use Rattle.tbl_kinds.specs.Effects.{Effect}
-use Rattle.tbl_kinds.specs.Dispatch.{Given, effect_of}
-use Rattle.tbl_kinds.specs.Counts.{Told, counts_of}
-use Rattle.tbl_kinds.specs.CountsAfter.{tally_of, counts_after}
-use Rattle.tbl_kinds.specs.Replies.{packets_of}
-use Rattle.tbl_kinds.specs.History.{Run, begins_at, onward, run_from, untouched, IsAnswered, AreAnswered}
-use Rattle.tbl_kinds.proofs.CountsLaws.{counts_push}
-use Rattle.tbl_kinds.proofs.HistoryLaws.{run_push, answered_push}
+use Rattle.tbl_model.specs.Effects.{Effect}
+use Rattle.tbl_model.specs.Dispatch.{Given, effect_of}
+use Rattle.tbl_model.specs.Counts.{Told, counts_of}
+use Rattle.tbl_model.specs.CountsAfter.{tally_of, counts_after}
+use Rattle.tbl_model.specs.Replies.{packets_of}
+use Rattle.tbl_model.specs.History.{Run, begins_at, onward, run_from, untouched, IsAnswered, AreAnswered}
+use Rattle.tbl_model.proofs.CountsLaws.{counts_push}
+use Rattle.tbl_model.proofs.HistoryLaws.{run_push, answered_push}
 use Rattle.tbl_core.specs.Log.{entry_of}
 use Rattle.tbl_core.specs.Service.{Kept, Shows, StandsFor, Plays, HasFewImages, told}
 use Rattle.tbl_core.proofs.Ordinary.{IsOrdinary, ordinary}

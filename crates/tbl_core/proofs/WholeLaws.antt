@@ -9,14 +9,14 @@ use Rattle.std.proofs.lemmas.List.Folds.{list_any-append, list_any_at}
 use Rattle.std.proofs.lemmas.List.Sums.{fails_before_first}
 use Rattle.std.proofs.lemmas.List.Quantifiers.{position-Some}
 use Rattle.std.proofs.lemmas.Option.{same_Some}
-use Rattle.tbl_kinds.specs.State.{State, Table, Handle, Tables, no_tables}
-use Rattle.tbl_kinds.specs.Tables.{table_at, is_double, in_use}
-use Rattle.tbl_kinds.specs.Effects.{Effect, answered}
+use Rattle.tbl_model.specs.State.{State, Table, Handle, Tables, no_tables}
+use Rattle.tbl_model.specs.Tables.{table_at, is_double, in_use}
+use Rattle.tbl_model.specs.Effects.{Effect, answered}
 use Rattle.tbl_kinds.specs.Records.{IsBuilt}
-use Rattle.tbl_kinds.specs.Counts.{is_reset}
-use Rattle.tbl_kinds.specs.History.{Run, begins_at, run_from, IsAnswered, AreAnswered, IsLegal}
-use Rattle.tbl_kinds.specs.Whole.{is_by, is_done, asks_address, is_get, asks_end, is_exit, gives_back, asks_removal, takes_away, begins_anew, ends_pin, IsWholeRead, IsWholeBy, IsWholeEntry, IsWhole}
-use Rattle.tbl_kinds.proofs.HistoryLaws.{run_push}
+use Rattle.tbl_model.specs.Counts.{is_reset}
+use Rattle.tbl_model.specs.History.{Run, begins_at, run_from, IsAnswered, AreAnswered, IsLegal}
+use Rattle.tbl_model.specs.Whole.{is_by, is_done, asks_address, is_get, asks_end, is_exit, gives_back, asks_removal, takes_away, begins_anew, ends_pin, IsWholeRead, IsWholeBy, IsWholeEntry, IsWhole}
+use Rattle.tbl_model.proofs.HistoryLaws.{run_push}
 use Rattle.tbl_kinds.specs.declared.entry.Entry.{Entry}
 use Rattle.tbl_kinds.specs.declared.request.Actor.{Actor}
 use Rattle.tbl_kinds.specs.declared.request.Actor.TheVariants.{Ground, App}
@@ -24,17 +24,19 @@ use Rattle.tbl_kinds.specs.declared.request.Request.{Request}
 use Rattle.tbl_kinds.specs.declared.request.Request.TheVariants as ask
 use Rattle.tbl_kinds.specs.declared.status.Status.{Status}
 use Rattle.tbl_kinds.specs.declared.status.TheConstants.Status.{SUCCESS, INFO_UPDATED, INFO_TABLE_LOCKED, INFO_STOPPED, WARN_DUPLICATE, ERR_BAD_APP, ERR_INVALID_HANDLE, ERR_NO_ACCESS, ERR_UNREGISTERED, ERR_INVALID_NAME, ERR_INVALID_SIZE, ERR_INVALID_OPTIONS, ERR_NO_VALIDATOR, ERR_DUPLICATE_NOT_OWNED, ERR_DUPLICATE_DIFF_SIZE, ERR_REGISTRY_FULL, ERR_HANDLES_FULL, ERR_DUMP_ONLY, ERR_LOAD_IN_PROGRESS, ERR_ALREADY_PINNED, ERR_NEVER_LOADED, ERR_NOT_PINNED, ERR_OUT_OF_RANGE, ERR_APP_RUNNING, ERR_BAD_CODE, ERR_IMAGE_SIZE, ERR_BAD_NAME, ERR_FILE_TOO_LARGE, ERR_DRAWER_FULL, ERR_FILE_NOT_FOUND, ERR_NO_SUCH_TABLE, ERR_UPDATE_PENDING, ERR_ZERO_LOAD, ERR_PAST_END, ERR_PARTIAL_LOAD}
-use Rattle.tbl_kinds.specs.TableSteps.{handle_at, access_of, Access, find, least_free, is_that, pins, is_in_way, locker, image_of, check_row, check_handle, let_go, with_table, with_handle, with_image, put, set_time, base, unchecked, patched, changed, changed_in, patch, set_file, Step, stays, pin_last, get_address_of, release_of, read_of, new_table, new_handle}
-use Rattle.tbl_kinds.specs.Applications.{name_of, has_dot, full_name, start_effect, by_app, by_check, if_handle, stepped, duplicate_effect, add_effect, by_name_effect, register_effect, activate_effect, if_free, load_image_of, load_image_effect, get_effect, release_effect, read_answer, read_effect}
+use Rattle.tbl_kinds.specs.Free.{least_free}
+use Rattle.tbl_model.specs.TableSteps.{handle_at, access_of, Access, find, is_that, pins, is_in_way, locker, image_of, check_row, check_handle, let_go, with_table, with_handle, with_image, put, set_time, base, unchecked, patched, changed, changed_in, patch, set_file, Step, stays, pin_last, get_address_of, release_of, read_of, new_table, new_handle}
+use Rattle.tbl_model.specs.Applications.{name_of, has_dot, full_name, start_effect, by_app, by_check, if_handle, stepped, duplicate_effect, add_effect, by_name_effect, register_effect, activate_effect, if_free, load_image_of, load_image_effect, get_effect, release_effect, read_answer, read_effect}
 use Rattle.tbl_kinds.specs.Drawer.{contents_of, is_full_for}
 use Rattle.tbl_kinds.specs.TableFiles.{TableFile, FileFlaw, no_std_header, bad_content, bad_subtype, no_table_header, incomplete, too_big, file_flaw, table_file_in}
-use Rattle.tbl_kinds.specs.GroundLoads.{loaded_effect, if_open, load_into, load_found, load_file_effect, load_by, load_from, load_effect}
-use Rattle.tbl_kinds.specs.Uplinks.{file_limit, file_effect}
+use Rattle.tbl_model.specs.GroundLoads.{loaded_effect, if_open, load_into, load_found, load_file_effect, load_by, load_from, load_effect}
+use Rattle.tbl_kinds.specs.Limits.{file_limit}
+use Rattle.tbl_model.specs.Uplinks.{file_effect}
 use Rattle.tbl_kinds.specs.GroundCommands.{GroundCommand, housekeeping, noop, reset_counters, load as load_command, code_of, command_in}
-use Rattle.tbl_kinds.specs.Commands.{housekeeping_effect, effect_by, command_effect}
+use Rattle.tbl_model.specs.Commands.{housekeeping_effect, effect_by, command_effect}
 use Rattle.tbl_kinds.specs.declared.entry.Answer.{Answer}
 use Rattle.tbl_core.proofs.CommandAnswers.{AnswerGoesOn, answer_goes_on}
-use Rattle.tbl_kinds.specs.Dispatch.{Given, effect_of}
+use Rattle.tbl_model.specs.Dispatch.{Given, effect_of}
 use Rattle.tbl_kinds.specs.Requests.{Fits}
 use Rattle.tbl_kinds.specs.Names.{is_name}
 use Rattle.tbl_kinds.specs.Numbers.{piece}

@@ -1,7 +1,7 @@
 -- What the running numbers stand for.
 use Rattle.std.specs.Option.{option_map}
-use Rattle.tbl_kinds.specs.Counts.{Counts, no_counts, Update as Updated}
-use Rattle.tbl_kinds.specs.CountsAfter.{Tally as Adds, no_tally}
+use Rattle.tbl_model.specs.Counts.{Counts, no_counts, Update as Updated}
+use Rattle.tbl_model.specs.CountsAfter.{Tally as Adds, no_tally}
 use Rattle.tbl_core.specs.declared.counters.Counters.{Counters}
 use Rattle.tbl_core.specs.declared.counters.Tally.{Tally}
 use Rattle.tbl_core.specs.declared.counters.Update.{Update}

@@ -1,10 +1,10 @@
 -- What a load does.
 use Rattle.std.specs.Prelude.{ℕ, ◌==◌, List, ◌∷◌, [], not, if◌then◌else◌, Option, Some, None, is_some}
 use Rattle.std.specs.List.{filter_map}
-use Rattle.tbl_kinds.specs.State.{State, Table, Tables}
-use Rattle.tbl_kinds.specs.Tables.{in_use}
-use Rattle.tbl_kinds.specs.Deeds.{activated}
-use Rattle.tbl_kinds.specs.Effects.{Effect, answered}
+use Rattle.tbl_model.specs.State.{State, Table, Tables}
+use Rattle.tbl_model.specs.Tables.{in_use}
+use Rattle.tbl_model.specs.Deeds.{activated}
+use Rattle.tbl_model.specs.Effects.{Effect, answered}
 use Rattle.tbl_kinds.specs.declared.status.TheConstants.Status.{SUCCESS, INFO_TABLE_LOCKED, ERR_LOAD_IN_PROGRESS, ERR_IMAGE_SIZE, ERR_NO_BUFFER_AVAIL}
 use Rattle.tbl_kinds.specs.declared.status.Status.{Status}
 use Rattle.tbl_core.specs.declared.loads.Refused.{Refused}

@@ -1,7 +1,7 @@
 -- What the history shows.
 use Rattle.std.specs.Prelude.{ℕ, ◌≤◌, List, [], ◌∷◌, length, None}
-use Rattle.tbl_kinds.specs.Counts.{Counts}
-use Rattle.tbl_kinds.specs.History.{untouched}
+use Rattle.tbl_model.specs.Counts.{Counts}
+use Rattle.tbl_model.specs.History.{untouched}
 use Rattle.tbl_kinds.specs.declared.request.Actor.{Actor}
 use Rattle.tbl_kinds.specs.declared.request.Request.{Request}
 use Rattle.tbl_kinds.specs.declared.entry.Entry.{Entry}

@@ -1,14 +1,14 @@
 -- What the core keeps, and which histories it stands for.
 use Rattle.std.specs.Prelude.{◌≡◌, ℕ, ◌%◌, ◌≤◌, List, [], ◌∷◌, ◌++◌, length, false, Option}
 use Rattle.std.specs.Option.{ForSome}
-use Rattle.tbl_kinds.specs.State.{State, Tables, first_state}
-use Rattle.tbl_kinds.specs.Tables.{table_at}
+use Rattle.tbl_model.specs.State.{State, Tables, first_state}
+use Rattle.tbl_model.specs.Tables.{table_at}
 use Rattle.tbl_kinds.specs.Drawer.{File}
-use Rattle.tbl_kinds.specs.Effects.{Effect}
-use Rattle.tbl_kinds.specs.Counts.{Told, Counts, counts_of}
-use Rattle.tbl_kinds.specs.CountsAfter.{Tally, counts_after}
-use Rattle.tbl_kinds.specs.Replies.{housekeeping_of}
-use Rattle.tbl_kinds.specs.History.{Run, begins_at, onward, run_from, IsAnswered, IsLegal}
+use Rattle.tbl_model.specs.Effects.{Effect}
+use Rattle.tbl_model.specs.Counts.{Told, Counts, counts_of}
+use Rattle.tbl_model.specs.CountsAfter.{Tally, counts_after}
+use Rattle.tbl_model.specs.Replies.{housekeeping_of}
+use Rattle.tbl_model.specs.History.{Run, begins_at, onward, run_from, IsAnswered, IsLegal}
 use Rattle.tbl_kinds.specs.declared.entry.Entry.{Entry}
 use Rattle.tbl_kinds.specs.declared.request.Actor.{Actor}
 use Rattle.tbl_kinds.specs.declared.request.Request.{Request}

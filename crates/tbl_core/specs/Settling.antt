@@ -1,14 +1,14 @@
 -- How a command ends: it is answered, and one event tells of it.
 use Rattle.std.specs.Prelude.{◌≡◌, ℕ, List, length, true, false, not, if◌then◌else◌, Option}
 use Rattle.tbl_kinds.specs.Buffers.{Buffer}
-use Rattle.tbl_kinds.specs.State.{State}
+use Rattle.tbl_model.specs.State.{State}
 use Rattle.tbl_kinds.specs.Statuses.{is_success}
-use Rattle.tbl_kinds.specs.Effects.{Effect, answered}
+use Rattle.tbl_model.specs.Effects.{Effect, answered}
 use Rattle.tbl_kinds.specs.GroundCommands.{command_in}
-use Rattle.tbl_kinds.specs.Commands.{asks_housekeeping, asked_code, command_effect}
-use Rattle.tbl_kinds.specs.Events.{row_field, event}
-use Rattle.tbl_kinds.specs.CountsAfter.{Tally, no_tally, tally_of}
-use Rattle.tbl_kinds.specs.Replies.{head_at}
+use Rattle.tbl_model.specs.Commands.{asks_housekeeping, asked_code, command_effect}
+use Rattle.tbl_model.specs.Events.{row_field, event}
+use Rattle.tbl_model.specs.CountsAfter.{Tally, no_tally, tally_of}
+use Rattle.tbl_model.specs.Replies.{head_at}
 use Rattle.tbl_core.specs.Service.{HasFewImages, head_of, told}
 use Rattle.tbl_kinds.specs.declared.entry.Entry.{Entry}
 use Rattle.tbl_kinds.specs.declared.entry.Reply.{Reply}

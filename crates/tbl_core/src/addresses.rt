@@ -1,12 +1,13 @@
 //! Addresses of tables: got, read through, and given back.
 
 ghost use Rattle.std.specs.Prelude.{◌≡◌, ◌<◌, ◌≤◌, ℕ, [], length, Bool, OnOk, OnErr, IfOk, IfErr, IsSome};
-ghost use Rattle.tbl_kinds.specs.State.{State};
-ghost use Rattle.tbl_kinds.specs.Tables.{table_at};
-ghost use Rattle.tbl_kinds.specs.TableSteps.{access_of};
+ghost use Rattle.tbl_model.specs.State.{State};
+ghost use Rattle.tbl_model.specs.Tables.{table_at};
+ghost use Rattle.tbl_model.specs.TableSteps.{access_of};
 ghost use Rattle.tbl_kinds.specs.Requests.{Fits};
-ghost use Rattle.tbl_kinds.specs.Effects.{Effect, answered};
-ghost use Rattle.tbl_kinds.specs.Applications.{table_limit, if_handle, get_effect, release_effect, read_effect};
+ghost use Rattle.tbl_model.specs.Effects.{Effect, answered};
+ghost use Rattle.tbl_kinds.specs.Limits.{table_limit};
+ghost use Rattle.tbl_model.specs.Applications.{if_handle, get_effect, release_effect, read_effect};
 ghost use Rattle.sharing.specs.Registering.{answered_with};
 ghost use Rattle.tbl_core.specs.Log.{IsSmallReply};
 ghost use Rattle.tbl_core.specs.Service.{Plays, HasFewImages, kept_of};

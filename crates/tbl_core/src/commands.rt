@@ -1,13 +1,13 @@
 //! Telecommands.
 
 ghost use Rattle.std.specs.Prelude.{◌≡◌, ◌<◌, ◌≤◌, [], false, length, Ok, OnOk, OnErr};
-ghost use Rattle.tbl_kinds.specs.State.{State};
+ghost use Rattle.tbl_model.specs.State.{State};
 ghost use Rattle.tbl_kinds.specs.Statuses.{is_success};
-ghost use Rattle.tbl_kinds.specs.Effects.{answered};
+ghost use Rattle.tbl_model.specs.Effects.{answered};
 ghost use Rattle.tbl_kinds.specs.GroundCommands.{housekeeping, noop, reset_counters, command_in};
-ghost use Rattle.tbl_kinds.specs.Commands.{asks_housekeeping, asked_code, command_effect};
-ghost use Rattle.tbl_kinds.specs.Events.{row_field};
-ghost use Rattle.tbl_kinds.specs.CountsAfter.{tally_of};
+ghost use Rattle.tbl_model.specs.Commands.{asks_housekeeping, asked_code, command_effect};
+ghost use Rattle.tbl_model.specs.Events.{row_field};
+ghost use Rattle.tbl_model.specs.CountsAfter.{tally_of};
 ghost use Rattle.tbl_core.specs.Counters.{tally_view};
 ghost use Rattle.tbl_core.specs.Log.{reply_limit};
 ghost use Rattle.tbl_core.specs.Service.{Plays, HasFewImages, kept_of, came_in, told};

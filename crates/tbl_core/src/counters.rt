@@ -1,8 +1,8 @@
 //! The running numbers of telemetry.
 
 ghost use Rattle.std.specs.Prelude.{◌≡◌, ◌+◌, ◌%◌, ◌<◌, [], unwrap_or, if◌then◌else◌};
-ghost use Rattle.tbl_kinds.specs.CountsAfter.{bit, counts_after};
-ghost use Rattle.tbl_kinds.specs.Counts.{no_counts};
+ghost use Rattle.tbl_model.specs.CountsAfter.{bit, counts_after};
+ghost use Rattle.tbl_model.specs.Counts.{no_counts};
 
 use tbl_kinds::{Name, Name40, Name64};
 

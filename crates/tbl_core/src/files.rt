@@ -1,9 +1,9 @@
 //! Files that the ground uplinks.
 
 ghost use Rattle.std.specs.Prelude.{◌≡◌, length, OnOk, OnErr, IfOk};
-ghost use Rattle.tbl_kinds.specs.State.{State};
-ghost use Rattle.tbl_kinds.specs.Effects.{answered};
-ghost use Rattle.tbl_kinds.specs.Uplinks.{file_effect};
+ghost use Rattle.tbl_model.specs.State.{State};
+ghost use Rattle.tbl_model.specs.Effects.{answered};
+ghost use Rattle.tbl_model.specs.Uplinks.{file_effect};
 ghost use Rattle.tbl_core.specs.Service.{Plays, HasFewImages, kept_of};
 
 use crate::counters::Tally;

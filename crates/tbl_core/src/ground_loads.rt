@@ -2,13 +2,13 @@
 
 ghost use Rattle.std.specs.Prelude.{◌≡◌, ◌+◌, ◌≤◌, ◌==◌, [], ◌∷◌, ◌++◌, None, Ok, length, if◌then◌else◌, IsSome, IfSome, OnOk, OnErr};
 ghost use Rattle.std.specs.Option.{option_map};
-ghost use Rattle.tbl_kinds.specs.State.{State};
-ghost use Rattle.tbl_kinds.specs.Tables.{table_at};
-ghost use Rattle.tbl_kinds.specs.TableSteps.{find};
-ghost use Rattle.tbl_kinds.specs.Effects.{answered};
+ghost use Rattle.tbl_model.specs.State.{State};
+ghost use Rattle.tbl_model.specs.Tables.{table_at};
+ghost use Rattle.tbl_model.specs.TableSteps.{find};
+ghost use Rattle.tbl_model.specs.Effects.{answered};
 ghost use Rattle.tbl_kinds.specs.GroundCommands.{load, command_in};
-ghost use Rattle.tbl_kinds.specs.GroundLoads.{load_file_effect, load_effect};
-ghost use Rattle.tbl_kinds.specs.Counts.{name_at};
+ghost use Rattle.tbl_model.specs.GroundLoads.{load_file_effect, load_effect};
+ghost use Rattle.tbl_model.specs.Counts.{name_at};
 ghost use Rattle.table_files.specs.Files.{with_image};
 ghost use Rattle.tbl_core.specs.Loads.{rows_in};
 ghost use Rattle.tbl_core.specs.Service.{Plays, HasFewImages, kept_of};

@@ -2,18 +2,18 @@
 
 ghost use Rattle.std.specs.Prelude.{◌≡◌, ℕ, ◌+◌, ◌-◌, ◌^◌, ◌≤◌, ◌<◌, List, [], length, None, Some, IsSome, IfSome, IfNone, OnOk, OnErr, IfOk, IfErr};
 ghost use Rattle.std.specs.Option.{ForSome};
-ghost use Rattle.tbl_kinds.specs.State.{State};
-ghost use Rattle.tbl_kinds.specs.Tables.{table_at, in_use};
-ghost use Rattle.tbl_kinds.specs.TableSteps.{locker, put, set_time};
+ghost use Rattle.tbl_model.specs.State.{State};
+ghost use Rattle.tbl_model.specs.Tables.{table_at, in_use};
+ghost use Rattle.tbl_model.specs.TableSteps.{locker, put, set_time};
 ghost use Rattle.tbl_kinds.specs.Requests.{Fits};
 ghost use Rattle.tbl_kinds.specs.Records.{record_limit};
 ghost use Rattle.tbl_kinds.specs.Packets.{telemetry_packet, event_id};
 ghost use Rattle.tbl_kinds.specs.Telemetry.{event_body};
-ghost use Rattle.tbl_kinds.specs.Effects.{answered};
-ghost use Rattle.tbl_kinds.specs.Events.{event};
-ghost use Rattle.tbl_kinds.specs.Counts.{name_at};
-ghost use Rattle.tbl_kinds.specs.CountsAfter.{no_tally};
-ghost use Rattle.tbl_kinds.specs.Applications.{load_image_effect, load_image_of, activate_effect};
+ghost use Rattle.tbl_model.specs.Effects.{answered};
+ghost use Rattle.tbl_model.specs.Events.{event};
+ghost use Rattle.tbl_model.specs.Counts.{name_at};
+ghost use Rattle.tbl_model.specs.CountsAfter.{no_tally};
+ghost use Rattle.tbl_model.specs.Applications.{load_image_effect, load_image_of, activate_effect};
 ghost use Rattle.tbl_core.specs.Counters.{counts_view, tally_view};
 ghost use Rattle.tbl_registry.specs.Sound.{IsPlain};
 ghost use Rattle.tbl_core.specs.Loads.{activates, refused_effect, image_refusal};

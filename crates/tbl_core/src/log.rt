@@ -1,8 +1,8 @@
 //! The history, and what telemetry counts over it.
 
 ghost use Rattle.std.specs.Prelude.{◌≡◌, ◌<◌, ◌∷◌, [], ◌++◌, OnOk, All};
-ghost use Rattle.tbl_kinds.specs.Counts.{no_counts};
-ghost use Rattle.tbl_kinds.specs.CountsAfter.{counts_after};
+ghost use Rattle.tbl_model.specs.Counts.{no_counts};
+ghost use Rattle.tbl_model.specs.CountsAfter.{counts_after};
 ghost use Rattle.tbl_core.specs.Log.{IsSmall, IsSmallReply, entry_of};
 
 use crate::counters::{Counters, Tally};

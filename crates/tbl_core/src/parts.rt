@@ -1,10 +1,10 @@
 //! What the service keeps, and which part plays which request.
 
 ghost use Rattle.std.specs.Prelude.{◌≡◌, false, ◌<◌, ◌↔◌, [], length, replicate, None, IsTrue, OnOk, OnErr, IfOk};
-ghost use Rattle.tbl_kinds.specs.State.{no_tables};
+ghost use Rattle.tbl_model.specs.State.{no_tables};
 ghost use Rattle.tbl_kinds.specs.Requests.{Fits};
 ghost use Rattle.tbl_kinds.specs.Records.{IsBuilt, record_limit};
-ghost use Rattle.tbl_kinds.specs.Counts.{no_counts};
+ghost use Rattle.tbl_model.specs.Counts.{no_counts};
 ghost use Rattle.tbl_core.specs.Service.{Plays, HasFewImages, kept_of};
 
 use crate::log::Log;

@@ -1,13 +1,13 @@
 //! Replies, for which all memory is taken before anything is changed.
 
 ghost use Rattle.std.specs.Prelude.{◌≡◌, ◌+◌, ◌<◌, ◌≤◌, [], ◌++◌, length, count_by, is_none, IfOk, OnOk};
-ghost use Rattle.tbl_kinds.specs.Tables.{free_buffers};
+ghost use Rattle.tbl_model.specs.Tables.{free_buffers};
 ghost use Rattle.tbl_kinds.specs.Packets.{telemetry_packet, event_id, housekeeping_id};
 ghost use Rattle.tbl_kinds.specs.Telemetry.{event_body, housekeeping_body};
 ghost use Rattle.tbl_core.specs.Counters.{counts_view};
 ghost use Rattle.tbl_core.specs.Log.{IsSmallReply};
 ghost use Rattle.tbl_core.specs.Service.{head_of, housekeeping_at};
-ghost use Rattle.tbl_kinds.specs.Applications.{table_limit};
+ghost use Rattle.tbl_kinds.specs.Limits.{table_limit};
 
 use crate::counters::Counters;
 use crate::log::Log;

@@ -1,8 +1,8 @@
 //! The core, and one step of it.
 
 ghost use Rattle.std.specs.Prelude.{◌≡◌, false, ◌+◌, ◌<◌, ◌↔◌, [], ◌∷◌, ◌++◌, length, IsTrue, OnOk, OnErr, All, IfOk, IsOkUnless};
-ghost use Rattle.tbl_kinds.specs.State.{State, first_state, no_tables};
-ghost use Rattle.tbl_kinds.specs.Whole.{IsWhole};
+ghost use Rattle.tbl_model.specs.State.{State, first_state, no_tables};
+ghost use Rattle.tbl_model.specs.Whole.{IsWhole};
 ghost use Rattle.tbl_kinds.specs.Requests.{Fits};
 ghost use Rattle.tbl_kinds.specs.Records.{IsBuilt, record_limit};
 ghost use Rattle.tbl_core.specs.Log.{IsSmall};

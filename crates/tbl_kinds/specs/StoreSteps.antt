@@ -1,11 +1,11 @@
 -- What is asked of the store's blocks, what each call does to them, and what a reset leaves of them.
-use Rattle.std.specs.Prelude.{◌≡◌, ℕ, ◌+◌, ◌==◌, List, [], ◌∷◌, ◌++◌, map, length, Bool, true, false, not, ◌&&◌, if◌then◌else◌, position, Option, Some, None, is_some, IfSome, slice_index_or, slice_set}
+use Rattle.std.specs.Prelude.{◌≡◌, ℕ, ◌+◌, ◌==◌, List, [], ◌∷◌, ◌++◌, length, Bool, true, false, not, ◌&&◌, if◌then◌else◌, position, Option, Some, None, is_some, IfSome, slice_index_or, slice_set}
 use Rattle.std.specs.List.{filter_map, list_any}
 use Rattle.std.specs.Option.{option_map}
 use Rattle.std.specs.Str.{bytes_eq}
-use Rattle.tbl_kinds.specs.State.{Stored, Store, empty_store}
+use Rattle.tbl_kinds.specs.Blocks.{Stored, Store, empty_store}
 use Rattle.tbl_kinds.specs.Places.{place}
-use Rattle.tbl_kinds.specs.TableSteps.{least_free}
+use Rattle.tbl_kinds.specs.Free.{least_free}
 use Rattle.tbl_kinds.specs.declared.block.Block.{Block}
 use Rattle.tbl_kinds.specs.declared.block.BlockKind.{BlockKind}
 use Rattle.tbl_kinds.specs.declared.block.BlockKind.TheVariants.{Table, App}

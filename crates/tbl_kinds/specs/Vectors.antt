@@ -1,27 +1,14 @@
 -- What the definitions say of bytes that are written out: each line is computed by the checker.
 use Rattle.std.specs.Prelude.{◌≡◌, ℕ, List, [], ◌∷◌, ◌++◌, map, replicate, true, false, None, codes, refl}
 use Rattle.std.specs.List.{range_with_len}
-use Rattle.std.proofs.Common.{sym}
 use Rattle.tbl_kinds.specs.Names.{name_in, name_field, is_name}
 use Rattle.tbl_kinds.specs.Check.{check16, after_byte}
-use Rattle.tbl_kinds.specs.Packets.{primary_header, telemetry_packet}
-use Rattle.tbl_kinds.specs.Telemetry.{event_body, housekeeping_body, commands_and_loads, last_validation, validations_and_buffers, last_update}
 use Rattle.tbl_kinds.specs.Records.{spelling}
-use Rattle.tbl_kinds.specs.Transcript.{entry_spelling, end_bytes, transcript}
-use Rattle.tbl_kinds.specs.State.{State, first_state}
-use Rattle.tbl_kinds.specs.Effects.{answered}
-use Rattle.tbl_kinds.specs.Commands.{command_effect}
-use Rattle.tbl_kinds.specs.GroundCommands.{command_in}
-use Rattle.tbl_kinds.specs.Counts.{Told, counts_of}
-use Rattle.tbl_kinds.specs.Replies.{head_at, packets_of}
-use Rattle.tbl_kinds.specs.History.{Run, begins_at, onward, run_from, IsAnswered, IsLegal, untouched, told_of}
-use Rattle.tbl_kinds.specs.declared.entry.Entry.{Entry}
 use Rattle.tbl_kinds.specs.declared.request.Actor.TheVariants.{Ground, App}
 use Rattle.tbl_kinds.specs.declared.request.Request.{Request}
 use Rattle.tbl_kinds.specs.declared.request.Request.TheVariants as ask
 use Rattle.tbl_kinds.specs.declared.status.Status.{Status}
 use Rattle.tbl_kinds.specs.declared.status.TheConstants.Status as the
-use Rattle.tbl_kinds.specs.declared.status.TheConstants.Status.{SUCCESS, ERR_BAD_PACKET, ERR_BAD_MESSAGE_ID, ERR_BAD_CODE, ERR_BAD_LENGTH}
 
 -- ---- status numbers
 
@@ -120,138 +107,3 @@ pub register_record : spelling (record { actor = App 1; request = ask.Register (
     ≡ 0x11 ∷ 0x01 ∷ 0x00 ∷ 0x17 ∷ 0x54 ∷ replicate 15 0 ++ 0 ∷ 0 ∷ 0 ∷ 4 ∷ 0x00 ∷ 0x08 ∷ 0xFF ∷ []
 unfolding spelling
 register_record = refl
-
--- ---- a session of the two commands
-
-abbrev pub start : State
-start = first_state [] []
-
-abbrev pub entry : List ℕ → List ℕ → Entry
-entry bytes packets = record {
-  actor = Ground;
-  request = command bytes;
-  reply = record { status = SUCCESS; detail = 0; bytes = record { list = []; spare = 0 }; packets = record { list = packets; spare = 0 } };
-  note = untouched;
-  verdicts = None ∷ None ∷ [];
-}
-
--- event 1 with status 0, no row and detail 0, at time 0
-abbrev pub noop_event : List ℕ
-noop_event =
-    0x08 ∷ 0x08 ∷ 0xC0 ∷ 0x00 ∷ 0x00 ∷ 0x11 ∷ 0 ∷ 0 ∷ 0 ∷ 0 ∷ 0 ∷ 0 ∷ []
-    ++ 0 ∷ 1 ∷ 0 ∷ 0 ∷ 0 ∷ 0 ∷ 0xFF ∷ 0xFF ∷ 0 ∷ 0 ∷ 0 ∷ 0 ∷ []
-
--- one command accepted, four shared buffers free, and else nothing to tell
-abbrev pub housekeeping_after_noop : List ℕ
-housekeeping_after_noop =
-    0x08 ∷ 0x04 ∷ 0xC0 ∷ 0x00 ∷ 0x01 ∷ 0x1B ∷ 0 ∷ 0 ∷ 0 ∷ 0 ∷ 0 ∷ 0 ∷ []
-    ++ 1 ∷ replicate 19 0 ++ 4 ∷ replicate 257 0
-
-abbrev pub first_entry : Entry
-first_entry = entry noop noop_event
-
-abbrev pub second_entry : Entry
-second_entry = entry ask_housekeeping housekeeping_after_noop
-
-abbrev pub second_run : Run
-second_run = onward (begins_at start) first_entry
-
-pub noop_is_told : packets_of [] (told_of (begins_at start) first_entry) ≡ noop_event
-unfolding packets_of counts_of command_in telemetry_packet primary_header event_body
-noop_is_told = refl
-
-pub housekeeping_is_told : packets_of second_run.past (told_of second_run second_entry) ≡ housekeeping_after_noop
-unfolding packets_of counts_of command_in telemetry_packet primary_header housekeeping_body commands_and_loads last_validation validations_and_buffers last_update
-housekeeping_is_told = refl
-
-pub first_is_answered : IsAnswered (begins_at start) first_entry
-unfolding command_in
-first_is_answered = record { live = refl; built = tt; fits = tt; status = refl; detail = refl; bytes = refl; packets = sym noop_is_told; note = refl; verdicts = refl }
-
-pub second_is_answered : IsAnswered second_run second_entry
-unfolding command_in
-second_is_answered = record { live = refl; built = tt; fits = tt; status = refl; detail = refl; bytes = refl; packets = sym housekeeping_is_told; note = refl; verdicts = refl }
-
--- the two entries are a legal history, which leaves the state
-pub session_is_legal : IsLegal start (first_entry ∷ second_entry ∷ []) start
-unfolding command_in
-session_is_legal = record { answered = (first_is_answered, (second_is_answered, tt)); leads = refl }
-
-pub session_is_written : transcript (first_entry ∷ second_entry ∷ []) 0
-    ≡ 0 ∷ 0 ∷ 0 ∷ 0 ∷ 0 ∷ 0 ∷ 0 ∷ 0 ∷ 0 ∷ 0 ∷ 0 ∷ 0 ∷ 0 ∷ 0 ∷ 0 ∷ 0 ∷ 0 ∷ 0 ∷ 0 ∷ 0 ∷ 0x18 ∷ noop_event
-    ++ 0 ∷ 0 ∷ 0 ∷ 1 ∷ 0 ∷ 0 ∷ 0 ∷ 0 ∷ 0 ∷ 0 ∷ 0 ∷ 0 ∷ 0 ∷ 0 ∷ 0 ∷ 0 ∷ 0 ∷ 0 ∷ 0 ∷ 0x01 ∷ 0x22 ∷ housekeeping_after_noop
-    ++ 0xFF ∷ 0xFF ∷ 0xFF ∷ 0xFF ∷ 0 ∷ 0 ∷ 0 ∷ 0 ∷ 2 ∷ 0 ∷ 0 ∷ 0 ∷ 0x18 ∷ []
-unfolding entry_spelling end_bytes spelling
-session_is_written = refl
-
-pub empty_session_is_written : transcript [] 0 ≡ 0xFF ∷ 0xFF ∷ 0xFF ∷ 0xFF ∷ 0 ∷ 0 ∷ 0 ∷ 0 ∷ 0 ∷ 0 ∷ 0 ∷ 0 ∷ 0 ∷ []
-unfolding end_bytes
-empty_session_is_written = refl
-
--- ---- refusals
-
-abbrev pub seven_bytes : List ℕ
-seven_bytes = 0x18 ∷ 0x04 ∷ 0xC0 ∷ 0x00 ∷ 0x00 ∷ 0x00 ∷ 0x00 ∷ []
-
--- one byte more than the length field states
-abbrev pub nine_bytes : List ℕ
-nine_bytes = 0x18 ∷ 0x04 ∷ 0xC0 ∷ 0x00 ∷ 0x00 ∷ 0x01 ∷ 0x00 ∷ 0x22 ∷ 0x00 ∷ []
-
--- a check byte that is one too high
-abbrev pub wrong_check : List ℕ
-wrong_check = 0x18 ∷ 0x04 ∷ 0xC0 ∷ 0x00 ∷ 0x00 ∷ 0x01 ∷ 0x00 ∷ 0x23 ∷ []
-
-pub short_packet : command_effect start seven_bytes ≡ answered start ERR_BAD_PACKET 1
-unfolding command_in
-short_packet = refl
-
-pub packet_of_another_length : command_effect start nine_bytes ≡ answered start ERR_BAD_PACKET 2
-unfolding command_in
-packet_of_another_length = refl
-
-pub packet_with_wrong_check : command_effect start wrong_check ≡ answered start ERR_BAD_PACKET 3
-unfolding command_in
-packet_with_wrong_check = refl
-
--- function code 10
-pub unknown_code : command_effect start (0x18 ∷ 0x04 ∷ 0xC0 ∷ 0x00 ∷ 0x00 ∷ 0x01 ∷ 0x0A ∷ 0x28 ∷ []) ≡ answered start ERR_BAD_CODE 10
-unfolding command_in
-unknown_code = refl
-
--- another message id
-pub unknown_id : command_effect start (0x18 ∷ 0x06 ∷ 0xC0 ∷ 0x00 ∷ 0x00 ∷ 0x01 ∷ 0x00 ∷ 0x20 ∷ []) ≡ answered start ERR_BAD_MESSAGE_ID 0x1806
-unfolding command_in
-unknown_id = refl
-
--- a NOOP with a payload of one byte
-pub noop_with_payload : command_effect start (0x18 ∷ 0x04 ∷ 0xC0 ∷ 0x00 ∷ 0x00 ∷ 0x02 ∷ 0x00 ∷ 0x21 ∷ 0x00 ∷ []) ≡ answered start ERR_BAD_LENGTH 1
-unfolding command_in
-noop_with_payload = refl
-
--- the three refused packets one after another count as refused and not as accepted
-abbrev pub three_refused : List Told
-three_refused = (run_from (begins_at start) (entry seven_bytes [] ∷ entry nine_bytes [] ∷ entry wrong_check [] ∷ [])).past
-
-pub three_are_refused : (counts_of three_refused).refused ≡ 3
-unfolding counts_of command_in
-three_are_refused = refl
-
-pub none_is_accepted : (counts_of three_refused).accepted ≡ 0
-unfolding counts_of command_in
-none_is_accepted = refl
-
--- ---- counts
-
-abbrev pub noop_told : Told
-noop_told = told_of (begins_at start) first_entry
-
-pub counter_at_its_end : (counts_of (replicate 255 noop_told)).accepted ≡ 255
-unfolding counts_of command_in
-counter_at_its_end = refl
-
-pub counter_begins_again : (counts_of (replicate 256 noop_told)).accepted ≡ 0
-unfolding counts_of command_in
-counter_begins_again = refl
-
-pub sequence_count_begins_again : head_at start 16384 ≡ record { count = 0; seconds = 0; sub = 0 }
-sequence_count_begins_again = refl

@@ -3,9 +3,9 @@ use Rattle.std.proofs.Common.{◌∙◌, ◌↔◌, sym, length, count_by, is_so
 use Rattle.std.specs.Option.{option_map}
 use Rattle.std.proofs.lemmas.List.{length-map, map-set, get_or-set_same, length-set}
 use Rattle.std.proofs.lemmas.Option.{same_Some}
-use Rattle.tbl_kinds.specs.State.{Table}
-use Rattle.tbl_kinds.specs.TableSteps.{has_name, new_table, new_handle, with_table, with_handle}
-use Rattle.tbl_kinds.specs.Applications.{table_limit}
+use Rattle.tbl_model.specs.State.{Table}
+use Rattle.tbl_model.specs.TableSteps.{has_name, new_table, new_handle, with_table, with_handle}
+use Rattle.tbl_kinds.specs.Limits.{table_limit}
 use Rattle.access_desc.specs.declared.handle_view.HandleView.{HandleView}
 use Rattle.access_desc.specs.Steps.{new_handle as new_view}
 use Rattle.tbl_registry.specs.Seen.{tables_of, handle_of}

@@ -1,7 +1,7 @@
 -- One table changes in what the registry keeps: a row, and perhaps a buffer.
 use Rattle.std.proofs.Common.{◌≡◌, ◌+◌, ℕ, List, length, slice_index_or, slice_set, Option, Some, None, IsSome, refl}
 use Rattle.std.proofs.lemmas.List.{get_or-set_same}
-use Rattle.tbl_kinds.specs.TableSteps.{with_table, locker, put}
+use Rattle.tbl_model.specs.TableSteps.{with_table, locker, put}
 use Rattle.access_desc.specs.declared.handle_view.HandleView.{HandleView}
 use Rattle.working_buffers.specs.Places.{Held}
 use Rattle.tbl_registry.specs.Rows.{Kept, table_in, tables_in}

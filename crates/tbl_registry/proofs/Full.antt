@@ -2,8 +2,8 @@
 use Rattle.std.proofs.Common.{◌≡◌, ◌<◌, ℕ, ◌↔◌, List, Option, Some, None, IsNone, is_some, is_none, position, length, map, slice_index_or, count_by, refl, true, IsSome}
 use Rattle.std.specs.Option.{option_map}
 use Rattle.std.proofs.lemmas.List.Quantifiers.{position-Some}
-use Rattle.tbl_kinds.specs.State.{Table}
-use Rattle.tbl_kinds.specs.TableSteps.{has_name}
+use Rattle.tbl_model.specs.State.{Table}
+use Rattle.tbl_model.specs.TableSteps.{has_name}
 use Rattle.access_desc.proofs.Full.{none_where_full}
 use Rattle.tbl_registry.proofs.Places.{position-map}
 

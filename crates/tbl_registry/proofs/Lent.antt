@@ -6,7 +6,7 @@ use Rattle.std.proofs.lemmas.Bool.{cases_eq, cases_lt}
 use Rattle.std.proofs.lemmas.List.{length-set, get_or-set_same, get_or-set_other, get_or_past}
 use Rattle.std.proofs.lemmas.List.Sums.{sum_by-set, count_by-le-length}
 use Rattle.std.proofs.lemmas.Option.{same_Some}
-use Rattle.tbl_kinds.specs.State.{Table}
+use Rattle.tbl_model.specs.State.{Table}
 use Rattle.working_buffers.specs.Places.{Held}
 use Rattle.tbl_registry.specs.declared.row.OpenLoad.{OpenLoad}
 use Rattle.tbl_registry.specs.Rows.{Kept, table_in, tables_in, load_of, has_open}

@@ -6,8 +6,8 @@ use Rattle.std.specs.List.{refill}
 use Rattle.std.proofs.lemmas.List.{get_or-set_same, length-take-le, length-drop, append-nil, append_assoc, set-set}
 use Rattle.std.proofs.Math.Seq.{drop-length, take-length}
 use Rattle.std.proofs.lemmas.Option.{same_Some}
-use Rattle.tbl_kinds.specs.State.{Table}
-use Rattle.tbl_kinds.specs.TableSteps.{with_table, patched, unchecked, open_load, patch}
+use Rattle.tbl_model.specs.State.{Table}
+use Rattle.tbl_model.specs.TableSteps.{with_table, patched, unchecked, open_load, patch}
 use Rattle.working_buffers.specs.Places.{Held, with_bytes, written, IsTaken}
 use Rattle.access_desc.specs.declared.handle_view.HandleView.{HandleView}
 use Rattle.tbl_registry.specs.declared.row.OpenLoad.{OpenLoad}

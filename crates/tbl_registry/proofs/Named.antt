@@ -9,8 +9,8 @@ use Rattle.std.proofs.lemmas.List.Folds.{position_or_len-set}
 use Rattle.std.proofs.lemmas.List.Sums.{position_or_len_is}
 use Rattle.std.proofs.lemmas.Option.{same_Some}
 use Rattle.std.proofs.lemmas.Slice.Eq.{bytes_eq-Decides}
-use Rattle.tbl_kinds.specs.State.{Table}
-use Rattle.tbl_kinds.specs.TableSteps.{has_name}
+use Rattle.tbl_model.specs.State.{Table}
+use Rattle.tbl_model.specs.TableSteps.{has_name}
 use Rattle.tbl_registry.specs.Sound.{AreNamed}
 use Rattle.tbl_registry.proofs.Places.{position-None}
 

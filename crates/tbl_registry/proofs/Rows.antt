@@ -6,9 +6,9 @@ use Rattle.std.specs.List.{list_any}
 use Rattle.std.proofs.lemmas.List.{length-set}
 use Rattle.std.proofs.lemmas.Bool.Decides.{nat_tests}
 use Rattle.std.proofs.lemmas.Option.{same_Some}
-use Rattle.tbl_kinds.specs.State.{Table, Handle, Tables}
-use Rattle.tbl_kinds.specs.Tables.{is_double}
-use Rattle.tbl_kinds.specs.TableSteps.{is_that, is_in_way, locker, put, with_table, pins as image_pins}
+use Rattle.tbl_model.specs.State.{Table, Handle, Tables}
+use Rattle.tbl_model.specs.Tables.{is_double}
+use Rattle.tbl_model.specs.TableSteps.{is_that, is_in_way, locker, put, with_table, pins as image_pins}
 use Rattle.access_desc.specs.declared.handle_view.HandleView.{HandleView}
 use Rattle.access_desc.specs.Steps.{has, pins}
 use Rattle.tbl_registry.specs.Seen.{count_in, tables_of, handle_of}

@@ -1,6 +1,6 @@
 -- The registry without tables.
 use Rattle.std.proofs.Common.{◌≡◌, ℕ, List, replicate, Option, None, refl}
-use Rattle.tbl_kinds.specs.State.{Table, no_tables}
+use Rattle.tbl_model.specs.State.{Table, no_tables}
 use Rattle.access_desc.specs.declared.handle_view.HandleView.{HandleView}
 use Rattle.tbl_registry.specs.Seen.{tables_of}
 use Rattle.tbl_registry.specs.Sound.{IsSound, AtEachPlace}

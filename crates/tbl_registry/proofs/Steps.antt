@@ -4,8 +4,8 @@ use Rattle.std.specs.List.{list_any}
 use Rattle.std.proofs.lemmas.List.{set-get_or, length-set}
 use Rattle.std.proofs.lemmas.Option.{same_Some}
 use Rattle.std.proofs.lemmas.Bool.Decides.{nat_tests}
-use Rattle.tbl_kinds.specs.State.{Table, Handle, Tables}
-use Rattle.tbl_kinds.specs.TableSteps.{access_of, with_handle, get_address, release, read, let_go, pins}
+use Rattle.tbl_model.specs.State.{Table, Handle, Tables}
+use Rattle.tbl_model.specs.TableSteps.{access_of, with_handle, get_address, release, read, let_go, pins}
 use Rattle.access_desc.specs.declared.handle_view.HandleView.{HandleView}
 use Rattle.access_desc.specs.Steps.{at_place, changed_at, with_no_pin}
 use Rattle.tbl_registry.specs.Sound.{IsSound, Leads}

@@ -3,8 +3,8 @@ use Rattle.std.proofs.Common.{◌≡◌, ◌+◌, ℕ, zero, suc, List, [], ◌�
 use Rattle.std.specs.Option.{option_map, ForSome}
 use Rattle.std.proofs.lemmas.List.{map-set}
 use Rattle.std.proofs.lemmas.List.Sums.{sum_by-cons}
-use Rattle.tbl_kinds.specs.Tables.{has_load, uses_buffer, rows_from}
-use Rattle.tbl_kinds.specs.TableSteps.{has_name}
+use Rattle.tbl_model.specs.Tables.{has_load, uses_buffer, rows_from}
+use Rattle.tbl_model.specs.TableSteps.{has_name}
 use Rattle.working_buffers.specs.Places.{Held}
 use Rattle.tbl_registry.specs.declared.row.OpenLoad.{OpenLoad}
 use Rattle.tbl_registry.specs.Rows.{Kept, table_in, tables_in, load_of, has_open, open_from}

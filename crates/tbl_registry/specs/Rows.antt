@@ -1,8 +1,8 @@
 -- What a registry row stands for.
 use Rattle.std.specs.Prelude.{◌≡◌, ℕ, ◌+◌, ◌==◌, List, [], ◌∷◌, length, take, map, Bool, false, if◌then◌else◌, slice_index_or, Option, Some, None, is_some}
 use Rattle.std.specs.Option.{option_map, option_map_or}
-use Rattle.tbl_kinds.specs.State.{Load, Table, quiet}
-use Rattle.tbl_kinds.specs.Tables.{option_bits}
+use Rattle.tbl_model.specs.State.{Load, Table, quiet}
+use Rattle.tbl_model.specs.Tables.{option_bits}
 use Rattle.working_buffers.specs.Places.{Held}
 use Rattle.tbl_registry.specs.declared.row.OpenLoad.{OpenLoad}
 use Rattle.tbl_registry.specs.declared.row.Row.TheInside.{Inside}

@@ -1,7 +1,7 @@
 -- How what the registry keeps is seen.
 use Rattle.std.specs.Prelude.{ℕ, ◌-◌, List, ◌++◌, length, replicate, map, if◌then◌else◌, slice_index_or, Option, Some, None}
 use Rattle.std.specs.Option.{option_map, option_map_or}
-use Rattle.tbl_kinds.specs.State.{Table, Handle, Tables}
+use Rattle.tbl_model.specs.State.{Table, Handle, Tables}
 use Rattle.access_desc.specs.Steps.{with_pin, with_told}
 use Rattle.access_desc.specs.declared.handle_view.HandleView.{HandleView}
 

@@ -1,9 +1,9 @@
 -- What holds of all that the registry keeps.
 use Rattle.std.specs.Prelude.{◌≡◌, ℕ, ◌<◌, ◌≤◌, ◌==◌, List, length, true, false, not, position, slice_index_or, Option, Some, None, is_some, IsSome, IfSome}
 use Rattle.std.specs.Option.{ForSome}
-use Rattle.tbl_kinds.specs.State.{Table, quiet}
-use Rattle.tbl_kinds.specs.TableSteps.{has_name}
-use Rattle.tbl_kinds.specs.Applications.{table_limit}
+use Rattle.tbl_model.specs.State.{Table, quiet}
+use Rattle.tbl_model.specs.TableSteps.{has_name}
+use Rattle.tbl_kinds.specs.Limits.{table_limit}
 use Rattle.access_desc.specs.declared.handle_view.HandleView.{HandleView}
 use Rattle.tbl_registry.specs.Seen.{count_in}
 

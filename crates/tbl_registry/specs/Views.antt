@@ -1,7 +1,7 @@
 -- What can be seen of a table.
 use Rattle.std.specs.Prelude.{false, is_some}
 use Rattle.std.specs.Option.{option_map_or}
-use Rattle.tbl_kinds.specs.State.{Load, Table}
+use Rattle.tbl_model.specs.State.{Load, Table}
 use Rattle.tbl_registry.specs.declared.row.RowView.{RowView}
 
 abbrev pub row_view : Table → RowView

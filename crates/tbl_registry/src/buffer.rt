@@ -1,7 +1,7 @@
 //! What is written into a working buffer.
 
 ghost use Rattle.std.specs.Prelude.{◌≡◌, ◌+◌, ◌≤◌, ℕ, List, length, take, replicate};
-ghost use Rattle.tbl_kinds.specs.TableSteps.{patched};
+ghost use Rattle.tbl_model.specs.TableSteps.{patched};
 
 /// Writes bytes over some of the buffer.
 pub(crate) fn write_over(buffer: &mut [u8], at: usize, bytes: &[u8])

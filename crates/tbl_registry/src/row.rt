@@ -2,8 +2,8 @@ ghost use Rattle.std.specs.Prelude.{◌≡◌, ◌<◌, ◌+◌, ◌-◌, ◌^�
 ghost use Rattle.std.specs.Option.{option_map};
 ghost use Rattle.std.specs.Borrow.{Bor};
 ghost use Rattle.buffer_pairs.specs.Pair.{zeroed};
-ghost use Rattle.tbl_kinds.specs.Tables.{option_bits};
-ghost use Rattle.tbl_kinds.specs.TableSteps.{new_table};
+ghost use Rattle.tbl_model.specs.Tables.{option_bits};
+ghost use Rattle.tbl_model.specs.TableSteps.{new_table};
 ghost use Rattle.std.specs.Str.{bytes_eq};
 
 use buffer_pairs::Buffers;

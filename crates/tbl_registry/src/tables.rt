@@ -1,14 +1,16 @@
 ghost use Rattle.std.specs.Prelude.{Option, ◌==◌, ◌≡◌, ◌<◌, ◌≤◌, ◌↔◌, ◌+◌, ◌-◌, ◌^◌, ℕ, List, [], None, Some, Ok, Err, IsTrue, IsSome, IsNone, IfOk, OnOk, IfErr, OnErr, IfSome, IfNone, if◌then◌else◌, unwrap_or, length, take, position, replicate, count_by, is_some, is_none, slice_index_or, nat_lt, option_and_then, slice_set};
 ghost use Rattle.std.specs.Option.{option_copied, option_map, ForSome};
 ghost use Rattle.std.specs.Borrow.{Bor};
-ghost use Rattle.tbl_kinds.specs.Applications.{are_options, table_limit};
+ghost use Rattle.tbl_kinds.specs.Limits.{table_limit};
+ghost use Rattle.tbl_model.specs.Applications.{are_options};
 ghost use Rattle.access_desc.specs.Steps.{at_place, changed_at};
 ghost use Rattle.tbl_registry.specs.Sound.{IsPlain};
 ghost use Rattle.tbl_registry.specs.Seen.{handle_of, tables_of, with_last, padded};
-ghost use Rattle.tbl_kinds.specs.State.{no_tables, Table};
-ghost use Rattle.tbl_kinds.specs.Tables.{table_count, handle_count, load_count, in_use, option_bits, table_at};
-ghost use Rattle.tbl_kinds.specs.TableSteps.{has_name as row_has_name, find, check, handle_at, access_of, get_address, release, read, locker, put, set_time, set_file, open_load, patch, set_checked, least_free, new_table, new_handle, with_table, with_handle};
-ghost use Rattle.tbl_kinds.specs.State.{Load};
+ghost use Rattle.tbl_model.specs.State.{no_tables, Table};
+ghost use Rattle.tbl_model.specs.Tables.{table_count, handle_count, load_count, in_use, option_bits, table_at};
+ghost use Rattle.tbl_kinds.specs.Free.{least_free};
+ghost use Rattle.tbl_model.specs.TableSteps.{has_name as row_has_name, find, check, handle_at, access_of, get_address, release, read, locker, put, set_time, set_file, open_load, patch, set_checked, new_table, new_handle, with_table, with_handle};
+ghost use Rattle.tbl_model.specs.State.{Load};
 ghost use Rattle.tbl_registry.specs.Rows.{Kept, tables_in as viewed, has_open, open_from};
 ghost use Rattle.working_buffers.specs.Places.{Held};
 

@@ -4,12 +4,12 @@ use Rattle.std.specs.Prelude.{if◌then◌else◌}
 use Rattle.std.specs.Io.KnownBytes.{append_known}
 use Rattle.std.proofs.lemmas.Bool.{eqb-true}
 use Rattle.std.proofs.lemmas.List.{nil_from_length, length-map}
-use Rattle.tbl_kinds.specs.State.{State, no_tables}
+use Rattle.tbl_model.specs.State.{State, no_tables}
 use Rattle.std.proofs.lemmas.Bool.Decides.{nat_tests}
 use Rattle.tbl_kinds.specs.Heads.{IsShort, IsBad, is_short, is_bad, EndsBefore}
 use Rattle.tbl_kinds.proofs.RecordLaws.{are_records}
 use Rattle.tbl_kinds.specs.Transcript.{pair_of, pairs_of, entries_bytes, end_bytes, offset_of, transcript}
-use Rattle.tbl_kinds.specs.History.{IsLegal}
+use Rattle.tbl_model.specs.History.{IsLegal}
 use Rattle.tbl_core.specs.Service.{StandsFor}
 use Rattle.tbl_core.proofs.WholeLaws.{whole}
 use Rattle.tbl_outside.specs.Streams.{TakesFront}

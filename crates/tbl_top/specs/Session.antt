@@ -3,12 +3,12 @@ use Rattle.std.specs.Prelude.{◌≡◌, ◌⊎◌, ℕ, ◌<◌, ◌≤◌, Lis
 use Rattle.std.specs.List.{AllByRecursion}
 use Rattle.std.specs.Io.KnownBytes.{append_known}
 use Rattle.tbl_kinds.specs.Buffers.{Buffer}
-use Rattle.tbl_kinds.specs.State.{State}
+use Rattle.tbl_model.specs.State.{State}
 use Rattle.tbl_kinds.specs.Records.{Pair, IsRecord, joined, record_limit, AreRecords}
 use Rattle.tbl_kinds.specs.Heads.{IsShort, IsBad}
 use Rattle.tbl_kinds.specs.Transcript.{pairs_of, entries_bytes, transcript}
-use Rattle.tbl_kinds.specs.History.{IsLegal}
-use Rattle.tbl_kinds.specs.Whole.{IsWhole as HasWholeReads}
+use Rattle.tbl_model.specs.History.{IsLegal}
+use Rattle.tbl_model.specs.Whole.{IsWhole as HasWholeReads}
 use Rattle.tbl_outside.specs.Streams.{TakesFront}
 use Rattle.tbl_top.specs.Playing.{IsBeginning}
 use Rattle.tbl_kinds.specs.declared.entry.Entry.{Entry}

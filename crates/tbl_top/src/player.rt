@@ -1,7 +1,7 @@
 //! Plays records as their bytes come in, and writes each entry before the next record is looked for.
 
 ghost use Rattle.std.specs.Prelude.{◌≡◌, ⊤, ℕ, ◌+◌, ◌<◌, ◌≤◌, Option, List, [], ◌++◌, length, take, drop, vec_len, false, All, IfOk, OnOk, MatchOption, OnErr, ◌==◌};
-ghost use Rattle.tbl_kinds.specs.State.{State};
+ghost use Rattle.tbl_model.specs.State.{State};
 ghost use Rattle.tbl_kinds.specs.Records.{IsRecord, spelling, record_limit};
 ghost use Rattle.tbl_core.specs.Log.{IsSmall};
 ghost use Rattle.tbl_core.specs.Service.{StandsFor};

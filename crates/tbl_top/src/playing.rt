@@ -1,7 +1,7 @@
 //! Plays one record.
 
 ghost use Rattle.std.specs.Prelude.{◌≡◌, ℕ, ◌<◌, ◌≤◌, Option, List, ◌∷◌, [], ◌++◌, length, false, IfOk, OnOk, OnErr, MatchOption, Some, Ok};
-ghost use Rattle.tbl_kinds.specs.State.{State};
+ghost use Rattle.tbl_model.specs.State.{State};
 ghost use Rattle.tbl_kinds.specs.Requests.{Fits};
 ghost use Rattle.tbl_kinds.specs.Records.{IsBuilt, record_limit};
 ghost use Rattle.tbl_core.specs.Service.{StandsFor};

@@ -2,7 +2,7 @@
 
 ghost use Rattle.std.specs.Prelude.{◌≡◌, ℕ, ◌≤◌, Option, List, [], length, Some};
 ghost use Rattle.std.specs.Io.KnownBytes.{prepend_known, IsAtEnd};
-ghost use Rattle.tbl_kinds.specs.State.{State};
+ghost use Rattle.tbl_model.specs.State.{State};
 ghost use Rattle.tbl_core.specs.Service.{StandsFor};
 ghost use Rattle.tbl_top.specs.Playing.{IsBeginning, consumed, IsSession, IsWritten};
 ghost use Rattle.tbl_top.specs.Reading.{ReadsOn, EndsReading, TellsEnd, TellsEnding, HasCause, ending_for};

@@ -1,5 +1,5 @@
 use Rattle.std.proofs.lemmas.Result.{IfOk-weaker}
-use Rattle.tbl_kinds.specs.State.{Store as Blocks}
+use Rattle.tbl_kinds.specs.Blocks.{Store as Blocks}
 use Rattle.tbl_kinds.specs.StoreSteps.{booted}
 use Rattle.tbl_outside.proofs.Moments.{goes_on, leaves_among}
 use Rattle.cds_store.specs.Boots.{BeginsAt}

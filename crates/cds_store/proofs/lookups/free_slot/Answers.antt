@@ -1,5 +1,5 @@
 use Rattle.std.proofs.Common.{◌<◌, length, Option, sym, ◌∙◌, ap, IfSome, ℕ, subst}
-use Rattle.tbl_kinds.specs.TableSteps.{least_free}
+use Rattle.tbl_kinds.specs.Free.{least_free}
 use Rattle.cds_store.specs.Slots.{without_slot}
 use Rattle.cds_store.proofs.Free.{free_before, free_at}
 use Rattle.cds_store.proofs.lookups.free_slot.Goals as goal

@@ -1,7 +1,7 @@
 use Rattle.std.proofs.Common.{rules, inl, inr, ◌≤◌, Bool, false, IfErr, sym, subst, arith}
 use Rattle.std.proofs.lemmas.Result.{IfErr-weaker}
 use Rattle.tbl_kinds.specs.Places.{bank_size}
-use Rattle.tbl_kinds.specs.State.{Store as Blocks}
+use Rattle.tbl_kinds.specs.Blocks.{Store as Blocks}
 use Rattle.tbl_outside.proofs.Moments.{goes_on, leaves_among}
 use Rattle.cds_store.specs.Calls.{HasFlags}
 use Rattle.cds_store.specs.Standing.{StandsFor, kept, with_new, made_or_not}

@@ -1,7 +1,7 @@
 use Rattle.std.proofs.Common.{◌≡◌, ℕ, List, Option, Some, None, false, not, ap, sym, ◌∙◌, subst}
-use Rattle.tbl_kinds.specs.State.{Store as Blocks}
+use Rattle.tbl_kinds.specs.Blocks.{Store as Blocks}
 use Rattle.tbl_kinds.specs.StoreSteps.{freed, doubtful_of, has_room}
-use Rattle.tbl_kinds.specs.TableSteps.{least_free}
+use Rattle.tbl_kinds.specs.Free.{least_free}
 use Rattle.tbl_outside.proofs.Moments.{leaves_among}
 use Rattle.cds_store.specs.Calls.{is_gate, is_old}
 use Rattle.cds_store.specs.Moments.{MakeLeaves, ReserveLeaves}

@@ -1,6 +1,6 @@
 use Rattle.std.proofs.Common.{sym, ◌≡◌, Some, None}
-use Rattle.tbl_kinds.specs.Tables.{table_at}
-use Rattle.tbl_kinds.specs.TableSteps.{find}
+use Rattle.tbl_model.specs.Tables.{table_at}
+use Rattle.tbl_model.specs.TableSteps.{find}
 use Rattle.table_files.specs.Files.{with_image}
 use Rattle.partial_load.proofs.Filling.{some_is, answer_is, not_found, refused, filled}
 use Rattle.partial_load.proofs.ground.ground_load.Goals as goal

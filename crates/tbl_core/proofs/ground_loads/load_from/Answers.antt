@@ -1,6 +1,6 @@
 use Rattle.std.proofs.Common.{sym, ap, ◌∙◌}
 use Rattle.tbl_kinds.specs.Drawer.{contents_of}
-use Rattle.tbl_kinds.specs.GroundLoads.{load_file_effect}
+use Rattle.tbl_model.specs.GroundLoads.{load_file_effect}
 use Rattle.table_files.specs.Files.{with_image, flaw_of}
 use Rattle.tbl_core.proofs.GroundLoads.{no_file, bad_file, good_file}
 use Rattle.tbl_core.proofs.ground_loads.load_from.Goals as goal

@@ -1,5 +1,5 @@
 use Rattle.std.proofs.Common.{sym, ap, ◌∙◌}
-use Rattle.tbl_kinds.specs.TableSteps.{find}
+use Rattle.tbl_model.specs.TableSteps.{find}
 use Rattle.partial_load.specs.Answers.{load_answered}
 use Rattle.tbl_core.proofs.GroundLoads.{as_settled}
 use Rattle.tbl_core.proofs.ground_loads.load_parsed.Goals as goal

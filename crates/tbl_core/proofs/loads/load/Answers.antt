@@ -1,5 +1,5 @@
 use Rattle.std.proofs.Common.{◌≡◌, Some, None, refl, ◌∙◌}
-use Rattle.tbl_kinds.specs.Tables.{table_at}
+use Rattle.tbl_model.specs.Tables.{table_at}
 use Rattle.tbl_core.proofs.Images.{load_by}
 use Rattle.tbl_core.proofs.Places.{some_is}
 use Rattle.tbl_core.proofs.loads.load.Goals as goal

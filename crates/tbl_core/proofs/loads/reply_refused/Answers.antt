@@ -1,5 +1,5 @@
 use Rattle.std.proofs.Common.{◌≡◌, ◌∙◌, ap, refl}
-use Rattle.tbl_kinds.specs.Tables.{in_use}
+use Rattle.tbl_model.specs.Tables.{in_use}
 use Rattle.tbl_core.specs.Loads.{rows_in}
 use Rattle.tbl_core.proofs.GroundLoads.{rows_in_padded}
 use Rattle.tbl_core.proofs.loads.reply_refused.Goals as goal

@@ -1,4 +1,4 @@
-use Rattle.tbl_kinds.specs.Tables.{in_use}
+use Rattle.tbl_model.specs.Tables.{in_use}
 use Rattle.tbl_core.proofs.Buffers.{free_places}
 use Rattle.tbl_core.proofs.replies.free_buffers.Goals as goal
 

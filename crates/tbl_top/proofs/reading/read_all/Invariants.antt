@@ -1,6 +1,6 @@
 use Rattle.std.proofs.Common.{◌≡◌, ℕ, ◌≤◌, List, length, Option}
 use Rattle.std.specs.Io.KnownBytes.{prepend_known}
-use Rattle.tbl_kinds.specs.State.{State}
+use Rattle.tbl_model.specs.State.{State}
 use Rattle.tbl_core.specs.Service.{StandsFor}
 use Rattle.tbl_top.specs.Playing.{IsBeginning, consumed, IsSession, IsWritten}
 use Rattle.tbl_top.proofs.reading.read_all.Given as goal

@@ -1,6 +1,6 @@
 use Rattle.std.proofs.Common.{[], refl}
 use Rattle.std.specs.Io.KnownBytes.{IsAtEnd}
-use Rattle.tbl_kinds.specs.State.{first_state}
+use Rattle.tbl_model.specs.State.{first_state}
 use Rattle.tbl_top.proofs.SessionLemmas.{session_of, nothing_written}
 use Rattle.tbl_top.proofs.session.play.Goals as goal
 

@@ -1,6 +1,6 @@
 use Rattle.std.proofs.Common.{[], refl}
 use Rattle.std.specs.Io.KnownBytes.{IsAtEnd}
-use Rattle.tbl_kinds.specs.State.{first_state}
+use Rattle.tbl_model.specs.State.{first_state}
 use Rattle.tbl_top.proofs.ReadingLemmas.{prepend_nothing}
 use Rattle.tbl_top.proofs.CompletenessLemmas.{complete, starved}
 use Rattle.tbl_top.proofs.SessionLemmas.{starved_at_once}

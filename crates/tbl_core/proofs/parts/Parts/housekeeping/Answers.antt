@@ -1,5 +1,5 @@
 use Rattle.std.proofs.Common.{true, refl, ap, ◌∙◌}
-use Rattle.tbl_kinds.specs.CountsAfter.{Tally, counts_after}
+use Rattle.tbl_model.specs.CountsAfter.{Tally, counts_after}
 use Rattle.tbl_core.specs.Counters.{tally_view}
 use Rattle.tbl_core.specs.Service.{kept_of}
 use Rattle.tbl_core.proofs.CommandLemmas.{housekeeping_plays}

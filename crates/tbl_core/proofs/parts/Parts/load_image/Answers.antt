@@ -1,13 +1,13 @@
 use Rattle.std.proofs.Common.{refl, sym, ap, ◌∙◌}
 use Rattle.tbl_core.specs.Counters.{tally_view}
 use Rattle.tbl_core.specs.Service.{kept_of, state_of, head_of}
-use Rattle.tbl_kinds.specs.State.{Tables}
-use Rattle.tbl_kinds.specs.Effects.{Effect, answered}
+use Rattle.tbl_model.specs.State.{Tables}
+use Rattle.tbl_model.specs.Effects.{Effect, answered}
 use Rattle.tbl_kinds.specs.Packets.{telemetry_packet, event_id}
 use Rattle.tbl_kinds.specs.Telemetry.{event_body}
-use Rattle.tbl_kinds.specs.Events.{event}
+use Rattle.tbl_model.specs.Events.{event}
 use Rattle.tbl_kinds.specs.declared.status.TheConstants.Status.{SUCCESS}
-use Rattle.tbl_kinds.specs.CountsAfter.{counts_after}
+use Rattle.tbl_model.specs.CountsAfter.{counts_after}
 use Rattle.tbl_kinds.specs.declared.request.Actor.TheVariants.{App}
 use Rattle.tbl_core.proofs.Quiet.{quiet_plays}
 use Rattle.tbl_core.proofs.Images.{load_plays}

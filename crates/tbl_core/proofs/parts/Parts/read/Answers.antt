@@ -1,5 +1,5 @@
 use Rattle.std.proofs.Common.{refl, ap, ◌∙◌}
-use Rattle.tbl_kinds.specs.CountsAfter.{counts_after}
+use Rattle.tbl_model.specs.CountsAfter.{counts_after}
 use Rattle.tbl_core.specs.Counters.{tally_view}
 use Rattle.tbl_kinds.specs.declared.request.Actor.TheVariants.{App}
 use Rattle.tbl_core.proofs.Quiet.{quiet_plays}

@@ -1,6 +1,6 @@
 use Rattle.std.proofs.Common.{◌++◌, List, ℕ, ap, ◌∙◌}
-use Rattle.tbl_kinds.specs.Counts.{Counts}
-use Rattle.tbl_kinds.specs.CountsAfter.{counts_after}
+use Rattle.tbl_model.specs.Counts.{Counts}
+use Rattle.tbl_model.specs.CountsAfter.{counts_after}
 use Rattle.tbl_kinds.specs.Packets.{telemetry_packet, event_id}
 use Rattle.tbl_kinds.specs.Telemetry.{event_body}
 use Rattle.tbl_core.specs.Counters.{counts_view, tally_view}

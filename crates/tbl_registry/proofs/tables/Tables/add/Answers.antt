@@ -1,7 +1,7 @@
 use Rattle.std.proofs.Common.{◌≡◌, ◌∙◌, sym, refl, Some, position, is_none, arith}
 use Rattle.std.proofs.lemmas.Option.{same_Some}
 use Rattle.std.proofs.lemmas.Bool.Decides.{nat_tests}
-use Rattle.tbl_kinds.specs.Tables.{option_bits}
+use Rattle.tbl_model.specs.Tables.{option_bits}
 use Rattle.tbl_registry.proofs.Full.{least_free-map}
 use Rattle.tbl_registry.specs.Rows.{table_in}
 use Rattle.tbl_registry.proofs.Add.{add_kept, add_kept_seen, new_is_plain, not_full}

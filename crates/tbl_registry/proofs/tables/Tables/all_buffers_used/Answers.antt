@@ -1,5 +1,5 @@
 use Rattle.std.proofs.Common.{ap, ◌∙◌, ℕ, List, Option, None, is_some, slice_index_or}
-use Rattle.tbl_kinds.specs.Tables.{in_use}
+use Rattle.tbl_model.specs.Tables.{in_use}
 use Rattle.tbl_registry.proofs.InUse.{fourth}
 use Rattle.tbl_registry.proofs.tables.Tables.all_buffers_used.Goals as goal
 

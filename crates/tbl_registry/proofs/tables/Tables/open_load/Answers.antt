@@ -1,5 +1,5 @@
 use Rattle.std.proofs.Common.{◌≡◌, ◌≤◌, count_by, is_some, refl, sym, ◌∙◌, Some, arith}
-use Rattle.tbl_kinds.specs.Tables.{table_at}
+use Rattle.tbl_model.specs.Tables.{table_at}
 use Rattle.tbl_registry.specs.Rows.{table_in}
 use Rattle.tbl_registry.proofs.Viewed.{kept_read, viewed_at, viewed_in_use, open_count}
 use Rattle.tbl_registry.proofs.Changes.{still_there}

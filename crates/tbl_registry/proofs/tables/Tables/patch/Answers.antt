@@ -1,6 +1,6 @@
-use Rattle.tbl_kinds.specs.TableSteps.{patched}
+use Rattle.tbl_model.specs.TableSteps.{patched}
 use Rattle.std.proofs.Common.{ℕ, List, ◌≡◌, ◌+◌, ◌≤◌, length, sym, ap, ◌∙◌, Some, arith}
-use Rattle.tbl_kinds.specs.Tables.{table_at}
+use Rattle.tbl_model.specs.Tables.{table_at}
 use Rattle.tbl_registry.specs.Rows.{table_in}
 use Rattle.tbl_registry.proofs.Viewed.{kept_read, viewed_at}
 use Rattle.tbl_registry.proofs.Lent.{no_load_there, buffer_out, has_bytes, held_at}

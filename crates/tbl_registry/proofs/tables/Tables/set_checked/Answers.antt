@@ -1,5 +1,5 @@
 use Rattle.std.proofs.Common.{◌≡◌, refl, sym, ◌∙◌, Some}
-use Rattle.tbl_kinds.specs.Tables.{table_at}
+use Rattle.tbl_model.specs.Tables.{table_at}
 use Rattle.tbl_registry.specs.Rows.{table_in}
 use Rattle.tbl_registry.proofs.Viewed.{kept_read, viewed_at}
 use Rattle.tbl_registry.proofs.Rows.{plain_with}

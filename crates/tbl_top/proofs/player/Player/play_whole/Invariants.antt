@@ -1,5 +1,5 @@
 use Rattle.std.proofs.Common.{◌≡◌, ℕ, ◌≤◌, List, length, Option}
-use Rattle.tbl_kinds.specs.State.{State}
+use Rattle.tbl_model.specs.State.{State}
 use Rattle.tbl_core.specs.Service.{StandsFor}
 use Rattle.tbl_top.specs.Playing.{consumed, IsWritten}
 use Rattle.tbl_top.proofs.player.Player.play_whole.Given as goal

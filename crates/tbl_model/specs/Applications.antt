@@ -2,11 +2,13 @@
 use Rattle.std.specs.Prelude.{ℕ, ◌+◌, ◌-◌, ◌==◌, List, [], ◌∷◌, ◌++◌, length, Bool, true, false, not, ◌&&◌, ◌||◌, nat_lt, if◌then◌else◌, Option, Some, None, is_some, option_and_then, slice_get, slice_set, Result, Ok, Err}
 use Rattle.std.specs.List.{list_any}
 use Rattle.tbl_kinds.specs.Names.{is_name}
-use Rattle.tbl_kinds.specs.State.{State, Table}
-use Rattle.tbl_kinds.specs.Tables.{table_at, is_double, is_dump_only, in_use}
-use Rattle.tbl_kinds.specs.TableSteps.{is_that, find, least_free, locker, check, put, set_time, with_table, with_handle, Step, get_address, release, read, new_table, new_handle}
-use Rattle.tbl_kinds.specs.Deeds.{activated}
-use Rattle.tbl_kinds.specs.Effects.{Effect, answered}
+use Rattle.tbl_kinds.specs.Limits.{table_limit}
+use Rattle.tbl_model.specs.State.{State, Table}
+use Rattle.tbl_model.specs.Tables.{table_at, is_double, is_dump_only, in_use}
+use Rattle.tbl_kinds.specs.Free.{least_free}
+use Rattle.tbl_model.specs.TableSteps.{is_that, find, locker, check, put, set_time, with_table, with_handle, Step, get_address, release, read, new_table, new_handle}
+use Rattle.tbl_model.specs.Deeds.{activated}
+use Rattle.tbl_model.specs.Effects.{Effect, answered}
 use Rattle.tbl_kinds.specs.declared.status.Status.{Status}
 use Rattle.tbl_kinds.specs.declared.status.TheConstants.Status.{SUCCESS, INFO_TABLE_LOCKED, WARN_DUPLICATE, ERR_BAD_APP, ERR_UNREGISTERED, ERR_INVALID_NAME, ERR_INVALID_SIZE, ERR_INVALID_OPTIONS, ERR_NO_VALIDATOR, ERR_DUPLICATE_NOT_OWNED, ERR_DUPLICATE_DIFF_SIZE, ERR_REGISTRY_FULL, ERR_HANDLES_FULL, ERR_DUMP_ONLY, ERR_LOAD_IN_PROGRESS, ERR_IMAGE_SIZE, ERR_NO_BUFFER_AVAIL, ERR_APP_RUNNING}
 
@@ -50,10 +52,6 @@ abbrev pub stepped : State → Step → Effect
 stepped s step = record (answered s step.status 0) { next = record s { tables = step.tables } }
 
 -- ---- registration
-
--- the largest table
-abbrev pub table_limit : ℕ
-table_limit = 16384
 
 -- the options that can be asked for today
 abbrev pub are_options : ℕ → Bool

@@ -2,10 +2,10 @@
 use Rattle.std.specs.Prelude.{◌≡◌, ℕ, ◌+◌, ◌≤◌, ◌==◌, List, ◌∷◌, ◌++◌, length, Bool, true, false, ◌&&◌, ◌||◌, Some}
 use Rattle.std.specs.List.{list_any}
 use Rattle.tbl_kinds.specs.Numbers.{piece}
-use Rattle.tbl_kinds.specs.State.{State, Table}
-use Rattle.tbl_kinds.specs.TableSteps.{Access, access_of}
-use Rattle.tbl_kinds.specs.Counts.{is_reset}
-use Rattle.tbl_kinds.specs.History.{begins_at, run_from}
+use Rattle.tbl_model.specs.State.{State, Table}
+use Rattle.tbl_model.specs.TableSteps.{Access, access_of}
+use Rattle.tbl_model.specs.Counts.{is_reset}
+use Rattle.tbl_model.specs.History.{begins_at, run_from}
 use Rattle.tbl_kinds.specs.declared.entry.Entry.{Entry}
 use Rattle.tbl_kinds.specs.declared.request.Actor.{Actor}
 use Rattle.tbl_kinds.specs.declared.request.Actor.TheVariants.{Ground, App}

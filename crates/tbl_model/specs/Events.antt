@@ -4,9 +4,9 @@ use Rattle.std.specs.Int.{w32, cast_unsigned}
 use Rattle.std.proofs.Common.{ℤ}
 use Rattle.tbl_kinds.specs.Statuses.{is_success}
 use Rattle.tbl_kinds.specs.GroundCommands.{GroundCommand, command_in}
-use Rattle.tbl_kinds.specs.Deeds.{Deed, finished, judged, activated, copy_failed, dumped, not_dumped}
-use Rattle.tbl_kinds.specs.Effects.{Effect}
-use Rattle.tbl_kinds.specs.Commands.{asks_housekeeping, asked_code}
+use Rattle.tbl_model.specs.Deeds.{Deed, finished, judged, activated, copy_failed, dumped, not_dumped}
+use Rattle.tbl_model.specs.Effects.{Effect}
+use Rattle.tbl_model.specs.Commands.{asks_housekeeping, asked_code}
 use Rattle.tbl_kinds.specs.declared.entry.Answer.{Answer}
 use Rattle.tbl_kinds.specs.declared.request.Request.{Request}
 use Rattle.tbl_kinds.specs.declared.request.Request.TheVariants as ask

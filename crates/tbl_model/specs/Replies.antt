@@ -1,13 +1,13 @@
 -- The packets of a reply, counted over the history.
 use Rattle.std.specs.Prelude.{ℕ, ◌+◌, ◌==◌, ◌%◌, List, [], ◌∷◌, ◌++◌, if◌then◌else◌, Option, Some, None}
 use Rattle.tbl_kinds.specs.Numbers.{four}
-use Rattle.tbl_kinds.specs.State.{State, Notice}
-use Rattle.tbl_kinds.specs.Tables.{table_count, load_count, free_buffers}
+use Rattle.tbl_model.specs.State.{State, Notice}
+use Rattle.tbl_model.specs.Tables.{table_count, load_count, free_buffers}
 use Rattle.tbl_kinds.specs.Packets.{housekeeping_id, event_id, telemetry_packet, command_packet}
 use Rattle.tbl_kinds.specs.Telemetry.{event_body, housekeeping_body}
-use Rattle.tbl_kinds.specs.Effects.{Shown, nothing, housekeeping}
-use Rattle.tbl_kinds.specs.Events.{events_of}
-use Rattle.tbl_kinds.specs.Counts.{Told, Counts, counts_of}
+use Rattle.tbl_model.specs.Effects.{Shown, nothing, housekeeping}
+use Rattle.tbl_model.specs.Events.{events_of}
+use Rattle.tbl_model.specs.Counts.{Told, Counts, counts_of}
 use Rattle.tbl_kinds.specs.declared.telemetry.Event.{Event}
 use Rattle.tbl_kinds.specs.declared.telemetry.Housekeeping.{Housekeeping}
 use Rattle.tbl_kinds.specs.declared.telemetry.TlmHead.{TlmHead}

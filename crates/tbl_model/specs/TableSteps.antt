@@ -1,11 +1,11 @@
 -- What is asked of the tables, and how they change: one function for each question and each change.
-use Rattle.std.specs.Prelude.{ℕ, ◌+◌, ◌-◌, ◌==◌, List, [], ◌++◌, take, drop, length, replicate, Bool, false, not, ◌&&◌, nat_lt, if◌then◌else◌, position, Option, Some, None, is_some, is_none, unwrap_or, option_and_then, slice_index_or, slice_set, Result, Ok, Err}
+use Rattle.std.specs.Prelude.{ℕ, ◌+◌, ◌-◌, ◌==◌, List, [], ◌++◌, take, drop, length, replicate, Bool, false, not, ◌&&◌, nat_lt, if◌then◌else◌, position, Option, Some, None, is_some, unwrap_or, option_and_then, slice_index_or, slice_set, Result, Ok, Err}
 use Rattle.std.specs.List.{list_any}
 use Rattle.std.specs.Option.{option_map, option_map_or}
 use Rattle.std.specs.Str.{bytes_eq}
 use Rattle.tbl_kinds.specs.Numbers.{piece}
-use Rattle.tbl_kinds.specs.State.{Load, Table, Handle, Tables, quiet}
-use Rattle.tbl_kinds.specs.Tables.{table_at, is_double}
+use Rattle.tbl_model.specs.State.{Load, Table, Handle, Tables, quiet}
+use Rattle.tbl_model.specs.Tables.{table_at, is_double}
 use Rattle.tbl_kinds.specs.declared.status.Status.{Status}
 use Rattle.tbl_kinds.specs.declared.status.TheConstants.Status.{SUCCESS, INFO_UPDATED, ERR_INVALID_HANDLE, ERR_NO_ACCESS, ERR_UNREGISTERED, ERR_ALREADY_PINNED, ERR_NEVER_LOADED, ERR_NOT_PINNED, ERR_OUT_OF_RANGE}
 
@@ -18,10 +18,6 @@ has_name name (Some t) = bytes_eq t.name name
 -- the row of the table of this full name
 abbrev pub find : List ℕ → Tables → Option ℕ
 find name tables = position (has_name name) tables.rows
-
--- the least number that is free
-abbrev pub least_free : {X : Type 0} → List (Option X) → Option ℕ
-least_free places = position is_none places
 
 abbrev pub handle_at : Tables → ℕ → Option Handle
 handle_at tables number = slice_index_or tables.handles number None

@@ -3,15 +3,15 @@ use Rattle.std.specs.Prelude.{ℕ, ◌==◌, ◌%◌, List, [], length, Bool, tr
 use Rattle.std.specs.List.{after_last, fold}
 use Rattle.std.specs.Option.{option_map, option_or}
 use Rattle.std.proofs.Common.{ℤ, pos}
-use Rattle.tbl_kinds.specs.State.{State, Table}
-use Rattle.tbl_kinds.specs.Tables.{table_at}
+use Rattle.tbl_model.specs.State.{State, Table}
+use Rattle.tbl_model.specs.Tables.{table_at}
 use Rattle.tbl_kinds.specs.Statuses.{is_success}
 use Rattle.tbl_kinds.specs.Check.{check16}
-use Rattle.tbl_kinds.specs.Deeds.{Deed, finished, activated, dumped}
-use Rattle.tbl_kinds.specs.Effects.{Effect, Shown, housekeeping}
+use Rattle.tbl_model.specs.Deeds.{Deed, finished, activated, dumped}
+use Rattle.tbl_model.specs.Effects.{Effect, Shown, housekeeping}
 use Rattle.tbl_kinds.specs.GroundCommands.{GroundCommand, load, command_in}
-use Rattle.tbl_kinds.specs.Commands.{asks_housekeeping, asks_reset_counters, asks_load, asks_validate}
-use Rattle.tbl_kinds.specs.Events.{events_of, is_good}
+use Rattle.tbl_model.specs.Commands.{asks_housekeeping, asks_reset_counters, asks_load, asks_validate}
+use Rattle.tbl_model.specs.Events.{events_of, is_good}
 use Rattle.tbl_kinds.specs.declared.entry.Answer.{Answer}
 use Rattle.tbl_kinds.specs.declared.request.Actor.{Actor}
 use Rattle.tbl_kinds.specs.declared.request.Request.{Request}

@@ -6,8 +6,8 @@ use Rattle.std.specs.Option.{option_or}
 use Rattle.std.proofs.lemmas.List.{reverse-append, length-append, drop_all, drop-append-le}
 use Rattle.std.proofs.lemmas.List.Sums.{sum_by_push, suffix_len-le-length, fold_push}
 use Rattle.std.proofs.Math.Nat.{mod-add-mod, zero-mod}
-use Rattle.tbl_kinds.specs.Counts.{Told, counts_of, restarts, clears_counters, adds_accepted, adds_refused, adds_request, deeds_by, latest, is_finished, is_finished_well, is_finished_badly, events_in, is_housekeeping, no_validation, validation_in, no_update, update_in, loaded_in, loaded_file_in, dump_in}
-use Rattle.tbl_kinds.specs.CountsAfter.{bit, tally_of, counts_after}
+use Rattle.tbl_model.specs.Counts.{Told, counts_of, restarts, clears_counters, adds_accepted, adds_refused, adds_request, deeds_by, latest, is_finished, is_finished_well, is_finished_badly, events_in, is_housekeeping, no_validation, validation_in, no_update, update_in, loaded_in, loaded_file_in, dump_in}
+use Rattle.tbl_model.specs.CountsAfter.{bit, tally_of, counts_after}
 
 after_last_by : {X : Type 0} (xs : List X) (x : X) (b : Bool) (k : ℕ) → k ≤ length xs
     → drop (length (xs ++ x ∷ []) - cond (not b) (1 + k) 0) (xs ++ x ∷ []) ≡ cond b [] (drop (length xs - k) xs ++ x ∷ [])

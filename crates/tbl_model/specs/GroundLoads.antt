@@ -1,12 +1,12 @@
 -- What LOAD does: the bytes of an uplinked table file go into the load of its table.
 use Rattle.std.specs.Prelude.{ℕ, ◌+◌, ◌==◌, List, length, Bool, not, ◌&&◌, nat_lt, if◌then◌else◌, Option, Some, None, is_some}
-use Rattle.tbl_kinds.specs.State.{State, Table}
-use Rattle.tbl_kinds.specs.Tables.{table_at, is_double, is_dump_only}
-use Rattle.tbl_kinds.specs.TableSteps.{find, locker, patch, set_file}
+use Rattle.tbl_model.specs.State.{State, Table}
+use Rattle.tbl_model.specs.Tables.{table_at, is_double, is_dump_only}
+use Rattle.tbl_model.specs.TableSteps.{find, locker, patch, set_file}
 use Rattle.tbl_kinds.specs.Drawer.{contents_of}
 use Rattle.tbl_kinds.specs.TableFiles.{TableFile, FileFlaw, file_flaw, file_status, table_file_in}
-use Rattle.tbl_kinds.specs.Effects.{Effect, answered}
-use Rattle.tbl_kinds.specs.Applications.{if_free}
+use Rattle.tbl_model.specs.Effects.{Effect, answered}
+use Rattle.tbl_model.specs.Applications.{if_free}
 use Rattle.tbl_kinds.specs.declared.status.TheConstants.Status.{SUCCESS, ERR_DUMP_ONLY, ERR_FILE_NOT_FOUND, ERR_PARTIAL_LOAD, ERR_ZERO_LOAD, ERR_PAST_END, ERR_NO_SUCH_TABLE, ERR_UPDATE_PENDING}
 
 -- the file's bytes are in the load, which is opened where none is open, and the load isn't validated any more

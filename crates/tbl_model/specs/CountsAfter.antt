@@ -1,6 +1,6 @@
 -- One entry more: what it adds to the counts, and how each count goes on.
 use Rattle.std.specs.Prelude.{ℕ, ◌+◌, ◌%◌, List, [], Bool, false, if◌then◌else◌, Option, None, unwrap_or, is_some}
-use Rattle.tbl_kinds.specs.Counts.{Told, Counts, restarts, clears_counters, adds_accepted, adds_refused, adds_request, deeds_by, is_finished, is_finished_well, is_finished_badly, events_in, is_housekeeping, Validation, no_validation, validation_in, Update, no_update, update_in, loaded_in, loaded_file_in, dump_in}
+use Rattle.tbl_model.specs.Counts.{Told, Counts, restarts, clears_counters, adds_accepted, adds_refused, adds_request, deeds_by, is_finished, is_finished_well, is_finished_badly, events_in, is_housekeeping, Validation, no_validation, validation_in, Update, no_update, update_in, loaded_in, loaded_file_in, dump_in}
 
 -- what an entry adds
 pub record Tally : Type 0 where

@@ -1,6 +1,6 @@
 -- What can be read off the tables.
 use Rattle.std.specs.Prelude.{ℕ, ◌+◌, ◌-◌, ◌==◌, List, [], ◌∷◌, length, Bool, true, false, not, ◌&&◌, ◌||◌, if◌then◌else◌, count_by, Option, Some, None, is_some, slice_index_or, bit_and}
-use Rattle.tbl_kinds.specs.State.{Table, Tables, Dump, quiet}
+use Rattle.tbl_model.specs.State.{Table, Tables, Dump, quiet}
 use Rattle.tbl_kinds.specs.declared.options.Options.{Options}
 
 -- ---- options

@@ -1,7 +1,7 @@
 -- The effect of a request: its answer, its deeds, and the state that it leaves.
 use Rattle.std.specs.Prelude.{ℕ, List, [], Option, None}
-use Rattle.tbl_kinds.specs.State.{State, Notice}
-use Rattle.tbl_kinds.specs.Deeds.{Deed}
+use Rattle.tbl_model.specs.State.{State, Notice}
+use Rattle.tbl_model.specs.Deeds.{Deed}
 use Rattle.tbl_kinds.specs.declared.status.Status.{Status}
 
 -- the packet that follows the events

@@ -1,14 +1,11 @@
 -- What an uplinked file does.
 use Rattle.std.specs.Prelude.{ℕ, List, length, not, nat_lt, if◌then◌else◌}
 use Rattle.tbl_kinds.specs.Names.{is_name}
-use Rattle.tbl_kinds.specs.State.{State}
+use Rattle.tbl_kinds.specs.Limits.{file_limit}
+use Rattle.tbl_model.specs.State.{State}
 use Rattle.tbl_kinds.specs.Drawer.{with_file, is_full_for}
-use Rattle.tbl_kinds.specs.Effects.{Effect, answered}
+use Rattle.tbl_model.specs.Effects.{Effect, answered}
 use Rattle.tbl_kinds.specs.declared.status.TheConstants.Status.{SUCCESS, ERR_BAD_NAME, ERR_FILE_TOO_LARGE, ERR_DRAWER_FULL}
-
--- the most bytes of a file
-abbrev pub file_limit : ℕ
-file_limit = 32768
 
 -- the file is in the drawer, under its name
 abbrev pub file_effect : State → List ℕ → List ℕ → Effect

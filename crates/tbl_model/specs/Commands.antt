@@ -1,8 +1,8 @@
 -- What each ground command does.
 use Rattle.std.specs.Prelude.{ℕ, List, Bool, true, false, Result, Ok, Err}
-use Rattle.tbl_kinds.specs.State.{State}
-use Rattle.tbl_kinds.specs.Effects.{Effect, answered, housekeeping as housekeeping_packet}
-use Rattle.tbl_kinds.specs.GroundLoads.{load_effect}
+use Rattle.tbl_model.specs.State.{State}
+use Rattle.tbl_model.specs.Effects.{Effect, answered, housekeeping as housekeeping_packet}
+use Rattle.tbl_model.specs.GroundLoads.{load_effect}
 use Rattle.tbl_kinds.specs.GroundCommands.{GroundCommand, housekeeping, noop, reset_counters, load, validate, code_of, command_in}
 use Rattle.tbl_kinds.specs.declared.entry.Answer.{Answer}
 use Rattle.tbl_kinds.specs.declared.status.TheConstants.Status.{SUCCESS, ERR_BAD_CODE}

@@ -1,12 +1,12 @@
 -- Legal histories: what the sequential service may have answered.
 use Rattle.std.specs.Prelude.{◌≡◌, ℕ, ◌==◌, List, [], ◌∷◌, ◌++◌, false, filter, None}
 use Rattle.std.specs.List.{fold}
-use Rattle.tbl_kinds.specs.State.{State}
+use Rattle.tbl_model.specs.State.{State}
 use Rattle.tbl_kinds.specs.Requests.{Fits}
 use Rattle.tbl_kinds.specs.Records.{Pair, IsBuilt, actor_number}
-use Rattle.tbl_kinds.specs.Dispatch.{effect_of}
-use Rattle.tbl_kinds.specs.Counts.{Told}
-use Rattle.tbl_kinds.specs.Replies.{packets_of}
+use Rattle.tbl_model.specs.Dispatch.{effect_of}
+use Rattle.tbl_model.specs.Counts.{Told}
+use Rattle.tbl_model.specs.Replies.{packets_of}
 use Rattle.tbl_kinds.specs.declared.entry.Entry.{Entry}
 use Rattle.tbl_kinds.specs.declared.note.BankNote.{BankNote}
 use Rattle.tbl_kinds.specs.declared.note.Outcome.TheVariants.{Untouched}

@@ -1,11 +1,11 @@
 -- The effect of each request.
 use Rattle.std.specs.Prelude.{ℕ, List, Option}
 use Rattle.std.proofs.Common.{ℤ}
-use Rattle.tbl_kinds.specs.State.{State}
-use Rattle.tbl_kinds.specs.Effects.{Effect, answered}
-use Rattle.tbl_kinds.specs.Commands.{command_effect}
-use Rattle.tbl_kinds.specs.Uplinks.{file_effect}
-use Rattle.tbl_kinds.specs.Applications.{start_effect, register_effect, load_image_effect, get_effect, read_effect, release_effect}
+use Rattle.tbl_model.specs.State.{State}
+use Rattle.tbl_model.specs.Effects.{Effect, answered}
+use Rattle.tbl_model.specs.Commands.{command_effect}
+use Rattle.tbl_model.specs.Uplinks.{file_effect}
+use Rattle.tbl_model.specs.Applications.{start_effect, register_effect, load_image_effect, get_effect, read_effect, release_effect}
 use Rattle.tbl_kinds.specs.declared.note.BankNote.{BankNote}
 use Rattle.tbl_kinds.specs.declared.request.Actor.{Actor}
 use Rattle.tbl_kinds.specs.declared.request.Actor.TheVariants.{Ground, App}

@@ -1,7 +1,7 @@
 -- A legal history with one more entry that is answered rightly is legal.
 use Rattle.std.proofs.Common.{◌≡◌, List, [], ◌∷◌, ◌++◌}
 use Rattle.std.proofs.lemmas.List.Sums.{fold_push}
-use Rattle.tbl_kinds.specs.History.{Run, onward, run_from, IsAnswered, AreAnswered}
+use Rattle.tbl_model.specs.History.{Run, onward, run_from, IsAnswered, AreAnswered}
 use Rattle.tbl_kinds.specs.declared.entry.Entry.{Entry}
 
 pub run_push : (r : Run) (entries : List Entry) (e : Entry) → run_from r (entries ++ e ∷ []) ≡ onward (run_from r entries) e

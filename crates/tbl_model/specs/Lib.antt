@@ -1,0 +1,17 @@
+pub mod State
+pub mod Tables
+pub mod Deeds
+pub mod Effects
+pub mod TableSteps
+pub mod Applications
+pub mod Uplinks
+pub mod GroundLoads
+pub mod Commands
+pub mod Dispatch
+pub mod Events
+pub mod Counts
+pub mod CountsAfter
+pub mod Replies
+pub mod History
+pub mod Whole
+pub mod Vectors
