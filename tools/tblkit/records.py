@@ -1,0 +1,120 @@
+"""Session records: kind (1 byte), actor (1), length of the body (2), body. A session is records without anything between.
+
+Layouts of the bodies stand in the table of names. A reader gives each piece of an input: the good records, and whatever
+else stands there with the reason why it is none, so that the pieces together are the input, byte for byte.
+"""
+from dataclasses import dataclass
+
+from . import names
+
+HEAD = 4
+MOST_BODY = 32832
+MOST_RECORDS = 32768
+APPLICATIONS = range(1, 17)
+
+
+@dataclass(frozen=True)
+class Piece:
+    """Bytes of a session from place `at` on: one record, or bytes that are none for the reason `fault`."""
+    at: int
+    content: bytes
+    fault: str = ""
+
+    @property
+    def request(self):
+        return names.requests()[self.content[0]]
+
+    @property
+    def actor(self):
+        return self.content[1]
+
+    @property
+    def body(self):
+        return self.content[HEAD:]
+
+
+def spelling(request, actor, body):
+    """The record of a request."""
+    return bytes([request.number, actor]) + len(body).to_bytes(2, "big") + body
+
+
+def lengths(request):
+    """The least and the greatest length that the body of a request has."""
+    last = names.fields(request.name)[-1] if names.fields(request.name) else None
+    if last is None:
+        return 0, 0
+    return (last.place, MOST_BODY) if last.width is None else (last.place + last.width,) * 2
+
+
+def head_fault(head):
+    """Why the four bytes of a head begin no record; empty where they do."""
+    kind, actor, length = head[0], head[1], int.from_bytes(head[2:HEAD], "big")
+    request = names.requests().get(kind)
+    if request is None:
+        return f"kind {kind:02X}, which is none"
+    called = f"kind {kind:02X} {request.name}"
+    if actor not in ([0] if request.is_ground else APPLICATIONS):
+        return f"{called} of actor {actor}"
+    least, most = lengths(request)
+    if not least <= length <= most:
+        return f"{called} with a body of {length} bytes"
+    return ""
+
+
+def body_fault(request, body):
+    """Why a whole body isn't of the right form; empty where it is."""
+    for field in names.fields(request.name):
+        content = field.of(body)
+        if field.form == "name" and content[len(names.name_in(content)):].strip(b"\0"):
+            return f"kind {request.number:02X} {request.name} with bytes behind the name in its field `{field.name}`"
+        if field.form == "reset" and content[0] not in names.words("reset"):
+            return f"kind {request.number:02X} {request.name} with the byte {content.hex().upper()}"
+    return ""
+
+
+def pieces(stream):
+    """The pieces of a session, in order. What stands behind a bad record is read as records again."""
+    at = 0
+    while head := stream.read(HEAD):
+        if len(head) < HEAD:
+            yield Piece(at, head, f"{len(head)} bytes, which is less than the head of a record")
+            return
+        length = int.from_bytes(head[2:], "big")
+        body = stream.read(length)
+        fault = head_fault(head)
+        if not fault and len(body) < length:
+            fault = f"kind {head[0]:02X} cut off: {len(body)} of {length} bytes of its body"
+        elif not fault:
+            fault = body_fault(names.requests()[head[0]], body)
+        yield Piece(at, head + body, fault)
+        at += HEAD + len(body)
+
+
+class Index:
+    """Where the records of a session stand, by actor, so that those of each actor can be read in order.
+
+    A transcript has the requests of one actor in the order of the session, and between actors in any order where they
+    ran side by side. At most 32,768 records are ever played, so that many places are kept and no contents.
+    """
+
+    def __init__(self, stream):
+        self._stream = stream
+        self._places = {actor: [] for actor in (0, *APPLICATIONS)}
+        self._taken = dict.fromkeys(self._places, 0)
+        self.count, self.fault, self.end = 0, "", 0
+        for piece in pieces(stream):
+            if piece.fault or self.count == MOST_RECORDS:
+                self.fault = piece.fault or f"a record beyond the {MOST_RECORDS} that a session may have"
+                break
+            self._places[piece.actor].append((piece.at, len(piece.content)))
+            self.count, self.end = self.count + 1, piece.at + len(piece.content)
+
+    def next_of(self, actor):
+        """The next record of an actor, or None where it has no further one."""
+        places, taken = self._places.get(actor, []), self._taken.get(actor, 0)
+        if taken == len(places):
+            return None
+        self._taken[actor] = taken + 1
+        at, length = places[taken]
+        self._stream.seek(at)
+        return Piece(at, self._stream.read(length))
