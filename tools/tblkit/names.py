@@ -4,7 +4,7 @@ import os
 from dataclasses import dataclass
 
 TABLE = os.path.join(os.path.dirname(os.path.dirname(os.path.realpath(__file__))), "names.tsv")
-NUMBER_FORMS = ("number", "signed", "hex", "row", "validator")
+NUMBER_FORMS = ("number", "signed", "hex", "count", "row", "validator")
 CODED_FORMS = ("status", "event", "command")
 
 
@@ -121,32 +121,40 @@ def _escaped(byte):
     return chr(byte) if 0x20 <= byte <= 0x7E else f"\\x{byte:02X}"
 
 
+def value(form, content):
+    """The number in a field's bytes."""
+    number = int.from_bytes(content, "big", signed=form == "signed")
+    return number & 0x3FFF if form == "count" else number
+
+
 def is_blank(form, content):
     """Whether a field has nothing to tell: all zeros, or for a row or a validator all ones, which stand for none."""
+    if form == "count":
+        return value(form, content) == 0
     return content == (b"\xff" if form in ("row", "validator") else b"\0") * len(content)
 
 
 def shown(form, content):
     """A field's bytes in words, by its form."""
-    value = int.from_bytes(content, "big", signed=form == "signed")
     if form == "name":
-        return quoted(name_in(content)) + ("" if not content.partition(b"\0")[2].strip(b"\0") else " (and bytes behind it)")
+        return quoted(name_in(content)) + (" (and bytes behind it)" if content.partition(b"\0")[2].strip(b"\0") else "")
     if form in ("data", "zeros"):
         return content.hex().upper()
     if form in ("row", "validator"):
-        return "none" if is_blank(form, content) else str(value)
+        return "none" if is_blank(form, content) else str(value(form, content))
+    number = value(form, content)
     if form == "hex":
-        return f"0x{value:0{2 * len(content)}X}"
+        return f"0x{number:0{2 * len(content)}X}"
     if bits(form):
-        return _bits_shown(form, value)
-    known = words(form).get(value) if form not in NUMBER_FORMS else None
-    return f"{value} {known}" if known else str(value)
+        return _bits_shown(form, number)
+    known = words(form).get(number) if form not in NUMBER_FORMS else None
+    return f"{number} {known}" if known else str(number)
 
 
-def _bits_shown(form, value):
+def _bits_shown(form, number):
     """The words of the bits that are set, and what no bit has a word for."""
-    found = [word for bit, word in bits(form).items() if value & bit]
-    unknown = value & ~sum(bits(form))
+    found = [word for bit, word in bits(form).items() if number & bit]
+    unknown = number & ~sum(bits(form))
     if unknown:
         found.append(f"0x{unknown:X}")
     return " and ".join(found) or "none"

@@ -76,14 +76,14 @@ def shown_field(field, content):
     elif field.form in ("data", "zeros"):
         value = words
     else:
-        value = int.from_bytes(raw, "big", signed=field.form == "signed")
+        value = names.value(field.form, raw)
     return Shown(field.name, value, words, names.is_blank(field.form, raw))
 
 
 def shown_detail(meaning, raw):
     """A detail of four bytes, where it is known what it tells."""
     words = names.shown(meaning.form, raw)
-    return Shown(meaning.detail, int.from_bytes(raw, "big", signed=meaning.form == "signed"), words)
+    return Shown(meaning.detail, names.value(meaning.form, raw), words)
 
 
 @dataclass(frozen=True)
@@ -124,8 +124,8 @@ def decode(packet):
 
 
 def _event_parts(content, parts):
-    """The fields of an event, its detail under the name that fits the event or the refusal that it tells of."""
-    number_of, status = (names.field("event", it).of(content) for it in ("event number", "status"))
+    """The fields of an event, its detail also under the name that fits the event or the refusal that it tells of."""
+    number_of, status = (names.field("event", it).of(content) for it in ("number", "status"))
     event = names.named("event").get(number(number_of))
     refusal = names.named("status").get(number(status))
     meaning = refusal if event and event.number == 2 else event

@@ -3,6 +3,7 @@
 Layouts of the bodies stand in the table of names. A reader gives each piece of an input: the good records, and whatever
 else stands there with the reason why it is none, so that the pieces together are the input, byte for byte.
 """
+import itertools
 from dataclasses import dataclass
 
 from . import names
@@ -93,21 +94,18 @@ def pieces(stream):
 class Index:
     """Where the records of a session stand, by actor, so that those of each actor can be read in order.
 
-    A transcript has the requests of one actor in the order of the session, and between actors in any order where they
-    ran side by side. At most 32,768 records are ever played, so that many places are kept and no contents.
+    A transcript has the requests of one actor in the order of the session, and those of several actors in any order where
+    they ran side by side. At most 32,768 records are ever played, so that many places are kept and no contents.
     """
 
     def __init__(self, stream):
         self._stream = stream
         self._places = {actor: [] for actor in (0, *APPLICATIONS)}
         self._taken = dict.fromkeys(self._places, 0)
-        self.count, self.fault, self.end = 0, "", 0
-        for piece in pieces(stream):
-            if piece.fault or self.count == MOST_RECORDS:
-                self.fault = piece.fault or f"a record beyond the {MOST_RECORDS} that a session may have"
+        for piece in itertools.islice(pieces(stream), MOST_RECORDS):
+            if piece.fault:
                 break
             self._places[piece.actor].append((piece.at, len(piece.content)))
-            self.count, self.end = self.count + 1, piece.at + len(piece.content)
 
     def next_of(self, actor):
         """The next record of an actor, or None where it has no further one."""
@@ -118,3 +116,8 @@ class Index:
         at, length = places[taken]
         self._stream.seek(at)
         return Piece(at, self._stream.read(length))
+
+    def piece_at(self, place):
+        """What stands at a place of the session: None at its end and beyond."""
+        self._stream.seek(place)
+        return next(pieces(self._stream), None)

@@ -1,4 +1,5 @@
 """Sessions as text, a line a request, and back. tbl-text tells the forms of the lines."""
+import os
 import re
 
 from . import names, packets, records, words
@@ -183,3 +184,8 @@ def to_text(session, into):
 def looks_like_text(name):
     """Whether a file is a session as text, by its name."""
     return re.search(r"\.txt$", name, re.IGNORECASE) is not None
+
+
+def folder_of(name):
+    """The folder from which a session as text names files: its own, or that of the caller where it is no file."""
+    return os.path.dirname(name) if name != "-" and os.path.dirname(name) else "."
