@@ -4,7 +4,8 @@ import os
 from dataclasses import dataclass
 
 TABLE = os.path.join(os.path.dirname(os.path.dirname(os.path.realpath(__file__))), "names.tsv")
-NUMBER_FORMS = ("number", "signed", "hex", "count", "row", "validator")
+NUMBER_FORMS = ("number", "signed", "hex", "row", "validator")
+PARTS_OF_BITS = {"flags": (14, 0x3), "count": (0, 0x3FFF), "function": (0, 0x7F)}
 CODED_FORMS = ("status", "event", "command")
 
 
@@ -124,12 +125,15 @@ def _escaped(byte):
 def value(form, content):
     """The number in a field's bytes."""
     number = int.from_bytes(content, "big", signed=form == "signed")
-    return number & 0x3FFF if form == "count" else number
+    if form in PARTS_OF_BITS:
+        shift, mask = PARTS_OF_BITS[form]
+        return number >> shift & mask
+    return number
 
 
 def is_blank(form, content):
     """Whether a field has nothing to tell: all zeros, or for a row or a validator all ones, which stand for none."""
-    if form == "count":
+    if form in PARTS_OF_BITS:
         return value(form, content) == 0
     return content == (b"\xff" if form in ("row", "validator") else b"\0") * len(content)
 

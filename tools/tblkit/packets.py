@@ -60,11 +60,13 @@ def command_name(packet):
 
 @dataclass(frozen=True)
 class Shown:
-    """A field as it is shown: its name, its number or text for programs, its words, and whether it has nothing to tell."""
+    """A field as it is shown: its name, its number or text for programs, its words, whether it has nothing to tell, and
+    whether it is a detail under the name of what it tells."""
     name: str
     value: int | str
     words: str
     is_blank: bool = False
+    is_detail: bool = False
 
 
 def shown_field(field, content):
@@ -83,7 +85,7 @@ def shown_field(field, content):
 def shown_detail(meaning, raw):
     """A detail of four bytes, where it is known what it tells."""
     words = names.shown(meaning.form, raw)
-    return Shown(meaning.detail, names.value(meaning.form, raw), words)
+    return Shown(meaning.detail, names.value(meaning.form, raw), words, is_detail=True)
 
 
 @dataclass(frozen=True)
@@ -124,7 +126,7 @@ def decode(packet):
 
 
 def _event_parts(content, parts):
-    """The fields of an event, its detail also under the name that fits the event or the refusal that it tells of."""
+    """The fields of an event, its detail under the name that fits the event or the refusal that it tells of."""
     number_of, status = (names.field("event", it).of(content) for it in ("number", "status"))
     event = names.named("event").get(number(number_of))
     refusal = names.named("status").get(number(status))

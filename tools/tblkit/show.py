@@ -71,7 +71,13 @@ def key(name):
 
 
 def _values(fields):
-    return {key(it.name): it.value for it in fields}
+    found = {}
+    for it in fields:
+        if it.is_detail:
+            found |= {"detail": it.value, "detail_name": key(it.name)}
+        else:
+            found[key(it.name)] = it.value
+    return found
 
 
 def as_json(part, index):
@@ -86,8 +92,7 @@ def as_json(part, index):
     told = {"place": entry.number("place"), "actor": part.actor, "request": part.request,
             "line": part.line(True) if part.record else None, "status": part.status,
             "status_name": known.name if known else None, "detail": entry.number("detail")}
-    if detail and detail.name != "detail":
-        told["detail_name"] = key(detail.name)
+    told |= _values([detail] if detail else [])
     told["reply"] = entry.reply.hex().upper()
     told["reply_fields"] = [{"kind": kind} | _values(fields) for kind, fields in part.reply()]
     told["packets"] = [{"kind": it.kind} | _values(it.header) | _values(it.body) for it in part.packets]
