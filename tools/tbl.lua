@@ -107,9 +107,10 @@ tbl.fields = all_fields
 local wrong = ProtoExpert.new("tbl.wrong", "no whole packet", expert.group.MALFORMED, expert.severity.WARN)
 tbl.experts = { wrong }
 
--- What a name field reads as: its bytes before the first zero byte, or all of them.
+-- What a name field reads as: its bytes before the first zero byte, or all of them; those that don't print as \xNN.
 local function name_in(range)
-    return (range:raw():match("^[^%z]*"))
+    local name = range:raw():match("^[^%z]*"):gsub('["\\]', "\\%0")
+    return (name:gsub("[^\32-\126]", function(byte) return string.format("\\x%02X", byte:byte()) end))
 end
 
 -- The bytes of a field in the packet, where the layout begins at `from`.

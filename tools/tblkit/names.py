@@ -113,13 +113,13 @@ def quoted(name):
     plain = bool(name) and all(0x21 <= byte <= 0x7E for byte in name) and not set(name) & set(b'"\\')
     if plain and not name.startswith(b"#"):
         return name.decode("ascii")
-    return '"' + "".join(_escaped(byte) for byte in name) + '"'
+    return f'"{escaped(name)}"'
 
 
-def _escaped(byte):
-    if byte in b'"\\':
-        return "\\" + chr(byte)
-    return chr(byte) if 0x20 <= byte <= 0x7E else f"\\x{byte:02X}"
+def escaped(name):
+    """A name in printing ASCII: a backslash before quotes and backslashes, \\xNN for a byte that is no such character."""
+    return "".join("\\" + chr(byte) if byte in b'"\\' else chr(byte) if 0x20 <= byte <= 0x7E else f"\\x{byte:02X}"
+                   for byte in name)
 
 
 def value(form, content):

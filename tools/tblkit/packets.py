@@ -3,6 +3,9 @@
 The primary header is that of CCSDS 133.0-B; the secondary headers are those of cFE's msg module
 (CFE_MSG_CommandSecondaryHeader, CFE_MSG_TelemetrySecondaryHeader).
 """
+import functools
+import operator
+import struct
 from dataclasses import dataclass
 
 from . import names
@@ -23,17 +26,20 @@ def number(content):
 
 
 def exclusive_or(content):
-    result = 0
-    for byte in content:
-        result ^= byte
-    return result
+    return functools.reduce(operator.xor, content, 0)
+
+
+@functools.cache
+def _codes():
+    """The function codes by the names of the commands."""
+    return {it.name: number for number, it in names.named("command").items()}
 
 
 def command(name, payload, count=0):
     """A command packet as the service writes them: sequence flags 3, and the checksum that makes it whole."""
-    code = next((it.number for it in names.named("command").values() if it.name == name), 0)
+    code = _codes().get(name, 0)
     message = HOUSEKEEPING_ID if name == HOUSEKEEPING else COMMAND_ID
-    head = b"".join(it.to_bytes(2, "big") for it in (message, UNSEGMENTED | count, len(payload) + 1))
+    head = struct.pack(">HHH", message, UNSEGMENTED | count, len(payload) + 1)
     checksum = 0xFF ^ exclusive_or(head) ^ code ^ exclusive_or(payload)
     return head + bytes([code, checksum]) + payload
 

@@ -1,5 +1,6 @@
 """Answers as lines for people, and as JSON for programs: a line a request."""
 import json
+import re
 
 from . import names, transcript
 from .answers import Answer, end_words
@@ -67,7 +68,8 @@ def end_lines(part, index):
 
 
 def key(name):
-    return name.replace(" ", "_").replace("'", "")
+    """A name as programs have it: `commands_accepted`. Wireshark's fields have the same."""
+    return re.sub(r"[^a-z0-9]+", "_", name.lower().replace("'", ""))
 
 
 def _values(fields):

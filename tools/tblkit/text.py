@@ -1,4 +1,5 @@
 """Sessions as text, a line a request, and back. tbl-text tells the forms of the lines."""
+import functools
 import os
 import re
 
@@ -17,27 +18,34 @@ def record_of(line, folder="."):
     if left.is_done():
         return b""
     what = "app, ground, file, time, reset or bytes at the front of the line"
-    word = left.take_word(("app", *(it.word for it in _ground_requests()), RAW), what)
+    word = left.take_word(("app", *_requests(True), RAW), what)
     if word == RAW:
         content = left.hexadecimal("the bytes")
     elif word == "app":
         content = _application_record(left)
     else:
-        request = next(it for it in _ground_requests() if it.word == word)
+        request = _requests(True)[word]
         content = records.spelling(request, 0, _packet(left) if request.name == "Command" else _body(left, request))
     left.end()
     return content
 
 
-def _ground_requests():
-    return [it for it in names.requests().values() if it.is_ground]
+@functools.cache
+def _requests(is_ground):
+    """The requests of the ground or of applications, by their words."""
+    return {it.word: it for it in names.requests().values() if it.is_ground == is_ground}
+
+
+@functools.cache
+def _commands():
+    return tuple(it.name for it in names.named("command").values()) + (packets.HOUSEKEEPING,)
 
 
 def _application_record(left):
     actor = left.number("the number of an application", max(records.APPLICATIONS))
     if actor not in records.APPLICATIONS:
         raise TextError(f"expected the number of an application, 1 to {max(records.APPLICATIONS)}, found {actor}")
-    known = {it.word: it for it in names.requests().values() if not it.is_ground}
+    known = _requests(False)
     request = known[left.take_word(known, "one of " + " ".join(known))]
     return records.spelling(request, actor, _body(left, request))
 
@@ -48,8 +56,7 @@ def _body(left, request):
 
 def _packet(left):
     """The packet of a ground line: a command of its own form, or any bytes."""
-    commands = [it.name for it in names.named("command").values()] + [packets.HOUSEKEEPING]
-    name = left.take_word(("packet", *commands), "packet, or one of " + " ".join(commands))
+    name = left.take_word(("packet", *_commands()), "packet, or one of " + " ".join(_commands()))
     if name == "packet":
         packet = left.hexadecimal("the packet")
         if len(packet) > records.MOST_BODY:

@@ -187,4 +187,4 @@ def read_table_file(words):
         field = fields[word]
         values[field.name] = (words.name(word, field.width) if field.form == "name"
                               else words.number(word, (1 << 8 * field.width) - 1))
-    return files.table_file(words.data("the image", files.MOST_CONTENTS), values)
+    return files.table_file(words.data("the image", files.MOST_IMAGE), values)
