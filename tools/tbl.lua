@@ -154,7 +154,9 @@ local function detail_words(range, name, form)
     if form == "signed" then
         return name .. " " .. range:int()
     elseif form == "hex" then
-        return string.format("%s 0x%08X", name, number)
+        return string.format("%s 0x%04X", name, number)
+    elseif form == "two words" then
+        return string.format("%s 0x%04X and 0x%04X", name, range(0, 2):uint(), range(2, 2):uint())
     end
     local words = { command = commands, ["packet fault"] = packet_faults, ["name field"] = name_fields }
     return name .. " " .. number .. (words[form] and words[form][number] and " " .. words[form][number] or "")
@@ -179,7 +181,8 @@ local function event_info(buffer, items)
     if told then
         items.detail:append_text(" (" .. told .. ")")
     end
-    local words = { "event " .. number, events[number] or "", status ~= 0 and (statuses[status] or status) or "", told or "" }
+    local refusal = status ~= 0 and (statuses[status] or status) or ""
+    local words = { "event " .. number, events[number] or "", refusal, told or "" }
     return table.concat(words, " "):gsub("%s+", " "):gsub(" $", "")
 end
 

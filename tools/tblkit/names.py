@@ -4,7 +4,7 @@ import os
 from dataclasses import dataclass
 
 TABLE = os.path.join(os.path.dirname(os.path.dirname(os.path.realpath(__file__))), "names.tsv")
-NUMBER_FORMS = ("number", "signed", "hex", "row", "validator")
+NUMBER_FORMS = ("number", "signed", "hex", "two words", "row", "validator")
 PARTS_OF_BITS = {"flags": (14, 0x3), "count": (0, 0x3FFF), "function": (0, 0x7F)}
 CODED_FORMS = ("status", "event", "command")
 
@@ -148,7 +148,9 @@ def shown(form, content):
         return "none" if is_blank(form, content) else str(value(form, content))
     number = value(form, content)
     if form == "hex":
-        return f"0x{number:0{2 * len(content)}X}"
+        return f"0x{number:04X}"
+    if form == "two words":
+        return f"0x{number >> 16:04X} and 0x{number & 0xFFFF:04X}"
     if bits(form):
         return _bits_shown(form, number)
     known = words(form).get(number) if form not in NUMBER_FORMS else None

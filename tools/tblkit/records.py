@@ -3,6 +3,7 @@
 Layouts of the bodies stand in the table of names. A reader gives each piece of an input: the good records, and whatever
 else stands there with the reason why it is none, so that the pieces together are the input, byte for byte.
 """
+import functools
 import itertools
 from dataclasses import dataclass
 
@@ -47,29 +48,40 @@ def lengths(request):
     return (last.place, MOST_BODY) if last.width is None else (last.place + last.width,) * 2
 
 
+@functools.cache
+def _rules(kind):
+    """What makes a record of this kind a good one: its request, its actors, the bounds of its length, and the fields whose
+    bytes are looked at. None where there is no such kind."""
+    request = names.requests().get(kind)
+    if request is None:
+        return None
+    looked_at = tuple(it for it in names.fields(request.name) if it.form in ("name", "reset"))
+    return request, range(1) if request.is_ground else APPLICATIONS, lengths(request), looked_at
+
+
 def head_fault(head):
     """Why the four bytes of a head begin no record; empty where they do."""
     kind, actor, length = head[0], head[1], int.from_bytes(head[2:HEAD], "big")
-    request = names.requests().get(kind)
-    if request is None:
+    rules = _rules(kind)
+    if rules is None:
         return f"kind {kind:02X}, which is none"
-    called = f"kind {kind:02X} {request.name}"
-    if actor not in ([0] if request.is_ground else APPLICATIONS):
-        return f"{called} of actor {actor}"
-    least, most = lengths(request)
+    request, actors, (least, most), _ = rules
+    if actor not in actors:
+        return f"kind {kind:02X} {request.name} of actor {actor}"
     if not least <= length <= most:
-        return f"{called} with a body of {length} bytes"
+        return f"kind {kind:02X} {request.name} with a body of {length} bytes"
     return ""
 
 
-def body_fault(request, body):
-    """Why a whole body isn't of the right form; empty where it is."""
-    for field in names.fields(request.name):
+def body_fault(kind, body):
+    """Why the whole body of a good head isn't of the right form; empty where it is."""
+    request, _, _, looked_at = _rules(kind)
+    for field in looked_at:
         content = field.of(body)
         if field.form == "name" and content[len(names.name_in(content)):].strip(b"\0"):
-            return f"kind {request.number:02X} {request.name} with bytes behind the name in its field `{field.name}`"
+            return f"kind {kind:02X} {request.name} with bytes behind the name in its field `{field.name}`"
         if field.form == "reset" and content[0] not in names.words("reset"):
-            return f"kind {request.number:02X} {request.name} with the byte {content.hex().upper()}"
+            return f"kind {kind:02X} {request.name} with the byte {content.hex().upper()}"
     return ""
 
 
@@ -86,7 +98,7 @@ def pieces(stream):
         if not fault and len(body) < length:
             fault = f"kind {head[0]:02X} cut off: {len(body)} of {length} bytes of its body"
         elif not fault:
-            fault = body_fault(names.requests()[head[0]], body)
+            fault = body_fault(head[0], body)
         yield Piece(at, head + body, fault)
         at += HEAD + len(body)
 

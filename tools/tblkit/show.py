@@ -1,5 +1,5 @@
-"""Answers as lines for people, and as JSON for programs: a line a request."""
-import json
+"""Answers as lines for people, and as objects for programs."""
+import functools
 import re
 
 from . import names, transcript
@@ -67,6 +67,7 @@ def end_lines(part, index):
     return f"broken: {part.reason}: {part.content.hex().upper()}"
 
 
+@functools.cache
 def key(name):
     """A name as programs have it: `commands_accepted`. Wireshark's fields have the same."""
     return re.sub(r"[^a-z0-9]+", "_", name.lower().replace("'", ""))
@@ -82,13 +83,13 @@ def _values(fields):
     return found
 
 
-def as_json(part, index):
-    """A part of a transcript as an object: its fields by name with their numbers, bytes in hexadecimal."""
+def as_object(part, index):
+    """A part of a transcript for JSON: its fields by name with their numbers, bytes in hexadecimal."""
     if isinstance(part, transcript.End):
-        return json.dumps({"end": True, "status": part.status, "entries": part.entries, "place": part.place,
-                           "words": end_words(part, index)})
+        return {"end": True, "status": part.status, "entries": part.entries, "place": part.place,
+                "words": end_words(part, index)}
     if isinstance(part, transcript.Broken):
-        return json.dumps({"broken": part.reason, "bytes": part.content.hex().upper()})
+        return {"broken": part.reason, "bytes": part.content.hex().upper()}
     entry, detail = part.entry, part.detail()
     known = names.named("status").get(part.status)
     told = {"place": entry.number("place"), "actor": part.actor, "request": part.request,
@@ -98,4 +99,4 @@ def as_json(part, index):
     told["reply"] = entry.reply.hex().upper()
     told["reply_fields"] = [{"kind": kind} | _values(fields) for kind, fields in part.reply()]
     told["packets"] = [{"kind": it.kind} | _values(it.header) | _values(it.body) for it in part.packets]
-    return json.dumps(told)
+    return told

@@ -124,9 +124,9 @@ OPTIONAL = {"options": (_read_options, _write_options), "validator": (_read_vali
 
 
 def line_of(piece):
-    """The line of a piece of a session. It gives the same bytes again."""
+    """The line of a piece of a session. It gives the same bytes again; a comment says why bytes are no record."""
     if piece.fault:
-        return f"{RAW} {piece.content.hex().upper()}"
+        return f"{RAW} {piece.content.hex().upper()}    # {piece.fault}"
     request, body = piece.request, piece.body
     if request.name == "Command":
         return "ground " + _packet_words(body)

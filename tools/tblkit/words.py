@@ -139,7 +139,8 @@ class Words:
             with open(os.path.join(self.folder, name), "rb") as file:
                 return file.read(most + 1)
         except (OSError, ValueError) as error:
-            raise TextError(f"expected a file that can be read: {name}: {getattr(error, 'strerror', None) or error}") from None
+            reason = getattr(error, "strerror", None) or error
+            raise TextError(f"expected a file that can be read: {name}: {reason}") from None
 
 
 def data_words(content):

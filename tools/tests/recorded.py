@@ -8,7 +8,7 @@ from dataclasses import dataclass
 
 TOP = os.path.dirname(os.path.dirname(os.path.dirname(os.path.realpath(__file__))))
 FOLDER = os.path.join(os.path.dirname(TOP), "shared", "conformance")
-PLAYED = ("play", "crew")
+PLAYED = ("play", "crew", "watch")
 
 
 @dataclass(frozen=True)
@@ -34,12 +34,14 @@ def _unpacked(text):
 
 
 def sessions(pack):
-    """The sessions of a pack whose output is a transcript; none where the pack isn't there."""
+    """The sessions of a pack; none where the pack isn't there. `decoded` is empty where the output is no transcript."""
     if pack not in packs():
         return
     with open(os.path.join(FOLDER, pack + ".jsonl"), encoding="utf-8") as lines:
         for line in lines:
             case = json.loads(line)
-            if case["args"][:1] and case["args"][0] in PLAYED and case.get("decoded"):
-                decoded = [json.loads(it) for it in _unpacked(case["decoded"]).decode("utf-8").splitlines()]
+            if case["args"] and case["args"][0] in PLAYED:
+                is_transcript = case["args"][0] != "watch"
+                lines = _unpacked(case.get("decoded", "")).decode("utf-8").splitlines() if is_transcript else []
+                decoded = [json.loads(it) for it in lines]
                 yield Case(pack, case["name"], _unpacked(case["in"]), _unpacked(case["out"]), decoded)

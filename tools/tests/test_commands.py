@@ -1,4 +1,5 @@
-"""tbl-text and tbl-show as they are called: statuses, what is written and said, and how much memory a long session takes."""
+"""tbl-text and tbl-show as they are called: statuses, what is written and said, and what memory a long session takes."""
+import json
 import os
 import resource
 import subprocess
@@ -67,6 +68,21 @@ end: status 0, the work is done; 2 entries; all 24 bytes of the session were pla
                          b"end: status 0, the work is done; 2 entries; the records that were played end at byte 24")
         self.assertEqual(call("tbl-show", "--end", given=given)[1].count(b"\n"), 1)
 
+    def test_json(self):
+        status, written, _ = call("tbl-show", "--json", HELLO + ".session", HELLO + ".transcript")
+        told = [json.loads(it) for it in written.splitlines()]
+        self.assertEqual([it.get("request") for it in told], ["NOOP", "HOUSEKEEPING", None])
+        self.assertEqual(told[0]["packets"], [{
+            "kind": "event", "message_id": 0x0808, "sequence_flags": 3, "sequence_count": 0, "length": 17, "seconds": 0,
+            "subseconds": 0, "number": 1, "status": 0, "row": 0xFFFF, "detail": 0, "detail_name": "function_code"}])
+        self.assertEqual([told[2][it] for it in ("end", "status", "entries", "place")], [True, 0, 2, 24])
+
+    def test_a_capture(self):
+        with tempfile.TemporaryDirectory() as folder:
+            name = os.path.join(folder, "capture.pcap")
+            self.assertEqual(call("tbl-show", "--pcap", name, HELLO + ".session", HELLO + ".transcript"), (0, b"", ""))
+            self.assertEqual(os.path.getsize(name), 24 + 4 * 16 + 36 + 52 + 36 + 318)
+
     def test_statuses(self):
         whole = HELLO + ".transcript"
         self.assertEqual(call("tbl-show", whole, "--diff", whole)[:2], (0, b"no difference\n"))
@@ -87,7 +103,7 @@ end: status 0, the work is done; 2 entries; all 24 bytes of the session were pla
 
 
 class Memory(unittest.TestCase):
-    """A session of 49 MB in 64 MB of address space, of which Python itself takes some 30: it never stands in memory whole."""
+    """A session of 49 MB in 64 MB of address space, of which Python takes some 30: it never stands in memory whole."""
 
     def limited(self, *words, given, into):
         def limit():

@@ -1,26 +1,25 @@
 """Recorded sessions, where they lie beside the repository: there and back as text, and decoded as they say themselves."""
 import io
-import json
 import unittest
 
-from tblkit import records, show, transcript
+from tblkit import records, show, text, transcript
 
 from . import recorded
 from .test_text import lines_of, records_of
 
-LONG = 20_000
+LONG = 6_000
 EVENT = {"number": "number", "status": "status", "row": "row", "detail": "detail"}
 HOUSEKEEPING = {
     "accepted": "commands_accepted", "refused": "commands_refused", "tables": "tables_registered", "loads": "open_loads",
     "finished": "validations_finished", "check": "check_word_of_the_last_validated_image", "verdict": "last_verdict",
-    "active": "image_of_the_last_validation", "good": "validations_with_verdict_0", "bad": "validations_with_another_verdict",
-    "requests": "validate_commands_accepted", "free": "free_shared_buffers", "update_seconds": "seconds_of_the_last_update",
+    "active": "image_of_the_last_validation", "good": "validations_with_verdict_0",
+    "bad": "validations_with_another_verdict", "requests": "validate_commands_accepted", "free": "free_shared_buffers", "update_seconds": "seconds_of_the_last_update",
     "update_sub": "subseconds_of_the_last_update", "validated": "table_of_the_last_validation",
     "updated": "table_of_the_last_update", "loaded_file": "last_file_loaded", "dumped_file": "last_file_dumped",
     "loaded": "table_of_the_last_load"}
 REGISTRY = {
-    "size": "size", "check": "check_word_of_the_last_image", "images": "images", "update_sub": "subseconds_of_the_last_update",
-    "update_seconds": "seconds_of_the_last_update", "bits": "state", "validator": "validator", "table": "table",
+    "size": "size", "check": "check_word_of_the_last_image", "images": "images",
+    "update_seconds": "seconds_of_the_last_update", "update_sub": "subseconds_of_the_last_update", "bits": "state", "validator": "validator", "table": "table",
     "owner": "owner", "file": "last_file_loaded"}
 NOTICE = {"code": "function_code", "parameter": "parameter", "check": "checksum"}
 FIELDS = {"event": EVENT, "housekeeping": HOUSEKEEPING, "registry": REGISTRY, "notice": NOTICE}
@@ -45,19 +44,30 @@ def our_values(packet, wanted):
 
 
 class ThereAndBack(unittest.TestCase):
+    """The lines give the same bytes. They are made of the bytes alone, so they too stay the same, there and back."""
+
     def test_sessions(self):
-        """The lines give the same bytes; since the lines are made of the bytes alone, they stay the same too."""
         seen = set()
         for pack in recorded.packs():
             for case in recorded.sessions(pack):
-                if case.session not in seen:
-                    seen.add(case.session)
+                if len(case.session) <= LONG:
                     self.assertEqual(records_of(lines_of(case.session)), case.session, (pack, case.name))
+                else:
+                    self.check_pieces(case, seen)
+
+    def check_pieces(self, case, seen):
+        """The same of a long session, piece by piece, each of which is looked at once in all sessions."""
+        found = list(records.pieces(io.BytesIO(case.session)))
+        self.assertEqual(b"".join(it.content for it in found), case.session, case.name)
+        for piece in found:
+            if piece.content not in seen:
+                seen.add(piece.content)
+                self.assertEqual(text.record_of(text.line_of(piece)), piece.content, case.name)
 
 
 class Decoded(unittest.TestCase):
     def check_answer(self, found, wanted):
-        told = json.loads(show.as_json(found, None))
+        told = show.as_object(found, None)
         if wanted.get("end"):
             self.assertEqual([told[it] for it in ("status", "entries", "place")],
                              [wanted[it] for it in ("status", "count", "offset")])
@@ -72,7 +82,7 @@ class Decoded(unittest.TestCase):
     def test_transcripts(self):
         for pack in recorded.packs():
             for case in recorded.sessions(pack):
-                if len(case.output) > LONG:
+                if len(case.output) > LONG or not case.decoded:
                     continue
                 index = records.Index(io.BytesIO(case.session))
                 found = list(show.answers(transcript.parts(io.BytesIO(case.output)), index))

@@ -1,7 +1,6 @@
 """Transcripts: lines, ends, differences, captures, and what recorded sessions say in their own words."""
 import glob
 import io
-import json
 import os
 import struct
 import unittest
@@ -138,5 +137,6 @@ class Captures(unittest.TestCase):
             frames.append(file.getvalue()[at + 16:at + 16 + length])
             at += 16 + length
         self.assertEqual([len(it) for it in frames], [36, 52, 36, 318])
-        self.assertEqual(frames[0].hex(), "45000024000000004011" "f6c5" "c0000201c0000202" "04d204d200100000" "1804c00000010022")
+        header = "45000024000000004011f6c5c0000201c0000202" "04d204d200100000"
+        self.assertEqual(frames[0].hex(), header + "1804c00000010022")
         self.assertEqual([it[22:24].hex() for it in frames], ["04d2", "04d3", "04d2", "04d3"])
