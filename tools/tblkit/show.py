@@ -64,7 +64,7 @@ def end_lines(part, index):
     """The line of what ends a transcript."""
     if isinstance(part, transcript.End):
         return f"end: {end_words(part, index)}"
-    return f"broken: {part.reason}: {part.content.hex().upper()}"
+    return f"broken: {part.reason}" + (f": {part.content.hex().upper()}" if part.content else "")
 
 
 @functools.cache

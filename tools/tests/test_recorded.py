@@ -13,14 +13,14 @@ HOUSEKEEPING = {
     "accepted": "commands_accepted", "refused": "commands_refused", "tables": "tables_registered", "loads": "open_loads",
     "finished": "validations_finished", "check": "check_word_of_the_last_validated_image", "verdict": "last_verdict",
     "active": "image_of_the_last_validation", "good": "validations_with_verdict_0",
-    "bad": "validations_with_another_verdict", "requests": "validate_commands_accepted", "free": "free_shared_buffers", "update_seconds": "seconds_of_the_last_update",
-    "update_sub": "subseconds_of_the_last_update", "validated": "table_of_the_last_validation",
-    "updated": "table_of_the_last_update", "loaded_file": "last_file_loaded", "dumped_file": "last_file_dumped",
-    "loaded": "table_of_the_last_load"}
+    "bad": "validations_with_another_verdict", "requests": "validate_commands_accepted", "free": "free_shared_buffers",
+    "update_seconds": "seconds_of_the_last_update", "update_sub": "subseconds_of_the_last_update",
+    "validated": "table_of_the_last_validation", "updated": "table_of_the_last_update", "loaded_file": "last_file_loaded",
+    "dumped_file": "last_file_dumped", "loaded": "table_of_the_last_load"}
 REGISTRY = {
     "size": "size", "check": "check_word_of_the_last_image", "images": "images",
-    "update_seconds": "seconds_of_the_last_update", "update_sub": "subseconds_of_the_last_update", "bits": "state", "validator": "validator", "table": "table",
-    "owner": "owner", "file": "last_file_loaded"}
+    "update_seconds": "seconds_of_the_last_update", "update_sub": "subseconds_of_the_last_update", "bits": "state",
+    "validator": "validator", "table": "table", "owner": "owner", "file": "last_file_loaded"}
 NOTICE = {"code": "function_code", "parameter": "parameter", "check": "checksum"}
 FIELDS = {"event": EVENT, "housekeeping": HOUSEKEEPING, "registry": REGISTRY, "notice": NOTICE}
 

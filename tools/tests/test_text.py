@@ -67,6 +67,13 @@ class Lines(unittest.TestCase):
 
 
 class WrongLines(unittest.TestCase):
+    def test_a_file_that_is_too_long(self):
+        with tempfile.TemporaryDirectory() as folder:
+            with open(os.path.join(folder, "long"), "wb") as file:
+                file.write(bytes(32769))
+            with self.assertRaisesRegex(text.TextError, "at most 32768 bytes, found 32769"):
+                text.record_of("file /a from long", folder)
+
     def test_each_says_what_was_expected(self):
         for line, words in table("wrong-lines.tsv"):
             with self.subTest(line):
