@@ -43,7 +43,17 @@ def lines(answers, parts):
         known = next((it for it in (one, other) if isinstance(it, Answer)), None)
         yield f"entry {known.entry.number('place')}, {known.line()}:" if known else "the end:"
         left, right = _fields(one), _fields(other)
-        for name in left | right:
-            if left.get(name) != right.get(name):
-                yield f"  {name}: {left.get(name, 'none')} | {right.get(name, 'none')}"
+        found = [f"  {name}: {left.get(name, 'none')} | {right.get(name, 'none')}"
+                 for name in left | right if left.get(name) != right.get(name)]
+        yield from found or _first_byte(one, other)
         return
+
+
+def _first_byte(one, other):
+    """The first byte in which two answers differ whose fields read the same: in long data, or where nobody looks."""
+    for name, left, right in (("reply bytes", one.entry.reply, other.entry.reply),
+                              ("packets", one.entry.sent, other.entry.sent)):
+        for place, (a, b) in enumerate(zip(left, right)):
+            if a != b:
+                yield f"  byte {place} of the {name}: {a:02X} | {b:02X}"
+                return

@@ -11,6 +11,7 @@ FILE_HEADER = struct.pack(">IHHiIII", 0xA1B2C3D4, 2, 4, 0, 0, 65535, 101)
 GROUND, SERVICE = bytes([192, 0, 2, 1]), bytes([192, 0, 2, 2])
 COMMAND_PORT, TELEMETRY_PORT = 1234, 1235
 IP_HEADER, UDP_HEADER = 20, 8
+MOST_CONTENT = 0xFFFF - IP_HEADER - UDP_HEADER
 
 
 def _checksum(header):
@@ -30,14 +31,15 @@ def datagram(content, sender, receiver, port):
 
 
 class Capture:
-    """A capture that is written. Its times are the service's, as its telemetry tells them."""
+    """A capture that is written. Its times are the service's, as its telemetry tells them. Of what is no packet and too
+    long for a datagram it has the front."""
 
     def __init__(self, file):
         self._file, self._time = file, (0, 0)
         file.write(FILE_HEADER)
 
     def _write(self, content, sender, receiver, port):
-        frame = datagram(content, sender, receiver, port)
+        frame = datagram(content[:MOST_CONTENT], sender, receiver, port)
         self._file.write(struct.pack(">IIII", *self._time, len(frame), len(frame)) + frame)
 
     def add(self, answer):

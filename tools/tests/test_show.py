@@ -116,12 +116,22 @@ class Differences(unittest.TestCase):
             changed = whole[:place] + bytes([whole[place] ^ 5]) + whole[place + 1:]
             self.assertEqual(self.difference(whole, changed)[1:], [line])
 
+    def test_bytes_that_are_not_shown(self):
+        one, other = (entry(0, 1, 0, bytes(4), bytes(99) + it, b"") for it in (b"\1", b"\2"))
+        self.assertEqual(self.difference(one, other), ["entry 0, app 1:", "  byte 99 of the reply bytes: 01 | 02"])
+
     def test_an_entry_less(self):
         whole = content_of(os.path.join(recorded.TOP, "examples", "hello.transcript"))
         self.assertEqual(self.difference(whole, whole[:45])[0], "entry 1, ground:")
 
 
 class Captures(unittest.TestCase):
+    def test_what_is_no_packet_and_too_long(self):
+        file = io.BytesIO()
+        found, _ = parts(None, entry(0, 0, 0, bytes(4), b"", bytes_of("00000000FFFF 00*65536")) + END_OF_NOTHING)
+        pcap.Capture(file).add(found[0])
+        self.assertEqual(len(file.getvalue()), 24 + 16 + 65535)
+
     def test_frames_of_hello(self):
         """The NOOP, its event, the request for housekeeping, the housekeeping packet, each as a datagram."""
         name = os.path.join(recorded.TOP, "examples", "hello.session")
