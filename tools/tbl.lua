@@ -1,0 +1,278 @@
+-- A Wireshark dissector for the packets of cFE Table Services: commands, housekeeping, events, registry records, notices.
+-- Names and places come from names.tsv, which has to stand beside this file. The primary header is that of CCSDS 133.0-B,
+-- the secondary headers are those of cFE's msg module.
+--
+--     wireshark -X lua_script:tools/tbl.lua CAPTURE        with a capture of `tbl-show --pcap CAPTURE`
+--
+-- It takes datagrams to UDP port 1234 as commands, and those to 1235 as what the service sends.
+
+local COMMAND_PORT, TELEMETRY_PORT = 1234, 1235
+local IS_COMMAND, COMMAND_ID, HOUSEKEEPING_ID = 0x1000, 0x1804, 0x180C
+local PRIMARY_HEADER, COMMAND_HEADER, TELEMETRY_HEADER, LENGTH_BIAS = 6, 8, 12, 7
+local REFUSED = 2
+
+local tbl = Proto("tbl", "cFE Table Services")
+
+-- The rows of names.tsv by section, each as the list of its columns.
+local function read_names()
+    local folder = debug.getinfo(1, "S").source:match("^@(.*[/\\])") or ""
+    local sections = {}
+    for line in assert(io.open(folder .. "names.tsv")):lines() do
+        local columns = {}
+        for column in (line:gsub("\r$", "") .. "\t"):gmatch("([^\t]*)\t") do
+            columns[#columns + 1] = column
+        end
+        local section = table.remove(columns, 1)
+        sections[section] = sections[section] or {}
+        table.insert(sections[section], columns)
+    end
+    return sections
+end
+
+local names = read_names()
+
+-- The words of the numbers of a form, by number.
+local function words_of(form)
+    local words = {}
+    for _, row in ipairs(names[form] or {}) do
+        words[tonumber(row[1])] = row[2]
+    end
+    for _, row in ipairs(names.code) do
+        if row[1] == form then
+            words[tonumber(row[2])] = row[3]
+        end
+    end
+    return words
+end
+
+local statuses, events, commands, messages = words_of("status"), words_of("event"), words_of("command"), words_of("message")
+local images, packet_faults, name_fields = words_of("image"), words_of("packet fault"), words_of("name field")
+local NONE = { row = 0xFFFF, validator = 0xFF }
+
+local function key(text)
+    return (text:lower():gsub("'", ""):gsub("[^%w]+", "_"))
+end
+
+local INTEGERS = { ProtoField.uint8, ProtoField.uint16, ProtoField.uint24, ProtoField.uint32 }
+local MASKS = { flags = 0xC000, count = 0x3FFF, ["function"] = 0x7F }
+
+-- Wireshark's field for a field of a layout.
+local function proto_field(owner, name, width, form)
+    local abbreviation = "tbl." .. key(owner) .. "." .. key(name)
+    if form == "name" then
+        return ProtoField.string(abbreviation, name)
+    elseif form == "zeros" or form == "data" then
+        return ProtoField.bytes(abbreviation, name)
+    elseif form == "signed" then
+        return ProtoField.int32(abbreviation, name)
+    end
+    local words = name == "message id" and messages or words_of(form)
+    return INTEGERS[width](abbreviation, name, form == "hex" and base.HEX or base.DEC, next(words) and words, MASKS[form])
+end
+
+local layouts, bits, all_fields = {}, {}, {}
+
+local function is_of_packets(owner)
+    for _, name in pairs(commands) do
+        if owner == name then
+            return true
+        end
+    end
+    return owner == "event" or owner == "housekeeping" or owner == "registry" or owner == "notice"
+        or owner == "primary header" or owner == "command header" or owner == "telemetry header"
+end
+
+for _, row in ipairs(names.field) do
+    local owner, place, width, name, form = row[1], tonumber(row[2]), tonumber(row[3]), row[4], row[5]
+    if is_of_packets(owner) then
+        local field = proto_field(owner, name, width, form)
+        all_fields[#all_fields + 1] = field
+        layouts[owner] = layouts[owner] or {}
+        table.insert(layouts[owner], { place = place, width = width, name = name, form = form, field = field })
+    end
+end
+
+for _, row in ipairs(names.bit) do
+    if row[1] == "registry" then
+        local field = ProtoField.bool("tbl.registry.state." .. key(row[3]), row[3], 8, nil, 2 ^ tonumber(row[2]))
+        all_fields[#all_fields + 1] = field
+        bits[#bits + 1] = field
+    end
+end
+
+local payload_field = ProtoField.bytes("tbl.payload", "payload")
+all_fields[#all_fields + 1] = payload_field
+tbl.fields = all_fields
+
+local wrong = ProtoExpert.new("tbl.wrong", "no whole packet", expert.group.MALFORMED, expert.severity.WARN)
+tbl.experts = { wrong }
+
+-- What a name field reads as: its bytes before the first zero byte, or all of them; those that don't print as \xNN.
+local function name_in(range)
+    local name = range:raw():match("^[^%z]*"):gsub('["\\]', "\\%0")
+    return (name:gsub("[^\32-\126]", function(byte) return string.format("\\x%02X", byte:byte()) end))
+end
+
+-- The bytes of a field in the packet, where the layout begins at `from`.
+local function range_of(part, buffer, from)
+    return buffer(from + part.place, part.width)
+end
+
+-- Adds the fields of a layout to a tree, and answers the items by the names of the fields.
+local function add_fields(tree, owner, buffer, from)
+    local items = {}
+    for _, part in ipairs(layouts[owner] or {}) do
+        local range = range_of(part, buffer, from)
+        local item
+        if part.form == "name" then
+            item = tree:add(part.field, range, name_in(range))
+        else
+            item = tree:add(part.field, range)
+        end
+        if NONE[part.form] and NONE[part.form] == range:uint() then
+            item:append_text(" (none)")
+        end
+        if part.form == "registry" then
+            for _, bit in ipairs(bits) do
+                item:add(bit, range)
+            end
+        end
+        items[part.name] = item
+    end
+    return items
+end
+
+-- How many bytes the fields of a layout have.
+local function size_of(owner)
+    local parts = layouts[owner]
+    return parts and parts[#parts].place + parts[#parts].width or 0
+end
+
+-- The words of a detail of four bytes by what it tells: the columns that names.tsv has for it.
+local function detail_words(range, name, form)
+    local number = range:uint()
+    if form == "signed" then
+        return name .. " " .. range:int()
+    elseif form == "hex" then
+        return string.format("%s 0x%04X", name, number)
+    elseif form == "two words" then
+        return string.format("%s 0x%04X and 0x%04X", name, range(0, 2):uint(), range(2, 2):uint())
+    end
+    local words = { command = commands, ["packet fault"] = packet_faults, ["name field"] = name_fields }
+    return name .. " " .. number .. (words[form] and words[form][number] and " " .. words[form][number] or "")
+end
+
+-- What the detail of an event tells: that of the refusal for a refused command, else that of the event.
+local function event_detail(number, status, range)
+    local rows, wanted = names.event, number
+    if number == REFUSED then
+        rows, wanted = names.status, status
+    end
+    for _, row in ipairs(rows) do
+        if tonumber(row[1]) == wanted and (row[3] or "") ~= "" and row[3] ~= "later" then
+            return detail_words(range, row[3], row[4])
+        end
+    end
+end
+
+local function event_info(buffer, items)
+    local number, status = buffer(TELEMETRY_HEADER, 2):uint(), buffer(TELEMETRY_HEADER + 2, 4):uint()
+    local told = event_detail(number, status, buffer(TELEMETRY_HEADER + 8, 4))
+    if told then
+        items.detail:append_text(" (" .. told .. ")")
+    end
+    local refusal = status ~= 0 and (statuses[status] or status) or ""
+    local words = { "event " .. number, events[number] or "", refusal, told or "" }
+    return table.concat(words, " "):gsub("%s+", " "):gsub(" $", "")
+end
+
+-- Telemetry: housekeeping, event, registry record. Answers what the packet is, or nil where it is none of them.
+local function add_telemetry(tree, buffer, message)
+    local kind = messages[message]
+    if not kind or not layouts[kind] or buffer:len() ~= TELEMETRY_HEADER + size_of(kind) then
+        return nil
+    end
+    add_fields(tree, "telemetry header", buffer, 0)
+    local items = add_fields(tree, kind, buffer, TELEMETRY_HEADER)
+    if kind == "event" then
+        return (event_info(buffer, items))
+    end
+    return kind
+end
+
+local function add_checksum(items, buffer)
+    local sum = 0
+    for place = 0, buffer:len() - 1 do
+        sum = bit32 and bit32.bxor(sum, buffer(place, 1):uint()) or bit.bxor(sum, buffer(place, 1):uint())
+    end
+    items.checksum:append_text(sum == 0xFF and " [right]" or " [wrong]")
+    return sum == 0xFF
+end
+
+-- The name of a command, where its payload has the length of that command's.
+local function command_name(buffer, message)
+    local code = buffer(PRIMARY_HEADER, 1):bitfield(1, 7)
+    local name = message == COMMAND_ID and commands[code] or message == HOUSEKEEPING_ID and "HOUSEKEEPING" or nil
+    return name and buffer:len() == COMMAND_HEADER + size_of(name) and name or nil
+end
+
+-- What a command names, in the order of its fields.
+local function command_words(name, buffer)
+    local words = ""
+    for _, part in ipairs(layouts[name] or {}) do
+        local range = range_of(part, buffer, COMMAND_HEADER)
+        words = words .. " " .. (part.form == "name" and name_in(range) or images[range:uint()] or range:uint())
+    end
+    return words
+end
+
+-- A command to the service, or a notice of it to an application. Answers what the packet is.
+local function add_command(tree, buffer, message, is_sent)
+    local items = add_fields(tree, "command header", buffer, 0)
+    local is_right = add_checksum(items, buffer)
+    if is_sent and buffer:len() == COMMAND_HEADER + size_of("notice") then
+        add_fields(tree, "notice", buffer, COMMAND_HEADER)
+        return string.format("notice 0x%04X, parameter %d", message, buffer(COMMAND_HEADER, 4):uint())
+    end
+    local name = not is_sent and is_right and command_name(buffer, message)
+    if name then
+        add_fields(tree, name, buffer, COMMAND_HEADER)
+        items["function code"]:append_text(" (" .. name .. ")")
+        return name .. command_words(name, buffer)
+    end
+    if buffer:len() > COMMAND_HEADER then
+        tree:add(payload_field, buffer(COMMAND_HEADER))
+    end
+    return not is_right and "a command with a wrong checksum" or nil
+end
+
+local function dissect(buffer, pinfo, root, is_sent)
+    pinfo.cols.protocol = "TBL"
+    local tree = root:add(tbl, buffer())
+    if buffer:len() < COMMAND_HEADER then
+        tree:add_proto_expert_info(wrong)
+        pinfo.cols.info = "no packet, " .. buffer:len() .. " bytes"
+        return
+    end
+    add_fields(tree, "primary header", buffer, 0)
+    local message, length = buffer(0, 2):uint(), buffer(4, 2):uint()
+    local is_command = message % (2 * IS_COMMAND) >= IS_COMMAND
+    local told
+    if length + LENGTH_BIAS == buffer:len() then
+        told = is_command and add_command(tree, buffer, message, is_sent) or add_telemetry(tree, buffer, message)
+    end
+    if not told then
+        tree:add_proto_expert_info(wrong)
+        told = string.format("no packet of Table Services: message id 0x%04X, %d bytes", message, buffer:len())
+    end
+    tree:append_text(": " .. told)
+    pinfo.cols.info = told
+end
+
+function tbl.dissector(buffer, pinfo, root)
+    dissect(buffer, pinfo, root, pinfo.dst_port ~= COMMAND_PORT)
+end
+
+local ports = DissectorTable.get("udp.port")
+ports:add(COMMAND_PORT, tbl)
+ports:add(TELEMETRY_PORT, tbl)

@@ -1,0 +1,166 @@
+"""The table of names, ../names.tsv, and the layouts that it has: what each number and each field is called."""
+import functools
+import os
+from dataclasses import dataclass
+
+TABLE = os.path.join(os.path.dirname(os.path.dirname(os.path.realpath(__file__))), "names.tsv")
+NUMBER_FORMS = ("number", "signed", "hex", "two words", "row", "validator")
+PARTS_OF_BITS = {"flags": (14, 0x3), "count": (0, 0x3FFF), "function": (0, 0x7F)}
+CODED_FORMS = ("status", "event", "command")
+
+
+@dataclass(frozen=True)
+class Field:
+    """A field of a body, header or packet: `width` is None for one that takes the rest."""
+    owner: str
+    place: int
+    width: int | None
+    name: str
+    form: str
+
+    def of(self, content):
+        """The field's bytes in the bytes of what it is a part of."""
+        return content[self.place:None if self.width is None else self.place + self.width]
+
+
+@dataclass(frozen=True)
+class Named:
+    """A number with a name, and what the detail that comes with it is (`detail` is empty where it tells nothing)."""
+    number: int
+    name: str
+    detail: str = ""
+    form: str = ""
+
+
+@dataclass(frozen=True)
+class Request(Named):
+    """A kind of session record: its number, its name, its word in a line of text, and whether the ground sends it."""
+    word: str = ""
+    is_ground: bool = False
+
+
+def rows():
+    """The rows of the table as lists of columns, without the mark `later`."""
+    with open(TABLE, encoding="ascii") as lines:
+        for line in lines:
+            columns = line.rstrip("\n").split("\t")
+            if not line.startswith("#"):
+                yield columns[:-1] if columns[-1] == "later" else columns
+
+
+def rows_of(section):
+    return [columns[1:] for columns in rows() if columns[0] == section]
+
+
+@functools.cache
+def named(section):
+    """The statuses, events, commands, messages or run statuses by number."""
+    found = (Named(int(number, 0), *more) for number, *more in rows_of(section))
+    return {it.number: it for it in found}
+
+
+@functools.cache
+def requests():
+    """The kinds of session records by number."""
+    found = {}
+    for number, name, word, actor, *detail in rows_of("request"):
+        found[int(number, 0)] = Request(int(number, 0), name, *detail, word=word, is_ground=actor == "ground")
+    return found
+
+
+@functools.cache
+def fields(owner):
+    """The fields of a body, header or packet, in the order of their places."""
+    found = []
+    for part, place, width, name, form in rows_of("field"):
+        if part == owner:
+            found.append(Field(part, int(place), None if width == "*" else int(width), name, form))
+    return tuple(found)
+
+
+@functools.cache
+def field(owner, name):
+    return next(it for it in fields(owner) if it.name == name)
+
+
+@functools.cache
+def words(form):
+    """The numbers of a coded form, with their words."""
+    if form in CODED_FORMS:
+        return {number: it.name for number, it in named(form).items()}
+    return {int(number, 0): word for part, number, word in rows_of("code") if part == form}
+
+
+@functools.cache
+def bits(form):
+    """The bits of a form that is a set of bits, lowest first: the value of each, and its word."""
+    return {1 << int(number): word for part, number, word in rows_of("bit") if part == form}
+
+
+def size_of(owner):
+    """How many bytes the fields of a layout of fixed size take, from the place of the first."""
+    parts = fields(owner)
+    return parts[-1].place + parts[-1].width - parts[0].place
+
+
+def name_in(content):
+    """What a name field reads as: its bytes before the first zero byte, or all of them."""
+    return content.split(b"\0", 1)[0]
+
+
+def quoted(name):
+    """A name as a word: bare where it has none but printing ASCII, else in quotes with escapes."""
+    plain = bool(name) and all(0x21 <= byte <= 0x7E for byte in name) and not set(name) & set(b'"\\')
+    if plain and not name.startswith(b"#"):
+        return name.decode("ascii")
+    return f'"{escaped(name)}"'
+
+
+def escaped(name):
+    """A name in printing ASCII: a backslash before quotes and backslashes, \\xNN for a byte that is no such character."""
+    return "".join("\\" + chr(byte) if byte in b'"\\' else chr(byte) if 0x20 <= byte <= 0x7E else f"\\x{byte:02X}"
+                   for byte in name)
+
+
+def value(form, content):
+    """The number in a field's bytes."""
+    number = int.from_bytes(content, "big", signed=form == "signed")
+    if form in PARTS_OF_BITS:
+        shift, mask = PARTS_OF_BITS[form]
+        return number >> shift & mask
+    return number
+
+
+def is_blank(form, content):
+    """Whether a field has nothing to tell: all zeros, or for a row or a validator all ones, which stand for none."""
+    if form in PARTS_OF_BITS:
+        return value(form, content) == 0
+    return content == (b"\xff" if form in ("row", "validator") else b"\0") * len(content)
+
+
+def shown(form, content):
+    """A field's bytes in words, by its form."""
+    if form == "name":
+        return quoted(name_in(content)) + (" (and bytes behind it)" if content.partition(b"\0")[2].strip(b"\0") else "")
+    if form in ("data", "zeros"):
+        return content.hex().upper()
+    if form in ("row", "validator"):
+        return "none" if is_blank(form, content) else str(value(form, content))
+    number = value(form, content)
+    if form == "hex":
+        return f"0x{number:04X}"
+    if form == "two words":
+        return f"0x{number >> 16:04X} and 0x{number & 0xFFFF:04X}"
+    if bits(form):
+        return _bits_shown(form, number)
+    known = words(form).get(number) if form not in NUMBER_FORMS else None
+    return f"{number} {known}" if known else str(number)
+
+
+def _bits_shown(form, number):
+    """The words of the bits that are set, and what no bit has a word for."""
+    found = [word for bit, word in bits(form).items() if number & bit]
+    unknown = number & ~sum(bits(form))
+    if unknown:
+        found.append(f"0x{unknown:X}")
+    return " and ".join(found) or "none"

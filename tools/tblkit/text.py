@@ -1,0 +1,198 @@
+"""Sessions as text, a line a request, and back. tbl-text tells the forms of the lines."""
+import functools
+import os
+import re
+
+from . import names, packets, records, words
+from .words import TextError, Words
+
+LONGEST_LINE = 1 << 20
+LABELS = {"size": "size", "offset": "at", "length": "length", "message id": "message", "function code": "code",
+          "parameter": "parameter"}
+RAW = "bytes"
+
+
+def record_of(line, folder="."):
+    """The bytes that a line stands for: none where it is empty or a comment."""
+    left = Words(line, folder)
+    if left.is_done():
+        return b""
+    what = "app, ground, file, time, reset or bytes at the front of the line"
+    word = left.take_word(("app", *_requests(True), RAW), what)
+    if word == RAW:
+        content = left.hexadecimal("the bytes")
+    elif word == "app":
+        content = _application_record(left)
+    else:
+        request = _requests(True)[word]
+        content = records.spelling(request, 0, _packet(left) if request.name == "Command" else _body(left, request))
+    left.end()
+    return content
+
+
+@functools.cache
+def _requests(is_ground):
+    """The requests of the ground or of applications, by their words."""
+    return {it.word: it for it in names.requests().values() if it.is_ground == is_ground}
+
+
+@functools.cache
+def _commands():
+    return tuple(it.name for it in names.named("command").values()) + (packets.HOUSEKEEPING,)
+
+
+def _application_record(left):
+    actor = left.number("the number of an application", max(records.APPLICATIONS))
+    if actor not in records.APPLICATIONS:
+        raise TextError(f"expected the number of an application, 1 to {max(records.APPLICATIONS)}, found {actor}")
+    known = _requests(False)
+    request = known[left.take_word(known, "one of " + " ".join(known))]
+    return records.spelling(request, actor, _body(left, request))
+
+
+def _body(left, request):
+    return b"".join(_field_bytes(left, it, request) for it in names.fields(request.name))
+
+
+def _packet(left):
+    """The packet of a ground line: a command of its own form, or any bytes."""
+    name = left.take_word(("packet", *_commands()), "packet, or one of " + " ".join(_commands()))
+    if name == "packet":
+        packet = left.hexadecimal("the packet")
+        if len(packet) > records.MOST_BODY:
+            raise TextError(f"expected a packet of at most {records.MOST_BODY} bytes, found {len(packet)}")
+        return packet
+    payload = b"".join(_field_bytes(left, it) for it in names.fields(name))
+    count = left.number("the sequence count", packets.MOST_COUNT) if left.take_if("count") else 0
+    return packets.command(name, payload, count)
+
+
+def _field_bytes(left, field, request=None):
+    """The bytes of a field, from the words that are next."""
+    if field.form == "data":
+        if field.owner == "File" and left.take_if("table"):
+            return words.read_table_file(left)
+        return left.data(f"the {field.name}", records.lengths(request)[1] - field.place)
+    if field.form == "name":
+        return left.name(f"the {field.name}", field.width).ljust(field.width, b"\0")
+    if field.form in OPTIONAL:
+        value = OPTIONAL[field.form][0](left)
+    elif names.words(field.form):
+        value = _coded(left, field)
+    else:
+        label = LABELS.get(field.name)
+        if label:
+            left.take_word((label,), label)
+        value = left.number(f"the {field.name}", (1 << 8 * field.width) - 1)
+    return value.to_bytes(field.width, "big")
+
+
+def _coded(left, field):
+    """A number that has words. The kind of a reset is always a word: no other number makes a record."""
+    known = {word: number for number, word in names.words(field.form).items()}
+    if field.form != "reset" and not left.is_next(*known):
+        return left.number(f"{' or '.join(known)}, or", (1 << 8 * field.width) - 1)
+    return known[left.take_word(known, " or ".join(known))]
+
+
+def _read_options(left):
+    if left.take_if("options"):
+        return left.number("the options", 0xFFFF)
+    known = {word: bit for bit, word in names.bits("options").items()}
+    value = 0
+    while left.is_next(*known):
+        value |= known[str(left.take("an option"))]
+    return value
+
+
+def _write_options(value):
+    known = names.bits("options")
+    if value & ~sum(known):
+        return f"options 0x{value:04X}"
+    return " ".join(word for bit, word in known.items() if value & bit)
+
+
+def _read_validator(left):
+    return left.number("the number of a validator", 0xFF) if left.take_if("validator") else 0xFF
+
+
+def _write_validator(value):
+    return "" if value == 0xFF else f"validator {value}"
+
+
+OPTIONAL = {"options": (_read_options, _write_options), "validator": (_read_validator, _write_validator)}
+
+
+def line_of(piece):
+    """The line of a piece of a session. It gives the same bytes again; a comment says why bytes are no record."""
+    if piece.fault:
+        return f"{RAW} {piece.content.hex().upper()}    # {piece.fault}"
+    request, body = piece.request, piece.body
+    if request.name == "Command":
+        return "ground " + _packet_words(body)
+    front = request.word if request.is_ground else f"app {piece.actor} {request.word}"
+    return " ".join(it for it in (front, *(_field_words(field, body) for field in names.fields(request.name))) if it)
+
+
+def _packet_words(packet):
+    name = packets.command_name(packet)
+    if name:
+        count = packets.number(packet[2:4]) & packets.MOST_COUNT
+        said = [name] + [_field_words(it, packet[packets.COMMAND_HEADER:]) for it in names.fields(name)]
+        payload = b"".join(_plain(it, packet[packets.COMMAND_HEADER:]) for it in names.fields(name))
+        if packets.command(name, payload, count) == packet:
+            return " ".join(said + ([f"count {count}"] if count else []))
+    return "packet " + (packet.hex().upper() or "empty")
+
+
+def _plain(field, content):
+    """A field as its words give it: behind a name only zeros."""
+    raw = field.of(content)
+    return names.name_in(raw).ljust(field.width, b"\0") if field.form == "name" else raw
+
+
+def _field_words(field, body):
+    """The words of a field; none for an option or validator that isn't there."""
+    raw = field.of(body)
+    value = packets.number(raw) if field.width else 0
+    if field.form == "data":
+        as_table = words.table_file_words(raw) if field.owner == "File" else None
+        return as_table or words.data_words(raw)
+    if field.form == "name":
+        return names.quoted(names.name_in(raw))
+    if field.form in OPTIONAL:
+        return OPTIONAL[field.form][1](value)
+    if names.words(field.form):
+        return names.words(field.form).get(value) or str(value)
+    label = LABELS.get(field.name)
+    shown = f"0x{value:04X}" if field.form == "hex" else str(value)
+    return f"{label} {shown}" if label else shown
+
+
+def to_records(lines, into, folder="."):
+    """Writes the records of the lines, which are bytes. A wrong line ends it with a TextError that has its number."""
+    number = 0
+    while line := lines.readline(LONGEST_LINE):
+        number += 1
+        try:
+            if len(line) == LONGEST_LINE and not line.endswith(b"\n"):
+                raise TextError(f"expected a line of fewer than {LONGEST_LINE} bytes")
+            into.write(record_of(line.decode("utf-8", "replace"), folder))
+        except TextError as error:
+            raise TextError(f"line {number}: {error}") from None
+
+
+def to_text(session, into):
+    """Writes the lines of a session, each as bytes."""
+    for piece in records.pieces(session):
+        into.write(line_of(piece).encode("ascii") + b"\n")
+
+
+def looks_like_text(name):
+    """Whether a file is a session as text, by its name."""
+    return re.search(r"\.txt$", name, re.IGNORECASE) is not None
+
+
+def folder_of(name):
+    """The folder from which a session as text names files: its own, or that of the caller where it is no file."""
+    return os.path.dirname(name) if name != "-" and os.path.dirname(name) else "."

@@ -1,0 +1,77 @@
+"""The transcript: an entry for each request that was played, and the end record."""
+from dataclasses import dataclass
+
+from . import names
+
+END = b"\xff\xff\xff\xff"
+END_SIZE = 13
+ENTRY_HEAD = 13
+LENGTH = 4
+MOST_REPLY = 1 << 26
+
+
+@dataclass(frozen=True)
+class Entry:
+    """The answer to one request. `head` has its place, actor, status and detail."""
+    head: bytes
+    reply: bytes
+    sent: bytes
+
+    def raw(self, name):
+        return names.field("entry", name).of(self.head)
+
+    def number(self, name):
+        return int.from_bytes(self.raw(name), "big")
+
+
+@dataclass(frozen=True)
+class End:
+    """How the run ended: its status, the number of entries, and the bytes of the records that were played."""
+    status: int
+    entries: int
+    place: int
+
+
+@dataclass(frozen=True)
+class Broken:
+    """What stands where no whole entry or end record does: why, and its first bytes."""
+    reason: str
+    content: bytes
+
+
+def parts(stream):
+    """The entries of a transcript, then its end record. `Broken` comes last where the bytes go another way."""
+    while True:
+        head = stream.read(ENTRY_HEAD)
+        if head[:4] == END and len(head) == END_SIZE:
+            yield End(head[4], int.from_bytes(head[5:9], "big"), int.from_bytes(head[9:], "big"))
+            behind = stream.read(ENTRY_HEAD)
+            if behind:
+                yield Broken("bytes stand behind the end record", behind)
+            return
+        try:
+            reply, sent = _counted(stream, head), _counted(stream, head)
+        except _Cut as cut:
+            yield Broken(str(cut), head)
+            return
+        yield Entry(head, reply, sent)
+
+
+class _Cut(Exception):
+    pass
+
+
+def _counted(stream, head):
+    """Bytes behind their length."""
+    if not head:
+        raise _Cut("there is no end record")
+    length = stream.read(LENGTH)
+    if len(head) < ENTRY_HEAD or len(length) < LENGTH:
+        raise _Cut("the transcript breaks off inside an entry")
+    count = int.from_bytes(length, "big")
+    if count > MOST_REPLY:
+        raise _Cut(f"an entry states {count} bytes, which no answer has")
+    content = stream.read(count)
+    if len(content) < count:
+        raise _Cut("the transcript breaks off inside an entry")
+    return content

@@ -1,0 +1,1 @@
+"""Tests of tbl-text and tbl-show. Expected values were written from docs/, or recorded from other implementations."""

@@ -1,0 +1,152 @@
+"""Transcripts: lines, ends, differences, captures, and what recorded sessions say in their own words."""
+import glob
+import io
+import os
+import struct
+import unittest
+
+from tblkit import diff, pcap, records, show, text, transcript
+
+from . import recorded
+from .test_text import bytes_of, records_of, table
+
+END_OF_NOTHING = bytes_of("FFFFFFFF 00 00000000 00000000")
+EXAMPLES = sorted(glob.glob(os.path.join(recorded.TOP, "examples", "*.session")))
+
+
+def content_of(name):
+    with open(name, "rb") as file:
+        return file.read()
+
+
+def entry(place, actor, status, detail, reply, sent):
+    counted = b"".join(len(it).to_bytes(4, "big") + it for it in (reply, sent))
+    return place.to_bytes(4, "big") + bytes([actor]) + status.to_bytes(4, "big") + detail + counted
+
+
+def parts(session, output):
+    index = records.Index(io.BytesIO(session)) if session is not None else None
+    return list(show.answers(transcript.parts(io.BytesIO(output)), index)), index
+
+
+class Lines(unittest.TestCase):
+    def test_each_answer(self):
+        for line, status, detail, reply, sent, wanted in table("shown.tsv"):
+            with self.subTest(line, status=status):
+                session = text.record_of(line)
+                output = entry(0, session[1], int(status), bytes_of(detail), bytes_of(reply), bytes_of(sent))
+                found, _ = parts(session, output + END_OF_NOTHING)
+                self.assertEqual("||".join(it.strip() for it in show.lines(found[0])), wanted)
+
+    def test_without_a_session(self):
+        output = entry(0, 3, 0, bytes(4), b"", b"") + END_OF_NOTHING
+        self.assertEqual(list(show.lines(parts(None, output)[0][0])), ["0 app 3 -> 0 SUCCESS"])
+
+    def test_all_fields(self):
+        output = entry(0, 0, 0, bytes(4), b"", bytes_of("0808C0000011 000000000000 0001 00000000 FFFF 00000000"))
+        found, _ = parts(records_of(b"ground NOOP"), output)
+        self.assertEqual([it.strip() for it in show.lines(found[0], True)], [
+            "0 ground NOOP -> 0 SUCCESS", "event", "message id: 0x0808", "sequence flags: 3", "sequence count: 0",
+            "length: 17", "seconds: 0", "subseconds: 0", "number: 1 command accepted", "status: 0 SUCCESS", "row: none",
+            "function code: 0 NOOP"])
+
+    def test_actors_in_another_order(self):
+        session = records_of(b"app 1 start A\napp 1 exit\napp 2 start B\n")
+        output = b"".join(entry(place, actor, 0, bytes(4), b"", b"") for place, actor in enumerate((2, 1, 1)))
+        found = [next(show.lines(it)) for it in parts(session, output)[0][:3]]
+        self.assertEqual(found, [f"{it} -> 0 SUCCESS" for it in ("0 app 2 start B", "1 app 1 start A", "2 app 1 exit")])
+
+
+class Ends(unittest.TestCase):
+    def end_of(self, session, end):
+        found, index = parts(session, bytes_of(end))
+        return show.end_lines(found[-1], index)
+
+    def test_all_was_played(self):
+        self.assertEqual(self.end_of(b"", "FFFFFFFF 00 00000000 00000000"),
+                         "end: status 0, the work is done; 0 entries; all 0 bytes of the session were played")
+
+    def test_bad_records(self):
+        noop = records_of(b"ground NOOP")
+        for bad, words in (("7F000000", "kind 7F, which is none"), ("01010008", "kind 01 Command of actor 1"),
+                           ("01008041", "kind 01 Command with a body of 32833 bytes"),
+                           ("10010014 410042 00*17", "kind 10 Start with bytes behind the name in its field `name`"),
+                           ("04000001 03", "kind 04 Reset with the byte 03"),
+                           ("0100", "2 bytes, which is less than the head of a record"),
+                           ("14010006 0000", "kind 14 cut off: 2 of 6 bytes of its body")):
+            with self.subTest(bad):
+                self.assertEqual(self.end_of(noop + bytes_of(bad), "FFFFFFFF 05 00000001 0000000C"),
+                                 "end: status 5, a record is bad, or the input ends inside one; 1 entries; "
+                                 f"record 1, at byte 12, is bad: {words}")
+
+    def test_a_record_that_the_service_does_not_know(self):
+        self.assertEqual(self.end_of(records_of(b"time 5 0"), "FFFFFFFF 05 00000000 00000000"),
+                         "end: status 5, a record is bad, or the input ends inside one; 0 entries; "
+                         "record 0, at byte 0, wasn't played: kind 03 Time")
+
+    def test_transcripts_that_break_off(self):
+        whole = content_of(EXAMPLES[0].replace(".session", ".transcript"))
+        for end in range(0, len(whole), 3):
+            last = parts(None, whole[:end])[0][-1]
+            self.assertIsInstance(last, transcript.Broken, end)
+        self.assertIsInstance(parts(None, whole + b"\0")[0][-1], transcript.Broken)
+
+
+class Differences(unittest.TestCase):
+    def difference(self, one, other):
+        found, _ = parts(None, one)
+        return list(diff.lines(found, transcript.parts(io.BytesIO(other))))
+
+    def test_a_changed_byte(self):
+        for name in EXAMPLES:
+            whole = content_of(name.replace(".session", ".transcript"))
+            self.assertEqual(self.difference(whole, whole), [])
+            for place in range(0, len(whole), 7):
+                changed = whole[:place] + bytes([whole[place] ^ 4]) + whole[place + 1:]
+                self.assertGreater(len(self.difference(whole, changed)), 1, (name, place))
+
+    def test_the_field_is_named(self):
+        whole = content_of(os.path.join(recorded.TOP, "examples", "hello.transcript"))
+        for place, line in ((8, "  status: 0 SUCCESS | 5 INFO_DUMP_PENDING"), (12, "  detail: 0 | 5"),
+                            (21 + 12 + 7, "  packet 1, row: none | 65530"),
+                            (45 + 21 + 12 + 20, "  packet 1, free shared buffers: 4 | 1"),
+                            (len(whole) - 9, "  end: status 0, the work is done; 2 entries; the records that were played "
+                             "end at byte 24 | status 5, a record is bad, or the input ends inside one; 2 entries; the "
+                             "records that were played end at byte 24")):
+            changed = whole[:place] + bytes([whole[place] ^ 5]) + whole[place + 1:]
+            self.assertEqual(self.difference(whole, changed)[1:], [line])
+
+    def test_bytes_that_are_not_shown(self):
+        one, other = (entry(0, 1, 0, bytes(4), bytes(99) + it, b"") for it in (b"\1", b"\2"))
+        self.assertEqual(self.difference(one, other), ["entry 0, app 1:", "  byte 99 of the reply bytes: 01 | 02"])
+
+    def test_an_entry_less(self):
+        whole = content_of(os.path.join(recorded.TOP, "examples", "hello.transcript"))
+        self.assertEqual(self.difference(whole, whole[:45])[0], "entry 1, ground:")
+
+
+class Captures(unittest.TestCase):
+    def test_what_is_no_packet_and_too_long(self):
+        file = io.BytesIO()
+        found, _ = parts(None, entry(0, 0, 0, bytes(4), b"", bytes_of("00000000FFFF 00*65536")) + END_OF_NOTHING)
+        pcap.Capture(file).add(found[0])
+        self.assertEqual(len(file.getvalue()), 24 + 16 + 65535)
+
+    def test_frames_of_hello(self):
+        """The NOOP, its event, the request for housekeeping, the housekeeping packet, each as a datagram."""
+        name = os.path.join(recorded.TOP, "examples", "hello.session")
+        found, _ = parts(content_of(name), content_of(name.replace(".session", ".transcript")))
+        file = io.BytesIO()
+        capture = pcap.Capture(file)
+        for answer in found[:-1]:
+            capture.add(answer)
+        self.assertEqual(file.getvalue()[:24].hex(), "a1b2c3d40002000400000000000000000000ffff00000065")
+        frames, at = [], 24
+        while at < len(file.getvalue()):
+            length, = struct.unpack(">I", file.getvalue()[at + 8:at + 12])
+            frames.append(file.getvalue()[at + 16:at + 16 + length])
+            at += 16 + length
+        self.assertEqual([len(it) for it in frames], [36, 52, 36, 318])
+        header = "45000024000000004011f6c5c0000201c0000202" "04d204d200100000"
+        self.assertEqual(frames[0].hex(), header + "1804c00000010022")
+        self.assertEqual([it[22:24].hex() for it in frames], ["04d2", "04d3", "04d2", "04d3"])
