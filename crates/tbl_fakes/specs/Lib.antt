@@ -3,3 +3,4 @@ pub mod Calls
 pub mod Contents
 pub mod Past
 pub mod Troubles
+pub mod Verdicts

@@ -11,6 +11,7 @@ mod past;
 mod plan;
 mod supply;
 mod troubles;
+mod validators;
 
 pub use calm::{CalmSink, CalmSource};
 pub use calm_bank::CalmBank;
@@ -19,6 +20,7 @@ pub use mem_sink::MemSink;
 pub use mem_source::MemSource;
 pub use past::Span;
 pub use troubles::Break;
+pub use validators::{FirstByte, LastXor};
 
 #[cfg(test)]
 mod tests;

@@ -5,6 +5,8 @@
 
 mod bank;
 mod stream;
+mod validator;
 
 pub use bank::{Back, Bank, Written};
 pub use stream::{Failed, Sink, Source};
+pub use validator::{KitEntry, Validator};

@@ -1,0 +1,30 @@
+-- A kit of validation functions: which application's stands under each number.
+use Rattle.std.specs.Prelude.{◌≡◌, ◌≢◌, ℕ, ◌+◌, ◌==◌, List, map, length, Bool, false, if◌then◌else◌, slice_index_or, Option, Some, None}
+use Rattle.std.proofs.Common.{ℤ}
+use Rattle.std.specs.Option.{option_map, option_map_or}
+use Rattle.tbl_outside.specs.declared.validator.KitEntry.{KitEntry}
+
+-- what stands under a number: none where there is no such number, or where its application's functions were dropped
+abbrev pub entry_at : {C : Type 0} → List (Option (KitEntry C)) → ℕ → Option (KitEntry C)
+entry_at kit number = slice_index_or kit number None
+
+-- it is a function of this application
+abbrev pub is_of : {C : Type 0} → ℕ → Option (KitEntry C) → Bool
+is_of app entry = option_map_or (λ e. e.app == app) entry false
+
+-- whose function stands under each number
+abbrev pub owners : {C : Type 0} → List (Option (KitEntry C)) → List (Option ℕ)
+owners kit = map (option_map (λ e. e.app)) kit
+
+abbrev pub unless_of : {C : Type 0} → ℕ → Option (KitEntry C) → Option (KitEntry C)
+unless_of app entry = if is_of app entry then None else entry
+
+-- the functions of an application are dropped
+abbrev pub dropped : {C : Type 0} → ℕ → List (Option (KitEntry C)) → List (Option (KitEntry C))
+dropped app kit = map (unless_of app) kit
+
+-- the same function of the same application, asked once more
+pub record AskedOnce {C : Type 0} (verdict : C → List ℕ → ℤ) (asked : C → ℕ) (old new : KitEntry C) : Type 0 where
+  pub owner : new.app ≡ old.app
+  pub steady : (image : List ℕ) → verdict new.check image ≡ verdict old.check image
+  pub once : asked new.check ≡ asked old.check + 1

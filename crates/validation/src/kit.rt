@@ -1,0 +1,101 @@
+ghost use Rattle.std.specs.Prelude.{◌≡◌, ◌≢◌, ◌<◌, ◌^◌, ℕ, List, Option, Some, map, length, IsSome, IfOk};
+ghost use Rattle.std.specs.Option.{ForSome};
+ghost use Rattle.validation.specs.Kits.{entry_at, is_of, dropped, AskedOnce};
+ghost use Rattle.tbl_outside.specs.declared.validator.KitEntry.{KitEntry as Entry};
+
+use std::alloc::Global;
+use std::marker::Model;
+use tbl_kinds::Memory;
+use tbl_outside::{KitEntry, Validator};
+
+/// The validation functions that the service was given, by their numbers (cFE User's Guide, Table Services, "Validating
+/// tables"). A function that was dropped leaves its number free for good.
+#[derive(Drop)]
+pub struct Kit<C: Validator> {
+    entries: Vec<Option<KitEntry<C>>>,
+}
+
+impl<C: Validator> Model for Kit<C> {
+    ghost use Rattle.std.specs.Prelude.{List, Option};
+    ghost use Rattle.tbl_outside.specs.declared.validator.KitEntry.{KitEntry};
+
+    ghost Value = { List (Option (KitEntry C)) };
+
+    ghost view = { λ kit. kit.entries.items };
+}
+
+/// Whether the entry is a function of this application.
+fn is_of<C: Validator>(entry: &Option<KitEntry<C>>, app: u8) -> bool
+    ensures { result ≡ is_of app entry.now }
+{
+    match entry {
+        Some(entry) => entry.app == app,
+        None => false,
+    }
+}
+
+/// Asks a validation function.
+fn ask<C: Validator>(entry: &mut KitEntry<C>, image: &[u8]) -> i32
+    requires { C.asked entry.old.check < 2 ^ 63 }
+    ensures verdict { result ≡ C.verdict entry.old.check image.now }
+    ensures asked { AskedOnce C.verdict C.asked entry.old entry.new }
+{
+    entry.check.validate(image)
+}
+
+/// Drops the function of an application.
+fn drop_of<C: Validator>(entry: &mut Option<KitEntry<C>>, app: u8)
+    ensures { entry.new ≡ Rattle.validation.specs.Kits.unless_of app entry.old }
+{
+    if is_of(entry, app) {
+        *entry = None;
+    }
+}
+
+impl<C: Validator> Kit<C> {
+    /// The functions in this order, numbered from 0.
+    pub fn make(alloc: Global, entries: Vec<KitEntry<C>>) -> Result<Kit<C>, Memory>
+        ensures { IfOk result (λ kit. kit ≡ map (λ (entry : Entry C). Some entry) entries.items) }
+    {
+        let mut places = Vec::with_capacity(alloc, entries.len())?;
+        for entry in entries {
+            places.push(Some(entry))?;
+        }
+        Ok(Kit { entries: places })
+    }
+
+    /// Whether an application may register a table with the function of this number: it is its own, and wasn't dropped.
+    pub fn may_use(&self, app: u8, number: u8) -> bool
+        ensures { result ≡ is_of app (entry_at self.now number) }
+    {
+        match self.entries.get(number as usize) {
+            Some(entry) => is_of(entry, app),
+            None => false,
+        }
+    }
+
+    /// The verdict of the function of this number on an image.
+    pub fn perform(&mut self, number: u8, image: &[u8]) -> i32
+        requires there { IsSome (entry_at self.old number) }
+        requires few { ForSome (entry_at self.old number) (λ entry. C.asked entry.check < 2 ^ 63) }
+        ensures verdict { ForSome (entry_at self.old number) (λ entry. result ≡ C.verdict entry.check image.now) }
+        ensures there { IsSome (entry_at self.new number) }
+        ensures asked { ForSome (entry_at self.old number) (λ old. ForSome (entry_at self.new number) (AskedOnce C.verdict C.asked old)) }
+        ensures others { (n : ℕ) → n ≢ number → entry_at self.new n ≡ entry_at self.old n }
+        ensures numbers { length self.new ≡ length self.old }
+    {
+        let Some(entry) = &mut self.entries[number as usize] else {
+            unreachable!();
+        };
+        ask(entry, image)
+    }
+
+    /// Drops the functions of an application, which ended.
+    pub fn drop_app(&mut self, app: u8)
+        ensures { self.new ≡ dropped app self.old }
+    {
+        for entry in self.entries.iter_mut() {
+            drop_of(entry, app);
+        }
+    }
+}
