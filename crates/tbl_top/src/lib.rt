@@ -2,6 +2,7 @@
 #![tactic(auto)]
 
 mod finishing;
+mod playback;
 mod player;
 mod playing;
 mod reading;
@@ -9,6 +10,7 @@ mod session;
 mod words;
 mod writing;
 
+pub use player::{Fed, Player};
 pub use session::run;
 
 #[cfg(test)]

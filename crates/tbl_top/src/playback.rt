@@ -1,16 +1,16 @@
-//! Plays records as their bytes come in, and writes each entry before the next record is looked for.
+//! Plays whole records at the front of bytes, and writes each entry before the next record is looked for.
 
-ghost use Rattle.std.specs.Prelude.{◌≡◌, ⊤, ℕ, ◌+◌, ◌<◌, ◌≤◌, Option, List, [], ◌++◌, length, take, drop, vec_len, false, All, IfOk, OnOk, MatchOption, OnErr, ◌==◌};
+ghost use Rattle.std.specs.Prelude.{◌≡◌, ⊤, ℕ, ◌<◌, ◌≤◌, Option, List, [], ◌++◌, length, take, drop, false, All, IfOk, IfErr, OnOk, MatchOption, OnErr};
 ghost use Rattle.tbl_model.specs.State.{State};
-ghost use Rattle.tbl_kinds.specs.Records.{IsRecord, spelling, record_limit};
+ghost use Rattle.tbl_kinds.specs.Records.{IsRecord, spelling, joined, record_limit};
 ghost use Rattle.tbl_core.specs.Log.{IsSmall};
 ghost use Rattle.tbl_core.specs.Service.{StandsFor};
 ghost use Rattle.std.specs.Io.KnownBytes.{append_known};
-ghost use Rattle.tbl_kinds.specs.Transcript.{end_bytes, offset_of};
+ghost use Rattle.tbl_kinds.specs.Transcript.{pairs_of, end_bytes, offset_of};
 ghost use Rattle.tbl_outside.specs.Counts.{Rose};
 ghost use Rattle.tbl_outside.specs.Streams.{TakesFront};
-ghost use Rattle.tbl_top.specs.Playing.{consumed, Streams, IsSession, IsWritten};
-ghost use Rattle.tbl_top.specs.Telling.{TellsRest, TellsWritten, TellsCause, IsBroken, IsNotMemory};
+ghost use Rattle.tbl_top.specs.Playing.{played_before, IsSession, IsWritten, IsFrontWritten};
+ghost use Rattle.tbl_top.specs.Standing.{Leaves, TellsWritten, TellsCause, TellsWhy};
 
 use crate::playing::play;
 use session_records::{Next, next_record};
@@ -27,12 +27,12 @@ const RECORD_LIMIT: usize = 32_768;
 /// The length of the end record.
 const END_LENGTH: usize = 13;
 
-/// What came of a piece of the input.
+/// How a session stands after a piece of the input.
 #[derive(Clone, Copy, Debug, PartialEq, Eq)]
-pub(crate) enum Fed {
+pub(crate) enum Standing {
     /// All whole records were played. What is left is the beginning of a further one, or nothing.
-    More,
-    /// What is left is no record, whatever follows.
+    Open,
+    /// What follows is no record, whatever comes.
     Bad,
     /// As many records were played as a session may have, and bytes are left.
     Full,
@@ -44,14 +44,11 @@ pub(crate) enum Fed {
     Unwritten,
 }
 
-/// A session that is being played.
+/// The core, and the room that the transcript needs.
 #[derive(Debug, Drop)]
-pub(crate) struct Player {
+pub(crate) struct Playback {
     alloc: Global,
     core: Core,
-    /// Bytes that were read; those before `at` were played.
-    input: Vec<u8>,
-    at: usize,
     /// The number of bytes of the records that were played.
     offset: u32,
     /// Room for the spelling of one entry.
@@ -60,163 +57,156 @@ pub(crate) struct Player {
     end: Bytes,
 }
 
-impl Model for Player {
-    ghost use Rattle.tbl_top.specs.Playing.{Playing};
+impl Model for Playback {
+    ghost use Rattle.tbl_core.specs.Service.{Kept};
 
-    ghost Value = { Playing };
+    ghost Value = { Kept };
 
-    ghost use Rattle.std.specs.Prelude.{◌≡◌, ◌≤◌, [], drop, vec_len};
+    ghost use Rattle.std.specs.Prelude.{◌≡◌, ◌≤◌, []};
     ghost use Rattle.tbl_kinds.specs.Transcript.{offset_of};
     ghost use Rattle.tbl_top.specs.Playing.{IsSession};
 
-    ghost view = { λ p. record { core = p.core; rest = drop p.at p.input.items } };
+    ghost view = { λ p. p.core };
 
-    ghost invariant = { λ p. (p.at ≤ vec_len p.input) × (13 ≤ p.end.spare) × (p.end.list ≡ []) × IsSession p.core × (p.offset ≡ offset_of p.core.entries) };
+    ghost invariant = { λ p. (13 ≤ p.end.spare) × (p.end.list ≡ []) × IsSession p.core × (p.offset ≡ offset_of p.core.entries) };
 }
 
-impl Player {
-    /// A session in which nothing was read yet.
-    pub(crate) fn make(alloc: Global, core: Core) -> Result<Player, Memory>
+impl Playback {
+    /// A session in which nothing was played yet; the core again where memory ran out.
+    pub(crate) fn make(alloc: Global, core: Core) -> Result<Playback, Core>
         requires live { core.state.ended ≡ false }
         requires empty { core.entries ≡ [] }
-        ensures core { IfOk result (λ p. p.core ≡ core) }
-        ensures rest { IfOk result (λ p. p.rest ≡ []) }
+        ensures core { IfOk result (λ p. p ≡ core) }
+        ensures err { IfErr result (λ back. back ≡ core) }
     {
-        Ok(Player {
+        let Ok(out) = Bytes::make(alloc, 0) else {
+            return Err(core);
+        };
+        let Ok(end) = Bytes::make(alloc, END_LENGTH) else {
+            return Err(core);
+        };
+        Ok(Playback {
             alloc,
             core,
-            input: Vec::new(alloc),
-            at: 0,
             offset: 0,
-            out: Bytes::make(alloc, 0)?,
-            end: Bytes::make(alloc, END_LENGTH)?,
+            out,
+            end,
         })
     }
 
-    /// The entries so far.
-    pub(crate) fn history(&self) -> &[Entry]
-        ensures entries { result.now ≡ self.now.core.entries }
-        ensures small { All IsSmall result.now }
+    /// The core as it is.
+    pub(crate) fn end(self) -> Core
+        ensures { result ≡ self }
     {
-        self.core.history()
+        self.core
     }
 
-    /// Plays the record at the front of the rest. None where its entry was written.
+    /// Plays a record. `Ok(None)` where its entry was written, `Ok(Some(..))` where it was played and the entry wasn't
+    /// written whole.
     fn play_record<K: Sink>(
         &mut self,
         actor: Actor,
         request: Request,
         used: usize,
         sink: &mut K,
-    ) -> Option<Fed>
+    ) -> Result<Option<Standing>, Memory>
         requires is_record { IsRecord (record { actor = actor; request = request }) }
-        requires spelled { take used self.old.rest ≡ spelling (record { actor = actor; request = request }) }
         requires used { used ≡ length (spelling (record { actor = actor; request = request })) }
-        requires room { length self.old.core.entries < record_limit }
-        ensures stream { consumed self.new ≡ consumed self.old }
-        ensures shorter { MatchOption result (length self.new.rest < length self.old.rest) (λ _. length self.new.rest ≤ length self.old.rest) }
-        ensures stands { (opening : State) → StandsFor opening self.old.core → StandsFor opening self.new.core }
-        ensures written { (first : Option (List ℕ)) → IsWritten first self.old.core.entries (K.taken sink.old)
-            → MatchOption result (IsWritten first self.new.core.entries (K.taken sink.new)) (λ fed. TellsWritten fed first self.new.core.entries (K.taken sink.new)) }
-        ensures why { MatchOption result ⊤ (λ fed. IsBroken fed (K.faults sink.old) (K.faults sink.new)) }
+        requires room { length self.old.entries < record_limit }
+        ensures plays { OnOk result (joined (pairs_of self.new.entries) ≡ joined (pairs_of self.old.entries) ++ spelling (record { actor = actor; request = request })) }
+        ensures stands { (opening : State) → StandsFor opening self.old → StandsFor opening self.new }
+        ensures written { (first : Option (List ℕ)) → IsWritten first self.old.entries (K.taken sink.old)
+            → IfOk result (λ stop. MatchOption stop (IsWritten first self.new.entries (K.taken sink.new)) (λ _. IsFrontWritten first self.new.entries (K.taken sink.new))) }
+        ensures why { IfOk result (λ stop. TellsWhy stop (K.faults sink.old) (K.faults sink.new)) }
         ensures count { K.faults sink.old ≤ K.faults sink.new }
-        ensures session { IsSession self.new.core }
+        ensures session { IsSession self.new }
+        ensures err { OnErr result (self.new ≡ self.old) }
+        ensures err_sink { OnErr result (sink.new ≡ sink.old) }
     {
         match play(&mut self.core, &mut self.out, actor, request, sink) {
-            Err(Memory) => Some(Fed::Memory),
+            Err(Memory) => Err(Memory),
             Ok(stop) => {
-                self.at += used;
                 self.offset += used as u32;
-                stop
+                Ok(stop)
             }
         }
     }
 
-    /// Plays the record at the front of the rest where one is whole, and answers None once its entry was written; else
-    /// what stands in its way.
-    fn play_next<K: Sink>(&mut self, sink: &mut K) -> Option<Fed>
-        ensures stream { consumed self.new ≡ consumed self.old }
-        ensures shorter { MatchOption result (length self.new.rest < length self.old.rest) (λ _. length self.new.rest ≤ length self.old.rest) }
-        ensures rest { MatchOption result ⊤ (λ fed. TellsRest fed self.new) }
-        ensures stands { (opening : State) → StandsFor opening self.old.core → StandsFor opening self.new.core }
-        ensures written { (first : Option (List ℕ)) → IsWritten first self.old.core.entries (K.taken sink.old)
-            → MatchOption result (IsWritten first self.new.core.entries (K.taken sink.new)) (λ fed. TellsWritten fed first self.new.core.entries (K.taken sink.new)) }
-        ensures why { MatchOption result ⊤ (λ fed. TellsCause fed (K.faults sink.old) (K.faults sink.new)) }
+    /// Plays the record at a place where one is whole, and answers None once its entry was written; else what stands in
+    /// its way.
+    fn play_next<K: Sink>(&mut self, bytes: &[u8], at: &mut usize, sink: &mut K) -> Option<Standing>
+        requires within { at.old ≤ length bytes.now }
+        ensures within { at.new ≤ length bytes.now }
+        ensures stream { played_before self.new (drop at.new bytes.now) ≡ played_before self.old (drop at.old bytes.now) }
+        ensures further { MatchOption result (at.old < at.new) (λ _. at.old ≤ at.new) }
+        ensures leaves { MatchOption result ⊤ (λ standing. Leaves standing (length self.new.entries) (drop at.new bytes.now)) }
+        ensures stands { (opening : State) → StandsFor opening self.old → StandsFor opening self.new }
+        ensures written { (first : Option (List ℕ)) → IsWritten first self.old.entries (K.taken sink.old)
+            → MatchOption result (IsWritten first self.new.entries (K.taken sink.new)) (λ standing. TellsWritten standing first self.new.entries (K.taken sink.new)) }
+        ensures why { MatchOption result ⊤ (λ standing. TellsCause standing (K.faults sink.old) (K.faults sink.new)) }
         ensures count { K.faults sink.old ≤ K.faults sink.new }
-        ensures session { IsSession self.new.core }
+        ensures session { IsSession self.new }
     {
         let count = self.core.history().len();
-        let rest = &self.input[self.at..];
+        let rest = &bytes[*at..];
         if count == RECORD_LIMIT {
             return Some(if rest.is_empty() {
-                Fed::More
+                Standing::Open
             } else {
-                Fed::Full
+                Standing::Full
             });
         }
         match next_record(self.alloc, rest) {
-            Err(Memory) => Some(Fed::Memory),
-            Ok(Next::End) => Some(Fed::More),
-            Ok(Next::Short) => Some(Fed::More),
-            Ok(Next::Bad) => Some(Fed::Bad),
+            Err(Memory) => Some(Standing::Memory),
+            Ok(Next::End) => Some(Standing::Open),
+            Ok(Next::Short) => Some(Standing::Open),
+            Ok(Next::Bad) => Some(Standing::Bad),
             Ok(
                 Next::Item {
                     actor,
                     request,
                     used,
                 },
-            ) => self.play_record(actor, request, used, sink),
+            ) => match self.play_record(actor, request, used, sink) {
+                Err(Memory) => Some(Standing::Memory),
+                Ok(stop) => {
+                    *at += used;
+                    stop
+                }
+            },
         }
     }
 
-    /// Plays each record that is whole.
-    fn play_whole<K: Sink>(&mut self, sink: &mut K) -> Fed
-        ensures stream { consumed self.new ≡ consumed self.old }
-        ensures bound { length self.new.rest ≤ length self.old.rest }
-        ensures rest { TellsRest result self.new }
-        ensures stands { (opening : State) → StandsFor opening self.old.core → StandsFor opening self.new.core }
-        ensures written { (first : Option (List ℕ)) → IsWritten first self.old.core.entries (K.taken sink.old) → TellsWritten result first self.new.core.entries (K.taken sink.new) }
+    /// Plays each record that is whole, from a place on.
+    pub(crate) fn play_whole<K: Sink>(
+        &mut self,
+        bytes: &[u8],
+        at: &mut usize,
+        sink: &mut K,
+    ) -> Standing
+        requires within { at.old ≤ length bytes.now }
+        ensures within { at.new ≤ length bytes.now }
+        ensures further { at.old ≤ at.new }
+        ensures stream { played_before self.new (drop at.new bytes.now) ≡ played_before self.old (drop at.old bytes.now) }
+        ensures leaves { Leaves result (length self.new.entries) (drop at.new bytes.now) }
+        ensures stands { (opening : State) → StandsFor opening self.old → StandsFor opening self.new }
+        ensures written { (first : Option (List ℕ)) → IsWritten first self.old.entries (K.taken sink.old) → TellsWritten result first self.new.entries (K.taken sink.new) }
         ensures cause { TellsCause result (K.faults sink.old) (K.faults sink.new) }
         ensures count { K.faults sink.old ≤ K.faults sink.new }
-        ensures session { IsSession self.new.core }
+        ensures session { IsSession self.new }
     {
         'records: loop {
-            if let Some(fed) = self.play_next(sink) {
-                return fed;
+            if let Some(standing) = self.play_next(bytes, at, sink) {
+                return standing;
             }
         }
-    }
-
-    /// Plays the records that are whole with this piece of the input behind what was read before.
-    pub(crate) fn feed<K: Sink>(&mut self, piece: &[u8], sink: &mut K) -> Fed
-        ensures stream { Streams self.old self.new piece.now }
-        ensures read { IsNotMemory result → consumed self.new ≡ consumed self.old ++ piece.now }
-        ensures bound { IsNotMemory result → length self.new.rest ≤ length self.old.rest + length piece.now }
-        ensures rest { TellsRest result self.new }
-        ensures stands { (opening : State) → StandsFor opening self.old.core → StandsFor opening self.new.core }
-        ensures written { (first : Option (List ℕ)) → IsWritten first self.old.core.entries (K.taken sink.old) → TellsWritten result first self.new.core.entries (K.taken sink.new) }
-        ensures cause { TellsCause result (K.faults sink.old) (K.faults sink.new) }
-        ensures count { K.faults sink.old ≤ K.faults sink.new }
-        ensures session { IsSession self.new.core }
-    {
-        match self.take_in(piece) {
-            Ok(()) => self.play_whole(sink),
-            Err(Memory) => Fed::Memory,
-        }
-    }
-
-    /// Whether no byte is left behind the records that were played.
-    pub(crate) fn is_between_records(&self) -> bool
-        ensures { result ≡ (length self.now.rest == 0) }
-    {
-        self.at == self.input.len()
     }
 
     /// Writes the end record.
     pub(crate) fn tell_end<K: Sink>(&mut self, status: u8, sink: &mut K) -> Result<(), Failed>
         ensures same { self.new ≡ self.old }
-        ensures ok { OnOk result (K.taken sink.new ≡ append_known (K.taken sink.old) (end_bytes status (length self.old.core.entries) (offset_of self.old.core.entries))) }
-        ensures err { OnErr result (TakesFront (K.taken sink.old) (K.taken sink.new) (end_bytes status (length self.old.core.entries) (offset_of self.old.core.entries))) }
+        ensures ok { OnOk result (K.taken sink.new ≡ append_known (K.taken sink.old) (end_bytes status (length self.old.entries) (offset_of self.old.entries))) }
+        ensures err { OnErr result (TakesFront (K.taken sink.old) (K.taken sink.new) (end_bytes status (length self.old.entries) (offset_of self.old.entries))) }
         ensures cause { OnErr result (Rose (K.faults sink.old) (K.faults sink.new)) }
         ensures count { K.faults sink.old ≤ K.faults sink.new }
     {
@@ -226,25 +216,4 @@ impl Player {
         self.end.clear();
         told
     }
-
-    /// Puts a piece of the input behind the rest.
-    fn take_in(&mut self, piece: &[u8]) -> Result<(), Memory>
-        ensures core { self.new.core ≡ self.old.core }
-        ensures rest { OnOk result (self.new.rest ≡ self.old.rest ++ piece.now) }
-        ensures session { IsSession self.new.core }
-    {
-        put_behind(&mut self.input, &mut self.at, piece)
-    }
-}
-
-/// Drops what was played, and puts a piece behind the rest.
-fn put_behind(input: &mut Vec<u8>, at: &mut usize, piece: &[u8]) -> Result<(), Memory>
-    requires { at.old ≤ vec_len input.old }
-    ensures ok { OnOk result (drop at.new input.new.items ≡ drop at.old input.old.items ++ piece.now) }
-    ensures within { at.new ≤ vec_len input.new }
-{
-    input.drain(..*at);
-    *at = 0;
-    input.extend_from_slice(piece)?;
-    Ok(())
 }
