@@ -1,3 +1,6 @@
+ghost use Rattle.std.specs.Prelude.{◌≡◌, IsTrue};
+ghost use Rattle.tbl_top.specs.declared.playback.Standing.TheVariants.{Open};
+
 use super::*;
 use std::alloc::Global;
 use std::test::Fail;
@@ -5,13 +8,11 @@ use tbl_core::Core;
 use tbl_fakes::{MemSink, MemSource};
 use tbl_kinds::{Bytes, Memory};
 
-ghost use Rattle.std.specs.Prelude.{◌≡◌, IsTrue};
-ghost use Rattle.tbl_top.specs.declared.playback.Standing.TheVariants.{Open};
-
 /// The records of a NOOP and of a housekeeping request.
 const NOOP: [u8; 12] = [
     0x01, 0x00, 0x00, 0x08, 0x18, 0x04, 0xC0, 0x00, 0x00, 0x01, 0x00, 0x22,
 ];
+
 const HOUSEKEEPING: [u8; 12] = [
     0x01, 0x00, 0x00, 0x08, 0x18, 0x0C, 0xC0, 0x00, 0x00, 0x01, 0x00, 0x2A,
 ];
@@ -38,25 +39,59 @@ fn feed_each(player: &mut Player, record: [u8; 12], sink: &mut MemSink) -> bool
     true
 }
 
+/// What came of a session.
+#[derive(Drop)]
+struct Told {
+    status: u8,
+    /// How many bytes the sink had taken after the first record.
+    first: usize,
+    sink: MemSink,
+}
+
+fn play_at_once(alloc: Global) -> Result<Told, Memory> {
+    let words = vec![in alloc; joined(alloc, &[b"play"])?]?;
+    let mut source = MemSource::make(alloc, joined(alloc, &[&NOOP, &HOUSEKEEPING])?, &[])?;
+    let mut sink = MemSink::make(alloc, 400, &[])?;
+    let status = run(alloc, &words, &mut source, &mut sink);
+    Ok(Told {
+        status,
+        first: 45,
+        sink,
+    })
+}
+
+/// Feeds both records byte by byte, and gives the core back beside what came of it.
+fn play_each(alloc: Global) -> Result<(Told, Core), Memory> {
+    let mut sink = MemSink::make(alloc, 400, &[])?;
+    let Ok(mut player) = Player::make(alloc, Core::start(alloc)?) else {
+        return Err(Memory);
+    };
+    if !feed_each(&mut player, NOOP, &mut sink) {
+        return Err(Memory);
+    }
+    let first = sink.taken().len();
+    if !feed_each(&mut player, HOUSEKEEPING, &mut sink) {
+        return Err(Memory);
+    }
+    let status = player.finish(false, &mut sink);
+    let told = Told {
+        status,
+        first,
+        sink,
+    };
+    Ok((told, player.end()))
+}
+
 // Fed byte by byte, a session is told as `run` tells it, and each entry goes out before the next record comes in.
 #[test]
 fn a_session_is_fed_byte_by_byte(rt: HostRuntime) -> Result<(), Fail> {
-    let alloc = rt.alloc();
-    let words = vec![in alloc; joined(alloc, &[b"play"])?]?;
-    let mut source = MemSource::make(alloc, joined(alloc, &[&NOOP, &HOUSEKEEPING])?, &[])?;
-    let mut whole = MemSink::make(alloc, 400, &[])?;
-    assert_eq!(rt; run(alloc, &words, &mut source, &mut whole), 0);
-
-    let Ok(mut player) = Player::make(alloc, Core::start(alloc)?) else {
-        return Err(Memory.into());
-    };
-    let mut sink = MemSink::make(alloc, 400, &[])?;
-    assert!(rt; feed_each(&mut player, NOOP, &mut sink));
-    assert_eq!(rt; sink.taken().len(), 45);
-    assert!(rt; feed_each(&mut player, HOUSEKEEPING, &mut sink));
-    assert_eq!(rt; player.finish(false, &mut sink), 0);
-    assert_eq!(rt; sink.taken().len(), 369);
-    assert_eq!(rt; sink.taken(), whole.taken());
-    assert_eq!(rt; player.end().history().len(), 2);
+    let at_once = play_at_once(rt.alloc())?;
+    let (each, core) = play_each(rt.alloc())?;
+    assert_eq!(rt; at_once.status, 0);
+    assert_eq!(rt; at_once.sink.taken().len(), 369);
+    assert_eq!(rt; each.status, at_once.status);
+    assert_eq!(rt; each.first, at_once.first);
+    assert_eq!(rt; each.sink.taken(), at_once.sink.taken());
+    assert_eq!(rt; core.history().len(), 2);
     Ok(())
 }
