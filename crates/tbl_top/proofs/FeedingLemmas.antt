@@ -7,7 +7,7 @@ use Rattle.tbl_kinds.specs.Transcript.{pair_of, pairs_of}
 use Rattle.tbl_kinds.proofs.RecordLaws.{short-length, bad-append, are_records}
 use Rattle.tbl_core.specs.Service.{Kept}
 use Rattle.tbl_top.specs.Playing.{played_before, IsBeginning, IsSession}
-use Rattle.tbl_top.specs.Standing.{Leaves, IsWhole}
+use Rattle.tbl_top.specs.Standing.{Leaves, HasPlayedAll}
 use Rattle.tbl_top.specs.Feeding.{answer_of, Feeds, IsKept}
 use Rattle.tbl_top.specs.declared.playback.Standing.{Standing}
 use Rattle.tbl_top.specs.declared.playback.Standing.TheVariants.{Open, Bad, Full, SinkFailed, Memory, Unwritten}
@@ -145,7 +145,7 @@ begins_with standing fed most core kept session feeds = record {
   parts = feeds.parts;
 }
 
-ends_before : (standing : Standing) (core : Kept) (behind : List ℕ) → IsWhole standing → Leaves standing (length core.entries) behind → EndsBefore (pairs_of core.entries) behind
+ends_before : (standing : Standing) (core : Kept) (behind : List ℕ) → HasPlayedAll standing → Leaves standing (length core.entries) behind → EndsBefore (pairs_of core.entries) behind
 ends_before Open core behind whole (inl none) = inl none
 ends_before Open core behind whole (inr short) = inr (inl short.0)
 ends_before Bad core behind whole leaves = inr (inr (inl leaves.0))
@@ -154,7 +154,7 @@ ends_before SinkFailed core behind whole leaves = absurd whole
 ends_before Memory core behind whole leaves = absurd whole
 ends_before Unwritten core behind whole leaves = absurd whole
 
-pub records_of : (standing : Standing) (fed : List ℕ) (most : ℕ) (core : Kept) (kept : List ℕ) → IsSession core → Feeds standing fed most core kept → IsWhole standing → AreRecords fed (pairs_of core.entries)
+pub records_of : (standing : Standing) (fed : List ℕ) (most : ℕ) (core : Kept) (kept : List ℕ) → IsSession core → Feeds standing fed most core kept → HasPlayedAll standing → AreRecords fed (pairs_of core.entries)
 records_of standing fed most core kept session feeds whole =
     are_records fed (pairs_of core.entries) feeds.behind session.each (omega (arith, session.few, length-map core.entries pair_of)) feeds.parts
     (ends_before standing core feeds.behind whole feeds.leaves)

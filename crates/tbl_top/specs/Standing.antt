@@ -19,11 +19,11 @@ Leaves Memory played behind = Unit {0}
 Leaves Unwritten played behind = Unit {0}
 
 -- all records of what was fed were played
-abbrev pub IsWhole : Standing → Type 0
-IsWhole Open = Unit {0}
-IsWhole Bad = Unit {0}
-IsWhole Full = Unit {0}
-IsWhole _ = ⊥
+abbrev pub HasPlayedAll : Standing → Type 0
+HasPlayedAll Open = Unit {0}
+HasPlayedAll Bad = Unit {0}
+HasPlayedAll Full = Unit {0}
+HasPlayedAll _ = ⊥
 
 -- what of the entries was written
 abbrev pub TellsWritten : Standing → Option (List ℕ) → List Entry → Option (List ℕ) → Type 0

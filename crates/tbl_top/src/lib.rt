@@ -1,4 +1,4 @@
-//! The program's one call: a session is read, played and told in a transcript, whose history the sequential service gives.
+//! A session from its bytes to its transcript, in one call or as a stream: whatever it is, the history that is told is the sequential service's.
 #![tactic(auto)]
 
 mod finishing;

@@ -8,7 +8,7 @@ ghost use Rattle.tbl_kinds.specs.Heads.{IsShort};
 ghost use Rattle.tbl_kinds.specs.Transcript.{pairs_of};
 ghost use Rattle.tbl_core.specs.Service.{StandsFor};
 ghost use Rattle.tbl_top.specs.Playing.{played_before, bytes_fed, IsBeginning, IsSession, IsWritten};
-ghost use Rattle.tbl_top.specs.Standing.{Leaves, IsWhole, TellsWritten, TellsCause};
+ghost use Rattle.tbl_top.specs.Standing.{Leaves, HasPlayedAll, TellsWritten, TellsCause};
 ghost use Rattle.tbl_top.specs.Feeding.{answer_of, Feeds};
 ghost use Rattle.tbl_top.specs.Finishing.{Finishes, status_of};
 ghost use Rattle.tbl_top.specs.declared.playback.Standing.TheVariants.{Open};
@@ -87,7 +87,7 @@ impl Player {
 
         // The requests of the history are the records of what was fed; where memory ran out or the sink failed, the first of them.
         ensures begins { BeginsWith (bytes_fed self.old ++ piece.now) (pairs_of self.new.core.entries) }
-        ensures records { IsWhole self.new.standing → AreRecords (bytes_fed self.old ++ piece.now) (pairs_of self.new.core.entries) }
+        ensures records { HasPlayedAll self.new.standing → AreRecords (bytes_fed self.old ++ piece.now) (pairs_of self.new.core.entries) }
 
         ensures stands { (opening : State) → StandsFor opening self.old.core → StandsFor opening self.new.core }
         ensures whole { (opening : State) → opening.tables ≡ no_tables → StandsFor opening self.old.core → HasWholeReads opening self.new.core.entries }
