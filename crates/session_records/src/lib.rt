@@ -3,11 +3,13 @@
 
 mod fields;
 mod head;
+mod lacking;
 mod laws;
 mod reading;
 mod writing;
 
 pub use head::BODY_LIMIT;
+pub use lacking::bytes_lacking;
 pub use laws::{
     a_spelling_is_of_one_request, an_input_has_one_reading, bad_stays_bad,
     read_in_order_is_the_longest_list, refused_bytes_begin_no_record, short_is_below_the_longest,

@@ -1,12 +1,21 @@
--- A record at the front of the rest is played.
-use Rattle.std.proofs.Common.{◌≡◌, ℕ, ◌+◌, ◌*◌, ◌<◌, ◌≤◌, List, [], ◌∷◌, ◌++◌, length, take, drop, refl, sym, ap, ◌∙◌, append_assoc, arith}
+-- A record at the front of the bytes is played.
+use Rattle.std.proofs.Math.Seq.{take-length}
+use Rattle.std.proofs.Common.{◌≡◌, ℕ, ◌+◌, ◌-◌, ◌*◌, ◌<◌, ◌≤◌, List, [], ◌∷◌, ◌++◌, length, take, drop, refl, sym, ap, subst, ◌∙◌, append_assoc, arith}
 use Rattle.std.proofs.lemmas.List.{take-append-drop, length-drop, length-take, drop-drop, length-append, length-map}
 use Rattle.std.specs.List.{AllByRecursion}
-use Rattle.std.specs.Prelude.{Option, Some, None, MatchOption}
+use Rattle.std.specs.Prelude.{Option, Some, None, MatchOption, ⊤}
 use Rattle.tbl_kinds.specs.Records.{Pair, IsRecord, spelling, joined}
 use Rattle.tbl_kinds.specs.Transcript.{pair_of, pairs_of, offset_of, end_bytes}
+use Rattle.session_records.specs.Reading.{IfItem}
+use Rattle.session_records.specs.declared.reading.Next.{Next}
+use Rattle.session_records.specs.declared.reading.Next.TheVariants.{Item}
+use Rattle.tbl_kinds.specs.declared.request.Actor.{Actor}
+use Rattle.tbl_kinds.specs.declared.request.Request.{Request}
 use Rattle.tbl_core.specs.Service.{Kept}
-use Rattle.tbl_top.specs.Playing.{IsSession}
+use Rattle.tbl_top.specs.Playing.{IsSession, IsWritten, IsFrontWritten}
+use Rattle.tbl_top.specs.Standing.{Leaves, TellsWritten, TellsCause, TellsWhy}
+use Rattle.tbl_top.specs.declared.playback.Standing.{Standing}
+use Rattle.tbl_top.specs.declared.playback.Standing.TheVariants.{Open, Bad, Full, SinkFailed, Memory, Unwritten}
 use Rattle.tbl_kinds.proofs.RecordLaws.{joined-snoc, length-spelling}
 use Rattle.tbl_kinds.proofs.TranscriptLaws.{pairs_of-snoc, offset_is}
 use Rattle.tbl_kinds.specs.declared.entry.Entry.{Entry}
@@ -17,24 +26,62 @@ pub record Added (old new : List Entry) (p : Pair) : Type 0 where
   pub added : new ≡ old ++ entry ∷ []
   pub pair : pair_of entry ≡ p
 
--- all that was read stays the same
-pub played_stream : (old new : List Entry) (p : Pair) (input : List ℕ) (at used : ℕ) → Added old new p → take used (drop at input) ≡ spelling p
-    → joined (pairs_of new) ++ drop (at + used) input ≡ joined (pairs_of old) ++ drop at input
-played_stream old new p input at used a spelled =
-    let pairs : pairs_of new ≡ pairs_of old ++ p ∷ [] = ap pairs_of a.added ∙ pairs_of-snoc old a.entry ∙ ap (λ (q : Pair). pairs_of old ++ q ∷ []) a.pair in
-    let front : joined (pairs_of new) ≡ joined (pairs_of old) ++ take used (drop at input) = ap joined pairs ∙ joined-snoc (pairs_of old) p ∙ ap (λ (xs : List ℕ). joined (pairs_of old) ++ xs) (sym spelled) in
-    let rest : drop (at + used) input ≡ drop used (drop at input) = sym (drop-drop used at input) in
-    rw (front, rest) (append_assoc (joined (pairs_of old)) (take used (drop at input)) (drop used (drop at input))
-    ∙ ap (λ (xs : List ℕ). joined (pairs_of old) ++ xs) (take-append-drop used (drop at input)))
+-- one spelling more was played
+pub joined_more : (old new : List Entry) (p : Pair) → Added old new p → joined (pairs_of new) ≡ joined (pairs_of old) ++ spelling p
+joined_more old new p a =
+    ap (λ (es : List Entry). joined (pairs_of es)) a.added ∙ ap joined (pairs_of-snoc old a.entry ∙ ap (λ (q : Pair). pairs_of old ++ q ∷ []) a.pair) ∙ joined-snoc (pairs_of old) p
 
--- the rest is shorter
-pub played_shorter : (p : Pair) (input : List ℕ) (at used : ℕ) → take used (drop at input) ≡ spelling p → used ≡ length (spelling p) → length (drop (at + used) input) < length (drop at input)
-played_shorter p input at used spelled len =
-    omega (arith, length-drop (at + used) input, length-drop at input, length-take used (drop at input), ap length spelled, length-spelling p)
+-- the bytes are the same as before
+pub played_stream : (old new : List Entry) (p : Pair) (bytes : List ℕ) (at used : ℕ) → joined (pairs_of new) ≡ joined (pairs_of old) ++ spelling p → take used (drop at bytes) ≡ spelling p
+    → joined (pairs_of new) ++ drop (at + used) bytes ≡ joined (pairs_of old) ++ drop at bytes
+played_stream old new p bytes at used plays spelled =
+    let front : joined (pairs_of new) ≡ joined (pairs_of old) ++ take used (drop at bytes) = plays ∙ ap (λ (xs : List ℕ). joined (pairs_of old) ++ xs) (sym spelled) in
+    let rest : drop (at + used) bytes ≡ drop used (drop at bytes) = sym (drop-drop used at bytes) in
+    rw (front, rest) (append_assoc (joined (pairs_of old)) (take used (drop at bytes)) (drop used (drop at bytes))
+    ∙ ap (λ (xs : List ℕ). joined (pairs_of old) ++ xs) (take-append-drop used (drop at bytes)))
+
+-- the record lies within the bytes
+pub used_within : (p : Pair) (bytes : List ℕ) (at used : ℕ) → at ≤ length bytes → take used (drop at bytes) ≡ spelling p → used ≡ length (spelling p) → at + used ≤ length bytes
+used_within p bytes at used within spelled len =
+    omega (arith, length-drop at bytes, length-take used (drop at bytes), ap length spelled)
+
+pub used_some : (p : Pair) (used : ℕ) → used ≡ length (spelling p) → 0 < used
+used_some p used len = omega (arith, length-spelling p)
 
 pub where_none : {T : Type 0} (o : Option T) (m n : ℕ) → m < n → MatchOption o (m < n) (λ _. m ≤ n)
 where_none None m n h = h
 where_none (Some x) m n h = omega arith
+
+-- ---- a stop leaves a front of the entries and says nothing of what stands behind them
+
+pub stop_leaves : (stop : Option Standing) (a b played : ℕ) (behind : List ℕ) → TellsWhy stop a b → MatchOption stop ⊤ (λ standing. Leaves standing played behind)
+stop_leaves None a b played behind why = tt
+stop_leaves (Some SinkFailed) a b played behind why = tt
+stop_leaves (Some Unwritten) a b played behind why = tt
+stop_leaves (Some Open) a b played behind why = absurd why
+stop_leaves (Some Bad) a b played behind why = absurd why
+stop_leaves (Some Full) a b played behind why = absurd why
+stop_leaves (Some Memory) a b played behind why = absurd why
+
+pub stop_cause : (stop : Option Standing) (a b : ℕ) → TellsWhy stop a b → MatchOption stop ⊤ (λ standing. TellsCause standing a b)
+stop_cause None a b why = tt
+stop_cause (Some SinkFailed) a b why = why
+stop_cause (Some Unwritten) a b why = tt
+stop_cause (Some Open) a b why = absurd why
+stop_cause (Some Bad) a b why = absurd why
+stop_cause (Some Full) a b why = absurd why
+stop_cause (Some Memory) a b why = absurd why
+
+pub stop_written : (stop : Option Standing) (a b : ℕ) (first taken : Option (List ℕ)) (entries : List Entry) → TellsWhy stop a b
+    → MatchOption stop (IsWritten first entries taken) (λ _. IsFrontWritten first entries taken)
+    → MatchOption stop (IsWritten first entries taken) (λ standing. TellsWritten standing first entries taken)
+stop_written None a b first taken entries why written = written
+stop_written (Some SinkFailed) a b first taken entries why written = written
+stop_written (Some Unwritten) a b first taken entries why written = written
+stop_written (Some Open) a b first taken entries why written = absurd why
+stop_written (Some Bad) a b first taken entries why written = absurd why
+stop_written (Some Full) a b first taken entries why written = absurd why
+stop_written (Some Memory) a b first taken entries why written = absurd why
 
 -- ---- how long a session can be
 
@@ -55,3 +102,12 @@ used_bound p used is e = omega (arith, length-spelling p, is.within)
 pub end_length : (status count offset : ℕ) → length (end_bytes status count offset) ≡ 13
 unfolding end_bytes
 end_length status count offset = refl
+
+-- ---- what was read at the front of the bytes
+
+pub item_is : (next : Next) (actor : Actor) (request : Request) (used : ℕ) (P : Pair → ℕ → Type 0) → next ≡ Item actor request used → IfItem next P → P (record { actor = actor; request = request }) used
+item_is next actor request used P is fact = subst (λ n. IfItem n P) is fact
+
+-- the slice from a place on
+pub slice_is : (bytes : List ℕ) (at : ℕ) → take (length bytes - at) (drop at bytes) ≡ drop at bytes
+slice_is bytes at = ap (λ n. take n (drop at bytes)) (sym (length-drop at bytes)) ∙ take-length (drop at bytes)

@@ -1,56 +1,80 @@
 -- One read more, and the whole reading.
-use Rattle.std.proofs.Common.{◌≡◌, ℕ, ◌+◌, ◌<◌, ◌≤◌, List, [], ◌∷◌, ◌++◌, length, Option, Some, None, refl, sym, ap, ◌∙◌, arith, inl, inr}
+use Rattle.std.proofs.Common.{◌≡◌, ◌≢◌, ℕ, ◌+◌, ◌<◌, ◌≤◌, List, [], ◌∷◌, ◌++◌, length, Option, Some, None, Bool, false, refl, sym, subst, arith, inl}
 use Rattle.std.proofs.lemmas.List.{append-nil, length-append, length-map}
 use Rattle.std.specs.Io.KnownBytes.{prepend_known}
 use Rattle.tbl_kinds.specs.Records.{joined}
 use Rattle.tbl_kinds.specs.Transcript.{pair_of, pairs_of}
-use Rattle.tbl_kinds.proofs.RecordLaws.{short-length}
-use Rattle.tbl_top.specs.Playing.{Playing, IsBeginning, consumed, Streams, IsSession}
+use Rattle.tbl_top.specs.Playing.{Playing, IsBeginning, bytes_fed, IsSession}
+use Rattle.tbl_top.specs.Feeding.{Feeds, answer_of}
+use Rattle.tbl_top.specs.Reading.{StopsReading, EndsReading}
 use Rattle.tbl_top.proofs.PlayingLemmas.{joined_bound}
-use Rattle.tbl_top.specs.Reading.{Leaves, IsKept, EndsReading, ReadsOn, ending_for}
-use Rattle.tbl_top.specs.Telling.{TellsRest, IsNotMemory}
-use Rattle.tbl_top.specs.declared.reading.Ending.{Ending}
-use Rattle.tbl_top.specs.declared.player.Fed.{Fed}
-use Rattle.tbl_top.specs.declared.player.Fed.TheVariants.{More, Bad, Full, SinkFailed, Memory, Unwritten}
-
-pub beginning_length : (played : ℕ) (rest : List ℕ) → IsBeginning played rest → length rest < 32836
-beginning_length played rest (inl none) = rw none (omega arith)
-beginning_length played rest (inr short) = short-length rest short.0
+use Rattle.tbl_top.proofs.FeedingLemmas.{beginning_length, feeds_more}
+use Rattle.tbl_top.specs.declared.playback.Standing.{Standing}
+use Rattle.tbl_top.specs.declared.playback.Standing.TheVariants.{Open, Bad, Full, SinkFailed, Memory, Unwritten}
+use Rattle.tbl_top.specs.declared.player.Fed.TheVariants as fed
 
 pub prepend_nothing : (left : Option (List ℕ)) → left ≡ prepend_known [] left
 prepend_nothing None = refl
 prepend_nothing (Some xs) = refl
 
--- nothing more was read
-pub ends_here : (how : Ending) (p : Playing) (at_end : Type 0) → IsBeginning (length p.core.entries) p.rest → Leaves how (length p.core.entries) p.rest at_end → IsKept how p.rest p.rest → EndsReading how p p [] at_end
-ends_here how p at_end begun leaves kept = record {
-  rest = p.rest;
-  parts = append-nil (consumed p);
-  near = omega (arith, beginning_length (length p.core.entries) p.rest begun);
-  leaves = leaves;
-  kept = kept;
+-- an open session had records, and at most a beginning, before the last piece
+pub stops : (p : Playing) (last : List ℕ) → IsSession p.core → IsBeginning (length p.core.entries) p.rest → length last ≤ 4096 → StopsReading (bytes_fed p ++ last)
+stops p last session begun short = record {
+  records = pairs_of p.core.entries;
+  beginning = p.rest;
+  last = last;
+  parts = refl;
+  each = session.each;
+  few = omega (arith, session.few, length-map p.core.entries pair_of);
+  begun = subst (λ n. IsBeginning n p.rest) (sym (length-map p.core.entries pair_of)) begun;
+  short = short;
 }
 
--- a piece more was read and fed
-pub fed_reads : (how : Fed) (old new : Playing) (piece : List ℕ) (at_end : Type 0) → 0 < length piece → length piece ≤ 4096 → IsBeginning (length old.core.entries) old.rest
-    → Streams old new piece → (IsNotMemory how → consumed new ≡ consumed old ++ piece) → (IsNotMemory how → length new.rest ≤ length old.rest + length piece) → TellsRest how new
-    → ReadsOn (ending_for how) old new piece at_end
-fed_reads More old new piece at_end some short begun streams read bound rest = record { parts = read tt; some = some; rest = rest }
-fed_reads Bad old new piece at_end some short begun streams read bound rest =
-    record { rest = new.rest; parts = sym (read tt); near = omega (arith, bound tt, beginning_length (length old.core.entries) old.rest begun); leaves = rest; kept = refl }
-fed_reads Full old new piece at_end some short begun streams read bound rest =
-    record { rest = new.rest; parts = sym (read tt); near = omega (arith, bound tt, beginning_length (length old.core.entries) old.rest begun); leaves = rest; kept = refl }
-fed_reads SinkFailed old new piece at_end some short begun streams read bound rest =
-    record { rest = new.rest; parts = sym (read tt); near = omega (arith, bound tt, beginning_length (length old.core.entries) old.rest begun); leaves = tt; kept = refl }
-fed_reads Unwritten old new piece at_end some short begun streams read bound rest =
-    record { rest = new.rest; parts = sym (read tt); near = omega (arith, bound tt, beginning_length (length old.core.entries) old.rest begun); leaves = tt; kept = refl }
-fed_reads Memory old new piece at_end some short begun streams read bound rest =
-    record { rest = streams.rest; parts = sym streams.parts; near = omega (arith, streams.bound, beginning_length (length old.core.entries) old.rest begun); leaves = tt; kept = tt }
+here : (standing : Standing) (p : Playing) → standing ≡ Open → IsBeginning (length p.core.entries) p.rest → Feeds standing (bytes_fed p) 36931 p.core p.rest
+here Open p is begun = record {
+  behind = p.rest;
+  parts = refl;
+  near = omega (arith, beginning_length (length p.core.entries) p.rest begun);
+  leaves = begun;
+  keeps = refl;
+}
+here Bad p is begun = absurd cc
+here Full p is begun = absurd cc
+here SinkFailed p is begun = absurd cc
+here Memory p is begun = absurd cc
+here Unwritten p is begun = absurd cc
+
+-- nothing more was read
+pub ends_here : (p : Playing) (failed : Bool) (at_end : Type 0) → p.standing ≡ Open → IsSession p.core → IsBeginning (length p.core.entries) p.rest → (failed ≡ false → at_end)
+    → EndsReading p (bytes_fed p ++ []) failed at_end
+ends_here p failed at_end is session begun end = record {
+  feeds = feeds_more p.standing (bytes_fed p) (bytes_fed p ++ []) 36931 36931 p.core p.rest (sym (append-nil (bytes_fed p))) (omega arith) (here p.standing p is begun);
+  ended = λ _. end;
+  stops = stops p [] session begun (omega arith);
+}
+
+-- a piece more was read and fed, and the session is over
+pub ends_over : (old new : Playing) (piece : List ℕ) (failed : Bool) (at_end : Type 0) → new.standing ≢ Open → IsSession old.core → IsBeginning (length old.core.entries) old.rest → length piece ≤ 4096
+    → Feeds new.standing (bytes_fed old ++ piece) (length old.rest + length piece) new.core new.rest
+    → EndsReading new (bytes_fed old ++ piece) failed at_end
+ends_over old new piece failed at_end over session begun short feeds = record {
+  feeds = feeds_more new.standing (bytes_fed old ++ piece) (bytes_fed old ++ piece) (length old.rest + length piece) 36931 new.core new.rest refl
+      (omega (arith, beginning_length (length old.core.entries) old.rest begun)) feeds;
+  ended = λ is. absurd (over is);
+  stops = stops old piece session begun short;
+}
+
+-- the answers that end a session
+pub over_is : (standing : Standing) → fed.Over ≡ answer_of standing → standing ≢ Open
+over_is standing e = λ is. cc
+
+pub memory_is : (standing : Standing) → fed.Memory ≡ answer_of standing → standing ≢ Open
+memory_is standing e = λ is. cc
 
 -- ---- how long a session can be
 
 -- a session's bytes
-pub session_bound : (p : Playing) → IsSession p.core → IsBeginning (length p.core.entries) p.rest → length (consumed p) < 1076100000
+pub session_bound : (p : Playing) → IsSession p.core → IsBeginning (length p.core.entries) p.rest → length (bytes_fed p) < 1076100000
 session_bound p session begun =
     omega (
       arith,
@@ -67,19 +91,9 @@ empty_right : (xs ys : List ℕ) → xs ++ ys ≡ [] → ys ≡ []
 empty_right [] ys e = e
 empty_right (x ∷ xs) ys e = absurd cc
 
--- where nothing was read, nothing is left
-pub begins_empty : (p : Playing) → consumed p ≡ [] → IsBeginning (length p.core.entries) p.rest
+-- where nothing was fed, nothing is left
+pub begins_empty : (p : Playing) → bytes_fed p ≡ [] → IsBeginning (length p.core.entries) p.rest
 begins_empty p none = inl (empty_right (joined (pairs_of p.core.entries)) p.rest none)
 
-pub left_at_first : (p : Playing) (left : Option (List ℕ)) → consumed p ≡ [] → left ≡ prepend_known (consumed p) left
+pub left_at_first : (p : Playing) (left : Option (List ℕ)) → bytes_fed p ≡ [] → left ≡ prepend_known (bytes_fed p) left
 left_at_first p left none = rw none (prepend_nothing left)
-
--- what was read since the start ended as the last piece did
-pub ends_since : (how : Ending) (first mid new : Playing) (read : List ℕ) (at_end : Type 0) → consumed first ≡ [] → EndsReading how mid new read at_end → EndsReading how first new (consumed mid ++ read) at_end
-ends_since how first mid new read at_end none ends = record {
-  rest = ends.rest;
-  parts = ap (λ (xs : List ℕ). xs ++ (consumed mid ++ read)) none ∙ ends.parts;
-  near = ends.near;
-  leaves = ends.leaves;
-  kept = ends.kept;
-}

@@ -9,9 +9,9 @@ use Rattle.tbl_kinds.proofs.TranscriptLaws.{entries_bytes-snoc}
 use Rattle.tbl_outside.specs.Streams.{TakesFront}
 use Rattle.tbl_outside.proofs.Streams.{written_more, front_of_first, front_of_second, front_of_whole}
 use Rattle.tbl_top.specs.Playing.{IsWritten, IsFrontWritten}
-use Rattle.tbl_top.specs.Telling.{TellsStop}
-use Rattle.tbl_top.specs.declared.player.Fed.{Fed}
-use Rattle.tbl_top.specs.declared.player.Fed.TheVariants.{More, Bad, Full, SinkFailed, Memory, Unwritten}
+use Rattle.tbl_top.specs.Standing.{TellsStop}
+use Rattle.tbl_top.specs.declared.playback.Standing.{Standing}
+use Rattle.tbl_top.specs.declared.playback.Standing.TheVariants.{Open, Bad, Full, SinkFailed, Memory, Unwritten}
 use Rattle.tbl_kinds.specs.declared.entry.Entry.{Entry}
 
 entries_push : (entries : List Entry) (e : Entry) → entries_bytes 0 (entries ++ e ∷ []) ≡ entries_bytes 0 entries ++ entry_bytes (length entries) e
@@ -35,8 +35,8 @@ is_front_stays first before after entries e written same =
     (front_of_first first after (entries_bytes 0 entries) (entry_bytes (length entries) e) (front_of_whole first after (entries_bytes 0 entries) (same ∙ written)))
 
 -- what a write of the last entry left
-pub wrote : (stop : Option Fed) (first before after : Option (List ℕ)) (old new : List Entry) (e : Entry) → new ≡ old ++ e ∷ []
-    → MatchOption stop (after ≡ append_known before (entry_bytes (length old) e)) (λ fed. TellsStop fed before after (entry_bytes (length old) e))
+pub wrote : (stop : Option Standing) (first before after : Option (List ℕ)) (old new : List Entry) (e : Entry) → new ≡ old ++ e ∷ []
+    → MatchOption stop (after ≡ append_known before (entry_bytes (length old) e)) (λ standing. TellsStop standing before after (entry_bytes (length old) e))
     → IsWritten first old before
     → MatchOption stop (IsWritten first new after) (λ _. IsFrontWritten first new after)
 wrote None first before after old new e added stopped written =
@@ -45,7 +45,7 @@ wrote (Some SinkFailed) first before after old new e added stopped written =
     subst (λ (es : List Entry). IsFrontWritten first es after) (sym added) (is_front_push first before after old e written stopped)
 wrote (Some Unwritten) first before after old new e added stopped written =
     subst (λ (es : List Entry). IsFrontWritten first es after) (sym added) (is_front_stays first before after old e written stopped)
-wrote (Some More) first before after old new e added stopped written = absurd stopped
+wrote (Some Open) first before after old new e added stopped written = absurd stopped
 wrote (Some Bad) first before after old new e added stopped written = absurd stopped
 wrote (Some Full) first before after old new e added stopped written = absurd stopped
 wrote (Some Memory) first before after old new e added stopped written = absurd stopped
@@ -60,12 +60,12 @@ pair_is : {a b : Entry} {m n : ℕ} → a ≡ b → m ≡ n → ◌≡◌ {A = E
 pair_is p q = cc
 
 -- the write of the last entry after a step
-pub wrote_last : (stop : Option Fed) (first before after : Option (List ℕ)) (old new : List Entry) (written_entry : Entry) (place : ℕ)
+pub wrote_last : (stop : Option Standing) (first before after : Option (List ℕ)) (old new : List Entry) (written_entry : Entry) (place : ℕ)
     → (e : Entry) × (new ≡ old ++ e ∷ []) → place ≡ length new - 1 → written_entry ≡ get_or new place written_entry
-    → MatchOption stop (after ≡ append_known before (entry_bytes place written_entry)) (λ fed. TellsStop fed before after (entry_bytes place written_entry))
+    → MatchOption stop (after ≡ append_known before (entry_bytes place written_entry)) (λ standing. TellsStop standing before after (entry_bytes place written_entry))
     → IsWritten first old before
     → MatchOption stop (IsWritten first new after) (λ _. IsFrontWritten first new after)
 wrote_last stop first before after old new w place added at is said written =
     let l = last_is old new added.0 w place added.1 at is in
     wrote stop first before after old new added.0 added.1
-    (subst (λ (p : Entry × ℕ). MatchOption stop (after ≡ append_known before (entry_bytes p.1 p.0)) (λ fed. TellsStop fed before after (entry_bytes p.1 p.0))) (pair_is l.0 l.1) said) written
+    (subst (λ (p : Entry × ℕ). MatchOption stop (after ≡ append_known before (entry_bytes p.1 p.0)) (λ standing. TellsStop standing before after (entry_bytes p.1 p.0))) (pair_is l.0 l.1) said) written

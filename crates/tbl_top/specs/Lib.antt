@@ -1,4 +1,6 @@
 pub mod Playing
-pub mod Telling
-pub mod Session
+pub mod Standing
+pub mod Feeding
+pub mod Finishing
 pub mod Reading
+pub mod Session

@@ -11,6 +11,7 @@ use Rattle.tbl_model.specs.History.{IsLegal}
 use Rattle.tbl_model.specs.Whole.{IsWhole as HasWholeReads}
 use Rattle.tbl_outside.specs.Streams.{TakesFront}
 use Rattle.tbl_top.specs.Playing.{IsBeginning}
+use Rattle.tbl_top.specs.Reading.{StopsReading}
 use Rattle.tbl_kinds.specs.declared.entry.Entry.{Entry}
 
 -- the words are `play` alone
@@ -24,9 +25,9 @@ abbrev pub rest_limit : ℕ
 rest_limit = 36932
 
 -- which end of the input a status tells, behind the records that were played
-pub record EndsAs (status : ℕ) (played : ℕ) (rest : List ℕ) (at_end : Type 0) : Type 0 where
+pub record EndsAs (status : ℕ) (played : ℕ) (rest : List ℕ) (at_end read_failed : Type 0) : Type 0 where
   pub done : status ≡ 0 → (rest ≡ []) × at_end
-  pub cut : status ≡ 3 → IsBeginning played rest
+  pub cut : status ≡ 3 → IsBeginning played rest × read_failed
   pub bad : status ≡ 5 → (played < record_limit) × (IsBad rest ⊎ (IsShort rest × at_end))
   pub full : status ≡ 6 → (played ≡ record_limit) × (0 < length rest)
 
@@ -47,18 +48,22 @@ pub record IsExact (status : ℕ) (played : ℕ) (rest : List ℕ) (at_end : Typ
   pub bad : played < record_limit → IsBad rest → (status ≡ 5) ⊎ IsBrokenOff status
   pub full : played ≡ record_limit → 0 < length rest → (status ≡ 6) ⊎ IsBrokenOff status
 
+-- the status that a session has where the sink doesn't fail
+abbrev pub WouldEnd : ℕ → ℕ → List ℕ → Type 0 → Type 0 → Type 0
+WouldEnd status played rest at_end read_failed = (status ≡ 1) ⊎ (IsEnded status × EndsAs status played rest at_end read_failed)
+
 -- what the sink took, by the status
-pub record Tells (status : ℕ) (entries : List Entry) (ends : ℕ → Type 0) (before after : Option (List ℕ)) : Type 0 where
+pub record Tells (status : ℕ) (entries : List Entry) (would_end : ℕ → Type 0) (before after : Option (List ℕ)) : Type 0 where
   -- 0, 3, 5, 6: the transcript with this status
   pub whole : IsEnded status → after ≡ append_known before (transcript entries status)
   -- 4: a front of the entries, or of the transcript with the status that it would have had
-  pub broken : status ≡ 4 → TakesFront before after (entries_bytes 0 entries) ⊎ ((other : ℕ) × ends other × TakesFront before after (transcript entries other))
+  pub broken : status ≡ 4 → TakesFront before after (entries_bytes 0 entries) ⊎ ((other : ℕ) × would_end other × TakesFront before after (transcript entries other))
   -- 1: a front of the transcript
   pub starved : status ≡ 1 → TakesFront before after (transcript entries 1)
 
 -- One legal history, in which each read of a pinned image is whole, and whose requests are the records of what was read,
 -- was told. After 1 and 4 they are the first of them.
-pub record Session (opening : State) (read : List ℕ) (at_end : Type 0) (status : ℕ) (before after : Option (List ℕ)) : Type 0 where
+pub record Session (opening : State) (read : List ℕ) (at_end read_failed : Type 0) (status : ℕ) (before after : Option (List ℕ)) : Type 0 where
   pub entries : List Entry
   pub state : State
   pub rest : List ℕ
@@ -68,11 +73,12 @@ pub record Session (opening : State) (read : List ℕ) (at_end : Type 0) (status
   pub few : length entries ≤ record_limit
   pub parts : read ≡ joined (pairs_of entries) ++ rest
   pub near : length rest < rest_limit
+  pub stops : StopsReading read
   pub records : IsEnded status → AreRecords read (pairs_of entries)
   pub known : IsStatus status
-  pub ends : EndsAs status (length entries) rest at_end
+  pub ends : EndsAs status (length entries) rest at_end read_failed
   pub exact : IsExact status (length entries) rest at_end
-  pub told : Tells status entries (λ other. EndsAs other (length entries) rest at_end) before after
+  pub told : Tells status entries (λ other. WouldEnd other (length entries) rest at_end read_failed) before after
 
 -- the input is the spellings of a session's records and nothing else
 pub record IsWhole (input : List ℕ) : Type 0 where

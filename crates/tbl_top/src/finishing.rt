@@ -1,10 +1,9 @@
 //! Ends the transcript.
 
-ghost use Rattle.std.specs.Prelude.{◌≡◌, ◌≤◌, ◌==◌, length};
-ghost use Rattle.tbl_top.specs.Reading.{Finishes, status_for};
+ghost use Rattle.std.specs.Prelude.{◌≡◌, ◌≤◌, length};
+ghost use Rattle.tbl_top.specs.Finishing.{Finishes, status_of};
 
-use crate::player::Player;
-use crate::reading::Ending;
+use crate::playback::{Playback, Standing};
 use tbl_outside::{Failed, Sink};
 
 /// The input was read to its end, and all of it was played.
@@ -25,31 +24,44 @@ const BAD_RECORD: u8 = 5;
 /// A byte behind as many records as a session may have.
 const TOO_MANY_RECORDS: u8 = 6;
 
-/// The status of an end, by whether no byte is left behind the records that were played.
-fn end_status(ending: Ending, whole: bool) -> u8
-    ensures { result ≡ status_for ending whole }
+/// The status of an end, by whether a read failed and whether no byte is left behind the records that were played.
+fn end_status(standing: Standing, read_failed: bool, is_whole: bool) -> u8
+    ensures { result ≡ status_of standing read_failed is_whole }
 {
-    match ending {
-        Ending::End => { if whole { DONE } else { BAD_RECORD } }
-        Ending::ReadFailed => SOURCE_FAILED,
-        Ending::Bad => BAD_RECORD,
-        Ending::Full => TOO_MANY_RECORDS,
-        Ending::SinkFailed => SINK_FAILED,
-        Ending::Memory | Ending::Unwritten => NO_MEMORY,
+    match standing {
+        Standing::Open => {
+            if read_failed {
+                SOURCE_FAILED
+            } else if is_whole {
+                DONE
+            } else {
+                BAD_RECORD
+            }
+        }
+        Standing::Bad => BAD_RECORD,
+        Standing::Full => TOO_MANY_RECORDS,
+        Standing::SinkFailed => SINK_FAILED,
+        Standing::Memory | Standing::Unwritten => NO_MEMORY,
     }
 }
 
-/// Writes the end record, unless an entry before it wasn't written whole, and answers the status of the run.
-pub(crate) fn finish<K: Sink>(player: &mut Player, ending: Ending, sink: &mut K) -> u8
-    ensures finishes { Finishes ending (length player.old.rest == 0) result player.old.core.entries (K.taken sink.old) (K.taken sink.new) (K.faults sink.old) (K.faults sink.new) }
-    ensures same { player.new ≡ player.old }
+/// Writes the end record, unless an entry before it wasn't written whole, and answers the status of the session.
+pub(crate) fn finish<K: Sink>(
+    playback: &mut Playback,
+    standing: Standing,
+    read_failed: bool,
+    is_whole: bool,
+    sink: &mut K,
+) -> u8
+    ensures finishes { Finishes standing (status_of standing read_failed is_whole) result playback.old.entries (K.taken sink.old) (K.taken sink.new) (K.faults sink.old) (K.faults sink.new) }
+    ensures same { playback.new ≡ playback.old }
     ensures count { K.faults sink.old ≤ K.faults sink.new }
 {
-    let status = end_status(ending, player.is_between_records());
-    match ending {
-        Ending::SinkFailed | Ending::Unwritten => status,
-        Ending::End | Ending::ReadFailed | Ending::Bad | Ending::Full | Ending::Memory => {
-            match player.tell_end(status, sink) {
+    let status = end_status(standing, read_failed, is_whole);
+    match standing {
+        Standing::SinkFailed | Standing::Unwritten => status,
+        Standing::Open | Standing::Bad | Standing::Full | Standing::Memory => {
+            match playback.tell_end(status, sink) {
                 Ok(()) => status,
                 Err(Failed) => SINK_FAILED,
             }

@@ -1,7 +1,8 @@
-//! The program's one call: a session is read, played and told in a transcript, whose history the sequential service gives.
+//! A session from its bytes to its transcript, in one call or as a stream: whatever it is, the history that is told is the sequential service's.
 #![tactic(auto)]
 
 mod finishing;
+mod playback;
 mod player;
 mod playing;
 mod reading;
@@ -9,6 +10,7 @@ mod session;
 mod words;
 mod writing;
 
+pub use player::{Fed, Player};
 pub use session::run;
 
 #[cfg(test)]

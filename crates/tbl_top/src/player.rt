@@ -1,63 +1,45 @@
-//! Plays records as their bytes come in, and writes each entry before the next record is looked for.
+//! A session as a stream of bytes, in pieces that may be cut anywhere.
 
-ghost use Rattle.std.specs.Prelude.{◌≡◌, ⊤, ℕ, ◌+◌, ◌<◌, ◌≤◌, Option, List, [], ◌++◌, length, take, drop, vec_len, false, All, IfOk, OnOk, MatchOption, OnErr, ◌==◌};
-ghost use Rattle.tbl_model.specs.State.{State};
-ghost use Rattle.tbl_kinds.specs.Records.{IsRecord, spelling, record_limit};
-ghost use Rattle.tbl_core.specs.Log.{IsSmall};
+ghost use Rattle.std.specs.Prelude.{◌≡◌, ◌≢◌, ℕ, ◌+◌, ◌-◌, ◌<◌, ◌≤◌, ◌==◌, Option, List, [], ◌++◌, length, drop, vec_len, false, IfOk, IfErr};
+ghost use Rattle.tbl_model.specs.State.{State, no_tables};
+ghost use Rattle.tbl_model.specs.Whole.{IsWhole as HasWholeReads};
+ghost use Rattle.tbl_kinds.specs.Records.{AreRecords, BeginsWith};
+ghost use Rattle.tbl_kinds.specs.Heads.{IsShort};
+ghost use Rattle.tbl_kinds.specs.Transcript.{pairs_of};
 ghost use Rattle.tbl_core.specs.Service.{StandsFor};
-ghost use Rattle.std.specs.Io.KnownBytes.{append_known};
-ghost use Rattle.tbl_kinds.specs.Transcript.{end_bytes, offset_of};
-ghost use Rattle.tbl_outside.specs.Counts.{Rose};
-ghost use Rattle.tbl_outside.specs.Streams.{TakesFront};
-ghost use Rattle.tbl_top.specs.Playing.{consumed, Streams, IsSession, IsWritten};
-ghost use Rattle.tbl_top.specs.Telling.{TellsRest, TellsWritten, TellsCause, IsBroken, IsNotMemory};
+ghost use Rattle.tbl_top.specs.Playing.{played_before, bytes_fed, IsBeginning, IsSession, IsWritten};
+ghost use Rattle.tbl_top.specs.Standing.{Leaves, HasPlayedAll, TellsWritten, TellsCause};
+ghost use Rattle.tbl_top.specs.Feeding.{answer_of, Feeds};
+ghost use Rattle.tbl_top.specs.Finishing.{Finishes, status_of};
+ghost use Rattle.tbl_top.specs.declared.playback.Standing.TheVariants.{Open};
 
-use crate::playing::play;
-use session_records::{Next, next_record};
+use crate::finishing::finish;
+use crate::playback::{Playback, Standing};
+use session_records::bytes_lacking;
 use std::alloc::Global;
 use std::marker::Model;
 use tbl_core::Core;
-use tbl_kinds::{Actor, Bytes, Entry, Memory, Request};
-use tbl_outside::{Failed, Sink};
-use transcript::write_end;
+use tbl_outside::Sink;
 
-/// The most records of a session.
-const RECORD_LIMIT: usize = 32_768;
-
-/// The length of the end record.
-const END_LENGTH: usize = 13;
-
-/// What came of a piece of the input.
+/// What a session answers to a piece of its input.
 #[derive(Clone, Copy, Debug, PartialEq, Eq)]
-pub(crate) enum Fed {
-    /// All whole records were played. What is left is the beginning of a further one, or nothing.
+pub enum Fed {
+    /// All records that are whole were played and told.
     More,
-    /// What is left is no record, whatever follows.
-    Bad,
-    /// As many records were played as a session may have, and bytes are left.
-    Full,
-    /// The sink failed.
-    SinkFailed,
-    /// Memory ran out. All entries are written.
+    /// The session is over: a bad record or a byte too many follows those that were played, or the sink failed.
+    Over,
+    /// The session is over, since memory ran out.
     Memory,
-    /// Memory ran out for the spelling of the last entry.
-    Unwritten,
 }
 
-/// A session that is being played.
+/// A session that is played as its bytes come in. It holds the beginning of one record at most, and each entry goes to
+/// the sink before the next record is looked for.
 #[derive(Debug, Drop)]
-pub(crate) struct Player {
-    alloc: Global,
-    core: Core,
-    /// Bytes that were read; those before `at` were played.
-    input: Vec<u8>,
-    at: usize,
-    /// The number of bytes of the records that were played.
-    offset: u32,
-    /// Room for the spelling of one entry.
-    out: Bytes,
-    /// Room for the end record.
-    end: Bytes,
+pub struct Player {
+    playback: Playback,
+    /// The beginning of a record that isn't whole yet.
+    kept: Vec<u8>,
+    standing: Standing,
 }
 
 impl Model for Player {
@@ -65,186 +47,227 @@ impl Model for Player {
 
     ghost Value = { Playing };
 
-    ghost use Rattle.std.specs.Prelude.{◌≡◌, ◌≤◌, [], drop, vec_len};
-    ghost use Rattle.tbl_kinds.specs.Transcript.{offset_of};
-    ghost use Rattle.tbl_top.specs.Playing.{IsSession};
+    ghost use Rattle.std.specs.Prelude.{◌≡◌, length};
+    ghost use Rattle.tbl_top.specs.Playing.{IsBeginning, IsSession};
+    ghost use Rattle.tbl_top.specs.declared.playback.Standing.TheVariants.{Open};
 
-    ghost view = { λ p. record { core = p.core; rest = drop p.at p.input.items } };
+    ghost view = { λ p. record { core = p.playback; rest = p.kept.items; standing = p.standing } };
 
-    ghost invariant = { λ p. (p.at ≤ vec_len p.input) × (13 ≤ p.end.spare) × (p.end.list ≡ []) × IsSession p.core × (p.offset ≡ offset_of p.core.entries) };
+    ghost invariant = { λ p. IsSession p.playback × (p.standing ≡ Open → IsBeginning (length p.playback.entries) p.kept.items) };
 }
 
 impl Player {
-    /// A session in which nothing was read yet.
-    pub(crate) fn make(alloc: Global, core: Core) -> Result<Player, Memory>
+    /// A session over a service with an empty history, of which nothing was fed yet. An Err is want of memory, and gives
+    /// the core back.
+    pub fn make(alloc: Global, core: Core) -> Result<Player, Core>
         requires live { core.state.ended ≡ false }
         requires empty { core.entries ≡ [] }
-        ensures core { IfOk result (λ p. p.core ≡ core) }
-        ensures rest { IfOk result (λ p. p.rest ≡ []) }
+        ensures core { IfOk result (λ player. player.core ≡ core) }
+        ensures rest { IfOk result (λ player. player.rest ≡ []) }
+        ensures is_open { IfOk result (λ player. player.standing ≡ Open) }
+        ensures err { IfErr result (λ back. back ≡ core) }
     {
         Ok(Player {
-            alloc,
-            core,
-            input: Vec::new(alloc),
-            at: 0,
-            offset: 0,
-            out: Bytes::make(alloc, 0)?,
-            end: Bytes::make(alloc, END_LENGTH)?,
+            playback: Playback::make(alloc, core)?,
+            kept: Vec::new(alloc),
+            standing: Standing::Open,
         })
     }
 
-    /// The entries so far.
-    pub(crate) fn history(&self) -> &[Entry]
-        ensures entries { result.now ≡ self.now.core.entries }
-        ensures small { All IsSmall result.now }
-    {
-        self.core.history()
-    }
+    /// Plays the records that are whole with this piece of the input, and tells their entries. It doesn't matter where
+    /// the input is cut.
+    pub fn feed<K: Sink>(&mut self, piece: &[u8], sink: &mut K) -> Fed
+        requires is_open { self.old.standing ≡ Open }
+        ensures answer { result ≡ answer_of self.new.standing }
 
-    /// Plays the record at the front of the rest. None where its entry was written.
-    fn play_record<K: Sink>(
-        &mut self,
-        actor: Actor,
-        request: Request,
-        used: usize,
-        sink: &mut K,
-    ) -> Option<Fed>
-        requires is_record { IsRecord (record { actor = actor; request = request }) }
-        requires spelled { take used self.old.rest ≡ spelling (record { actor = actor; request = request }) }
-        requires used { used ≡ length (spelling (record { actor = actor; request = request })) }
-        requires room { length self.old.core.entries < record_limit }
-        ensures stream { consumed self.new ≡ consumed self.old }
-        ensures shorter { MatchOption result (length self.new.rest < length self.old.rest) (λ _. length self.new.rest ≤ length self.old.rest) }
+        // All that was fed is the spellings of what was played, and behind them what the answer says.
+        ensures feeds { Feeds self.new.standing (bytes_fed self.old ++ piece.now) (length self.old.rest + length piece.now) self.new.core self.new.rest }
+        ensures more { result ≡ Fed.More → bytes_fed self.new ≡ bytes_fed self.old ++ piece.now }
+        ensures kept { result ≡ Fed.More → length self.new.rest < 32836 }
+
+        // The requests of the history are the records of what was fed; where memory ran out or the sink failed, the first of them.
+        ensures begins { BeginsWith (bytes_fed self.old ++ piece.now) (pairs_of self.new.core.entries) }
+        ensures records { HasPlayedAll self.new.standing → AreRecords (bytes_fed self.old ++ piece.now) (pairs_of self.new.core.entries) }
+
         ensures stands { (opening : State) → StandsFor opening self.old.core → StandsFor opening self.new.core }
-        ensures written { (first : Option (List ℕ)) → IsWritten first self.old.core.entries (K.taken sink.old)
-            → MatchOption result (IsWritten first self.new.core.entries (K.taken sink.new)) (λ fed. TellsWritten fed first self.new.core.entries (K.taken sink.new)) }
-        ensures why { MatchOption result ⊤ (λ fed. IsBroken fed (K.faults sink.old) (K.faults sink.new)) }
-        ensures count { K.faults sink.old ≤ K.faults sink.new }
+        ensures whole { (opening : State) → opening.tables ≡ no_tables → StandsFor opening self.old.core → HasWholeReads opening self.new.core.entries }
         ensures session { IsSession self.new.core }
-    {
-        match play(&mut self.core, &mut self.out, actor, request, sink) {
-            Err(Memory) => Some(Fed::Memory),
-            Ok(stop) => {
-                self.at += used;
-                self.offset += used as u32;
-                stop
-            }
-        }
-    }
 
-    /// Plays the record at the front of the rest where one is whole, and answers None once its entry was written; else
-    /// what stands in its way.
-    fn play_next<K: Sink>(&mut self, sink: &mut K) -> Option<Fed>
-        ensures stream { consumed self.new ≡ consumed self.old }
-        ensures shorter { MatchOption result (length self.new.rest < length self.old.rest) (λ _. length self.new.rest ≤ length self.old.rest) }
-        ensures rest { MatchOption result ⊤ (λ fed. TellsRest fed self.new) }
-        ensures stands { (opening : State) → StandsFor opening self.old.core → StandsFor opening self.new.core }
-        ensures written { (first : Option (List ℕ)) → IsWritten first self.old.core.entries (K.taken sink.old)
-            → MatchOption result (IsWritten first self.new.core.entries (K.taken sink.new)) (λ fed. TellsWritten fed first self.new.core.entries (K.taken sink.new)) }
-        ensures why { MatchOption result ⊤ (λ fed. TellsCause fed (K.faults sink.old) (K.faults sink.new)) }
+        // The sink took the entries' spellings; where it failed or memory ran out for a spelling, a front of them.
+        ensures written { (first : Option (List ℕ)) → IsWritten first self.old.core.entries (K.taken sink.old) → TellsWritten self.new.standing first self.new.core.entries (K.taken sink.new) }
+        ensures cause { TellsCause self.new.standing (K.faults sink.old) (K.faults sink.new) }
         ensures count { K.faults sink.old ≤ K.faults sink.new }
-        ensures session { IsSession self.new.core }
     {
-        let count = self.core.history().len();
-        let rest = &self.input[self.at..];
-        if count == RECORD_LIMIT {
-            return Some(if rest.is_empty() {
-                Fed::More
-            } else {
-                Fed::Full
-            });
-        }
-        match next_record(self.alloc, rest) {
-            Err(Memory) => Some(Fed::Memory),
-            Ok(Next::End) => Some(Fed::More),
-            Ok(Next::Short) => Some(Fed::More),
-            Ok(Next::Bad) => Some(Fed::Bad),
-            Ok(
-                Next::Item {
-                    actor,
-                    request,
-                    used,
-                },
-            ) => self.play_record(actor, request, used, sink),
-        }
+        feed_fields(
+            &mut self.playback,
+            &mut self.kept,
+            &mut self.standing,
+            piece,
+            sink,
+        )
     }
 
-    /// Plays each record that is whole.
-    fn play_whole<K: Sink>(&mut self, sink: &mut K) -> Fed
-        ensures stream { consumed self.new ≡ consumed self.old }
-        ensures bound { length self.new.rest ≤ length self.old.rest }
-        ensures rest { TellsRest result self.new }
-        ensures stands { (opening : State) → StandsFor opening self.old.core → StandsFor opening self.new.core }
-        ensures written { (first : Option (List ℕ)) → IsWritten first self.old.core.entries (K.taken sink.old) → TellsWritten result first self.new.core.entries (K.taken sink.new) }
-        ensures cause { TellsCause result (K.faults sink.old) (K.faults sink.new) }
-        ensures count { K.faults sink.old ≤ K.faults sink.new }
-        ensures session { IsSession self.new.core }
-    {
-        'records: loop {
-            if let Some(fed) = self.play_next(sink) {
-                return fed;
-            }
-        }
-    }
-
-    /// Plays the records that are whole with this piece of the input behind what was read before.
-    pub(crate) fn feed<K: Sink>(&mut self, piece: &[u8], sink: &mut K) -> Fed
-        ensures stream { Streams self.old self.new piece.now }
-        ensures read { IsNotMemory result → consumed self.new ≡ consumed self.old ++ piece.now }
-        ensures bound { IsNotMemory result → length self.new.rest ≤ length self.old.rest + length piece.now }
-        ensures rest { TellsRest result self.new }
-        ensures stands { (opening : State) → StandsFor opening self.old.core → StandsFor opening self.new.core }
-        ensures written { (first : Option (List ℕ)) → IsWritten first self.old.core.entries (K.taken sink.old) → TellsWritten result first self.new.core.entries (K.taken sink.new) }
-        ensures cause { TellsCause result (K.faults sink.old) (K.faults sink.new) }
-        ensures count { K.faults sink.old ≤ K.faults sink.new }
-        ensures session { IsSession self.new.core }
-    {
-        match self.take_in(piece) {
-            Ok(()) => self.play_whole(sink),
-            Err(Memory) => Fed::Memory,
-        }
-    }
-
-    /// Whether no byte is left behind the records that were played.
-    pub(crate) fn is_between_records(&self) -> bool
-        ensures { result ≡ (length self.now.rest == 0) }
-    {
-        self.at == self.input.len()
-    }
-
-    /// Writes the end record.
-    pub(crate) fn tell_end<K: Sink>(&mut self, status: u8, sink: &mut K) -> Result<(), Failed>
+    /// Ends the session: writes the end record, unless an entry before it wasn't written whole, and answers the status.
+    /// The input is at its end, or a read of it failed.
+    pub fn finish<K: Sink>(&mut self, read_failed: bool, sink: &mut K) -> u8
+        ensures finishes { Finishes self.old.standing (status_of self.old.standing read_failed (length self.old.rest == 0)) result self.old.core.entries (K.taken sink.old) (K.taken sink.new) (K.faults sink.old) (K.faults sink.new) }
         ensures same { self.new ≡ self.old }
-        ensures ok { OnOk result (K.taken sink.new ≡ append_known (K.taken sink.old) (end_bytes status (length self.old.core.entries) (offset_of self.old.core.entries))) }
-        ensures err { OnErr result (TakesFront (K.taken sink.old) (K.taken sink.new) (end_bytes status (length self.old.core.entries) (offset_of self.old.core.entries))) }
-        ensures cause { OnErr result (Rose (K.faults sink.old) (K.faults sink.new)) }
         ensures count { K.faults sink.old ≤ K.faults sink.new }
     {
-        let count = self.core.history().len() as u32;
-        write_end(&mut self.end, status, count, self.offset);
-        let told = sink.write(self.end.bytes());
-        self.end.clear();
-        told
+        let is_whole = self.kept.is_empty();
+        finish(
+            &mut self.playback,
+            self.standing,
+            read_failed,
+            is_whole,
+            sink,
+        )
     }
 
-    /// Puts a piece of the input behind the rest.
-    fn take_in(&mut self, piece: &[u8]) -> Result<(), Memory>
-        ensures core { self.new.core ≡ self.old.core }
-        ensures rest { OnOk result (self.new.rest ≡ self.old.rest ++ piece.now) }
-        ensures session { IsSession self.new.core }
+    /// The core as it is.
+    pub fn end(self) -> Core
+        ensures { result ≡ self.core }
     {
-        put_behind(&mut self.input, &mut self.at, piece)
+        self.playback.end()
     }
 }
 
-/// Drops what was played, and puts a piece behind the rest.
-fn put_behind(input: &mut Vec<u8>, at: &mut usize, piece: &[u8]) -> Result<(), Memory>
-    requires { at.old ≤ vec_len input.old }
-    ensures ok { OnOk result (drop at.new input.new.items ≡ drop at.old input.old.items ++ piece.now) }
-    ensures within { at.new ≤ vec_len input.new }
+fn answer(standing: Standing) -> Fed
+    ensures { result ≡ answer_of standing }
 {
-    input.drain(..*at);
-    *at = 0;
-    input.extend_from_slice(piece)?;
-    Ok(())
+    match standing {
+        Standing::Open => Fed::More,
+        Standing::Bad | Standing::Full | Standing::SinkFailed => Fed::Over,
+        Standing::Memory | Standing::Unwritten => Fed::Memory,
+    }
+}
+
+/// Plays a piece, and notes how the session stands then.
+fn feed_fields<K: Sink>(
+    playback: &mut Playback,
+    kept: &mut Vec<u8>,
+    standing: &mut Standing,
+    piece: &[u8],
+    sink: &mut K,
+) -> Fed
+    requires session { IsSession playback.old }
+    requires begun { IsBeginning (length playback.old.entries) kept.old.items }
+    ensures answer { result ≡ answer_of standing.new }
+    ensures feeds { Feeds standing.new (played_before playback.old (kept.old.items ++ piece.now)) (length kept.old.items + length piece.now) playback.new kept.new.items }
+    ensures stands { (opening : State) → StandsFor opening playback.old → StandsFor opening playback.new }
+    ensures session { IsSession playback.new }
+    ensures written { (first : Option (List ℕ)) → IsWritten first playback.old.entries (K.taken sink.old) → TellsWritten standing.new first playback.new.entries (K.taken sink.new) }
+    ensures cause { TellsCause standing.new (K.faults sink.old) (K.faults sink.new) }
+    ensures count { K.faults sink.old ≤ K.faults sink.new }
+{
+    *standing = play_piece(playback, kept, piece, sink);
+    answer(*standing)
+}
+
+/// Completes the record whose beginning is kept, and plays what is whole behind it.
+fn play_piece<K: Sink>(
+    playback: &mut Playback,
+    kept: &mut Vec<u8>,
+    piece: &[u8],
+    sink: &mut K,
+) -> Standing
+    requires session { IsSession playback.old }
+    requires begun { IsBeginning (length playback.old.entries) kept.old.items }
+    ensures feeds { Feeds result (played_before playback.old (kept.old.items ++ piece.now)) (length kept.old.items + length piece.now) playback.new kept.new.items }
+    ensures stands { (opening : State) → StandsFor opening playback.old → StandsFor opening playback.new }
+    ensures session { IsSession playback.new }
+    ensures written { (first : Option (List ℕ)) → IsWritten first playback.old.entries (K.taken sink.old) → TellsWritten result first playback.new.entries (K.taken sink.new) }
+    ensures cause { TellsCause result (K.faults sink.old) (K.faults sink.new) }
+    ensures count { K.faults sink.old ≤ K.faults sink.new }
+{
+    let mut at = 0;
+    'completes: while !kept.is_empty() {
+        if at == piece.len() {
+            return Standing::Open;
+        }
+        match complete(playback, kept, piece, &mut at, sink) {
+            Standing::Open => {}
+            stop => return stop,
+        }
+    }
+    play_rest(playback, kept, piece, at, sink)
+}
+
+/// Moves bytes of the piece behind the kept ones, as many as the record's head or its body lacks, and plays the record
+/// where it is whole.
+fn complete<K: Sink>(
+    playback: &mut Playback,
+    kept: &mut Vec<u8>,
+    piece: &[u8],
+    at: &mut usize,
+    sink: &mut K,
+) -> Standing
+    requires session { IsSession playback.old }
+    requires short { IsShort kept.old.items }
+    requires some { at.old < length piece.now }
+    ensures within { at.new ≤ length piece.now }
+    ensures further { result ≡ Open → at.old < at.new }
+    ensures bound { length kept.new.items + at.old ≤ length kept.old.items + at.new }
+    ensures stream { played_before playback.new (kept.new.items ++ drop at.new piece.now) ≡ played_before playback.old (kept.old.items ++ drop at.old piece.now) }
+    ensures leaves { Leaves result (length playback.new.entries) kept.new.items }
+    ensures stands { (opening : State) → StandsFor opening playback.old → StandsFor opening playback.new }
+    ensures session { IsSession playback.new }
+    ensures written { (first : Option (List ℕ)) → IsWritten first playback.old.entries (K.taken sink.old) → TellsWritten result first playback.new.entries (K.taken sink.new) }
+    ensures cause { TellsCause result (K.faults sink.old) (K.faults sink.new) }
+    ensures count { K.faults sink.old ≤ K.faults sink.new }
+{
+    let (_, behind) = piece.split_at(*at);
+    let count = usize::min(bytes_lacking(kept.as_slice()), behind.len());
+    let (front, _) = behind.split_at(count);
+    match kept.extend_from_slice(front) {
+        Err(_) => Standing::Memory,
+        Ok(()) => {
+            *at += count;
+            play_kept(playback, kept, sink)
+        }
+    }
+}
+
+/// Plays what is whole of the kept bytes, and drops it.
+fn play_kept<K: Sink>(playback: &mut Playback, kept: &mut Vec<u8>, sink: &mut K) -> Standing
+    ensures bound { length kept.new.items ≤ length kept.old.items }
+    ensures stream { played_before playback.new kept.new.items ≡ played_before playback.old kept.old.items }
+    ensures leaves { Leaves result (length playback.new.entries) kept.new.items }
+    ensures stands { (opening : State) → StandsFor opening playback.old → StandsFor opening playback.new }
+    ensures session { IsSession playback.new }
+    ensures written { (first : Option (List ℕ)) → IsWritten first playback.old.entries (K.taken sink.old) → TellsWritten result first playback.new.entries (K.taken sink.new) }
+    ensures cause { TellsCause result (K.faults sink.old) (K.faults sink.new) }
+    ensures count { K.faults sink.old ≤ K.faults sink.new }
+{
+    let mut used = 0;
+    let standing = playback.play_whole(kept.as_slice(), &mut used, sink);
+    kept.drain(..used);
+    standing
+}
+
+/// Plays what is whole of a piece from a place on, and keeps the beginning of a record behind it.
+fn play_rest<K: Sink>(
+    playback: &mut Playback,
+    kept: &mut Vec<u8>,
+    piece: &[u8],
+    from: usize,
+    sink: &mut K,
+) -> Standing
+    requires empty { kept.old.items ≡ [] }
+    requires within { from ≤ length piece.now }
+    ensures feeds { Feeds result (played_before playback.old (drop from piece.now)) (length piece.now - from) playback.new kept.new.items }
+    ensures stands { (opening : State) → StandsFor opening playback.old → StandsFor opening playback.new }
+    ensures session { IsSession playback.new }
+    ensures written { (first : Option (List ℕ)) → IsWritten first playback.old.entries (K.taken sink.old) → TellsWritten result first playback.new.entries (K.taken sink.new) }
+    ensures cause { TellsCause result (K.faults sink.old) (K.faults sink.new) }
+    ensures count { K.faults sink.old ≤ K.faults sink.new }
+{
+    let mut at = from;
+    match playback.play_whole(piece, &mut at, sink) {
+        Standing::Open => match kept.extend_from_slice(&piece[at..]) {
+            Ok(()) => Standing::Open,
+            Err(_) => Standing::Memory,
+        },
+        stop => stop,
+    }
 }

@@ -7,10 +7,10 @@ ghost use Rattle.tbl_kinds.specs.Records.{IsBuilt, record_limit};
 ghost use Rattle.tbl_core.specs.Service.{StandsFor};
 ghost use Rattle.tbl_outside.specs.Counts.{Rose};
 ghost use Rattle.tbl_top.specs.Playing.{IsWritten, IsFrontWritten};
-ghost use Rattle.tbl_top.specs.Telling.{TellsWhy};
+ghost use Rattle.tbl_top.specs.Standing.{TellsWhy};
 ghost use Rattle.tbl_kinds.specs.declared.entry.Entry.{Entry};
 
-use crate::player::Fed;
+use crate::playback::Standing;
 use crate::writing::write;
 use tbl_core::{Core, StepFault};
 use tbl_kinds::{Actor, Bytes, Memory, Request};
@@ -24,7 +24,7 @@ pub(crate) fn play<K: Sink>(
     actor: Actor,
     request: Request,
     sink: &mut K,
-) -> Result<Option<Fed>, Memory>
+) -> Result<Option<Standing>, Memory>
     requires fits { Fits actor request }
     requires built { IsBuilt request }
     requires live { core.old.state.ended ≡ false }

@@ -4,9 +4,9 @@ ghost use Rattle.std.specs.Prelude.{◌≡◌, ◌<◌, ◌≤◌, length, Match
 ghost use Rattle.std.specs.Io.KnownBytes.{append_known};
 ghost use Rattle.tbl_kinds.specs.Transcript.{entry_bytes};
 ghost use Rattle.tbl_core.specs.Log.{IsSmall};
-ghost use Rattle.tbl_top.specs.Telling.{TellsStop, TellsWhy};
+ghost use Rattle.tbl_top.specs.Standing.{TellsStop, TellsWhy};
 
-use crate::player::Fed;
+use crate::playback::Standing;
 use tbl_kinds::{Bytes, Entry};
 use tbl_outside::{Failed, Sink};
 use transcript::write_entry;
@@ -17,11 +17,11 @@ pub(crate) fn write<K: Sink>(
     place: usize,
     entry: &Entry,
     sink: &mut K,
-) -> Option<Fed>
+) -> Option<Standing>
     requires place { place < 4294967295 }
     requires small { IsSmall entry.now }
     ensures wrote { MatchOption result (K.taken sink.new ≡ append_known (K.taken sink.old) (entry_bytes place entry.now))
-        (λ fed. TellsStop fed (K.taken sink.old) (K.taken sink.new) (entry_bytes place entry.now)) }
+        (λ standing. TellsStop standing (K.taken sink.old) (K.taken sink.new) (entry_bytes place entry.now)) }
     ensures why { TellsWhy result (K.faults sink.old) (K.faults sink.new) }
     ensures count { K.faults sink.old ≤ K.faults sink.new }
 {
@@ -29,8 +29,8 @@ pub(crate) fn write<K: Sink>(
     match write_entry(out, place as u32, entry) {
         Ok(()) => match sink.write(out.bytes()) {
             Ok(()) => None,
-            Err(Failed) => Some(Fed::SinkFailed),
+            Err(Failed) => Some(Standing::SinkFailed),
         },
-        Err(_) => Some(Fed::Unwritten),
+        Err(_) => Some(Standing::Unwritten),
     }
 }

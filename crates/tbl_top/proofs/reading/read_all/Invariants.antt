@@ -2,13 +2,17 @@ use Rattle.std.proofs.Common.{◌≡◌, ℕ, ◌≤◌, List, length, Option}
 use Rattle.std.specs.Io.KnownBytes.{prepend_known}
 use Rattle.tbl_model.specs.State.{State}
 use Rattle.tbl_core.specs.Service.{StandsFor}
-use Rattle.tbl_top.specs.Playing.{IsBeginning, consumed, IsSession, IsWritten}
+use Rattle.tbl_top.specs.Playing.{IsBeginning, bytes_fed, IsSession, IsWritten}
+use Rattle.tbl_top.specs.Reading.{piece_limit}
+use Rattle.tbl_top.specs.declared.playback.Standing.TheVariants.{Open}
 use Rattle.tbl_top.proofs.reading.read_all.Given as goal
 
 abbrev pub invariant-reads : goal.invariant-reads
 invariant-reads g l = record {
-  left : g.S.Source.left l.fn.source ≡ prepend_known (consumed l.player) (g.S.Source.left l.source);
-  many : l.counter ≤ length (consumed l.player);
+  is_open : l.player.standing ≡ Open;
+  room : length l.piece ≡ piece_limit;
+  left : g.S.Source.left l.fn.source ≡ prepend_known (bytes_fed l.player) (g.S.Source.left l.source);
+  many : l.counter ≤ length (bytes_fed l.player);
   begun : IsBeginning (length l.player.core.entries) l.player.rest;
   session : IsSession l.player.core;
   stands : (opening : State) → StandsFor opening l.fn.player.core → StandsFor opening l.player.core;

@@ -1,16 +1,27 @@
-use Rattle.std.proofs.Common.{◌++◌, ap, sym, ◌∙◌, append_assoc, arith}
-use Rattle.std.proofs.lemmas.List.{length-append}
-use Rattle.tbl_kinds.specs.Records.{joined}
+use Rattle.std.proofs.Common.{List, ℕ, ◌+◌, ◌++◌, length, sym, subst, ◌∙◌, append_assoc}
+use Rattle.tbl_kinds.specs.Records.{joined, AreRecords}
 use Rattle.tbl_kinds.specs.Transcript.{pairs_of}
-use Rattle.tbl_core.specs.Service.{Kept}
+use Rattle.tbl_core.specs.Service.{StandsFor}
+use Rattle.tbl_core.proofs.WholeLaws.{whole}
+use Rattle.tbl_top.specs.Playing.{Playing, played_before}
+use Rattle.tbl_top.proofs.FeedingLemmas.{beginning_length, begun_rest, open_answer, records_of}
 use Rattle.tbl_top.proofs.player.Player.feed.Goals as goal
 
-pub returns-in-Err-clause-stream : goal.returns-in-Err-clause-stream
-returns-in-Err-clause-stream g c =
-    let old = c.args.self.now in
-    let piece = c.args.piece.now in
-    record {
-      rest = old.rest ++ piece;
-      parts = ap (λ (k : Kept). joined (pairs_of k.entries) ++ (old.rest ++ piece)) c.take_in.ensures.core ∙ sym (append_assoc (joined (pairs_of old.core.entries)) old.rest piece);
-      bound = omega (arith, length-append old.rest piece);
-    }
+pub returns-clause-kept : goal.returns-clause-kept
+returns-clause-kept g c = λ more.
+    let f = c.feed_fields in
+    beginning_length (length f.new.playback.entries) f.new.kept.items
+    (begun_rest f.new.standing (played_before c.self.inside.playback (c.self.inside.kept.items ++ c.args.piece.now)) (length c.self.inside.kept.items + length c.args.piece.now) f.new.playback f.new.kept.items
+    (open_answer f.new.standing (sym more ∙ f.ensures.answer)) f.ensures.feeds)
+
+pub returns-clause-records : goal.returns-clause-records
+returns-clause-records g c =
+    let f = c.feed_fields in
+    let old = c.self.inside in
+    rw (← c.self.view_is) (λ all. subst (λ (xs : List ℕ). AreRecords xs (pairs_of f.new.playback.entries)) (sym (append_assoc (joined (pairs_of old.playback.entries)) old.kept.items c.args.piece.now))
+    (records_of f.new.standing (played_before old.playback (old.kept.items ++ c.args.piece.now)) (length old.kept.items + length c.args.piece.now) f.new.playback f.new.kept.items f.ensures.session f.ensures.feeds all))
+
+pub returns-clause-whole : goal.returns-clause-whole
+returns-clause-whole g c = λ opening at_first stood.
+    let f = c.feed_fields in
+    whole opening f.new.playback.entries f.new.playback.state at_first (f.ensures.stands opening (subst (λ (p : Playing). StandsFor opening p.core) (sym c.self.view_is) stood)).legal

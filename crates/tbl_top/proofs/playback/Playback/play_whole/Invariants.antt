@@ -1,0 +1,18 @@
+use Rattle.std.proofs.Common.{◌≡◌, ◌-◌, ℕ, ◌≤◌, List, length, drop, Option}
+use Rattle.tbl_model.specs.State.{State}
+use Rattle.tbl_core.specs.Service.{StandsFor}
+use Rattle.tbl_top.specs.Playing.{played_before, IsWritten}
+use Rattle.tbl_top.proofs.playback.Playback.play_whole.Given as goal
+
+abbrev pub invariant-records : goal.invariant-records
+invariant-records g l = record {
+  within : l.at ≤ length l.fn.bytes;
+  further : l.fn.at ≤ l.at;
+  stream : played_before l.self (drop l.at l.fn.bytes) ≡ played_before l.fn.self (drop l.fn.at l.fn.bytes);
+  stands : (opening : State) → StandsFor opening l.fn.self → StandsFor opening l.self;
+  written : (first : Option (List ℕ)) → IsWritten first l.fn.self.entries (g.K.Sink.taken l.fn.sink) → IsWritten first l.self.entries (g.K.Sink.taken l.sink);
+  count : g.K.Sink.faults l.fn.sink ≤ g.K.Sink.faults l.sink;
+}
+
+abbrev pub decreases-records : goal.decreases-records
+decreases-records g l = length l.fn.bytes - l.at

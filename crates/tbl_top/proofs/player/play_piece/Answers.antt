@@ -1,0 +1,10 @@
+use Rattle.std.proofs.Common.{◌+◌, ◌++◌, length, ◌∙◌, arith}
+use Rattle.tbl_top.specs.Playing.{played_before}
+use Rattle.tbl_top.proofs.FeedingLemmas.{feeds_over}
+use Rattle.tbl_top.proofs.player.play_piece.Goals as goal
+
+pub returns-in_default-clause-feeds : goal.returns-in_default-clause-feeds
+returns-in_default-clause-feeds g c =
+    feeds_over c.complete.result c.complete.new.playback c.complete.new.kept.items c.complete.new.kept.items (played_before c.args.playback.now (c.args.kept.now.items ++ c.args.piece.now)) c.args.piece.now c.complete.new.at
+    (length c.args.kept.now.items + length c.args.piece.now) c.in_default.not-Open (c.complete.ensures.stream ∙ c.completes.invariant.stream) c.complete.ensures.leaves c.complete.ensures.within
+    (omega (arith, c.complete.ensures.bound, c.completes.invariant.bound))

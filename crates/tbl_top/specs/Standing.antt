@@ -1,0 +1,53 @@
+-- What is known of a session by how it stands.
+use Rattle.std.specs.Prelude.{◌≡◌, ℕ, ◌<◌, List, length, Option, Some, None}
+use Rattle.tbl_kinds.specs.Records.{record_limit}
+use Rattle.tbl_kinds.specs.Heads.{IsBad}
+use Rattle.tbl_outside.specs.Streams.{TakesFront}
+use Rattle.tbl_outside.specs.Counts.{Rose}
+use Rattle.tbl_top.specs.Playing.{IsBeginning, IsWritten, IsFrontWritten}
+use Rattle.tbl_top.specs.declared.playback.Standing.{Standing}
+use Rattle.tbl_top.specs.declared.playback.Standing.TheVariants.{Open, Bad, Full, SinkFailed, Memory, Unwritten}
+use Rattle.tbl_kinds.specs.declared.entry.Entry.{Entry}
+
+-- what stands behind so many records that were played
+abbrev pub Leaves : Standing → ℕ → List ℕ → Type 0
+Leaves Open played behind = IsBeginning played behind
+Leaves Bad played behind = IsBad behind × (played < record_limit)
+Leaves Full played behind = (played ≡ record_limit) × (0 < length behind)
+Leaves SinkFailed played behind = Unit {0}
+Leaves Memory played behind = Unit {0}
+Leaves Unwritten played behind = Unit {0}
+
+-- all records of what was fed were played
+abbrev pub HasPlayedAll : Standing → Type 0
+HasPlayedAll Open = Unit {0}
+HasPlayedAll Bad = Unit {0}
+HasPlayedAll Full = Unit {0}
+HasPlayedAll _ = ⊥
+
+-- what of the entries was written
+abbrev pub TellsWritten : Standing → Option (List ℕ) → List Entry → Option (List ℕ) → Type 0
+TellsWritten Open first entries taken = IsWritten first entries taken
+TellsWritten Bad first entries taken = IsWritten first entries taken
+TellsWritten Full first entries taken = IsWritten first entries taken
+TellsWritten Memory first entries taken = IsWritten first entries taken
+TellsWritten SinkFailed first entries taken = IsFrontWritten first entries taken
+TellsWritten Unwritten first entries taken = IsFrontWritten first entries taken
+
+-- only the sink's failure has a cause outside
+abbrev pub TellsCause : Standing → ℕ → ℕ → Type 0
+TellsCause SinkFailed before after = Rose before after
+TellsCause _ before after = Unit {0}
+
+-- why a write didn't go well, and what it left: the sink failed within the piece, or memory ran out before
+abbrev pub TellsStop : Standing → Option (List ℕ) → Option (List ℕ) → List ℕ → Type 0
+TellsStop SinkFailed before after piece = TakesFront before after piece
+TellsStop Unwritten before after piece = after ≡ before
+TellsStop _ before after piece = ⊥
+
+-- a stop is the sink's failure, or want of memory for a spelling
+abbrev pub TellsWhy : Option Standing → ℕ → ℕ → Type 0
+TellsWhy None before after = Unit {0}
+TellsWhy (Some SinkFailed) before after = Rose before after
+TellsWhy (Some Unwritten) before after = Unit {0}
+TellsWhy (Some _) before after = ⊥

@@ -1,0 +1,219 @@
+//! Plays whole records at the front of bytes, and writes each entry before the next record is looked for.
+
+ghost use Rattle.std.specs.Prelude.{◌≡◌, ⊤, ℕ, ◌<◌, ◌≤◌, Option, List, [], ◌++◌, length, take, drop, false, All, IfOk, IfErr, OnOk, MatchOption, OnErr};
+ghost use Rattle.tbl_model.specs.State.{State};
+ghost use Rattle.tbl_kinds.specs.Records.{IsRecord, spelling, joined, record_limit};
+ghost use Rattle.tbl_core.specs.Log.{IsSmall};
+ghost use Rattle.tbl_core.specs.Service.{StandsFor};
+ghost use Rattle.std.specs.Io.KnownBytes.{append_known};
+ghost use Rattle.tbl_kinds.specs.Transcript.{pairs_of, end_bytes, offset_of};
+ghost use Rattle.tbl_outside.specs.Counts.{Rose};
+ghost use Rattle.tbl_outside.specs.Streams.{TakesFront};
+ghost use Rattle.tbl_top.specs.Playing.{played_before, IsSession, IsWritten, IsFrontWritten};
+ghost use Rattle.tbl_top.specs.Standing.{Leaves, TellsWritten, TellsCause, TellsWhy};
+
+use crate::playing::play;
+use session_records::{Next, next_record};
+use std::alloc::Global;
+use std::marker::Model;
+use tbl_core::Core;
+use tbl_kinds::{Actor, Bytes, Entry, Memory, Request};
+use tbl_outside::{Failed, Sink};
+use transcript::write_end;
+
+/// The most records of a session.
+const RECORD_LIMIT: usize = 32_768;
+
+/// The length of the end record.
+const END_LENGTH: usize = 13;
+
+/// How a session stands after a piece of the input.
+#[derive(Clone, Copy, Debug, PartialEq, Eq)]
+pub(crate) enum Standing {
+    /// All whole records were played. What is left is the beginning of a further one, or nothing.
+    Open,
+    /// What follows is no record, whatever comes.
+    Bad,
+    /// As many records were played as a session may have, and bytes are left.
+    Full,
+    /// The sink failed.
+    SinkFailed,
+    /// Memory ran out. All entries are written.
+    Memory,
+    /// Memory ran out for the spelling of the last entry.
+    Unwritten,
+}
+
+/// The core, and the room that the transcript needs.
+#[derive(Debug, Drop)]
+pub(crate) struct Playback {
+    alloc: Global,
+    core: Core,
+    /// The number of bytes of the records that were played.
+    offset: u32,
+    /// Room for the spelling of one entry.
+    out: Bytes,
+    /// Room for the end record.
+    end: Bytes,
+}
+
+impl Model for Playback {
+    ghost use Rattle.tbl_core.specs.Service.{Kept};
+
+    ghost Value = { Kept };
+
+    ghost use Rattle.std.specs.Prelude.{◌≡◌, ◌≤◌, []};
+    ghost use Rattle.tbl_kinds.specs.Transcript.{offset_of};
+    ghost use Rattle.tbl_top.specs.Playing.{IsSession};
+
+    ghost view = { λ p. p.core };
+
+    ghost invariant = { λ p. (13 ≤ p.end.spare) × (p.end.list ≡ []) × IsSession p.core × (p.offset ≡ offset_of p.core.entries) };
+}
+
+impl Playback {
+    /// A session in which nothing was played yet; the core again where memory ran out.
+    pub(crate) fn make(alloc: Global, core: Core) -> Result<Playback, Core>
+        requires live { core.state.ended ≡ false }
+        requires empty { core.entries ≡ [] }
+        ensures core { IfOk result (λ p. p ≡ core) }
+        ensures err { IfErr result (λ back. back ≡ core) }
+    {
+        let Ok(out) = Bytes::make(alloc, 0) else {
+            return Err(core);
+        };
+        let Ok(end) = Bytes::make(alloc, END_LENGTH) else {
+            return Err(core);
+        };
+        Ok(Playback {
+            alloc,
+            core,
+            offset: 0,
+            out,
+            end,
+        })
+    }
+
+    /// The core as it is.
+    pub(crate) fn end(self) -> Core
+        ensures { result ≡ self }
+    {
+        self.core
+    }
+
+    /// Plays a record. `Ok(None)` where its entry was written, `Ok(Some(..))` where it was played and the entry wasn't
+    /// written whole.
+    fn play_record<K: Sink>(
+        &mut self,
+        actor: Actor,
+        request: Request,
+        used: usize,
+        sink: &mut K,
+    ) -> Result<Option<Standing>, Memory>
+        requires is_record { IsRecord (record { actor = actor; request = request }) }
+        requires used { used ≡ length (spelling (record { actor = actor; request = request })) }
+        requires room { length self.old.entries < record_limit }
+        ensures plays { OnOk result (joined (pairs_of self.new.entries) ≡ joined (pairs_of self.old.entries) ++ spelling (record { actor = actor; request = request })) }
+        ensures stands { (opening : State) → StandsFor opening self.old → StandsFor opening self.new }
+        ensures written { (first : Option (List ℕ)) → IsWritten first self.old.entries (K.taken sink.old)
+            → IfOk result (λ stop. MatchOption stop (IsWritten first self.new.entries (K.taken sink.new)) (λ _. IsFrontWritten first self.new.entries (K.taken sink.new))) }
+        ensures why { IfOk result (λ stop. TellsWhy stop (K.faults sink.old) (K.faults sink.new)) }
+        ensures count { K.faults sink.old ≤ K.faults sink.new }
+        ensures session { IsSession self.new }
+        ensures err { OnErr result (self.new ≡ self.old) }
+        ensures err_sink { OnErr result (sink.new ≡ sink.old) }
+    {
+        match play(&mut self.core, &mut self.out, actor, request, sink) {
+            Err(Memory) => Err(Memory),
+            Ok(stop) => {
+                self.offset += used as u32;
+                Ok(stop)
+            }
+        }
+    }
+
+    /// Plays the record at a place where one is whole, and answers None once its entry was written; else what stands in
+    /// its way.
+    fn play_next<K: Sink>(&mut self, bytes: &[u8], at: &mut usize, sink: &mut K) -> Option<Standing>
+        requires within { at.old ≤ length bytes.now }
+        ensures within { at.new ≤ length bytes.now }
+        ensures stream { played_before self.new (drop at.new bytes.now) ≡ played_before self.old (drop at.old bytes.now) }
+        ensures further { MatchOption result (at.old < at.new) (λ _. at.old ≤ at.new) }
+        ensures leaves { MatchOption result ⊤ (λ standing. Leaves standing (length self.new.entries) (drop at.new bytes.now)) }
+        ensures stands { (opening : State) → StandsFor opening self.old → StandsFor opening self.new }
+        ensures written { (first : Option (List ℕ)) → IsWritten first self.old.entries (K.taken sink.old)
+            → MatchOption result (IsWritten first self.new.entries (K.taken sink.new)) (λ standing. TellsWritten standing first self.new.entries (K.taken sink.new)) }
+        ensures why { MatchOption result ⊤ (λ standing. TellsCause standing (K.faults sink.old) (K.faults sink.new)) }
+        ensures count { K.faults sink.old ≤ K.faults sink.new }
+        ensures session { IsSession self.new }
+    {
+        let count = self.core.history().len();
+        let rest = &bytes[*at..];
+        if count == RECORD_LIMIT {
+            return Some(if rest.is_empty() {
+                Standing::Open
+            } else {
+                Standing::Full
+            });
+        }
+        match next_record(self.alloc, rest) {
+            Err(Memory) => Some(Standing::Memory),
+            Ok(Next::End) => Some(Standing::Open),
+            Ok(Next::Short) => Some(Standing::Open),
+            Ok(Next::Bad) => Some(Standing::Bad),
+            Ok(
+                Next::Item {
+                    actor,
+                    request,
+                    used,
+                },
+            ) => match self.play_record(actor, request, used, sink) {
+                Err(Memory) => Some(Standing::Memory),
+                Ok(stop) => {
+                    *at += used;
+                    stop
+                }
+            },
+        }
+    }
+
+    /// Plays each record that is whole, from a place on.
+    pub(crate) fn play_whole<K: Sink>(
+        &mut self,
+        bytes: &[u8],
+        at: &mut usize,
+        sink: &mut K,
+    ) -> Standing
+        requires within { at.old ≤ length bytes.now }
+        ensures within { at.new ≤ length bytes.now }
+        ensures further { at.old ≤ at.new }
+        ensures stream { played_before self.new (drop at.new bytes.now) ≡ played_before self.old (drop at.old bytes.now) }
+        ensures leaves { Leaves result (length self.new.entries) (drop at.new bytes.now) }
+        ensures stands { (opening : State) → StandsFor opening self.old → StandsFor opening self.new }
+        ensures written { (first : Option (List ℕ)) → IsWritten first self.old.entries (K.taken sink.old) → TellsWritten result first self.new.entries (K.taken sink.new) }
+        ensures cause { TellsCause result (K.faults sink.old) (K.faults sink.new) }
+        ensures count { K.faults sink.old ≤ K.faults sink.new }
+        ensures session { IsSession self.new }
+    {
+        'records: loop {
+            if let Some(standing) = self.play_next(bytes, at, sink) {
+                return standing;
+            }
+        }
+    }
+
+    /// Writes the end record.
+    pub(crate) fn tell_end<K: Sink>(&mut self, status: u8, sink: &mut K) -> Result<(), Failed>
+        ensures same { self.new ≡ self.old }
+        ensures ok { OnOk result (K.taken sink.new ≡ append_known (K.taken sink.old) (end_bytes status (length self.old.entries) (offset_of self.old.entries))) }
+        ensures err { OnErr result (TakesFront (K.taken sink.old) (K.taken sink.new) (end_bytes status (length self.old.entries) (offset_of self.old.entries))) }
+        ensures cause { OnErr result (Rose (K.faults sink.old) (K.faults sink.new)) }
+        ensures count { K.faults sink.old ≤ K.faults sink.new }
+    {
+        let count = self.core.history().len() as u32;
+        write_end(&mut self.end, status, count, self.offset);
+        let told = sink.write(self.end.bytes());
+        self.end.clear();
+        told
+    }
+}
