@@ -4,13 +4,11 @@ use crate::answer::{room_for, same_bytes, same_text, text_of};
 use case_tables::CaseFault;
 use cfe_headers::{FileHeader, read_file_header, write_file_header};
 use std::alloc::{AllocError, Global};
-use table_files::{TableFile, read_table_file, write_table_file};
+use table_files::{IMAGE_PLACE, TableFile, read_table_file, write_table_file};
 use tbl_kinds::Name;
 
-/// How many bytes the file header has, and how many stand before the image of a table file.
+/// How many bytes the file header has.
 const HEADER_LENGTH: usize = 64;
-
-const IMAGE_PLACE: usize = 116;
 
 /// The subtype of a table file.
 const TABLE_SUBTYPE: u32 = 8;

@@ -4,7 +4,7 @@ use crate::answer::{out_of_memory, room_for, same_bytes, same_text, text_of};
 use case_tables::CaseFault;
 use session_records::{Next, next_record, write_record};
 use std::alloc::{AllocError, Global};
-use tbl_kinds::{Actor, Bytes, Request};
+use tbl_kinds::{Bytes, Request};
 use transcript::{read_end, read_entry};
 
 /// Bytes in hexadecimal.
@@ -44,13 +44,6 @@ fn text_of_request(alloc: Global, request: &Request) -> Result<String, AllocErro
     }
 }
 
-fn number_of(actor: Actor) -> u8 {
-    match actor {
-        Actor::Ground => 0,
-        Actor::App(number) => number,
-    }
-}
-
 /// What stands at the front of bytes. A record is written again.
 pub(crate) fn try_record(alloc: Global, bytes: &[u8], wanted: &str) -> Result<(), CaseFault> {
     let came = match next_record(alloc, bytes).map_err(out_of_memory)? {
@@ -64,7 +57,7 @@ pub(crate) fn try_record(alloc: Global, bytes: &[u8], wanted: &str) -> Result<()
             let front = bytes.get(..used).ok_or(CaseFault::Unreadable)?;
             same_bytes(alloc, out.bytes(), front)?;
             let request = text_of_request(alloc, &request)?;
-            format!(in alloc; "{} {request}", number_of(actor))?
+            format!(in alloc; "{} {request}", actor.number())?
         }
         Next::Short => format!(in alloc; "Short")?,
         Next::Bad => format!(in alloc; "Bad")?,

@@ -41,12 +41,17 @@ fn a_plain_answer_names_nothing(rt: HostRuntime) {
 
 // Further cases of names and of actors stand in the table of the program codec_cases.
 #[test]
-fn names_end_before_a_zero(rt: HostRuntime) {
+fn names_end_before_a_zero(rt: HostRuntime) -> Result<(), Fail> {
     let short: Name16 = Name::of(b"A.T\0\x7FB\0\0\0\0\0\0\0\0\0\0");
     assert_eq!(rt; short.bytes(), b"A.T".as_slice());
     let copy = short.copy();
     assert_eq!(rt; copy, short);
     assert!(rt; copy.is_name());
+    assert_eq!(rt; copy.field_len(), 16);
+    let mut field = Bytes::make(rt.alloc(), 16)?;
+    copy.append_field(&mut field);
+    assert_eq!(rt; field.bytes(), b"A.T\0\0\0\0\0\0\0\0\0\0\0\0\0".as_slice());
+    Ok(())
 }
 
 #[test]
@@ -61,8 +66,16 @@ fn slots_stay_in_order(rt: HostRuntime) {
 
 #[test]
 fn requests_fit_their_actors(rt: HostRuntime) {
+    assert_eq!(rt; Actor::App(16).number(), 16);
     assert!(rt; fits(Actor::App(16), &Request::Exit));
     assert!(rt; !fits(Actor::Ground, &Request::Exit));
+}
+
+#[test]
+fn numbers_have_the_high_byte_first(rt: HostRuntime) {
+    let bytes = [0, 1, 2, 3, 4];
+    assert_eq!(rt; u16_at(&bytes, 1), 0x0102);
+    assert_eq!(rt; u32_at(&bytes, 1), 0x0102_0304);
 }
 
 #[test]
