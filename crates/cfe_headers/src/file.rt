@@ -1,7 +1,7 @@
 //! The header that cFE puts in front of its files.
 
 ghost use Rattle.std.specs.Prelude.{◌≡◌, ◌+◌, ◌≤◌, ◌++◌, None, Some, length, IfErr, IfOk, OnOk};
-ghost use Rattle.tbl_kinds.specs.Numbers.{four, four_at, piece};
+ghost use Rattle.tbl_kinds.specs.Numbers.{four, piece};
 ghost use Rattle.tbl_kinds.specs.Headers.{file_header, header_flaw, header_in, header_len};
 ghost use Rattle.cfe_headers.specs.FileHeaders.{header_of, header_flaw_of};
 

@@ -4,7 +4,7 @@ use crate::answer::{room_for, same_bytes};
 use case_tables::CaseFault;
 use cfe_headers::write_tlm;
 use std::alloc::Global;
-use tbl_kinds::{Event, Status, TlmHead};
+use tbl_kinds::{Event, TlmHead};
 use tlm_packets::write_event;
 
 /// The greatest body and count of a packet that is written.

@@ -1,7 +1,6 @@
 //! Writing a table file.
 
-ghost use Rattle.std.specs.Prelude.{◌≡◌, ◌+◌, ◌≤◌, ◌++◌, length, replicate};
-ghost use Rattle.tbl_kinds.specs.Names.{HasNoZero, name_field};
+ghost use Rattle.std.specs.Prelude.{◌≡◌, ◌+◌, ◌≤◌, ◌++◌, length};
 ghost use Rattle.tbl_kinds.specs.Headers.{IsHeader};
 ghost use Rattle.tbl_kinds.specs.TableFiles.{IsWritable, table_file, table_subtype, image_place};
 ghost use Rattle.cfe_headers.specs.FileHeaders.{header_of};
@@ -9,7 +8,7 @@ ghost use Rattle.table_files.specs.Files.{with_image};
 
 use crate::reading::TableFile;
 use cfe_headers::{FileHeader, write_file_header};
-use tbl_kinds::{Bytes, Name40};
+use tbl_kinds::Bytes;
 
 /// The numbers of a header fit their fields, and its description fills its own.
 fn every_header_fits(header: &FileHeader)
