@@ -25,3 +25,12 @@ fn a_record_is_written_and_read(rt: HostRuntime) -> Result<(), Fail> {
     );
     Ok(())
 }
+
+#[test]
+fn a_byte_is_lacking(rt: HostRuntime) {
+    let front = &RELEASE[..5];
+    match next_record(rt.alloc(), front) {
+        Ok(Next::Short) => assert_eq!(rt; bytes_lacking(front), 1),
+        _ => assert!(rt; false),
+    }
+}
