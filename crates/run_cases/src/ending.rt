@@ -2,7 +2,7 @@
 
 use case_tables::CaseFault;
 use std::alloc::Global;
-use tbl_fakes::{MemSink, MemSource};
+use tbl_fakes::{CalmSink, CalmSource, MemSink, MemSource};
 use tbl_kinds::{Bytes, Memory};
 use tbl_top::run;
 
@@ -55,6 +55,13 @@ pub(crate) fn run_in(alloc: Global, given: &Given, room: u32) -> Result<Ending, 
         left: source.left_bytes().len(),
         output: sink.taken().to_vec(alloc)?,
     })
+}
+
+/// Runs between a source and a sink that never fail. The status, and how many bytes of the input weren't read.
+pub(crate) fn run_calm(alloc: Global, given: &Given) -> Result<(u8, usize), CaseFault> {
+    let mut source = CalmSource::make(kept(alloc, &given.input).map_err(out_of_memory)?);
+    let status = run(alloc, &given.words, &mut source, &mut CalmSink::make());
+    Ok((status, source.left_bytes().len()))
 }
 
 /// Whether a run ended so.

@@ -1,6 +1,6 @@
 //! Runs as a table states them.
 
-use crate::ending::{Ending, Given, compare, kept, run_in};
+use crate::ending::{Ending, Given, compare, kept, run_calm, run_in};
 use case_tables::{CaseFault, Cases, Pieces, number_in, numbers_in};
 use std::alloc::Global;
 use tbl_kinds::Bytes;
@@ -55,6 +55,16 @@ impl Runs {
         })
     }
 
+    /// Runs where nothing can fail.
+    fn try_calm(&self, given: &Given, status: u8, wanted: usize) -> Result<u32, CaseFault> {
+        let (came, left) = run_calm(self.alloc, given)?;
+        if came == status && left == wanted {
+            return Ok(1);
+        }
+        let text = format!(in self.alloc; "status {came}, left {left}")?;
+        Err(CaseFault::Differs(text))
+    }
+
     /// Runs with each room in the sink up to that for the whole output. All but the last end with a failed write.
     fn try_rooms(&self, given: &Given, wanted: &Ending) -> Result<u32, CaseFault> {
         let most = u32::try_from(wanted.output.len()).map_err(|_| CaseFault::Unreadable)?;
@@ -75,7 +85,8 @@ impl Runs {
 impl Cases for Runs {
     /// A row is `run | WORDS | INPUT | BAD READS | BAD WRITES | ROOM | STATUS | READ FAULTS | WRITE FAULTS | LEFT |
     /// OUTPUT`: what the run is given, and how it ends, with so many bytes of the input left. It begins with `rooms` and has
-    /// no room where each room up to that for the whole output is tried.
+    /// no room where each room up to that for the whole output is tried. `calm | WORDS | INPUT | STATUS | LEFT` is a run between a
+    /// source and a sink that never fail.
     fn try_row(&mut self, pieces: &Pieces, cells: &[&str]) -> Result<u32, CaseFault> {
         match cells {
             ["run", a, b, c, d, room, p, q, r, s, t] => {
@@ -89,6 +100,10 @@ impl Cases for Runs {
                 let given = self.given_in(pieces, [a, b, c, d])?;
                 let wanted = self.ending_in(pieces, [p, q, r, s, t])?;
                 self.try_rooms(&given, &wanted)
+            }
+            ["calm", words, input, status, left] => {
+                let given = self.given_in(pieces, [words, input, "", ""])?;
+                self.try_calm(&given, status_in(status)?, number_in(left)? as usize)
             }
             _ => Err(CaseFault::Unreadable),
         }
