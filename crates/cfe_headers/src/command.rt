@@ -5,8 +5,8 @@ ghost use Rattle.std.specs.List.{fold};
 ghost use Rattle.tbl_kinds.specs.Packets.{packet_flaw, packet_id, packet_code, command_packet};
 ghost use Rattle.cfe_headers.specs.Faults.{flaw_of};
 
-use crate::primary::{LENGTH_LESS, put_primary, u16_at};
-use tbl_kinds::Bytes;
+use crate::primary::{LENGTH_LESS, put_primary};
+use tbl_kinds::{Bytes, u16_at};
 use thiserror::Error;
 
 /// What a command packet carries in its headers (CCSDS 133.0-B; cFE's `CFE_MSG_CommandSecondaryHeader`). The payload is the bytes from place 8.

@@ -1,12 +1,11 @@
 //! The header that cFE puts in front of its files.
 
 ghost use Rattle.std.specs.Prelude.{◌≡◌, ◌+◌, ◌≤◌, ◌++◌, None, Some, length, IfErr, IfOk, OnOk};
-ghost use Rattle.tbl_kinds.specs.Numbers.{four, four_at, piece};
+ghost use Rattle.tbl_kinds.specs.Numbers.{four, piece};
 ghost use Rattle.tbl_kinds.specs.Headers.{file_header, header_flaw, header_in, header_len};
 ghost use Rattle.cfe_headers.specs.FileHeaders.{header_of, header_flaw_of};
 
-use byteorder::{BigEndian, ByteOrder};
-use tbl_kinds::Bytes;
+use tbl_kinds::{Bytes, u32_at};
 use thiserror::Error;
 
 /// The content type of cFE's files, the letters `cFE1` (cFE's `CFE_FS_FILE_CONTENT_ID`).
@@ -45,14 +44,6 @@ pub enum HeaderFault {
     /// The content type is not that of cFE's files.
     #[error("the content type is not that of a cFE file")]
     BadContent,
-}
-
-/// The number in four bytes at a place.
-fn u32_at(bytes: &[u8], place: usize) -> u32
-    requires { place + 4 ≤ length bytes.now }
-    ensures { result ≡ four_at place bytes.now }
-{
-    BigEndian::read_u32(&bytes[place..])
 }
 
 /// The description field of a header.

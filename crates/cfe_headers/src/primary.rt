@@ -1,10 +1,8 @@
 //! The primary header, six bytes that each packet begins with (CCSDS 133.0-B, "Packet Primary Header").
 
 ghost use Rattle.std.specs.Prelude.{◌≡◌, ◌+◌, ◌<◌, ◌≤◌, ◌++◌, length};
-ghost use Rattle.tbl_kinds.specs.Numbers.{two_at};
 ghost use Rattle.tbl_kinds.specs.Packets.{primary_header};
 
-use byteorder::{BigEndian, ByteOrder};
 use tbl_kinds::Bytes;
 
 /// What a packet has more bytes than its length field says.
@@ -12,14 +10,6 @@ pub(crate) const LENGTH_LESS: u16 = 7;
 
 /// Sequence flags 3: the packet is whole, and no segment of a longer one.
 const UNSEGMENTED: u16 = 0xC000;
-
-/// The number in two bytes at a place.
-pub(crate) fn u16_at(bytes: &[u8], place: usize) -> u16
-    requires { place + 2 ≤ length bytes.now }
-    ensures { result ≡ two_at place bytes.now }
-{
-    BigEndian::read_u16(&bytes[place..])
-}
 
 /// Appends the primary header of a packet of `len` bytes in all.
 #[tactic(auto, unfolding(tbl_kinds::specs::Packets::primary_header))]

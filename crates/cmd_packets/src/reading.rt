@@ -7,9 +7,8 @@ ghost use Rattle.tbl_kinds.specs.GroundCommands.{forms, payload_len as len_of, n
 ghost use Rattle.cmd_packets.specs.Views.{command_of, Gives};
 
 use crate::commands::{CmdFault, Ground};
-use byteorder::{BigEndian, ByteOrder};
 use cfe_headers::read_packet;
-use tbl_kinds::{Name, Name40, Name64};
+use tbl_kinds::{Name, Name40, Name64, u16_at};
 
 /// The message id of commands.
 const COMMAND_ID: u16 = 0x1804;
@@ -39,7 +38,7 @@ fn select_of(payload: &[u8]) -> u16
     requires { 2 ≤ length payload.now }
     ensures { result ≡ two_at 0 payload.now }
 {
-    BigEndian::read_u16(payload)
+    u16_at(payload, 0)
 }
 
 /// The table's name at a place of the payload.

@@ -6,7 +6,7 @@ ghost use Rattle.tbl_kinds.specs.Records as records;
 ghost use Rattle.tbl_kinds.specs.Records.{FitsField};
 ghost use Rattle.tbl_kinds.specs.Heads.{is_name_field};
 
-use tbl_kinds::{Bytes, Name};
+use tbl_kinds::{Bytes, Name, u16_at, u32_at};
 
 /// What spells that there is no validator.
 const NO_VALIDATOR: u8 = 0xFF;
@@ -39,7 +39,7 @@ pub fn read_two(bytes: &[u8]) -> (u16, &[u8])
     ensures parts { bytes.now ≡ two result.0 ++ result.1.now }
     ensures len { length result.1.now + 2 ≡ length bytes.now }
 {
-    let number = u16::from_be_bytes([bytes[0], bytes[1]]);
+    let number = u16_at(bytes, 0);
     let (_, rest) = bytes.split_at(2);
     (number, rest)
 }
@@ -50,7 +50,7 @@ pub fn read_four(bytes: &[u8]) -> (u32, &[u8])
     ensures parts { bytes.now ≡ four result.0 ++ result.1.now }
     ensures len { length result.1.now + 4 ≡ length bytes.now }
 {
-    let number = u32::from_be_bytes([bytes[0], bytes[1], bytes[2], bytes[3]]);
+    let number = u32_at(bytes, 0);
     let (_, rest) = bytes.split_at(4);
     (number, rest)
 }
@@ -66,29 +66,6 @@ pub fn read_validator(bytes: &[u8]) -> Option<u8>
         NO_VALIDATOR => None,
         number => Some(number),
     }
-}
-
-/// How many bytes the name's field has.
-pub fn field_len<const N: usize>(name: &Name<N>) -> usize
-    ensures len { result ≡ length (name_field N name.now) }
-    ensures width { result ≡ N }
-{
-    let _bytes = name.bytes();
-    N
-}
-
-/// Puts the name and then zeros behind the bytes, `N` in all.
-pub fn append_name<const N: usize>(out: &mut Bytes, name: &Name<N>)
-    requires { length (name_field N name.now) ≤ out.old.spare }
-    ensures bytes { out.new.list ≡ out.old.list ++ name_field N name.now }
-    ensures room { out.old.spare ≤ out.new.spare + length (name_field N name.now) }
-    ensures fits { FitsField N name.now }
-{
-    let bytes = name.bytes();
-    let zeros = [0; N];
-    let (_, behind) = zeros.as_slice().split_at(bytes.len());
-    out.append(bytes);
-    out.append(behind);
 }
 
 pub fn append_two(out: &mut Bytes, number: u16)

@@ -3,7 +3,7 @@ ghost use Rattle.tbl_kinds.specs.Numbers.{byte_at};
 ghost use Rattle.tbl_kinds.specs.Heads as heads;
 ghost use Rattle.session_records.specs.Reading.{actor_at};
 
-use tbl_kinds::Actor;
+use tbl_kinds::{Actor, u16_at};
 
 /// Kind, actor and length of the body.
 pub const HEAD_LEN: usize = 4;
@@ -31,7 +31,7 @@ impl Head {
         Head {
             kind: bytes[0],
             actor: bytes[1],
-            len: usize::from(u16::from_be_bytes([bytes[2], bytes[3]])),
+            len: usize::from(u16_at(bytes, 2)),
         }
     }
 

@@ -5,7 +5,7 @@ ghost use Rattle.tbl_kinds.specs.Records as records;
 ghost use Rattle.tbl_kinds.specs.Records.{IsBuilt, IsSized, IsRecord, body_of, body_limit, spelling};
 ghost use Rattle.tbl_kinds.specs.declared.request.Request.TheVariants as ask;
 
-use crate::fields::{append_four, append_name, append_two, append_validator, field_len};
+use crate::fields::{append_four, append_two, append_validator};
 use crate::head::HEAD_LEN;
 use tbl_kinds::{Actor, Bytes, Memory, Name16, Name64, Request};
 
@@ -26,15 +26,6 @@ fn kind_of(request: &Request) -> u8
     }
 }
 
-fn number_of(actor: Actor) -> u8
-    ensures { result ≡ records.actor_number actor }
-{
-    match actor {
-        Actor::Ground => 0,
-        Actor::App(number) => number,
-    }
-}
-
 /// How many bytes the body of the request's record has. The record can be written where they are at most
 /// [`BODY_LIMIT`](crate::BODY_LIMIT).
 pub fn body_len(request: &Request) -> usize
@@ -43,9 +34,9 @@ pub fn body_len(request: &Request) -> usize
 {
     match request {
         Request::Command { bytes } => bytes.bytes().len(),
-        Request::File { name, bytes } => field_len(name) + bytes.bytes().len(),
-        Request::Start { name } => field_len(name),
-        Request::Register { name, .. } => field_len(name) + 7,
+        Request::File { name, bytes } => name.field_len() + bytes.bytes().len(),
+        Request::Start { name } => name.field_len(),
+        Request::Register { name, .. } => name.field_len() + 7,
         Request::LoadImage { image, .. } => 2 + image.bytes().len(),
         Request::Get { .. } | Request::Release { .. } => 2,
         Request::Read { .. } => 10,
@@ -58,7 +49,7 @@ fn append_file(out: &mut Bytes, name: &Name64, bytes: &Bytes)
     ensures bytes { out.new.list ≡ out.old.list ++ body_of (ask.File name.now bytes.now) }
     ensures sized { IsSized (ask.File name.now bytes.now) }
 {
-    append_name(out, name);
+    name.append_field(out);
     out.append(bytes.bytes());
 }
 
@@ -67,7 +58,7 @@ fn append_register(out: &mut Bytes, name: &Name16, size: u32, flags: u16, valida
     ensures bytes { out.new.list ≡ out.old.list ++ body_of (ask.Register name.now size flags validator) }
     ensures sized { IsSized (ask.Register name.now size flags validator) }
 {
-    append_name(out, name);
+    name.append_field(out);
     append_four(out, size);
     append_two(out, flags);
     append_validator(out, validator);
@@ -101,7 +92,7 @@ fn append_body(out: &mut Bytes, request: &Request)
     match request {
         Request::Command { bytes } => out.append(bytes.bytes()),
         Request::File { name, bytes } => append_file(out, name, bytes),
-        Request::Start { name } => append_name(out, name),
+        Request::Start { name } => name.append_field(out),
         Request::Register {
             name,
             size,
@@ -132,7 +123,7 @@ pub fn write_record(out: &mut Bytes, actor: Actor, request: &Request) -> Result<
     let len = body_len(request);
     let [high, low] = (len as u16).to_be_bytes();
     out.reserve(HEAD_LEN + len)?;
-    out.append(&[kind_of(request), number_of(actor), high, low]);
+    out.append(&[kind_of(request), actor.number(), high, low]);
     append_body(out, request);
     Ok(())
 }

@@ -1,21 +1,20 @@
 //! Reading a table file.
 
 ghost use Rattle.std.specs.Prelude.{◌≡◌, ◌+◌, ◌≤◌, None, Some, length, drop, IfErr, IfOk, OnOk};
-ghost use Rattle.tbl_kinds.specs.Numbers.{four_at, piece};
+ghost use Rattle.tbl_kinds.specs.Numbers.{piece};
 ghost use Rattle.tbl_kinds.specs.Names.{name_in};
 ghost use Rattle.tbl_kinds.specs.TableFiles.{file_flaw, file_status, table_file_in, image_place};
 ghost use Rattle.table_files.specs.Files.{flaw_of, with_image};
 
-use byteorder::{BigEndian, ByteOrder};
 use cfe_headers::{HeaderFault, read_file_header};
-use tbl_kinds::{Name, Name40, Status};
+use tbl_kinds::{Name, Name40, Status, u32_at};
 use thiserror::Error;
 
 /// The subtype of a table file (cFE's `CFE_FS_SubType_TBL_IMG`).
 pub(crate) const TABLE_SUBTYPE: u32 = 8;
 
 /// Where the image bytes begin: behind the file header and the table file header.
-pub(crate) const IMAGE_PLACE: usize = 116;
+pub const IMAGE_PLACE: usize = 116;
 
 /// What a table file tells beside its image bytes, which stand from place 116. Behind the file header of 64 bytes stands
 /// the table file header of 52 (cFE's `CFE_TBL_File_Hdr_t`, cfe_tbl_extern_typedefs.h): four reserved bytes, the offset
@@ -67,14 +66,6 @@ impl FileFault {
             FileFault::TooBig => Status::ERR_FILE_TOO_LARGE,
         }
     }
-}
-
-/// The number in four bytes at a place.
-fn u32_at(bytes: &[u8], place: usize) -> u32
-    requires { place + 4 ≤ length bytes.now }
-    ensures { result ≡ four_at place bytes.now }
-{
-    BigEndian::read_u32(&bytes[place..])
 }
 
 /// The table's full name.

@@ -1,7 +1,6 @@
 //! Writing a table file.
 
-ghost use Rattle.std.specs.Prelude.{◌≡◌, ◌+◌, ◌≤◌, ◌++◌, length, replicate};
-ghost use Rattle.tbl_kinds.specs.Names.{HasNoZero, name_field};
+ghost use Rattle.std.specs.Prelude.{◌≡◌, ◌+◌, ◌≤◌, ◌++◌, length};
 ghost use Rattle.tbl_kinds.specs.Headers.{IsHeader};
 ghost use Rattle.tbl_kinds.specs.TableFiles.{IsWritable, table_file, table_subtype, image_place};
 ghost use Rattle.cfe_headers.specs.FileHeaders.{header_of};
@@ -9,34 +8,7 @@ ghost use Rattle.table_files.specs.Files.{with_image};
 
 use crate::reading::TableFile;
 use cfe_headers::{FileHeader, write_file_header};
-use tbl_kinds::{Bytes, Name40};
-
-/// The width of the name field.
-const NAME_WIDTH: usize = 40;
-
-/// Appends zeros, at most as many as the name field is wide.
-fn put_zeros(out: &mut Bytes, count: usize)
-    requires within { count ≤ 40 }
-    requires room { count ≤ out.old.spare }
-    ensures bytes { out.new.list ≡ out.old.list ++ replicate count 0 }
-    ensures room { out.old.spare ≤ out.new.spare + count }
-{
-    let zeros = [0; NAME_WIDTH];
-    out.append(&zeros[..count]);
-}
-
-/// Appends a name field: the name, and then zeros.
-fn put_name(out: &mut Bytes, name: &Name40)
-    requires { 40 ≤ out.old.spare }
-    ensures bytes { out.new.list ≡ out.old.list ++ name_field 40 name.now }
-    ensures room { out.old.spare ≤ out.new.spare + 40 }
-    ensures within { length name.now ≤ 40 }
-    ensures no_zero { HasNoZero name.now }
-{
-    let bytes = name.bytes();
-    out.append(bytes);
-    put_zeros(out, NAME_WIDTH - bytes.len());
-}
+use tbl_kinds::Bytes;
 
 /// The numbers of a header fit their fields, and its description fills its own.
 fn every_header_fits(header: &FileHeader)
@@ -72,6 +44,7 @@ pub fn write_table_file(out: &mut Bytes, header: &FileHeader, file: &TableFile, 
     out.append(&[0; 4]);
     out.append(&file.offset.to_be_bytes());
     out.append(&file.count.to_be_bytes());
-    put_name(out, &file.name);
+    let _width = file.name.field_len();
+    file.name.append_field(out);
     out.append(image);
 }

@@ -1,7 +1,9 @@
-ghost use Rattle.std.specs.Prelude.{◌≡◌, ◌≤◌, length};
+ghost use Rattle.std.specs.Prelude.{◌≡◌, ◌+◌, ◌≤◌, ◌++◌, length};
 ghost use Rattle.std.specs.List.{list_all, position_or_len};
-ghost use Rattle.tbl_kinds.specs.Names.{is_zero, name_in, is_printable_byte, is_name, HasNoZero};
+ghost use Rattle.tbl_kinds.specs.Names.{is_zero, name_in, name_field, is_printable_byte, is_name, HasNoZero};
+ghost use Rattle.tbl_kinds.specs.Records.{FitsField};
 
+use crate::bytes::Bytes;
 use arrayvec::ArrayVec;
 use std::marker::Model;
 
@@ -70,6 +72,29 @@ impl<const N: usize> Name<N> {
         let mut items = ArrayVec::new();
         let _ = items.try_extend_from_slice(&field[..first_zero(field)]);
         Name { items }
+    }
+
+    /// How many bytes the field of this name has: `N`.
+    pub fn field_len(&self) -> usize
+        ensures len { result ≡ length (name_field N self.now) }
+        ensures width { result ≡ N }
+    {
+        let _bytes = self.bytes();
+        N
+    }
+
+    /// Appends the field of this name: its bytes, and zeros up to `N` in all.
+    pub fn append_field(&self, out: &mut Bytes)
+        requires { length (name_field N self.now) ≤ out.old.spare }
+        ensures bytes { out.new.list ≡ out.old.list ++ name_field N self.now }
+        ensures room { out.old.spare ≤ out.new.spare + length (name_field N self.now) }
+        ensures fits { FitsField N self.now }
+    {
+        let bytes = self.bytes();
+        let zeros = [0; N];
+        let (_, behind) = zeros.as_slice().split_at(bytes.len());
+        out.append(bytes);
+        out.append(behind);
     }
 
     /// The bytes, at most `N`.

@@ -1,4 +1,5 @@
-ghost use Rattle.std.specs.Prelude.{◌↔◌, IsTrue};
+ghost use Rattle.std.specs.Prelude.{◌≡◌, ◌↔◌, IsTrue};
+ghost use Rattle.tbl_kinds.specs.Records.{actor_number};
 ghost use Rattle.tbl_kinds.specs.Requests.{Fits};
 
 use crate::bytes::Bytes;
@@ -11,6 +12,18 @@ pub enum Actor {
     Ground,
     /// An application, by its number from 1 to 16.
     App(u8),
+}
+
+impl Actor {
+    /// 0 for the ground, or the number of the application: the actor's byte in records and entries.
+    pub fn number(self) -> u8
+        ensures { result ≡ actor_number self }
+    {
+        match self {
+            Actor::Ground => 0,
+            Actor::App(number) => number,
+        }
+    }
 }
 
 /// How the processor was reset (cFE User's Guide, Executive Services, "Reset Types and Subtypes").

@@ -1,6 +1,5 @@
 use super::*;
 use bitflags::Flags;
-use std::process::Abort;
 use std::test::Fail;
 
 #[test]
@@ -40,32 +39,19 @@ fn a_plain_answer_names_nothing(rt: HostRuntime) {
     assert_eq!(rt; Answer::plain(Status::ERR_BAD_APP), want);
 }
 
+// Further cases of names and of actors stand in the table of the program codec_cases.
 #[test]
-fn names_end_before_a_zero(rt: HostRuntime) {
+fn names_end_before_a_zero(rt: HostRuntime) -> Result<(), Fail> {
     let short: Name16 = Name::of(b"A.T\0\x7FB\0\0\0\0\0\0\0\0\0\0");
     assert_eq!(rt; short.bytes(), b"A.T".as_slice());
     let copy = short.copy();
     assert_eq!(rt; copy, short);
     assert!(rt; copy.is_name());
-    let full: Name16 = Name::of(b"ABCDEFGHIJKLMNOP");
-    assert_eq!(rt; full.bytes(), b"ABCDEFGHIJKLMNOP".as_slice());
-}
-
-#[test]
-fn names_are_printable(rt: HostRuntime) {
-    for (field, want) in [
-        (b"A.T", true),
-        (b"!A~", true),
-        (b"A\0\0", true),
-        (b"\0AT", false),
-        (b"A T", false),
-        (b"A\x1FT", false),
-        (b"A\x7FT", false),
-        (b"A\xC3T", false),
-    ] {
-        let name: Name20 = Name::of(field);
-        assert_eq!(rt; name.is_name(), want, "at {field:?}");
-    }
+    assert_eq!(rt; copy.field_len(), 16);
+    let mut field = Bytes::make(rt.alloc(), 16)?;
+    copy.append_field(&mut field);
+    assert_eq!(rt; field.bytes(), b"A.T\0\0\0\0\0\0\0\0\0\0\0\0\0".as_slice());
+    Ok(())
 }
 
 #[test]
@@ -79,59 +65,17 @@ fn slots_stay_in_order(rt: HostRuntime) {
 }
 
 #[test]
-fn requests_fit_their_actors(rt: HostRuntime) -> Result<(), Fail> {
-    let command = Request::Command {
-        bytes: Bytes::make(rt.alloc(), 0)?,
-    };
-    from_ground(&rt, &command);
-    let file = Request::File {
-        name: Name::of(b"/a"),
-        bytes: Bytes::make(rt.alloc(), 0)?,
-    };
-    from_ground(&rt, &file);
-    let time = Request::Time { seconds: 5, sub: 0 };
-    from_ground(&rt, &time);
-    let reset = Request::Reset {
-        kind: ResetKind::PowerOn,
-    };
-    from_ground(&rt, &reset);
-    let start = Request::Start {
-        name: Name::of(b"A"),
-    };
-    from_applications(&rt, &start);
-    from_applications(&rt, &register(Some(254)));
-    from_applications(&rt, &register(None));
-    assert!(rt; !fits(Actor::App(1), &register(Some(255))));
-    from_applications(&rt, &Request::Exit);
-    let delete = Request::CdsDelete { slot: 0 };
-    from_applications(&rt, &delete);
-    Ok(())
+fn requests_fit_their_actors(rt: HostRuntime) {
+    assert_eq!(rt; Actor::App(16).number(), 16);
+    assert!(rt; fits(Actor::App(16), &Request::Exit));
+    assert!(rt; !fits(Actor::Ground, &Request::Exit));
 }
 
-fn register(validator: Option<u8>) -> Request {
-    Request::Register {
-        name: Name::of(b"T"),
-        size: 4,
-        flags: 0,
-        validator,
-    }
-}
-
-fn from_ground(rt: &impl Abort, request: &Request) {
-    assert!(rt; fits(Actor::Ground, request));
-    for number in 0..=255 {
-        assert!(rt; !fits(Actor::App(number), request));
-    }
-}
-
-fn from_applications(rt: &impl Abort, request: &Request) {
-    assert!(rt; !fits(Actor::Ground, request));
-    for number in 0..=255 {
-        assert_eq!(rt;
-            fits(Actor::App(number), request),
-            1 <= number && number <= 16
-        );
-    }
+#[test]
+fn numbers_have_the_high_byte_first(rt: HostRuntime) {
+    let bytes = [0, 1, 2, 3, 4];
+    assert_eq!(rt; u16_at(&bytes, 1), 0x0102);
+    assert_eq!(rt; u32_at(&bytes, 1), 0x0102_0304);
 }
 
 #[test]

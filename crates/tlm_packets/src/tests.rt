@@ -32,9 +32,10 @@ fn nothing() -> Housekeeping {
     }
 }
 
+// A further case stands in the table of the program codec_cases.
 #[test]
 fn events(rt: HostRuntime) -> Result<(), Fail> {
-    let mut out = Bytes::make(rt.alloc(), 48)?;
+    let mut out = Bytes::make(rt.alloc(), 24)?;
     let noop = Event {
         number: 1,
         status: Status::SUCCESS,
@@ -45,22 +46,6 @@ fn events(rt: HostRuntime) -> Result<(), Fail> {
     assert_eq!(rt;
         out.bytes(),
         b"\x08\x08\xC0\x00\x00\x11\0\0\0\0\0\0\0\x01\0\0\0\0\xFF\xFF\0\0\0\0".as_slice()
-    );
-    let failed = Event {
-        number: 3,
-        status: Status::ERR_VALIDATION_FAILED,
-        row: 0,
-        detail: 0xFFFF_FFFB,
-    };
-    let later = TlmHead {
-        count: 16383,
-        seconds: 0x0102_0304,
-        sub: 0x0506,
-    };
-    write_event(&mut out, &later, &failed);
-    assert_eq!(rt;
-        &out.bytes()[24..],
-        b"\x08\x08\xFF\xFF\x00\x11\x01\x02\x03\x04\x05\x06\0\x03\0\0\0\x3A\0\0\xFF\xFF\xFF\xFB".as_slice()
     );
     Ok(())
 }

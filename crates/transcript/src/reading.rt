@@ -1,7 +1,8 @@
-ghost use Rattle.std.specs.Prelude.{◌≡◌, ℕ, ◌+◌, ◌<◌, ◌≤◌, ◌^◌, List, ◌++◌, length, IfSome, Some};
-ghost use Rattle.tbl_kinds.specs.Numbers.{four_at};
+ghost use Rattle.std.specs.Prelude.{◌≡◌, ℕ, ◌+◌, ◌<◌, ◌^◌, List, ◌++◌, IfSome, Some};
 ghost use Rattle.tbl_kinds.specs.Transcript.{EntryFields, IsEntry, entry_spelling, end_bytes};
 ghost use Rattle.transcript.specs.Reading.{head_of, BeginsWithEntry, BeginsWithEnd};
+
+use tbl_kinds::u32_at;
 
 /// An entry as it stands in a transcript, without its reply's bytes and packets.
 #[derive(Clone, Copy, Debug, PartialEq, Eq)]
@@ -29,19 +30,6 @@ pub struct EndRecord {
     pub offset: u32,
 }
 
-/// The number in the four bytes at a place.
-fn number_at(bytes: &[u8], place: usize) -> u32
-    requires { place + 4 ≤ length bytes.now }
-    ensures { result ≡ four_at place bytes.now }
-{
-    u32::from_be_bytes([
-        bytes[place],
-        bytes[place + 1],
-        bytes[place + 2],
-        bytes[place + 3],
-    ])
-}
-
 /// The head of the entry whose spelling the bytes begin with, none where they begin with no entry's. The place FFFFFFFF
 /// begins the end record and is no entry's.
 pub fn read_entry(bytes: &[u8]) -> Option<EntryHead>
@@ -51,16 +39,16 @@ pub fn read_entry(bytes: &[u8]) -> Option<EntryHead>
     if bytes.len() < 17 {
         return None;
     }
-    let bytes_len = number_at(bytes, 13);
+    let bytes_len = u32_at(bytes, 13);
     let packets_at = 17 + bytes_len as usize;
     if bytes.len() < packets_at + 4 {
         return None;
     }
-    let packets_len = number_at(bytes, packets_at);
+    let packets_len = u32_at(bytes, packets_at);
     if bytes.len() < packets_at + 4 + packets_len as usize {
         return None;
     }
-    let place = number_at(bytes, 0);
+    let place = u32_at(bytes, 0);
     let actor = bytes[4];
     if place == u32::MAX {
         return None;
@@ -71,8 +59,8 @@ pub fn read_entry(bytes: &[u8]) -> Option<EntryHead>
     Some(EntryHead {
         place,
         actor,
-        status: number_at(bytes, 5),
-        detail: number_at(bytes, 9),
+        status: u32_at(bytes, 5),
+        detail: u32_at(bytes, 9),
         bytes_len,
         packets_len,
     })
@@ -87,13 +75,13 @@ pub fn read_end(bytes: &[u8]) -> Option<EndRecord>
     if bytes.len() < 13 {
         return None;
     }
-    let mark = number_at(bytes, 0);
+    let mark = u32_at(bytes, 0);
     if mark != u32::MAX {
         return None;
     }
     Some(EndRecord {
         status: bytes[4],
-        count: number_at(bytes, 5),
-        offset: number_at(bytes, 9),
+        count: u32_at(bytes, 5),
+        offset: u32_at(bytes, 9),
     })
 }

@@ -21,6 +21,7 @@ fn bytes_of(alloc: Global, piece: &[u8]) -> Result<Bytes, Memory>
     Ok(bytes)
 }
 
+// Further cases stand in the table of the program codec_cases.
 #[test]
 fn writes_an_entry_and_an_end(rt: HostRuntime) -> Result<(), Fail> {
     let entry = Entry {
@@ -65,8 +66,6 @@ fn reads_an_entry(rt: HostRuntime) {
         packets_len: 24,
     };
     assert_eq!(rt; read_entry(&ENTRY), Some(head));
-    assert_eq!(rt; read_entry(&ENTRY[..44]), None);
-    assert_eq!(rt; read_end(&ENTRY), None);
 }
 
 #[test]
@@ -77,6 +76,4 @@ fn reads_an_end(rt: HostRuntime) {
         offset: 24,
     };
     assert_eq!(rt; read_end(&END), Some(end));
-    assert_eq!(rt; read_end(&END[..12]), None);
-    assert_eq!(rt; read_entry(&[0xFF; 40]), None);
 }

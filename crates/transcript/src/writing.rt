@@ -1,17 +1,7 @@
 ghost use Rattle.std.specs.Prelude.{◌≡◌, ◌+◌, ◌<◌, ◌≤◌, ◌^◌, ◌++◌, length, OnOk, OnErr};
-ghost use Rattle.tbl_kinds.specs.Records as records;
 ghost use Rattle.tbl_kinds.specs.Transcript.{entry_bytes, end_bytes};
 
-use tbl_kinds::{Actor, Bytes, Entry, Memory};
-
-fn number_of(actor: Actor) -> u8
-    ensures { result ≡ records.actor_number actor }
-{
-    match actor {
-        Actor::Ground => 0,
-        Actor::App(number) => number,
-    }
-}
+use tbl_kinds::{Bytes, Entry, Memory};
 
 /// Appends the spelling of the entry that stands at this place of the history. Where memory runs out, nothing is
 /// changed.
@@ -26,7 +16,7 @@ pub fn write_entry(out: &mut Bytes, place: u32, entry: &Entry) -> Result<(), Mem
     let packets = entry.reply.packets.bytes();
     out.reserve(21 + bytes.len() + packets.len())?;
     out.append(&place.to_be_bytes());
-    out.append(&[number_of(entry.actor)]);
+    out.append(&[entry.actor.number()]);
     out.append(&entry.reply.status.0.to_be_bytes());
     out.append(&entry.reply.detail.to_be_bytes());
     out.append(&(bytes.len() as u32).to_be_bytes());

@@ -11,7 +11,7 @@ unfolding file_with
 returns-clause-bytes c =
     rw (
       c.append-4.ensures.bytes,
-      c.put_name.ensures.bytes,
+      c.append_field.ensures.bytes,
       c.append-3.ensures.bytes,
       c.append-2.ensures.bytes,
       c.append.ensures.bytes,
@@ -27,8 +27,8 @@ returns-clause-writable c = record {
   subtype = c.requires.subtype;
   offset_fits = search rules;
   image_fits = search rules;
-  name_fits = c.put_name.ensures.within;
-  no_zero = c.put_name.ensures.no_zero;
+  name_fits = c.append_field.ensures.fits.within;
+  no_zero = c.append_field.ensures.fits.no_zero;
 }
 
 pub returns-clause-len : goal.returns-clause-len

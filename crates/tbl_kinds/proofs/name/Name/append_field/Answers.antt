@@ -1,6 +1,6 @@
 use Rattle.std.proofs.Common.{refl, append_assoc}
 use Rattle.std.proofs.lemmas.List.{drop-replicate}
-use Rattle.session_records.proofs.fields.append_name.Goals as goal
+use Rattle.tbl_kinds.proofs.name.Name.append_field.Goals as goal
 
 pub returns-clause-bytes : goal.returns-clause-bytes
 returns-clause-bytes g c =

@@ -1,0 +1,14 @@
+//! Tables of cases for programs that test a layer: rows of cells, and bytes in hexadecimal with names for pieces that
+//! come again. A program may rely on each row being tried once, in order, and on each that fails being told.
+#![tactic(auto)]
+
+mod fault;
+mod number;
+mod piece;
+mod pieces;
+mod table;
+
+pub use fault::CaseFault;
+pub use number::{number_in, numbers_in};
+pub use pieces::Pieces;
+pub use table::{Cases, play_table};

@@ -1,0 +1,16 @@
+//! Plays the sessions of a table, and says which of them ended otherwise than it states.
+#![tactic(auto)]
+
+mod ending;
+mod runs;
+
+use case_tables::play_table;
+use runs::Runs;
+use std::process::ExitCode;
+
+fn main(rt: HostRuntime) -> ExitCode {
+    match play_table(&rt, &mut Runs::make(rt.alloc())) {
+        Ok(true) => ExitCode::from(0),
+        _ => ExitCode::from(1),
+    }
+}

@@ -1,0 +1,16 @@
+//! Plays the steps of a table on cores, and says which of them gave other entries than it states.
+#![tactic(auto)]
+
+mod stepping;
+mod steps;
+
+use case_tables::play_table;
+use std::process::ExitCode;
+use steps::Steps;
+
+fn main(rt: HostRuntime) -> ExitCode {
+    match play_table(&rt, &mut Steps::make(rt.alloc())) {
+        Ok(true) => ExitCode::from(0),
+        _ => ExitCode::from(1),
+    }
+}

@@ -1,0 +1,92 @@
+//! Steps as a table states them.
+
+use crate::stepping::{step, step_all};
+use case_tables::{CaseFault, Cases, Pieces};
+use std::alloc::Global;
+use tbl_core::Core;
+use tbl_kinds::{Actor, Bytes, Memory, Name, Request};
+
+/// How many bytes the field of a file's name has.
+const NAME_FIELD: usize = 64;
+
+/// The core that is played on, if one was started.
+#[derive(Drop)]
+pub(crate) struct Steps {
+    alloc: Global,
+    core: Option<Core>,
+}
+
+fn out_of_memory(_memory: Memory) -> CaseFault {
+    CaseFault::Memory
+}
+
+fn kept(alloc: Global, piece: &[u8]) -> Result<Bytes, Memory> {
+    let mut bytes = Bytes::make(alloc, piece.len())?;
+    bytes.append(piece);
+    Ok(bytes)
+}
+
+/// Whether the entries are those that are wanted.
+fn compare(alloc: Global, came: &Bytes, wanted: &[u8]) -> Result<(), CaseFault> {
+    if came.bytes() == wanted {
+        return Ok(());
+    }
+    Err(CaseFault::Differs(hex::encode(alloc, came.bytes())?))
+}
+
+impl Steps {
+    /// Before the first core.
+    pub(crate) fn make(alloc: Global) -> Steps {
+        Steps { alloc, core: None }
+    }
+
+    fn start(&mut self) -> Result<u32, CaseFault> {
+        let core = Core::start(self.alloc).map_err(out_of_memory)?;
+        self.core = Some(core);
+        Ok(0)
+    }
+
+    /// Plays records.
+    fn play(&mut self, records: &[u8], wanted: &[u8]) -> Result<u32, CaseFault> {
+        let core = self.core.as_mut().ok_or(CaseFault::Unreadable)?;
+        let mut out = Bytes::make(self.alloc, 0).map_err(out_of_memory)?;
+        let count = step_all(self.alloc, core, records, &mut out)?;
+        compare(self.alloc, &out, wanted)?;
+        Ok(count)
+    }
+
+    /// Uplinks a file, for which a record may have no room.
+    fn uplink(&mut self, name: &[u8], contents: &[u8], wanted: &[u8]) -> Result<u32, CaseFault> {
+        let core = self.core.as_mut().ok_or(CaseFault::Unreadable)?;
+        let mut out = Bytes::make(self.alloc, 0).map_err(out_of_memory)?;
+        if name.len() > NAME_FIELD {
+            return Err(CaseFault::Unreadable);
+        }
+        let file = Request::File {
+            name: Name::of(name),
+            bytes: kept(self.alloc, contents).map_err(out_of_memory)?,
+        };
+        step(core, Actor::Ground, file, &mut out)?;
+        compare(self.alloc, &out, wanted)?;
+        Ok(1)
+    }
+}
+
+impl Cases for Steps {
+    /// The rows are `core | TITLE` for a core at its start, `play | RECORDS | ENTRIES` for steps of it, and
+    /// `file | NAME | CONTENTS | ENTRY` for the uplink of a file.
+    fn try_row(&mut self, pieces: &Pieces, cells: &[&str]) -> Result<u32, CaseFault> {
+        match cells {
+            ["core", _] => self.start(),
+            ["play", records, entries] => {
+                self.play(&pieces.bytes(records)?, &pieces.bytes(entries)?)
+            }
+            ["file", name, contents, entry] => self.uplink(
+                &pieces.bytes(name)?,
+                &pieces.bytes(contents)?,
+                &pieces.bytes(entry)?,
+            ),
+            _ => Err(CaseFault::Unreadable),
+        }
+    }
+}
