@@ -1,5 +1,6 @@
 pub mod Banks
 pub mod Calls
 pub mod Contents
+pub mod Notes
 pub mod Past
 pub mod Troubles

@@ -1,12 +1,13 @@
 // A bank that never fails.
-ghost use Rattle.std.specs.Prelude.{◌≡◌, ◌+◌, ◌<◌, ◌≤◌, ◌^◌, ℕ, List, length, IsOk, ⊤, refl};
+ghost use Rattle.std.specs.Prelude.{◌≡◌, ◌+◌, ◌<◌, ◌≤◌, ◌^◌, ℕ, List, length, IsOk, ⊤, refl, []};
 ghost use Rattle.tbl_outside.specs.Bank.{piece, overwritten};
 
 use std::marker::Model;
 use tbl_kinds::Bytes;
 use tbl_outside::{Bank, Failed, Written};
 
-/// Preserved memory that never fails and is never stopped. It keeps no record, so it tells its bytes and not its moments.
+/// Preserved memory that never fails and is never stopped. It keeps no record, so it tells its bytes, and
+/// neither its moments nor what it was asked.
 #[derive(Debug, Drop)]
 pub struct CalmBank {
     bytes: Bytes,
@@ -57,6 +58,10 @@ impl Bank for CalmBank {
     ghost faults = { λ _. 0 };
 
     ghost stops = { λ _. 0 };
+
+    ghost tells_calls = { λ _. ⊥ };
+
+    ghost calls = { λ _. [] };
 
     ghost tells_both = { λ untold. absurd untold };
 
