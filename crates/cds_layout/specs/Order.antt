@@ -24,44 +24,48 @@ copy_calls b image = write (data_place b) image ∷ write b.offset (block_head b
 abbrev pub delete_calls : ℕ → List BankCall
 delete_calls slot = write (gate_place slot) (0 ∷ []) ∷ []
 
--- a new block: eight zeros as its head, the entry behind the gate, and the gate
+-- a reservation closes the gate of the doubtful block, where there is one; then it writes eight zeros as the new block's
+-- head, the entry behind the gate, and the gate
+abbrev pub close_calls : Option ℕ → List BankCall
+close_calls None = []
+close_calls (Some slot) = delete_calls slot
+
 abbrev pub make_calls : ℕ → Block → List BankCall
 make_calls slot b =
     write b.offset (replicate head_len 0) ∷ write (tail_place slot) (entry_tail b) ∷ write (gate_place slot) (gate_open ∷ []) ∷ []
 
--- a reservation closes the gate of the doubtful block first, where there is one
 abbrev pub reserve_calls : Option ℕ → ℕ → Block → List BankCall
-reserve_calls None slot b = make_calls slot b
-reserve_calls (Some old) slot b = write (gate_place old) (0 ∷ []) ∷ make_calls slot b
+reserve_calls old slot b = close_calls old ++ make_calls slot b
 
 -- ---- boots
 
--- a gate that is open, and whose entry doesn't count
-abbrev pub is_stray : List ℕ → ℕ → Bool
-is_stray bytes slot = (gate_at bytes slot == gate_open) && is_none (slice_index_or (directory_of bytes) slot None)
+-- a gate that is open, where the directory has no block
+abbrev pub is_stray : List ℕ → List (Option Block) → ℕ → Bool
+is_stray bytes directory slot = (gate_at bytes slot == gate_open) && is_none (slice_index_or directory slot None)
 
 -- of the first slots, the stray gates are closed, from the first slot on
-unfoldable pub strays_to : ℕ → List ℕ → List BankCall
-strays_to zero bytes = []
-strays_to (suc slot) bytes = strays_to slot bytes ++ (if is_stray bytes slot then delete_calls slot else [])
+unfoldable pub strays_to : ℕ → List ℕ → List (Option Block) → List BankCall
+strays_to zero bytes directory = []
+strays_to (suc slot) bytes directory = strays_to slot bytes directory ++ (if is_stray bytes directory slot then delete_calls slot else [])
 
--- so many zeros
 unfoldable pub zeros : ℕ → List ℕ
 zeros count = replicate count 0
 
--- behind the live byte: the rest of the live mark and twelve zeros, then the whole directory as zeros, and then the live
+-- behind the live byte the rest of the live mark and twelve zeros, then the whole directory as zeros, and then the live
 -- byte
-abbrev pub renew_calls : List BankCall
-renew_calls =
-    write 1 (0x44 ∷ 0x53 ∷ 0x31 ∷ zeros 12) ∷ write 16 (zeros 8192) ∷ write 0 (0x43 ∷ []) ∷ []
+abbrev pub renew_calls : List ℕ → List BankCall
+renew_calls empty = write 1 (0x44 ∷ 0x53 ∷ 0x31 ∷ replicate 12 0) ∷ write 16 empty ∷ write 0 (0x43 ∷ []) ∷ []
 
--- the directory is cleared: the live byte goes first, only where it is there
+-- before that the live byte is taken away, only where it is there
+abbrev pub clear_by : ℕ → List ℕ → List BankCall
+clear_by first empty = if first == 0x43 then write 0 (0 ∷ []) ∷ renew_calls empty else renew_calls empty
+
 abbrev pub clear_calls : List ℕ → List BankCall
-clear_calls bytes = if byte_at 0 bytes == 0x43 then write 0 (0 ∷ []) ∷ renew_calls else renew_calls
+clear_calls bytes = clear_by (byte_at 0 bytes) (zeros 8192)
 
--- what a boot writes: over a live bank after a reset of the processor only stray gates
+-- what a boot writes: over a live bank after a reset of the processor, stray gates alone
 abbrev pub boot_writes : ResetKind → List ℕ → List BankCall
-boot_writes Processor bytes = if is_live bytes then strays_to slot_count bytes else clear_calls bytes
+boot_writes Processor bytes = if is_live bytes then strays_to slot_count bytes (directory_of bytes) else clear_calls bytes
 boot_writes PowerOn bytes = clear_calls bytes
 
 -- a boot reads the live mark and the directory first

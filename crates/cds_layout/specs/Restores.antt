@@ -37,10 +37,10 @@ was_read (Err (Torn length kept found)) = true
 was_read (Err Fault) = false
 
 -- a fault moved the count of faults alone, and else neither count moved
-abbrev pub RestoreCounts : {A B : Type 0} → (B → ℕ) → (B → ℕ) → B → B → Result A RestoreFault → Type 0
-RestoreCounts faults stops old new (Ok x) = Still faults stops old new
-RestoreCounts faults stops old new (Err (Torn length kept found)) = Still faults stops old new
-RestoreCounts faults stops old new (Err Fault) = RoseAlone faults stops old new
+abbrev pub RestoreCounted : {A B : Type 0} → (B → ℕ) → (B → ℕ) → B → B → Result A RestoreFault → Type 0
+RestoreCounted faults stops old new (Ok x) = Still faults stops old new
+RestoreCounted faults stops old new (Err (Torn length kept found)) = Still faults stops old new
+RestoreCounted faults stops old new (Err Fault) = RoseAlone faults stops old new
 
 -- a head beside bytes: whole, or torn
 abbrev pub compared : List ℕ → ℕ → List ℕ → Result Unit RestoreFault

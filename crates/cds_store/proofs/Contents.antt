@@ -6,6 +6,7 @@ use Rattle.std.proofs.lemmas.Option.{same_Some}
 use Rattle.std.proofs.Math.ListN.{get_or-map}
 use Rattle.tbl_kinds.specs.Places.{bank_size, end_of}
 use Rattle.tbl_kinds.specs.Blocks.{Stored, Store as Blocks}
+use Rattle.tbl_kinds.specs.StoreCalls.{copy as copying}
 use Rattle.tbl_kinds.specs.StoreSteps.{stored_at, MayGiveAfter, changed, with_held, with_try, copied, copy_broken, restored}
 use Rattle.tbl_kinds.specs.declared.block.Block.{Block}
 use Rattle.tbl_outside.specs.Bank.{Torn, overwritten}
@@ -14,7 +15,7 @@ use Rattle.cds_layout.specs.Images.{data_place, head_len, held_in, stored_in, st
 use Rattle.cds_layout.specs.Restores.{TellsTorn}
 use Rattle.cds_layout.specs.declared.blocks.RestoreFault.{RestoreFault}
 use Rattle.cds_layout.specs.declared.blocks.RestoreFault.TheVariants.{Torn as Is_torn, Fault}
-use Rattle.cds_store.specs.Moments.{ShowsIn, CopyTears, CopyLeaves}
+use Rattle.cds_store.specs.Moments.{ShowsIn, LeavesIn, CopyTears}
 use Rattle.cds_store.specs.Sound.{slot_at, EntryIs, Matches, IsSound, IsOpenOf}
 use Rattle.cds_store.specs.Standing.{StandsFor, AreHeld, kept, slot_of, after_fault, held_at, ComesBack}
 use Rattle.cds_store.specs.declared.slot.Slot.{Slot}
@@ -67,8 +68,8 @@ module _ {B : Type 0} (tells : Type 0) (size : B → ℕ) (now : B → List ℕ)
         (omega (arith, in_block.same_length, whole bank told, sound.room))
         (subst (λ (t : Slot). Torn t.block.offset (8 + t.block.size) (now bank) image) (sym at_n.is) in_block)
 
-    pub copy_leaves : tells → (blocks : Blocks) → StandsFor tells now (kept slots bank) blocks → (image : List ℕ) → CopyTears s.block copy (now bank) image → CopyLeaves n copy blocks image
-    copy_leaves told blocks stands image torn = inr (inr (stands_show image slots (copy_broken n copy blocks) (broken_stands told blocks stands image torn)))
+    pub copy_leaves : tells → (blocks : Blocks) → StandsFor tells now (kept slots bank) blocks → (image : List ℕ) → CopyTears s.block copy (now bank) image → LeavesIn (copying n copy) blocks image
+    copy_leaves told blocks stands image torn = inr (inr (false, false, (refl, refl), stands_show image slots (copy_broken n copy blocks) (broken_stands told blocks stands image torn)))
 
     module _ (new : B) (room : bank_size ≤ size new) (torn : tells → CopyTears s.block copy (now bank) (now new)) where
       pub broken_for : (blocks : Blocks) → StandsFor tells now (kept slots bank) blocks → StandsFor tells now (kept slots new) (copy_broken n copy blocks)

@@ -14,15 +14,19 @@ use Rattle.tbl_kinds.specs.Limits.{table_limit}
 use Rattle.tbl_kinds.specs.Names.{is_name}
 use Rattle.tbl_kinds.specs.Places.{blocks_begin, bank_size, is_inside, are_apart, fits, place}
 use Rattle.tbl_kinds.specs.Blocks.{Stored, Store as Blocks}
+use Rattle.tbl_kinds.specs.StoreCalls.{reserve, CanBreak}
 use Rattle.tbl_kinds.specs.StoreSteps.{same_kind, same_block, is_of, is_doubtful_of, is_open_of, stored_at, doubtful_of, open_of, taken, freed, has_room, closed, made, reserved, reserve_broken, in_doubt}
 use Rattle.tbl_kinds.specs.Free.{least_free}
 use Rattle.tbl_kinds.specs.declared.block.Block.{Block}
 use Rattle.tbl_kinds.specs.declared.block.BlockKind.{BlockKind}
 use Rattle.tbl_kinds.specs.declared.block.BlockKind.TheVariants.{Table, App}
-use Rattle.cds_store.specs.Moments.{ShowsIn, MakeLeaves, ReserveLeaves}
+use Rattle.cds_store.specs.Calls.{IfBank, is_gate, is_old}
+use Rattle.cds_store.specs.Moments.{ShowsIn, LeavesIn, MakeLeaves}
 use Rattle.cds_store.specs.Slots.{is_open_slot, is_doubtful_slot, open_slot, doubtful_slot, without_slot, block_of, blocks_of, both, room_in}
 use Rattle.cds_store.specs.Sound.{slot_at, AreTogether, IsNew, IsOpenOf}
-use Rattle.cds_store.specs.Standing.{slot_of, with_new, closing, broken_at}
+use Rattle.cds_store.specs.Standing.{StandsFor, slot_of, with_new, closing, broken_at}
+use Rattle.cds_store.specs.declared.fault.ReserveFault.{ReserveFault}
+use Rattle.cds_store.specs.declared.fault.ReserveFault.TheVariants.{NoRoom, Bank}
 use Rattle.cds_store.specs.declared.slot.Slot.{Slot}
 use Rattle.cds_store.proofs.Together.{bytes_eq_back, same_kind_back}
 
@@ -157,11 +161,11 @@ module _ (kind : BlockKind) (name : List ℕ) (size n at : ℕ) (old : Option �
   broken_is true false both_set = sym (made_is true)
   broken_is false false both_set = ap (λ (o : Option ℕ). freed o blocks) is
 
-  pub make_leaves : (image : List ℕ) → MakeLeaves old n (record { kind = kind; offset = at; size = size; name = name }) blocks image → ReserveLeaves kind name size blocks image
+  pub make_leaves : (image : List ℕ) → MakeLeaves old n (record { kind = kind; offset = at; size = size; name = name }) blocks image → LeavesIn (reserve kind name size) blocks image
   make_leaves image (inl before) = inl before
-  make_leaves image (inr (inl closed_then)) = inr (inr (false, false, subst (λ (o : Option ℕ). ShowsIn (freed o blocks) image) is closed_then))
+  make_leaves image (inr (inl closed_then)) = inr (inr (false, false, (λ set. absurd (cc set)), subst (λ (o : Option ℕ). ShowsIn (freed o blocks) image) is closed_then))
   make_leaves image (inr (inr (inl in_closing))) = inl (subst (λ (l : Blocks). ShowsIn l image) (closing_at old is) in_closing)
-  make_leaves image (inr (inr (inr made_then))) = inr (inr (true, false, subst (λ (l : Blocks). ShowsIn l image) (sym (made_is true)) made_then))
+  make_leaves image (inr (inr (inr made_then))) = inr (inr (true, false, (λ set. absurd (cc set)), subst (λ (l : Blocks). ShowsIn l image) (sym (made_is true)) made_then))
 
 -- ---- the new block is new
 
@@ -306,3 +310,13 @@ open_with_size kind name size (Some s) b is there fits =
 pub found_is_open : (kind : BlockKind) (name : List ℕ) (size n : ℕ) (slots : List (Option Slot)) (b : Block) → open_slot kind name slots ≡ Some n → option_map block_of (slot_at slots n) ≡ Some b → b.size ≡ size → IsOpenOf size (slot_at slots n)
 found_is_open kind name size n slots b found there fits =
     open_with_size kind name size (slot_at slots n) b (position-Some (is_open_slot kind name) slots n None found).1 there fits
+
+-- ---- where a reservation can break off
+
+pub can_break : {B : Type 0} (tells : Type 0) (now : B → List ℕ) (kind : BlockKind) (name : List ℕ) (size : ℕ) (slots : List (Option Slot)) (bank : B) (booted : Bool) (fault : ReserveFault)
+    → IfBank fault (λ fault. is_old fault ≡ true → (is_gate fault ≡ true) × IsSome (doubtful_slot kind name slots))
+    → IfBank fault (λ fault. (blocks : Blocks) → StandsFor tells now (record { slots = slots; bank = bank; booted = booted }) blocks → CanBreak (is_gate fault) (is_old fault) (reserve kind name size) blocks)
+can_break tells now kind name size slots bank booted NoRoom flags = tt
+can_break tells now kind name size slots bank booted (Bank fault) flags = λ blocks stands set.
+    let both_set = flags set in
+    (both_set.0, subst IsSome (doubtful_same kind name slots blocks stands.slots) both_set.1)

@@ -1,11 +1,13 @@
 //! The whole directory is cleared.
 
-ghost use Rattle.std.specs.Prelude.{◌≡◌, ◌≤◌, true, length, OnOk, IfErr};
+ghost use Rattle.std.specs.Prelude.{◌≡◌, ◌≤◌, ◌==◌, true, false, [], ◌∷◌, length, replicate, is_ok, OnOk, IfErr, if◌then◌else◌};
 ghost use Rattle.tbl_kinds.specs.Numbers.{byte_at};
 ghost use Rattle.tbl_kinds.specs.Places.{bank_size};
 ghost use Rattle.tbl_outside.specs.Bank.{Torn, LeavesOnly};
+ghost use Rattle.tbl_outside.specs.BankCalls.{Asks, write};
+ghost use Rattle.cds_layout.specs.Order.{clear_by};
 ghost use Rattle.cds_store.specs.Boots.{is_dead, HasMark, AllShut, AreZeros, IsCleared, IsEmptied, Clears};
-ghost use Rattle.cds_store.specs.Calls.{Steady, IsCaused};
+ghost use Rattle.cds_store.specs.Calls.{Steady, CallCounted, is_old};
 
 use crate::fault::BankFault;
 use crate::writes::write;
@@ -28,7 +30,9 @@ fn close_live<B: Bank>(bank: &mut B, first: u8) -> Result<(), BankFault>
     ensures left { B.tells → Clears (B.now bank.old) (B.now bank.new) }
     ensures moments { B.tells_moments → LeavesOnly B.clock B.left_since bank.old bank.new (Clears (B.now bank.old)) }
     ensures steady { Steady B.size B.faults B.stops bank.old bank.new }
-    ensures cause { IfErr result (IsCaused B.faults B.stops bank.old bank.new) }
+    ensures counted { CallCounted B.faults B.stops bank.old bank.new result }
+    ensures asked { Asks B.tells_calls B.calls bank.old bank.new (is_ok result) (if first == 0x43 then write 0 (0 ∷ []) ∷ [] else []) }
+    ensures not_old { IfErr result (λ fault. is_old fault ≡ false) }
 {
     if first == LIVE {
         write(bank, 0, &[0], false, false)
@@ -46,7 +50,9 @@ fn write_mark<B: Bank>(bank: &mut B) -> Result<(), BankFault>
     ensures left { B.tells → IsEmptied (B.now bank.new) }
     ensures moments { B.tells_moments → LeavesOnly B.clock B.left_since bank.old bank.new IsEmptied }
     ensures steady { Steady B.size B.faults B.stops bank.old bank.new }
-    ensures cause { IfErr result (IsCaused B.faults B.stops bank.old bank.new) }
+    ensures counted { CallCounted B.faults B.stops bank.old bank.new result }
+    ensures asked { Asks B.tells_calls B.calls bank.old bank.new (is_ok result) (write 1 (0x44 ∷ 0x53 ∷ 0x31 ∷ replicate 12 0) ∷ []) }
+    ensures not_old { IfErr result (λ fault. is_old fault ≡ false) }
 {
     write(
         bank,
@@ -69,7 +75,9 @@ fn write_entries<B: Bank>(bank: &mut B, zeros: &[u8]) -> Result<(), BankFault>
     ensures left { B.tells → IsEmptied (B.now bank.new) }
     ensures moments { B.tells_moments → LeavesOnly B.clock B.left_since bank.old bank.new IsEmptied }
     ensures steady { Steady B.size B.faults B.stops bank.old bank.new }
-    ensures cause { IfErr result (IsCaused B.faults B.stops bank.old bank.new) }
+    ensures counted { CallCounted B.faults B.stops bank.old bank.new result }
+    ensures asked { Asks B.tells_calls B.calls bank.old bank.new (is_ok result) (write 16 zeros.now ∷ []) }
+    ensures not_old { IfErr result (λ fault. is_old fault ≡ false) }
 {
     write(bank, ENTRIES_PLACE, zeros, false, false)
 }
@@ -83,7 +91,9 @@ fn open_live<B: Bank>(bank: &mut B) -> Result<(), BankFault>
     ensures left { B.tells → IsEmptied (B.now bank.new) }
     ensures moments { B.tells_moments → LeavesOnly B.clock B.left_since bank.old bank.new IsEmptied }
     ensures steady { Steady B.size B.faults B.stops bank.old bank.new }
-    ensures cause { IfErr result (IsCaused B.faults B.stops bank.old bank.new) }
+    ensures counted { CallCounted B.faults B.stops bank.old bank.new result }
+    ensures asked { Asks B.tells_calls B.calls bank.old bank.new (is_ok result) (write 0 (0x43 ∷ []) ∷ []) }
+    ensures not_old { IfErr result (λ fault. is_old fault ≡ false) }
 {
     write(bank, 0, &[LIVE], false, false)
 }
@@ -99,7 +109,9 @@ pub(crate) fn clear<B: Bank>(bank: &mut B, first: u8, zeros: &[u8]) -> Result<()
     ensures left { B.tells → Clears (B.now bank.old) (B.now bank.new) }
     ensures moments { B.tells_moments → LeavesOnly B.clock B.left_since bank.old bank.new (Clears (B.now bank.old)) }
     ensures steady { Steady B.size B.faults B.stops bank.old bank.new }
-    ensures cause { IfErr result (IsCaused B.faults B.stops bank.old bank.new) }
+    ensures counted { CallCounted B.faults B.stops bank.old bank.new result }
+    ensures asked { Asks B.tells_calls B.calls bank.old bank.new (is_ok result) (clear_by first zeros.now) }
+    ensures not_old { IfErr result (λ fault. is_old fault ≡ false) }
 {
     close_live(bank, first)?;
     write_mark(bank)?;

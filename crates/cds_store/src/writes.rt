@@ -1,12 +1,14 @@
 //! The writes of a call to the bank, with what each leaves of its bytes, whole or broken off.
 
-ghost use Rattle.std.specs.Prelude.{◌≡◌, ◌+◌, ◌^◌, ◌<◌, ◌≤◌, None, Some, true, false, length, OnOk, IfErr};
+ghost use Rattle.std.specs.Prelude.{◌≡◌, ◌+◌, ◌^◌, ◌<◌, ◌≤◌, None, Some, true, false, [], ◌∷◌, length, replicate, is_ok, OnOk, IfErr};
 ghost use Rattle.tbl_kinds.specs.Check.{check16};
 ghost use Rattle.tbl_kinds.specs.Places.{bank_size};
 ghost use Rattle.tbl_outside.specs.Bank.{overwritten, Torn, LeavesOnly};
-ghost use Rattle.cds_layout.specs.Entries.{slot_count, gate_place, gate_at, tail_place, tail_at, block_in, is_right};
-ghost use Rattle.cds_layout.specs.Images.{held_in, data_place, block_head};
-ghost use Rattle.cds_store.specs.Calls.{Steady, IsCaused, HasFlags};
+ghost use Rattle.tbl_outside.specs.BankCalls.{Asks, write};
+ghost use Rattle.cds_layout.specs.Entries.{slot_count, gate_place, gate_at, tail_place, tail_at, entry_tail, block_in, is_right};
+ghost use Rattle.cds_layout.specs.Images.{head_len, held_in, data_place, block_head};
+ghost use Rattle.cds_layout.specs.Order.{copy_calls};
+ghost use Rattle.cds_store.specs.Calls.{Steady, CallCounted, HasFlags};
 ghost use Rattle.cds_store.specs.Moments.{CopyTears};
 ghost use Rattle.cds_store.specs.Writes.{Prepares};
 
@@ -39,7 +41,8 @@ pub(crate) fn write<B: Bank>(
     ensures moments { B.tells_moments →
         LeavesOnly B.clock B.left_since bank.old bank.new (Torn at (length bytes.now) (B.now bank.old)) }
     ensures steady { Steady B.size B.faults B.stops bank.old bank.new }
-    ensures cause { IfErr result (IsCaused B.faults B.stops bank.old bank.new) }
+    ensures counted { CallCounted B.faults B.stops bank.old bank.new result }
+    ensures asked { Asks B.tells_calls B.calls bank.old bank.new (is_ok result) (write at bytes.now ∷ []) }
     ensures flags { IfErr result (HasFlags gate old) }
 {
     match bank.write_at(at, bytes) {
@@ -71,7 +74,8 @@ pub(crate) fn set_gate<B: Bank>(
     ensures moments { B.tells_moments →
         LeavesOnly B.clock B.left_since bank.old bank.new (Torn (gate_place slot) 1 (B.now bank.old)) }
     ensures steady { Steady B.size B.faults B.stops bank.old bank.new }
-    ensures cause { IfErr result (IsCaused B.faults B.stops bank.old bank.new) }
+    ensures counted { CallCounted B.faults B.stops bank.old bank.new result }
+    ensures asked { Asks B.tells_calls B.calls bank.old bank.new (is_ok result) (write (gate_place slot) (gate ∷ []) ∷ []) }
     ensures flags { IfErr result (HasFlags true old) }
 {
     write(bank, entry_place(slot), &[gate], true, old)
@@ -86,7 +90,8 @@ fn wipe_head<B: Bank>(bank: &mut B, block: &Block) -> Result<(), BankFault>
     ensures moments { B.tells_moments →
         LeavesOnly B.clock B.left_since bank.old bank.new (Torn block.now.offset 8 (B.now bank.old)) }
     ensures steady { Steady B.size B.faults B.stops bank.old bank.new }
-    ensures cause { IfErr result (IsCaused B.faults B.stops bank.old bank.new) }
+    ensures counted { CallCounted B.faults B.stops bank.old bank.new result }
+    ensures asked { Asks B.tells_calls B.calls bank.old bank.new (is_ok result) (write block.now.offset (replicate head_len 0) ∷ []) }
     ensures flags { IfErr result (HasFlags false false) }
 {
     write(bank, block.offset, &[0; 8], false, false)
@@ -102,7 +107,8 @@ fn write_entry<B: Bank>(bank: &mut B, slot: u8, block: &Block) -> Result<(), Ban
     ensures moments { B.tells_moments →
         LeavesOnly B.clock B.left_since bank.old bank.new (Torn (tail_place slot) 63 (B.now bank.old)) }
     ensures steady { Steady B.size B.faults B.stops bank.old bank.new }
-    ensures cause { IfErr result (IsCaused B.faults B.stops bank.old bank.new) }
+    ensures counted { CallCounted B.faults B.stops bank.old bank.new result }
+    ensures asked { Asks B.tells_calls B.calls bank.old bank.new (is_ok result) (write (tail_place slot) (entry_tail block.now) ∷ []) }
     ensures flags { IfErr result (HasFlags false false) }
 {
     write(
@@ -125,7 +131,9 @@ pub(crate) fn prepare<B: Bank>(bank: &mut B, slot: u8, block: &Block) -> Result<
     ensures moments { B.tells_moments →
         LeavesOnly B.clock B.left_since bank.old bank.new (Prepares slot block.now (B.now bank.old)) }
     ensures steady { Steady B.size B.faults B.stops bank.old bank.new }
-    ensures cause { IfErr result (IsCaused B.faults B.stops bank.old bank.new) }
+    ensures counted { CallCounted B.faults B.stops bank.old bank.new result }
+    ensures asked { Asks B.tells_calls B.calls bank.old bank.new (is_ok result)
+        (write block.now.offset (replicate head_len 0) ∷ write (tail_place slot) (entry_tail block.now) ∷ []) }
     ensures flags { IfErr result (HasFlags false false) }
 {
     wipe_head(bank, block)?;
@@ -142,7 +150,8 @@ fn write_data<B: Bank>(bank: &mut B, block: &Block, image: &[u8]) -> Result<(), 
     ensures moments { B.tells_moments →
         LeavesOnly B.clock B.left_since bank.old bank.new (Torn (data_place block.now) block.now.size (B.now bank.old)) }
     ensures steady { Steady B.size B.faults B.stops bank.old bank.new }
-    ensures cause { IfErr result (IsCaused B.faults B.stops bank.old bank.new) }
+    ensures counted { CallCounted B.faults B.stops bank.old bank.new result }
+    ensures asked { Asks B.tells_calls B.calls bank.old bank.new (is_ok result) (write (data_place block.now) image.now ∷ []) }
     ensures flags { IfErr result (HasFlags false false) }
 {
     write(bank, block.offset + HEAD_LENGTH, image, false, false)
@@ -160,7 +169,8 @@ fn write_head<B: Bank>(bank: &mut B, block: &Block, image: &[u8]) -> Result<(), 
     ensures moments { B.tells_moments →
         LeavesOnly B.clock B.left_since bank.old bank.new (Torn block.now.offset 8 (B.now bank.old)) }
     ensures steady { Steady B.size B.faults B.stops bank.old bank.new }
-    ensures cause { IfErr result (IsCaused B.faults B.stops bank.old bank.new) }
+    ensures counted { CallCounted B.faults B.stops bank.old bank.new result }
+    ensures asked { Asks B.tells_calls B.calls bank.old bank.new (is_ok result) (write block.now.offset (block_head block.now.size (check16 image.now)) ∷ []) }
     ensures flags { IfErr result (HasFlags false false) }
 {
     let head = head_bytes(block.size, check16(image));
@@ -181,7 +191,8 @@ pub(crate) fn write_image<B: Bank>(
     ensures moments { B.tells_moments →
         LeavesOnly B.clock B.left_since bank.old bank.new (CopyTears block.now image.now (B.now bank.old)) }
     ensures steady { Steady B.size B.faults B.stops bank.old bank.new }
-    ensures cause { IfErr result (IsCaused B.faults B.stops bank.old bank.new) }
+    ensures counted { CallCounted B.faults B.stops bank.old bank.new result }
+    ensures asked { Asks B.tells_calls B.calls bank.old bank.new (is_ok result) (copy_calls block.now image.now) }
     ensures flags { IfErr result (HasFlags false false) }
 {
     write_data(bank, block, image)?;

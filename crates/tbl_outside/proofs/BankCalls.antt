@@ -1,6 +1,6 @@
 -- What was asked by several calls in a row.
-use Rattle.std.proofs.Common.{◌≡◌, inl, inr, List, [], ◌∷◌, ◌++◌, refl}
-use Rattle.tbl_outside.specs.BankCalls.{BankCall, asked, BrokeOff}
+use Rattle.std.proofs.Common.{◌≡◌, inl, inr, List, [], ◌∷◌, ◌++◌, Bool, true, false, refl, sym, ◌∙◌, ap, subst}
+use Rattle.tbl_outside.specs.BankCalls.{BankCall, asked, BrokeOff, Makes, Asks}
 
 pub asked-append : (calls more past : List BankCall) → asked (calls ++ more) past ≡ asked more (asked calls past)
 asked-append [] more past = refl
@@ -16,3 +16,23 @@ broke_before (call ∷ calls) more past now (inr later) = inr (broke_before call
 pub broke_behind : (calls more past now : List BankCall) → BrokeOff more (asked calls past) now → BrokeOff (calls ++ more) past now
 broke_behind [] more past now broke = broke
 broke_behind (call ∷ calls) more past now broke = inr (broke_behind calls more (call ∷ past) now broke)
+
+-- calls that were made, and then others
+makes_then : (done : Bool) (calls more past mid now : List BankCall) → mid ≡ asked calls past → Makes done more mid now → Makes done (calls ++ more) past now
+makes_then true calls more past mid now first made = made ∙ ap (asked more) first ∙ sym (asked-append calls more past)
+makes_then false calls more past mid now first made = broke_behind calls more past now (subst (λ (l : List BankCall). BrokeOff more l now) first made)
+
+pub asks_then : {B : Type 0} (tells_calls : B → Type 0) (calls_of : B → List BankCall) (old mid new : B) (done : Bool) (calls more : List BankCall)
+    → Asks tells_calls calls_of old mid true calls → Asks tells_calls calls_of mid new done more
+    → Asks tells_calls calls_of old new done (calls ++ more)
+asks_then tells_calls calls_of old mid new done calls more first then told =
+    let second = then told in
+    let before = first second.0 in
+    (before.0, makes_then done calls more (calls_of old) (calls_of mid) (calls_of new) before.1 second.1)
+
+-- calls that broke off, others behind which weren't made
+pub asks_no_more : {B : Type 0} (tells_calls : B → Type 0) (calls_of : B → List BankCall) (old new : B) (calls more : List BankCall)
+    → Asks tells_calls calls_of old new false calls → Asks tells_calls calls_of old new false (calls ++ more)
+asks_no_more tells_calls calls_of old new calls more broke told =
+    let made = broke told in
+    (made.0, broke_before calls more (calls_of old) (calls_of new) made.1)
