@@ -177,7 +177,7 @@ kinds_alike Table App App p q = p
 kinds_alike App Table Table p q = p
 kinds_alike App Table App p q = q
 
-both_of : (kind : BlockKind) (name : List ℕ) (a b : Block) → is_of kind name a ≡ true → is_of kind name b ≡ true → same_block a b ≡ true
+pub both_of : (kind : BlockKind) (name : List ℕ) (a b : Block) → is_of kind name a ≡ true → is_of kind name b ≡ true → same_block a b ≡ true
 both_of kind name a b p q =
     let pa = and_parts (same_kind a.kind kind) (bytes_eq a.name name) p in
     let qb = and_parts (same_kind b.kind kind) (bytes_eq b.name name) q in
@@ -188,7 +188,7 @@ of_doubtful : (kind : BlockKind) (name : List ℕ) (o : Option Slot) → is_doub
 of_doubtful kind name None there = absurd (cc there)
 of_doubtful kind name (Some s) there = (s, refl, (and_parts (is_of kind name s.block) s.doubtful there).0)
 
-same_not : (b : Bool) → not b ≡ true → b ≡ true → ⊥
+pub same_not : (b : Bool) → not b ≡ true → b ≡ true → ⊥
 same_not true p q = cc p
 same_not false p q = cc q
 
