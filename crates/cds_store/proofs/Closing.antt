@@ -128,15 +128,12 @@ module _ {B : Type 0} (tells : Type 0) (size : B → ℕ) (now : B → List ℕ)
           (gate_torn n slots blocks (now bank) (now new) at_n.stored stands at_n.there (torn told)).matches;
     }
 
-    module _ (shut : tells → gate_at (now new) n ≡ 0) where
-      is_shut : tells → (gate_at (now new) n == gate_open) ≡ false
-      is_shut told = ap (λ g. g == gate_open) (shut told)
-
+    module _ (shut : tells → (gate_at (now new) n == gate_open) ≡ false) where
       pub closed_for : (blocks : Blocks) → StandsFor tells now (kept slots bank) blocks → StandsFor tells now (kept (slice_set slots n None) new) (deleted n blocks)
       closed_for blocks stands =
           let at_n = stored_for slots blocks n s stands.slots taken in
           stands_for tells now (slice_set slots n None) new (deleted n blocks) (set_alike slots blocks n None stands.slots)
-          (λ told. gate_closed n slots blocks (now bank) (now new) at_n.stored (stands_told tells size now slots bank sound blocks stands told) at_n.there (torn told) (is_shut told))
+          (λ told. gate_closed n slots blocks (now bank) (now new) at_n.stored (stands_told tells size now slots bank sound blocks stands told) at_n.there (torn told) (shut told))
 
       pub closed_sound : IsSound tells size now (kept (slice_set slots n None) new)
       closed_sound = record {
@@ -146,7 +143,7 @@ module _ {B : Type 0} (tells : Type 0) (size : B → ℕ) (now : B → List ℕ)
             let blocks = blocks_in (now bank) slots in
             let stands = held_told tells size now slots bank sound told in
             let at_n = stored_for slots blocks n s stands.same taken in
-            (gate_closed n slots blocks (now bank) (now new) at_n.stored stands at_n.there (torn told) (is_shut told)).matches;
+            (gate_closed n slots blocks (now bank) (now new) at_n.stored stands at_n.there (torn told) (shut told)).matches;
       }
 
 -- a delete of a doubtful block is what closes it before another is made
