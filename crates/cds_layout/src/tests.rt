@@ -53,7 +53,10 @@ fn a_store_as_text(rt: HostRuntime) -> Result<(), Fail> {
     assert_eq!(rt; head_bytes(4, 0x0FA1), *b"\0\0\0\x04\x0F\xA1\0\0");
     match store_text(rt.alloc(), &mut bank) {
         Ok(text) => {
-            assert_eq!(rt; text.bytes(), b"0 73776 4 T A.T torn\nblocks 1 free 122852\n".as_slice());
+            assert_eq!(rt;
+                text.bytes(),
+                b"0 73776 4 T A.T torn\nblocks 1 free 122852\n".as_slice()
+            );
             Ok(())
         }
         Err(_) => Err(Fail::new("no text")),

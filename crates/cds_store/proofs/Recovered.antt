@@ -3,6 +3,7 @@ use Rattle.std.proofs.Common.{◌≡◌, inl, inr, ℕ, ◌+◌, List, [], ◌�
 use Rattle.std.specs.Option.{option_map}
 use Rattle.std.proofs.lemmas.Bool.{cases_eq, and_parts, and_from}
 use Rattle.std.proofs.lemmas.List.Quantifiers.{position-Some}
+use Rattle.tbl_kinds.proofs.Positions.{position-None}
 use Rattle.tbl_kinds.specs.Blocks.{Stored, Store as Blocks}
 use Rattle.tbl_kinds.specs.Places.{are_apart}
 use Rattle.tbl_kinds.specs.StoreSteps.{same_block, is_of, is_open_of, open_of, stored_at, MayGive, MayShow, Shows, settled_from, booted, shown}
@@ -16,7 +17,7 @@ use Rattle.cds_store.specs.Recovery.{Recovers}
 use Rattle.cds_store.specs.Slots.{is_open_slot, open_slot, block_of}
 use Rattle.cds_store.specs.Sound.{slot_at}
 use Rattle.cds_store.specs.declared.slot.Slot.{Slot}
-use Rattle.cds_store.proofs.Reservations.{position-None, both_of, same_not}
+use Rattle.cds_store.proofs.Reservations.{both_of, same_not}
 use Rattle.cds_store.proofs.Strays.{stored_there}
 
 -- ---- a block that is found stands in its slot

@@ -10,6 +10,7 @@ use Rattle.std.proofs.lemmas.List.Quantifiers.{position-Some}
 use Rattle.std.proofs.lemmas.List.Sums.{fails_before_first}
 use Rattle.std.proofs.lemmas.Option.{same_Some}
 use Rattle.std.proofs.lemmas.Slice.Eq.{bytes_eq-Decides}
+use Rattle.tbl_kinds.proofs.Positions.{position-map, position-None}
 use Rattle.tbl_kinds.specs.Limits.{table_limit}
 use Rattle.tbl_kinds.specs.Names.{is_name}
 use Rattle.tbl_kinds.specs.Places.{blocks_begin, bank_size, is_inside, are_apart, fits, place}
@@ -20,6 +21,7 @@ use Rattle.tbl_kinds.specs.Free.{least_free}
 use Rattle.tbl_kinds.specs.declared.block.Block.{Block}
 use Rattle.tbl_kinds.specs.declared.block.BlockKind.{BlockKind}
 use Rattle.tbl_kinds.specs.declared.block.BlockKind.TheVariants.{Table, App}
+use Rattle.cds_layout.proofs.DirectoryLaws.{same_kind-sym, bytes_eq-sym}
 use Rattle.cds_store.specs.Calls.{IfBank, is_gate, is_old}
 use Rattle.cds_store.specs.Moments.{ShowsIn, LeavesIn, MakeLeaves}
 use Rattle.cds_store.specs.Slots.{is_open_slot, is_doubtful_slot, open_slot, doubtful_slot, without_slot, block_of, blocks_of, both, room_in}
@@ -28,28 +30,8 @@ use Rattle.cds_store.specs.Standing.{StandsFor, slot_of, with_new, closing, brok
 use Rattle.cds_store.specs.declared.fault.ReserveFault.{ReserveFault}
 use Rattle.cds_store.specs.declared.fault.ReserveFault.TheVariants.{NoRoom, Bank}
 use Rattle.cds_store.specs.declared.slot.Slot.{Slot}
-use Rattle.cds_store.proofs.Together.{bytes_eq_back, same_kind_back}
 
 -- ---- lists of places
-
-position_or_len-map : {X Y : Type 0} (p : Y → Bool) (q : X → Bool) (f : X → Y) → ((x : X) → p (f x) ≡ q x) → (xs : List X) → position_or_len p (map f xs) ≡ position_or_len q xs
-position_or_len-map p q f same [] = refl
-position_or_len-map p q f same (x ∷ xs) = rw (same x, position_or_len-map p q f same xs) refl
-
-pub position-map : {X Y : Type 0} (p : Y → Bool) (q : X → Bool) (f : X → Y) → ((x : X) → p (f x) ≡ q x) → (xs : List X) → position p (map f xs) ≡ position q xs
-position-map p q f same xs = rw (position_or_len-map p q f same xs, length-map xs f) refl
-
-past_none : (n all : ℕ) → cond (nat_lt n all) (Some n) None ≡ None → all ≤ n
-past_none n all none = grind (arith, nat_tests)
-
--- where no place is the first that passes, none passes, and none past the end
-pub position-None : {X : Type 0} (p : X → Bool) (xs : List X) (k : ℕ) (d : X) → position p xs ≡ None → p d ≡ false → p (slice_index_or xs k d) ≡ false
-position-None p xs k d none fails =
-    let past : length xs ≤ position_or_len p xs = past_none (position_or_len p xs) (length xs) none in
-    elim (cases_lt k (length xs)) [
-      | inl within ↦ fails_before_first p xs k d (omega arith)
-      | inr beyond ↦ rw (get_or_past xs k d beyond) fails
-    ]
 
 free_there : {X : Type 0} (place : Option X) → is_none place ≡ true → place ≡ None
 free_there None free = refl
@@ -264,7 +246,7 @@ unfolding place
 place_fits taken_blocks size at found = find_passes (fits taken_blocks size) (range_with_len blocks_begin (bank_size - blocks_begin)) at found
 
 no_same_block : (kind : BlockKind) (name : List ℕ) (size at : ℕ) (s : Block) → is_of kind name s ≡ false → not (same_block (record { kind = kind; offset = at; size = size; name = name }) s) ≡ true
-no_same_block kind name size at s other = rw (same_kind_back kind s.kind, bytes_eq_back name s.name, other) refl
+no_same_block kind name size at s other = rw (same_kind-sym kind s.kind, bytes_eq-sym name s.name, other) refl
 
 length-without : (old : Option ℕ) (slots : List (Option Slot)) → length (without_slot old slots) ≡ length slots
 length-without None slots = refl

@@ -6,7 +6,8 @@ use Rattle.tbl_kinds.specs.StoreSteps.{Shows, freed}
 use Rattle.tbl_kinds.specs.declared.block.Block.{Block}
 use Rattle.tbl_kinds.specs.declared.request.ResetKind.{ResetKind}
 use Rattle.tbl_kinds.specs.declared.request.ResetKind.TheVariants.{PowerOn}
-use Rattle.tbl_outside.specs.Bank.{Torn, overwritten}
+use Rattle.tbl_kinds.specs.Numbers.{overwritten}
+use Rattle.tbl_outside.specs.Bank.{Torn}
 use Rattle.cds_store.specs.Standing.{closing, with_new}
 use Rattle.cds_layout.specs.Images.{store_of, head_len, data_place}
 

@@ -24,15 +24,9 @@ use crate::fault::BankFault;
 use crate::settling::{find_found, forget_all, open_all};
 use crate::slot::Slot;
 use crate::tidying::tidy_live;
-use cds_layout::{Directory, read_directory};
+use cds_layout::{Directory, ENTRIES_PLACE, is_live, read_directory};
 use tbl_kinds::{ResetKind, Slots};
 use tbl_outside::{Bank, Failed};
-
-/// Where the entries begin, behind the live mark and twelve zeros.
-const ENTRIES_PLACE: usize = 16;
-
-/// The live mark of the bank.
-const LIVE_MARK: [u8; 4] = *b"CDS1";
 
 /// Reads the first bytes of the bank, and the directory that they tell.
 pub(crate) fn read_front<B: Bank>(
@@ -65,14 +59,6 @@ pub(crate) fn read_front<B: Bank>(
     }
 }
 
-/// Whether the bank is live.
-fn is_live(front: &[u8]) -> bool
-    requires { length front.now ≡ directory_len }
-    ensures { result ≡ is_live front.now }
-{
-    &front[..LIVE_MARK.len()] == LIVE_MARK.as_slice()
-}
-
 #[tactic(auto, using(crate::proofs::Emptied::zeros_replicate))]
 fn zero_all(bytes: &mut [u8])
     ensures len { length bytes.new ≡ length bytes.old }
@@ -87,7 +73,7 @@ fn entries_of(bytes: &[u8]) -> &[u8]
     ensures len { length result.now ≡ 8192 }
     ensures zeros { AreZeros bytes.now → AreZeros result.now }
 {
-    &bytes[ENTRIES_PLACE..]
+    &bytes[ENTRIES_PLACE as usize..]
 }
 
 /// The first of the bytes.

@@ -11,16 +11,14 @@ ghost use Rattle.cds_store.specs.Calls.{Steady, CallCounted, is_old};
 
 use crate::fault::BankFault;
 use crate::writes::write;
+use cds_layout::{ENTRIES_PLACE, LIVE_MARK};
 use tbl_outside::Bank;
 
-/// The first byte of the live mark `CDS1`.
-const LIVE: u8 = 0x43;
+/// The first byte of the live mark.
+const LIVE: u8 = LIVE_MARK[0];
 
 /// Where the rest of the mark begins, and twelve zeros.
 const MARK_PLACE: u32 = 1;
-
-/// Where the entries begin.
-const ENTRIES_PLACE: u32 = 16;
 
 /// Takes the first byte of the live mark away, where it is there: from then on the bank shows no block.
 fn close_live<B: Bank>(bank: &mut B, first: u8) -> Result<(), BankFault>

@@ -16,10 +16,8 @@ ghost use Rattle.cds_store.specs.Standing.{StandsFor, kept, doubted};
 use crate::fault::BankFault;
 use crate::slot::Slot;
 use crate::writes::set_gate;
+use cds_layout::GATE_CLOSED;
 use tbl_outside::Bank;
-
-/// The gate byte of a closed slot.
-const CLOSED: u8 = 0;
 
 /// From now on the gate of this slot is in doubt.
 fn doubt(slots: &mut Vec<Option<Slot>>, slot: u8)
@@ -54,7 +52,7 @@ pub(crate) fn close<B: Bank>(
     ensures asked { Asks B.tells_calls B.calls bank.old bank.new (is_ok result) (delete_calls slot) }
     ensures flags { IfErr result (HasFlags true old) }
 {
-    match set_gate(bank, slot, CLOSED, old) {
+    match set_gate(bank, slot, GATE_CLOSED, old) {
         Ok(()) => {
             slots[slot as usize] = None;
             Ok(())

@@ -15,11 +15,9 @@ ghost use Rattle.cds_store.specs.Standing.{StandsFor, kept, with_new, made_or_no
 use crate::fault::BankFault;
 use crate::slot::Slot;
 use crate::writes::{prepare, set_gate};
+use cds_layout::GATE_OPEN;
 use tbl_kinds::Block;
 use tbl_outside::Bank;
-
-/// The gate byte of an open slot.
-const OPEN: u8 = 0xA5;
 
 /// Opens the gate of a free slot whose entry tells a block that holds no image. Where the write breaks off, the slot is
 /// in doubt.
@@ -44,7 +42,7 @@ fn open_gate<B: Bank>(
     ensures asked { Asks B.tells_calls B.calls bank.old bank.new (is_ok result) (write (gate_place slot) (gate_open ∷ []) ∷ []) }
     ensures flags { IfErr result (HasFlags true false) }
 {
-    let written = set_gate(bank, slot, OPEN, false);
+    let written = set_gate(bank, slot, GATE_OPEN, false);
     slots[slot as usize] = Some(Slot {
         block,
         doubtful: written.is_err(),

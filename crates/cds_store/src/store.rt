@@ -26,17 +26,11 @@ use crate::images::{copy, restore};
 use crate::lookups::{block_in, find_doubtful, find_open, room_for};
 use crate::reserving::reserve;
 use crate::slot::Slot;
-use cds_layout::{Directory, RestoreFault};
+use cds_layout::{BLOCKS_BEGIN, Directory, RestoreFault, SLOTS};
 use std::alloc::{AllocError, Global};
 use std::marker::Model;
 use tbl_kinds::{Block, BlockKind, Memory, Name40, ResetKind, Slots};
 use tbl_outside::{Back, Bank};
-
-/// How many slots there are.
-const SLOTS: usize = 128;
-
-/// How many bytes the live mark and the directory have.
-const FRONT_LENGTH: usize = 8_208;
 
 /// The Critical Data Store in a bank: what is known of the 128 slots of its directory, and the bank. It takes all its
 /// memory when it is made.
@@ -65,7 +59,7 @@ impl<B: Bank> Model for Store<B> {
 fn free_slots(alloc: Global) -> Result<Vec<Option<Slot>>, AllocError>
     ensures { IfOk result (λ slots. slots.items ≡ replicate 128 None) }
 {
-    let mut slots = Vec::with_capacity(alloc, SLOTS)?;
+    let mut slots = Vec::with_capacity(alloc, usize::from(SLOTS))?;
     for _ in 0..SLOTS {
         slots.push(None)?;
     }
@@ -76,8 +70,8 @@ fn free_slots(alloc: Global) -> Result<Vec<Option<Slot>>, AllocError>
 fn front_bytes(alloc: Global) -> Result<Vec<u8>, AllocError>
     ensures { IfOk result (λ front. length front.items ≡ directory_len) }
 {
-    let mut front = Vec::with_capacity(alloc, FRONT_LENGTH)?;
-    for _ in 0..FRONT_LENGTH {
+    let mut front = Vec::with_capacity(alloc, BLOCKS_BEGIN as usize)?;
+    for _ in 0..BLOCKS_BEGIN {
         front.push(0)?;
     }
     Ok(front)

@@ -12,23 +12,8 @@ ghost use Rattle.cds_store.specs.Calls.{Steady, CallCounted, is_old};
 
 use crate::fault::BankFault;
 use crate::writes::set_gate;
-use cds_layout::Directory;
+use cds_layout::{Directory, GATE_CLOSED, GATE_OPEN, SLOTS, gate_place};
 use tbl_outside::Bank;
-
-/// Where the first entry begins, behind the live mark and twelve zeros.
-const FIRST_ENTRY: usize = 16;
-
-/// How many bytes an entry has.
-const ENTRY_LENGTH: usize = 64;
-
-/// The gate byte of an open slot.
-const OPEN: u8 = 0xA5;
-
-/// The gate byte of a closed slot.
-const CLOSED: u8 = 0;
-
-/// How many slots there are.
-const SLOTS: u8 = 128;
 
 /// Whether the gate of a slot is open, and its entry tells no block of the directory.
 fn is_stray(front: &[u8], directory: &Directory, slot: u8) -> bool
@@ -36,7 +21,7 @@ fn is_stray(front: &[u8], directory: &Directory, slot: u8) -> bool
     requires within { slot < slot_count }
     ensures { result ≡ is_stray front.now directory.now slot }
 {
-    front[FIRST_ENTRY + ENTRY_LENGTH * slot as usize] == OPEN && directory.slot(slot).is_none()
+    front[gate_place(slot) as usize] == GATE_OPEN && directory.slot(slot).is_none()
 }
 
 /// Closes the gate of a slot, where it tells no block of the directory. The first bytes and the directory are those with
@@ -63,7 +48,7 @@ fn tidy_slot<B: Bank>(
     ensures not_old { IfErr result (λ fault. is_old fault ≡ false) }
 {
     if is_stray(front, directory, slot) {
-        set_gate(bank, slot, CLOSED, false)
+        set_gate(bank, slot, GATE_CLOSED, false)
     } else {
         Ok(())
     }

@@ -3,7 +3,8 @@
 ghost use Rattle.std.specs.Prelude.{◌≡◌, ◌+◌, ◌^◌, ◌<◌, ◌≤◌, None, Some, true, false, [], ◌∷◌, length, replicate, is_ok, OnOk, IfErr};
 ghost use Rattle.tbl_kinds.specs.Check.{check16};
 ghost use Rattle.tbl_kinds.specs.Places.{bank_size};
-ghost use Rattle.tbl_outside.specs.Bank.{overwritten, Torn, LeavesOnly};
+ghost use Rattle.tbl_kinds.specs.Numbers.{overwritten};
+ghost use Rattle.tbl_outside.specs.Bank.{Torn, LeavesOnly};
 ghost use Rattle.tbl_outside.specs.BankCalls.{Asks, write};
 ghost use Rattle.cds_layout.specs.Entries.{slot_count, gate_place, gate_at, tail_place, tail_at, entry_tail, block_in, is_right};
 ghost use Rattle.cds_layout.specs.Images.{head_len, held_in, data_place, block_head};
@@ -13,19 +14,10 @@ ghost use Rattle.cds_store.specs.Moments.{CopyTears};
 ghost use Rattle.cds_store.specs.Writes.{Prepares};
 
 use crate::fault::BankFault;
-use cds_layout::{entry_bytes, head_bytes};
+use cds_layout::{HEAD_LENGTH, entry_bytes, gate_place, head_bytes};
 use check_word::check16;
 use tbl_kinds::Block;
 use tbl_outside::{Bank, Written};
-
-/// Where the first entry begins, behind the live mark and twelve zeros.
-const FIRST_ENTRY: u32 = 16;
-
-/// How many bytes an entry has: a gate byte, and a tail.
-const ENTRY_LENGTH: u32 = 64;
-
-/// How many bytes the head of a block has.
-const HEAD_LENGTH: u32 = 8;
 
 /// Writes over a piece, which may be a gate byte, also that of a doubtful block.
 pub(crate) fn write<B: Bank>(
@@ -52,14 +44,6 @@ pub(crate) fn write<B: Bank>(
     }
 }
 
-/// Where the entry of a slot begins.
-fn entry_place(slot: u8) -> u32
-    requires { slot < slot_count }
-    ensures { result ≡ gate_place slot }
-{
-    FIRST_ENTRY + ENTRY_LENGTH * u32::from(slot)
-}
-
 /// Writes the gate byte of a slot.
 pub(crate) fn set_gate<B: Bank>(
     bank: &mut B,
@@ -78,7 +62,7 @@ pub(crate) fn set_gate<B: Bank>(
     ensures asked { Asks B.tells_calls B.calls bank.old bank.new (is_ok result) (write (gate_place slot) (gate ∷ []) ∷ []) }
     ensures flags { IfErr result (HasFlags true old) }
 {
-    write(bank, entry_place(slot), &[gate], true, old)
+    write(bank, gate_place(slot), &[gate], true, old)
 }
 
 /// Wipes the head of a block, so that it holds no image: what an earlier block left at its place never comes back.
@@ -113,7 +97,7 @@ fn write_entry<B: Bank>(bank: &mut B, slot: u8, block: &Block) -> Result<(), Ban
 {
     write(
         bank,
-        entry_place(slot) + 1,
+        gate_place(slot) + 1,
         &entry_bytes(block),
         false,
         false,

@@ -46,7 +46,10 @@ fn write_at<R: Print, B: Bank>(
 
 fn show<R: Print>(rt: &R, bank: &MemBank, line: &str) -> io::Result<()> {
     let (faults, stops, writes) = (bank.faults(), bank.stops(), bank.write_count());
-    print!(rt; "{line} -> {} faults {faults} stops {stops} writes {writes} ranges", text(bank.bytes()))?;
+    print!(rt;
+        "{line} -> {} faults {faults} stops {stops} writes {writes} ranges",
+        text(bank.bytes())
+    )?;
     for span in bank.spans() {
         print!(rt; " {}+{}", span.at, span.length)?;
     }

@@ -45,7 +45,11 @@ pub(crate) fn call_source<R: Print>(
     if call == "read" {
         return read_from(rt, source, words, line);
     }
-    println!(rt; "{line} -> {} faults {}", text(source.left_bytes()), source.faults())
+    println!(rt;
+        "{line} -> {} faults {}",
+        text(source.left_bytes()),
+        source.faults()
+    )
 }
 
 /// `read N`, or `left`

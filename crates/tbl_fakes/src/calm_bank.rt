@@ -1,6 +1,6 @@
 // A bank that never fails.
 ghost use Rattle.std.specs.Prelude.{◌≡◌, ◌+◌, ◌<◌, ◌≤◌, ◌^◌, ℕ, List, length, IsOk, ⊤, refl, []};
-ghost use Rattle.tbl_outside.specs.Bank.{piece, overwritten};
+ghost use Rattle.tbl_kinds.specs.Numbers.{piece, overwritten};
 
 use std::marker::Model;
 use tbl_kinds::Bytes;
@@ -84,7 +84,7 @@ impl Bank for CalmBank {
     fn read_at(&mut self, at: u32, into: &mut [u8]) -> Result<(), Failed>
         requires { at + length into.old ≤ length self.old }
         ensures ok { IsOk result }
-        ensures read { into.new ≡ piece self.old at (length into.old) }
+        ensures read { into.new ≡ piece at (length into.old) self.old }
         ensures kept { self.new ≡ self.old }
     {
         let from = at as usize;

@@ -1,7 +1,8 @@
 // A bank in memory.
 ghost use Rattle.std.specs.Prelude.{◌≡◌, ◌+◌, ◌-◌, ◌<◌, ◌≤◌, ◌^◌, [], ◌∷◌, ◌++◌, List, ℕ, ⊤, IsTrue, IfOk, OnOk, OnErr, false, is_err, length, map, refl};
 ghost use Rattle.std.proofs.Common.{inl};
-ghost use Rattle.tbl_outside.specs.Bank.{piece, overwritten, Torn, LeavesOnly};
+ghost use Rattle.tbl_kinds.specs.Numbers.{piece, overwritten};
+ghost use Rattle.tbl_outside.specs.Bank.{Torn, LeavesOnly};
 ghost use Rattle.tbl_outside.specs.BankCalls.{read, write};
 ghost use Rattle.tbl_outside.specs.Counts.{Still, RoseAlone, Counted};
 ghost use Rattle.tbl_fakes.specs.Troubles.{none_yet, next_break, is_bad_read, front_of, how_ends};
@@ -155,7 +156,7 @@ impl Bank for MemBank {
 
     fn read_at(&mut self, at: u32, into: &mut [u8]) -> Result<(), Failed>
         requires { at + length into.old ≤ length self.old.bytes }
-        ensures read { OnOk result (into.new ≡ piece self.old.bytes at (length into.old)) }
+        ensures read { OnOk result (into.new ≡ piece at (length into.old) self.old.bytes) }
         ensures kept { self.new.bytes ≡ self.old.bytes }
         ensures moments { LeavesOnly moment MayHaveLeft self.old self.new (λ image. image ≡ self.old.bytes) }
         ensures size { length self.new.bytes ≡ length self.old.bytes }

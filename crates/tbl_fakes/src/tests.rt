@@ -73,7 +73,10 @@ fn a_bank(rt: HostRuntime) -> Result<(), Fail> {
     );
     assert_eq!(rt; bank.bytes(), b"ABcde".as_slice());
     assert_eq!(rt; bank.spans(), [Span { at: 0, length: 2 }].as_slice());
-    assert_eq!(rt; [bank.faults(), bank.stops(), bank.write_count()], [0, 0, 1]);
+    assert_eq!(rt;
+        [bank.faults(), bank.stops(), bank.write_count()],
+        [0, 0, 1]
+    );
     Ok(())
 }
 

@@ -1,5 +1,5 @@
 -- What was asked by several calls in a row.
-use Rattle.std.proofs.Common.{◌≡◌, inl, inr, List, [], ◌∷◌, ◌++◌, Bool, true, false, refl, sym, ◌∙◌, ap, subst}
+use Rattle.std.proofs.Common.{◌≡◌, inl, inr, ◌+◌, ◌≤◌, length, arith, List, [], ◌∷◌, ◌++◌, Bool, true, false, refl, sym, ◌∙◌, ap, subst}
 use Rattle.tbl_outside.specs.BankCalls.{BankCall, asked, BrokeOff, Makes, Asks}
 
 pub asked-append : (calls more past : List BankCall) → asked (calls ++ more) past ≡ asked more (asked calls past)
@@ -36,3 +36,17 @@ pub asks_no_more : {B : Type 0} (tells_calls : B → Type 0) (calls_of : B → L
 asks_no_more tells_calls calls_of old new calls more broke told =
     let made = broke told in
     (made.0, broke_before calls more (calls_of old) (calls_of new) made.1)
+
+-- no more than these calls were made
+length-asked : (calls past : List BankCall) → length (asked calls past) ≡ length past + length calls
+length-asked [] past = omega arith
+length-asked (call ∷ calls) past = omega (arith, length-asked calls (call ∷ past))
+
+broke_within : (calls past now : List BankCall) → BrokeOff calls past now → length now ≤ length past + length calls
+broke_within [] past now broke = absurd broke
+broke_within (call ∷ calls) past now (inl here) = omega (arith, ap length here)
+broke_within (call ∷ calls) past now (inr later) = omega (arith, broke_within calls (call ∷ past) now later)
+
+pub no_more_made : (done : Bool) (calls past now : List BankCall) → Makes done calls past now → length now ≤ length past + length calls
+no_more_made true calls past now made = omega (arith, ap length made, length-asked calls past)
+no_more_made false calls past now made = broke_within calls past now made

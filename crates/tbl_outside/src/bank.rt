@@ -1,6 +1,7 @@
 // Preserved memory: what it holds, and what a reset at any moment may leave of it.
 ghost use Rattle.std.specs.Prelude.{◌≡◌, ◌+◌, ◌≤◌, ℕ, List, ◌∷◌, length, OnOk, OnErr};
-ghost use Rattle.tbl_outside.specs.Bank.{piece, overwritten, Torn, LeavesOnly};
+ghost use Rattle.tbl_kinds.specs.Numbers.{piece, overwritten};
+ghost use Rattle.tbl_outside.specs.Bank.{Torn, LeavesOnly};
 ghost use Rattle.tbl_outside.specs.BankCalls.{BankCall, read, write};
 ghost use Rattle.tbl_outside.specs.Counts.{Still, RoseAlone, Counted};
 
@@ -60,7 +61,7 @@ pub trait Bank: Drop {
     /// Reads a piece that lies inside the bank. After a failure `into` is left open.
     fn read_at(&mut self, at: u32, into: &mut [u8]) -> Result<(), Failed>
         requires { at + length into.old ≤ size self.old }
-        ensures read { OnOk result (tells → into.new ≡ piece (now self.old) at (length into.old)) }
+        ensures read { OnOk result (tells → into.new ≡ piece at (length into.old) (now self.old)) }
         ensures kept { tells → now self.new ≡ now self.old }
         ensures moments { tells_moments →
             LeavesOnly clock left_since self.old self.new (λ image. image ≡ now self.old) }
