@@ -121,13 +121,13 @@ directory-right bytes slot b e = subst IsRightAt e (directory-all_right bytes sl
 
 -- ---- any two agree
 
-same_kind-sym : (a b : BlockKind) → same_kind a b ≡ same_kind b a
+pub same_kind-sym : (a b : BlockKind) → same_kind a b ≡ same_kind b a
 same_kind-sym Table Table = refl
 same_kind-sym Table App = refl
 same_kind-sym App Table = refl
 same_kind-sym App App = refl
 
-bytes_eq-sym : (xs ys : List ℕ) → bytes_eq xs ys ≡ bytes_eq ys xs
+pub bytes_eq-sym : (xs ys : List ℕ) → bytes_eq xs ys ≡ bytes_eq ys xs
 bytes_eq-sym xs ys =
     let back = bytes_eq-Decides ys xs in
     same_from_decides (bytes_eq xs ys) (bytes_eq ys xs) (bytes_eq-Decides xs ys) (λ t. sym (back.0 t), λ e. back.1 (sym e))

@@ -4,3 +4,4 @@ pub mod Images
 pub mod Texts
 pub mod Restores
 pub mod Lines
+pub mod Order

@@ -1,11 +1,12 @@
 //! A block in the bank: a head of 8 bytes, and those of its image.
 
-ghost use Rattle.std.specs.Prelude.{◌≡◌, ◌+◌, ◌≤◌, Some, Err, length, OnOk, IfErr};
+ghost use Rattle.std.specs.Prelude.{◌≡◌, ◌+◌, ◌≤◌, Some, length, OnOk, IfErr};
 ghost use Rattle.tbl_kinds.specs.Places.{end_of};
 ghost use Rattle.tbl_outside.specs.Bank.{LeavesOnly};
-ghost use Rattle.tbl_outside.specs.Counts.{Rose};
+ghost use Rattle.tbl_outside.specs.BankCalls.{Asks};
 ghost use Rattle.cds_layout.specs.Images.{block_head, data_place, data_in, held_in};
-ghost use Rattle.cds_layout.specs.Restores.{TellsTorn, SaysWhy, IfRead, compared};
+ghost use Rattle.cds_layout.specs.Order.{restore_calls};
+ghost use Rattle.cds_layout.specs.Restores.{TellsTorn, SaysWhy, IfRead, RestoreCounted, was_read, compared};
 
 use crate::numbers::{u16_at, u32_at};
 use crate::places::HEAD_LENGTH;
@@ -84,9 +85,10 @@ pub fn read_block<B: Bank>(bank: &mut B, block: &Block, into: &mut [u8]) -> Resu
     ensures moments { B.tells_moments →
         LeavesOnly B.clock B.left_since bank.old bank.new (λ image. image ≡ B.now bank.old) }
     ensures size { B.size bank.new ≡ B.size bank.old }
-    ensures fault { result ≡ Err RestoreFault.Fault → Rose (B.faults bank.old) (B.faults bank.new) }
+    ensures counted { RestoreCounted B.faults B.stops bank.old bank.new result }
     ensures fault_count { B.faults bank.old ≤ B.faults bank.new }
     ensures stop_count { B.stops bank.old ≤ B.stops bank.new }
+    ensures asked { Asks B.tells_calls B.calls bank.old bank.new (was_read result) (restore_calls block.now) }
 {
     let mut head = [0; 8];
     if bank.read_at(block.offset, &mut head).is_err() {

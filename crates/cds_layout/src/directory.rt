@@ -9,28 +9,13 @@ ghost use Rattle.cds_layout.specs.Entries.{slot_count, gate_at};
 ghost use Rattle.cds_layout.specs.Directory.{directory_len, is_live, agree, agrees_at, stated, counted, directory_to, directory_of};
 
 use crate::entry::{TAIL_LENGTH, block_in};
-use crate::places::end_of;
+use crate::places::{GATE_OPEN, LIVE_MARK, SLOTS, end_of, gate_place};
 use std::alloc::{AllocError, Global};
 use std::marker::Model;
 use tbl_kinds::{Block, BlockKind, Memory};
 
-/// How many bytes the live mark and the directory have.
-pub(crate) const DIRECTORY_LENGTH: usize = 8_208;
-
-/// How many entries the directory has.
-const SLOT_COUNT: usize = 128;
-
-/// Where the first entry begins, behind the live mark and twelve zeros.
-const FIRST_ENTRY: usize = 16;
-
-/// How many bytes an entry has.
-const ENTRY_LENGTH: usize = 64;
-
-/// The gate byte of an entry whose block is open.
-const GATE_OPEN: u8 = 0xA5;
-
-/// The live mark of the bank.
-const LIVE_MARK: [u8; 4] = *b"CDS1";
+/// How many slots there are.
+const SLOT_COUNT: usize = SLOTS as usize;
 
 /// The open blocks, each in the slot of its entry.
 #[derive(Debug, Drop)]
@@ -135,12 +120,12 @@ fn agrees_with_all(block: &Block, earlier: &[Option<Block>]) -> bool
 }
 
 /// What the entry of a slot states: a block, where its gate is open and it tells one.
-fn stated(bytes: &[u8], slot: usize) -> Option<Block>
+fn stated(bytes: &[u8], slot: u8) -> Option<Block>
     requires len { length bytes.now ≡ directory_len }
     requires slot { slot < slot_count }
     ensures { result ≡ stated bytes.now slot }
 {
-    let place = FIRST_ENTRY + ENTRY_LENGTH * slot;
+    let place = gate_place(slot) as usize;
     if bytes[place] == GATE_OPEN {
         block_in(&bytes[place + 1..place + 1 + TAIL_LENGTH])
     } else {
@@ -161,7 +146,7 @@ fn counted(earlier: &[Option<Block>], stated: Option<Block>) -> Option<Block>
 }
 
 /// Whether the bank is live: it begins with the live mark.
-fn is_live(bytes: &[u8]) -> bool
+pub fn is_live(bytes: &[u8]) -> bool
     requires { length bytes.now ≡ directory_len }
     ensures { result ≡ is_live bytes.now }
 {
@@ -183,9 +168,10 @@ fn read_entries(bytes: &[u8], blocks: &mut [Option<Block>])
     requires slots { length blocks.old ≡ slot_count }
     ensures { (count : ℕ) → count ≡ slot_count → blocks.new ≡ directory_to bytes.now count }
 {
-    for slot in 0..SLOT_COUNT {
-        let block = counted(&blocks[..slot], stated(bytes, slot));
-        blocks[slot] = block;
+    for slot in 0..SLOTS {
+        let place = slot as usize;
+        let block = counted(&blocks[..place], stated(bytes, slot));
+        blocks[place] = block;
     }
 }
 

@@ -8,7 +8,7 @@ ghost use Rattle.tbl_kinds.specs.Places.{is_inside};
 ghost use Rattle.cds_layout.specs.Entries.{tail_len, kind_byte, entry_tail, is_right, kind_in, block_in};
 
 use crate::numbers::u32_at;
-use crate::places::{BANK_SIZE, BLOCKS_BEGIN, GREATEST_SIZE, end_of};
+use crate::places::{BANK_SIZE, BLOCKS_BEGIN, MOST_IMAGE, end_of};
 use tbl_kinds::{Block, BlockKind, Name, Name40};
 
 /// How many bytes an entry has behind its gate.
@@ -90,7 +90,7 @@ fn is_name_field(field: &[u8], name: &Name40) -> bool
 fn is_inside(offset: u32, size: u32) -> bool
     ensures { result ≡ is_inside offset size }
 {
-    BLOCKS_BEGIN <= u64::from(offset) && end_of(offset, size) <= BANK_SIZE
+    BLOCKS_BEGIN <= offset && end_of(offset, size) <= u64::from(BANK_SIZE)
 }
 
 /// Whether it is a block that can be there.
@@ -98,7 +98,7 @@ fn is_right(block: &Block) -> bool
     ensures { result ≡ is_right block.now }
 {
     let size = block.size;
-    0 < size && size <= GREATEST_SIZE && is_inside(block.offset, size) && block.name.is_name()
+    0 < size && size <= MOST_IMAGE && is_inside(block.offset, size) && block.name.is_name()
 }
 
 /// The block that the bytes behind a gate tell. The zeros aren't looked at, but for those behind the name.

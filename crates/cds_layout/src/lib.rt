@@ -12,13 +12,17 @@ mod places;
 mod text;
 
 pub use blocks::{RestoreFault, head_bytes, read_block};
-pub use directory::{Directory, read_directory};
+pub use directory::{Directory, is_live, read_directory};
 pub use entry::entry_bytes;
 pub use laws::{
-    blocks_can_be_there_together, directory_stands_in_the_first_bytes, written_entries_are_read,
-    written_parts_fill_their_places,
+    a_boot_without_strays_only_reads, a_call_asks_at_most_four_times, blocks_can_be_there_together,
+    directory_stands_in_the_first_bytes, written_entries_are_read, written_parts_fill_their_places,
 };
 pub use listing::{TextFault, store_text};
+pub use places::{
+    BANK_SIZE, BLOCKS_BEGIN, ENTRIES_PLACE, GATE_CLOSED, GATE_OPEN, HEAD_LENGTH, LIVE_MARK,
+    MOST_IMAGE, SLOTS, end_of, gate_place, room_for,
+};
 
 #[cfg(test)]
 mod tests;

@@ -12,8 +12,8 @@ ghost use Rattle.cds_layout.specs.Texts.{lines_from, text_of};
 ghost use Rattle.cds_layout.specs.Lines.{IsRightAt, AreRight, line_at, last_line_of, listing};
 
 use crate::blocks::{RestoreFault, read_block};
-use crate::directory::{DIRECTORY_LENGTH, Directory, read_directory};
-use crate::places::GREATEST_SIZE;
+use crate::directory::{Directory, read_directory};
+use crate::places::{BLOCKS_BEGIN, MOST_IMAGE};
 use crate::text::{count_of, put_last_line, put_line, room_of};
 use std::alloc::{AllocError, Global};
 use tbl_kinds::{Block, Bytes, Memory};
@@ -200,7 +200,7 @@ fn load_directory<B: Bank>(alloc: Global, bank: &mut B) -> Result<Directory, Tex
     ensures stop_count { B.stops bank.old ≤ B.stops bank.new }
 {
     let mut directory = Directory::make(alloc)?;
-    let mut bytes = zeros(alloc, DIRECTORY_LENGTH)?;
+    let mut bytes = zeros(alloc, BLOCKS_BEGIN as usize)?;
     fill_directory(bank, &mut bytes, &mut directory)?;
     Ok(directory)
 }
@@ -224,7 +224,7 @@ fn listed<B: Bank>(
     ensures fault_count { B.faults bank.old ≤ B.faults bank.new }
     ensures stop_count { B.stops bank.old ≤ B.stops bank.new }
 {
-    let mut image = zeros(alloc, GREATEST_SIZE as usize)?;
+    let mut image = zeros(alloc, MOST_IMAGE as usize)?;
     let mut out = Bytes::make(alloc, 0)?;
     put_slots(bank, places, &mut image, &mut out)?;
     put_summary(&mut out, places)?;

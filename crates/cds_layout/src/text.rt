@@ -13,7 +13,7 @@ use itoa::Buffer;
 use tbl_kinds::{Block, BlockKind, Bytes, Memory};
 
 /// How many bytes there are for blocks, behind the directory.
-const ROOM: u64 = BANK_SIZE - BLOCKS_BEGIN;
+const ROOM: u64 = (BANK_SIZE - BLOCKS_BEGIN) as u64;
 
 /// Appends a piece.
 fn put(out: &mut Bytes, piece: &[u8]) -> Result<(), Memory>

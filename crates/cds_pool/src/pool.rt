@@ -1,41 +1,23 @@
 ghost use Rattle.std.specs.Prelude.{◌≡◌, ◌+◌, ◌<◌, ◌^◌, IsTrue, IfSome, IfNone, None};
 ghost use Rattle.std.specs.List.{list_all};
-ghost use Rattle.tbl_kinds.specs.Places.{end_of, fits, place};
+ghost use Rattle.tbl_kinds.specs.Places.{fits, place};
 ghost use Rattle.cds_pool.specs.Places.{is_apart, lesser, NoneBelow, Never};
 
+use cds_layout::{end_of, room_for};
 use tbl_kinds::Block;
 
 /// Where the blocks begin, behind the directory.
-const BLOCKS_BEGIN: u64 = 8_208;
+const BLOCKS_BEGIN: u64 = cds_layout::BLOCKS_BEGIN as u64;
 
 /// How many bytes the bank has.
-const BANK_SIZE: u64 = 131_072;
-
-/// How many bytes the head of a block has.
-const HEAD_SIZE: u64 = 8;
-
-/// How many bytes a block with an image of this size takes, its head included.
-fn room_of(size: u32) -> u64
-    ensures { result ≡ 8 + size }
-{
-    HEAD_SIZE + u64::from(size)
-}
-
-/// Where a block ends.
-fn end_of(block: &Block) -> u64
-    ensures end { result ≡ end_of block.now.offset block.now.size }
-    ensures within { result < 2 ^ 34 }
-{
-    let size = block.size;
-    u64::from(block.offset) + room_of(size)
-}
+const BANK_SIZE: u64 = cds_layout::BANK_SIZE as u64;
 
 /// Whether a block of this size at this offset would have no byte in common with that block.
 fn is_apart(size: u32, at: u64, block: &Block) -> bool
     requires { at < 2 ^ 34 }
     ensures { result ≡ is_apart size at block.now }
 {
-    at + room_of(size) <= u64::from(block.offset) || end_of(block) <= at
+    at + room_for(size) <= u64::from(block.offset) || end_of(block.offset, block.size) <= at
 }
 
 /// Whether a block of this size at this offset would have no byte in common with any of these blocks.
@@ -51,7 +33,7 @@ fn fits(taken: &[Block], size: u32, at: u64) -> bool
     requires { at < 2 ^ 34 }
     ensures { result ≡ fits taken.now size at }
 {
-    BLOCKS_BEGIN <= at && at + room_of(size) <= BANK_SIZE && all_apart(taken, size, at)
+    BLOCKS_BEGIN <= at && at + room_for(size) <= BANK_SIZE && all_apart(taken, size, at)
 }
 
 /// The lesser of the least offset so far and this one, where this one fits.
@@ -89,7 +71,7 @@ fn least_place(taken: &[Block], size: u32) -> Option<u64>
 {
     let mut least = lesser(taken, size, None, BLOCKS_BEGIN);
     for block in taken {
-        least = lesser(taken, size, least, end_of(block));
+        least = lesser(taken, size, least, end_of(block.offset, block.size));
     }
     least
 }

@@ -4,14 +4,9 @@ ghost use Rattle.std.specs.Prelude.{◌≡◌, ◌<◌, length, IfOk};
 
 use crate::fault::ScriptFault;
 use crate::reader::Reader;
+use cds_layout::{BANK_SIZE, MOST_IMAGE};
 use std::alloc::{AllocError, Global};
 use tbl_kinds::{Bytes, Memory};
-
-/// How many bytes the bank has.
-const BANK_SIZE: usize = 131_072;
-
-/// The greatest size of an image.
-const MOST_IMAGE: usize = 16_384;
 
 /// So many bytes, which repeat a pattern.
 fn repeat(alloc: Global, pattern: &[u8], len: usize) -> Result<Vec<u8>, AllocError>
@@ -27,11 +22,11 @@ fn repeat(alloc: Global, pattern: &[u8], len: usize) -> Result<Vec<u8>, AllocErr
 /// An image: the bytes that are repeated, and how many there are in all.
 pub(crate) fn expand(alloc: Global, table: &mut Reader) -> Result<Vec<u8>, ScriptFault> {
     let pattern = table.middle_piece().ok_or(ScriptFault::Table)?;
-    let len = table.long().ok_or(ScriptFault::Table)? as usize;
+    let len = table.long().ok_or(ScriptFault::Table)?;
     if pattern.is_empty() || MOST_IMAGE < len {
         return Err(ScriptFault::Table);
     }
-    Ok(repeat(alloc, pattern, len)?)
+    Ok(repeat(alloc, pattern, len as usize)?)
 }
 
 /// Writes a patch over the bytes of a bank: where it begins, and its bytes.
@@ -58,7 +53,7 @@ fn patch_all(bytes: &mut [u8], table: &mut Reader) -> Option<()>
 fn zeros(alloc: Global) -> Result<Vec<u8>, AllocError>
     ensures { IfOk result (λ v. length v.items ≡ 131072) }
 {
-    vec![in alloc; 0; BANK_SIZE]
+    vec![in alloc; 0; BANK_SIZE as usize]
 }
 
 /// The bytes of a bank: zeros, and the patches that the table states.

@@ -33,8 +33,8 @@ fn play_one<R: Print + AllocGlobal>(rt: &R, script: &[u8]) -> io::Result<bool> {
     Ok(false)
 }
 
-/// Plays the scripts of a table, and says how many there were and how many of them differ. The answer is whether none does.
-fn play_all<R: Print + AllocGlobal>(rt: &R, bytes: &[u8]) -> io::Result<bool> {
+/// Plays scripts of one kind, and says how many there were and how many of them differ. The answer is whether none does.
+fn play_part<R: Print + AllocGlobal>(rt: &R, kind: &str, bytes: &[u8]) -> io::Result<bool> {
     let mut table = Reader::of(bytes);
     let mut scripts = 0u32;
     let mut differ = 0u32;
@@ -51,8 +51,32 @@ fn play_all<R: Print + AllocGlobal>(rt: &R, bytes: &[u8]) -> io::Result<bool> {
             differ = differ.saturating_add(1);
         }
     }
-    println!(rt; "{scripts} scripts, {differ} differ")?;
+    println!(rt; "{scripts} {kind}, {differ} differ")?;
     Ok(differ == 0)
+}
+
+/// What scripts are called, and the scripts.
+fn part_in<'a>(table: &mut Reader<'a>) -> Option<(&'a [u8], &'a [u8])> {
+    Some((table.short_piece()?, table.long_piece()?))
+}
+
+/// Plays the scripts of a table. The answer is whether none differs.
+fn play_all<R: Print + AllocGlobal>(rt: &R, bytes: &[u8]) -> io::Result<bool> {
+    let mut table = Reader::of(bytes);
+    let mut all = true;
+    for _ in 0..bytes.len() {
+        if table.is_at_end() {
+            break;
+        }
+        let Some((kind, scripts)) = part_in(&mut table) else {
+            println!(rt; "the table is cut")?;
+            return Ok(false);
+        };
+        let kind = std::str::from_utf8(kind).unwrap_or("scripts of no name");
+        let agrees = play_part(rt, kind, scripts)?;
+        all = all && agrees;
+    }
+    Ok(all)
 }
 
 fn run<R: Input + Print + AllocGlobal>(rt: &R) -> io::Result<bool> {

@@ -6,14 +6,12 @@ ghost use Rattle.cds_store.specs.Sound.{slot_at, IsOpenOf};
 
 use crate::answer::Answer;
 use crate::call::Call;
+use cds_layout::MOST_IMAGE;
 use cds_store::{BankFault, ReserveFault, RestoreFault, Store};
 use std::alloc::Global;
 use tbl_fakes::MemBank;
 use tbl_kinds::{BlockKind, Memory, Name40, ResetKind};
 use tbl_outside::Back;
-
-/// The greatest size of an image.
-const MOST_IMAGE: u32 = 16_384;
 
 /// A store in a bank in memory, and whether it was booted.
 #[derive(Drop)]

@@ -7,12 +7,13 @@ use Rattle.std.proofs.lemmas.List.{take-take, drop-take, drop-drop}
 use Rattle.std.proofs.lemmas.Nat.{from_be_bytes-to_be_bytes_2, from_be_bytes-to_be_bytes_4}
 use Rattle.tbl_kinds.specs.Check.{check16}
 use Rattle.tbl_kinds.specs.declared.block.Block.{Block}
-use Rattle.tbl_outside.specs.Bank.{piece, overwritten, Torn}
+use Rattle.tbl_kinds.specs.Numbers.{piece, overwritten}
+use Rattle.tbl_outside.specs.Bank.{Torn}
 use Rattle.tbl_outside.proofs.Pieces.{piece-overwritten, torn_done, piece_behind}
 use Rattle.cds_layout.specs.Images.{block_head, held_in, data_in, data_place, kept_length, kept_check}
 
 -- a piece of a piece
-pub inner : (bytes inside : List ℕ) (at count from size : ℕ) → piece bytes at count ≡ inside → from + size ≤ count → piece bytes (at + from) size ≡ piece inside from size
+pub inner : (bytes inside : List ℕ) (at count from size : ℕ) → piece at count bytes ≡ inside → from + size ≤ count → piece (at + from) size bytes ≡ piece from size inside
 inner bytes inside at count from size is fits =
     sym (ap (take size) (drop-drop from at bytes))
     ∙ sym (drop-take from size (drop at bytes))
@@ -20,11 +21,11 @@ inner bytes inside at count from size is fits =
     ∙ drop-take from size (take count (drop at bytes))
     ∙ ap (λ (l : List ℕ). take size (drop from l)) is
 
-pub front : (bytes inside : List ℕ) (at count size : ℕ) → piece bytes at count ≡ inside → size ≤ count → piece bytes at size ≡ take size inside
+pub front : (bytes inside : List ℕ) (at count size : ℕ) → piece at count bytes ≡ inside → size ≤ count → piece at size bytes ≡ take size inside
 front bytes inside at count size is fits = sym (take-take size count (drop at bytes) fits) ∙ ap (take size) is
 
 -- what was written is read again
-pub read_again : (old new : List ℕ) (at count : ℕ) (others : List ℕ) → length others ≡ count → at + count ≤ length old → new ≡ overwritten old at others → piece new at count ≡ others
+pub read_again : (old new : List ℕ) (at count : ℕ) (others : List ℕ) → length others ≡ count → at + count ≤ length old → new ≡ overwritten old at others → piece at count new ≡ others
 read_again old new at count others size fits is = rw (is, ← size) (piece-overwritten old at others (rw size fits))
 
 zero_is_none : (size : ℕ) → 0 < size → (0 == size) ≡ false
@@ -52,7 +53,7 @@ pub written : (b : Block) (old mid new image : List ℕ) → length image ≡ b.
 unfolding block_head
 written b old mid new image size small check fits data_is head_is as_long =
     let head : List ℕ = block_head b.size (check16 image) in
-    let there : piece new b.offset 8 ≡ head = read_again mid new b.offset 8 head refl (omega (arith, fits, as_long)) head_is in
+    let there : piece b.offset 8 new ≡ head = read_again mid new b.offset 8 head refl (omega (arith, fits, as_long)) head_is in
     let torn : Torn b.offset 8 mid new = subst (Torn b.offset 8 mid) (sym head_is) (torn_done mid b.offset head (omega (arith, fits, as_long))) in
     whole new image b
     (ap (from_be_bytes w32) (front new head b.offset 8 4 there (omega arith)) ∙ from_be_bytes-to_be_bytes_4 b.size small)

@@ -1,18 +1,19 @@
 -- The gate of a taken slot is written.
-use Rattle.std.proofs.Common.{◌≡◌, inr, ℕ, ◌<◌, ◌≤◌, ◌==◌, List, [], ◌∷◌, map, slice_set, false, Option, Some, None, IsSome, refl, sym, ◌∙◌, ap, subst}
+use Rattle.std.proofs.Common.{◌≡◌, ◌⊎◌, inl, inr, ℕ, ◌<◌, ◌≤◌, ◌==◌, List, [], ◌∷◌, map, slice_set, true, false, Option, Some, None, IsSome, refl, sym, ◌∙◌, ap, subst}
 use Rattle.std.specs.Option.{option_map}
 use Rattle.std.proofs.lemmas.List.{map-set}
 use Rattle.std.proofs.lemmas.Option.{same_Some}
 use Rattle.std.proofs.Math.ListN.{get_or-map}
 use Rattle.tbl_kinds.specs.Places.{bank_size}
 use Rattle.tbl_kinds.specs.Blocks.{Stored, Store as Blocks}
-use Rattle.tbl_kinds.specs.StoreSteps.{stored_at, in_doubt, deleted, delete_broken}
+use Rattle.tbl_kinds.specs.StoreCalls.{delete}
+use Rattle.tbl_kinds.specs.StoreSteps.{stored_at, freed, in_doubt, deleted, delete_broken}
 use Rattle.tbl_outside.specs.Bank.{Torn}
 use Rattle.cds_layout.specs.Entries.{gate_open, gate_at, gate_place, slot_count}
 use Rattle.cds_layout.specs.Images.{held_in}
-use Rattle.cds_store.specs.Moments.{DeleteLeaves}
+use Rattle.cds_store.specs.Moments.{ShowsIn, LeavesIn}
 use Rattle.cds_store.specs.Sound.{slot_at, AreTogether, Matches, IsSound}
-use Rattle.cds_store.specs.Standing.{StandsFor, kept, slot_of, doubted}
+use Rattle.cds_store.specs.Standing.{StandsFor, kept, slot_of, doubted, closing}
 use Rattle.cds_store.specs.declared.slot.Slot.{Slot}
 use Rattle.cds_store.proofs.Changes.{Stands, stands_show}
 use Rattle.cds_store.proofs.Showing.{slot_is}
@@ -94,11 +95,16 @@ module _ {B : Type 0} (tells : Type 0) (size : B → ℕ) (now : B → List ℕ)
   gate_within = within_slots slots n s sound.together taken
 
   -- a reset inside the write
-  pub delete_leaves : tells → (blocks : Blocks) → StandsFor tells now (kept slots bank) blocks → (image : List ℕ) → Torn (gate_place n) 1 (now bank) image → DeleteLeaves n blocks image
+  pub delete_leaves : tells → (blocks : Blocks) → StandsFor tells now (kept slots bank) blocks → (image : List ℕ) → Torn (gate_place n) 1 (now bank) image → LeavesIn (delete n) blocks image
   delete_leaves told blocks stands image torn =
       let at_n = stored_for slots blocks n s stands.slots taken in
-      inr (inr (stands_show image (slice_set slots n (Some (slot_of (in_doubt at_n.stored)))) (delete_broken n blocks)
-      (gate_torn n slots blocks (now bank) image at_n.stored (stands_told tells size now slots bank sound blocks stands told) at_n.there torn)))
+      inr (inr (
+        true,
+        false,
+        (refl, refl),
+        stands_show image (slice_set slots n (Some (slot_of (in_doubt at_n.stored)))) (delete_broken n blocks)
+            (gate_torn n slots blocks (now bank) image at_n.stored (stands_told tells size now slots bank sound blocks stands told) at_n.there torn),
+      ))
 
   module _ (new : B) (room : bank_size ≤ size new) (torn : tells → Torn (gate_place n) 1 (now bank) (now new)) where
     pub doubted_for : (blocks : Blocks) → StandsFor tells now (kept slots bank) blocks → StandsFor tells now (kept (slice_set slots n (Some (doubted s))) new) (delete_broken n blocks)
@@ -122,15 +128,12 @@ module _ {B : Type 0} (tells : Type 0) (size : B → ℕ) (now : B → List ℕ)
           (gate_torn n slots blocks (now bank) (now new) at_n.stored stands at_n.there (torn told)).matches;
     }
 
-    module _ (shut : tells → gate_at (now new) n ≡ 0) where
-      is_shut : tells → (gate_at (now new) n == gate_open) ≡ false
-      is_shut told = ap (λ g. g == gate_open) (shut told)
-
+    module _ (shut : tells → (gate_at (now new) n == gate_open) ≡ false) where
       pub closed_for : (blocks : Blocks) → StandsFor tells now (kept slots bank) blocks → StandsFor tells now (kept (slice_set slots n None) new) (deleted n blocks)
       closed_for blocks stands =
           let at_n = stored_for slots blocks n s stands.slots taken in
           stands_for tells now (slice_set slots n None) new (deleted n blocks) (set_alike slots blocks n None stands.slots)
-          (λ told. gate_closed n slots blocks (now bank) (now new) at_n.stored (stands_told tells size now slots bank sound blocks stands told) at_n.there (torn told) (is_shut told))
+          (λ told. gate_closed n slots blocks (now bank) (now new) at_n.stored (stands_told tells size now slots bank sound blocks stands told) at_n.there (torn told) (shut told))
 
       pub closed_sound : IsSound tells size now (kept (slice_set slots n None) new)
       closed_sound = record {
@@ -140,5 +143,13 @@ module _ {B : Type 0} (tells : Type 0) (size : B → ℕ) (now : B → List ℕ)
             let blocks = blocks_in (now bank) slots in
             let stands = held_told tells size now slots bank sound told in
             let at_n = stored_for slots blocks n s stands.same taken in
-            (gate_closed n slots blocks (now bank) (now new) at_n.stored stands at_n.there (torn told) (is_shut told)).matches;
+            (gate_closed n slots blocks (now bank) (now new) at_n.stored stands at_n.there (torn told) (shut told)).matches;
       }
+
+-- a delete of a doubtful block is what closes it before another is made
+pub old_leaves : (old : Option ℕ) (slot : ℕ) (blocks : Blocks) (image : List ℕ) → old ≡ Some slot → LeavesIn (delete slot) blocks image
+    → ShowsIn blocks image ⊎ ShowsIn (freed old blocks) image ⊎ ShowsIn (closing old blocks) image
+old_leaves None slot blocks image is leaves = absurd (cc is)
+old_leaves (Some old) slot blocks image is (inl before) = inl before
+old_leaves (Some old) slot blocks image is (inr (inl done)) = inr (inl (subst (λ n. ShowsIn (deleted n blocks) image) (sym (same_Some old slot is)) done))
+old_leaves (Some old) slot blocks image is (inr (inr (gate, flag, can, broke))) = inr (inr (subst (λ n. ShowsIn (delete_broken n blocks) image) (sym (same_Some old slot is)) broke))

@@ -6,15 +6,17 @@ use Rattle.std.proofs.lemmas.Option.{same_Some}
 use Rattle.std.proofs.Math.ListN.{get_or-map}
 use Rattle.tbl_kinds.specs.Places.{bank_size, end_of}
 use Rattle.tbl_kinds.specs.Blocks.{Stored, Store as Blocks}
+use Rattle.tbl_kinds.specs.StoreCalls.{copy as copying}
 use Rattle.tbl_kinds.specs.StoreSteps.{stored_at, MayGiveAfter, changed, with_held, with_try, copied, copy_broken, restored}
 use Rattle.tbl_kinds.specs.declared.block.Block.{Block}
-use Rattle.tbl_outside.specs.Bank.{Torn, overwritten}
+use Rattle.tbl_kinds.specs.Numbers.{overwritten}
+use Rattle.tbl_outside.specs.Bank.{Torn}
 use Rattle.tbl_outside.proofs.Pieces.{torn_same, torn_within, torn_done, torn_again}
 use Rattle.cds_layout.specs.Images.{data_place, head_len, held_in, stored_in, store_of}
 use Rattle.cds_layout.specs.Restores.{TellsTorn}
 use Rattle.cds_layout.specs.declared.blocks.RestoreFault.{RestoreFault}
 use Rattle.cds_layout.specs.declared.blocks.RestoreFault.TheVariants.{Torn as Is_torn, Fault}
-use Rattle.cds_store.specs.Moments.{ShowsIn, CopyTears, CopyLeaves}
+use Rattle.cds_store.specs.Moments.{ShowsIn, LeavesIn, CopyTears}
 use Rattle.cds_store.specs.Sound.{slot_at, EntryIs, Matches, IsSound, IsOpenOf}
 use Rattle.cds_store.specs.Standing.{StandsFor, AreHeld, kept, slot_of, after_fault, held_at, ComesBack}
 use Rattle.cds_store.specs.declared.slot.Slot.{Slot}
@@ -23,7 +25,8 @@ use Rattle.cds_store.proofs.Closing.{some_there, blocks_in, stands_told, held_to
 use Rattle.cds_store.proofs.Reading.{is_open, opened, store_at}
 use Rattle.cds_store.proofs.Showing.{slot_is}
 use Rattle.cds_store.proofs.Steps.{copy_torn, settled_to, within_slots}
-use Rattle.cds_store.proofs.Together.{right_parts, there_within}
+use Rattle.cds_layout.proofs.EntryLaws.{right-parts}
+use Rattle.cds_store.proofs.Together.{there_within}
 
 -- all that a copy tears lies in the block
 copy_in_block : (b : Block) (copy bytes image : List ℕ) → length copy ≡ b.size → end_of b.offset b.size ≤ length bytes → CopyTears b copy bytes image → Torn b.offset (8 + b.size) bytes image
@@ -53,7 +56,7 @@ same_slots change slots blocks n keeps same = same ∙ unchanged blocks n
 
 module _ {B : Type 0} (tells : Type 0) (size : B → ℕ) (now : B → List ℕ) (whole : (bank : B) → tells → length (now bank) ≡ size bank) (slots : List (Option Slot)) (bank : B) (sound : IsSound tells size now (kept slots bank)) (n : ℕ) (s : Slot) (taken : slot_at slots n ≡ Some s) where
   inside : tells → end_of s.block.offset s.block.size ≤ length (now bank)
-  inside told = omega (arith, (right_parts s.block (sound.together.right n s taken)).inside, sound.room, whole bank told)
+  inside told = omega (arith, (right-parts s.block (sound.together.right n s taken)).inside, sound.room, whole bank told)
 
   module _ (copy : List ℕ) (fits : length copy ≡ s.block.size) where
     tears : tells → (image : List ℕ) → CopyTears s.block copy (now bank) image → Torn s.block.offset (8 + s.block.size) (now bank) image
@@ -67,8 +70,8 @@ module _ {B : Type 0} (tells : Type 0) (size : B → ℕ) (now : B → List ℕ)
         (omega (arith, in_block.same_length, whole bank told, sound.room))
         (subst (λ (t : Slot). Torn t.block.offset (8 + t.block.size) (now bank) image) (sym at_n.is) in_block)
 
-    pub copy_leaves : tells → (blocks : Blocks) → StandsFor tells now (kept slots bank) blocks → (image : List ℕ) → CopyTears s.block copy (now bank) image → CopyLeaves n copy blocks image
-    copy_leaves told blocks stands image torn = inr (inr (stands_show image slots (copy_broken n copy blocks) (broken_stands told blocks stands image torn)))
+    pub copy_leaves : tells → (blocks : Blocks) → StandsFor tells now (kept slots bank) blocks → (image : List ℕ) → CopyTears s.block copy (now bank) image → LeavesIn (copying n copy) blocks image
+    copy_leaves told blocks stands image torn = inr (inr (false, false, (refl, refl), stands_show image slots (copy_broken n copy blocks) (broken_stands told blocks stands image torn)))
 
     module _ (new : B) (room : bank_size ≤ size new) (torn : tells → CopyTears s.block copy (now bank) (now new)) where
       pub broken_for : (blocks : Blocks) → StandsFor tells now (kept slots bank) blocks → StandsFor tells now (kept slots new) (copy_broken n copy blocks)

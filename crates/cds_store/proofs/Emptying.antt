@@ -3,8 +3,8 @@ use Rattle.std.proofs.Common.{◌≡◌, inl, inr, ℕ, ◌*◌, ◌<◌, ◌≤
 use Rattle.std.specs.Str.{bytes_eq}
 use Rattle.std.proofs.lemmas.Bool.{cases_Bool, eqb-true}
 use Rattle.std.proofs.lemmas.List.{get_or-take, get_or-drop}
-use Rattle.tbl_kinds.specs.Numbers.{byte_at, piece}
-use Rattle.tbl_outside.specs.Bank.{overwritten, Torn}
+use Rattle.tbl_kinds.specs.Numbers.{byte_at, piece, overwritten}
+use Rattle.tbl_outside.specs.Bank.{Torn}
 use Rattle.tbl_outside.proofs.Pieces.{byte_before, piece_before, piece_behind}
 use Rattle.cds_layout.specs.Entries.{gate_open, gate_at}
 use Rattle.cds_layout.specs.Directory.{is_live, live_mark}

@@ -12,7 +12,8 @@ use Rattle.cds_layout.specs.Images.{held_in, data_place}
 use Rattle.cds_store.specs.Sound.{slot_at, AreTogether}
 use Rattle.cds_store.specs.declared.slot.Slot.{Slot}
 use Rattle.cds_store.proofs.Changes.{Elsewhere}
-use Rattle.cds_store.proofs.Together.{right_parts, ends_before}
+use Rattle.cds_layout.proofs.EntryLaws.{right-parts}
+use Rattle.cds_store.proofs.Together.{ends_before}
 
 -- the range ends before these bytes begin, or begins where they end
 abbrev pub IsApart : ℕ → ℕ → ℕ → ℕ → Type 0
@@ -60,7 +61,7 @@ module _ (at count : ℕ) (old image : List ℕ) (torn : Torn at count old image
     live = live_stays spares.mark;
     gates = λ k other lt. gate_stays k (spares.gates k other lt);
     tails = λ k other lt. tail_stays k (spares.tails k other lt);
-    held = λ k s other there. held_stays s.block (right_parts s.block (together.right k s there)).some_bytes (spares.blocks k s other there);
+    held = λ k s other there. held_stays s.block (right-parts s.block (together.right k s there)).some (spares.blocks k s other there);
   }
 
 -- the entry of a slot
@@ -76,7 +77,7 @@ in_entry at count old image n slots torn together lt low high =
       mark = omega (arith, low);
       gates = λ k other less. apart k (gate_place k) 1 other (omega arith) (omega arith);
       tails = λ k other less. apart k (tail_place k) tail_len other (omega arith) (omega arith);
-      blocks = λ k s other there. inr (omega (arith, lt, high, (right_parts s.block (together.right k s there)).behind));
+      blocks = λ k s other there. inr (omega (arith, lt, high, (right-parts s.block (together.right k s there)).behind));
     }
 
 -- the bytes of a block that agrees with those of all other slots

@@ -1,3 +1,4 @@
+pub mod Asked
 pub mod Bytes
 pub mod Changes
 pub mod Closing
@@ -7,6 +8,7 @@ pub mod Free
 pub mod NewBlocks
 pub mod Names
 pub mod Reading
+pub mod Recovered
 pub mod Reservations
 pub mod Showing
 pub mod Steps

@@ -8,7 +8,7 @@ use Rattle.tbl_kinds.specs.Names.{is_zero, is_printable_byte, name_field, HasNoZ
 use Rattle.tbl_kinds.specs.Records.{FitsField}
 use Rattle.tbl_kinds.specs.declared.block.Block.{Block}
 use Rattle.cds_layout.specs.Entries.{entry_tail, is_right}
-use Rattle.cds_store.proofs.Together.{right_parts}
+use Rattle.cds_layout.proofs.EntryLaws.{right-parts}
 
 printable_not_zero : (b : ℕ) → is_printable_byte b ≡ true → is_zero b ≡ false
 printable_not_zero zero e = absurd cc
@@ -26,5 +26,5 @@ pub fits_field : (b : Block) → is_right b ≡ true → length (entry_tail b) �
 unfolding entry_tail
 fits_field b right long = record {
   within = omega (arith, long, length-append (name_field 40 b.name) (replicate 12 0), length-append b.name (replicate (40 - length b.name) 0), length-replicate {A = ℕ} (40 - length b.name) 0);
-  no_zero = printable_no_zero b.name (and_parts (nat_lt 0 (length b.name)) (list_all is_printable_byte b.name) (right_parts b right).named).1;
+  no_zero = printable_no_zero b.name (and_parts (nat_lt 0 (length b.name)) (list_all is_printable_byte b.name) (right-parts b right).named).1;
 }

@@ -10,42 +10,28 @@ use Rattle.std.proofs.lemmas.List.Quantifiers.{position-Some}
 use Rattle.std.proofs.lemmas.List.Sums.{fails_before_first}
 use Rattle.std.proofs.lemmas.Option.{same_Some}
 use Rattle.std.proofs.lemmas.Slice.Eq.{bytes_eq-Decides}
+use Rattle.tbl_kinds.proofs.Positions.{position-map, position-None}
 use Rattle.tbl_kinds.specs.Limits.{table_limit}
 use Rattle.tbl_kinds.specs.Names.{is_name}
 use Rattle.tbl_kinds.specs.Places.{blocks_begin, bank_size, is_inside, are_apart, fits, place}
 use Rattle.tbl_kinds.specs.Blocks.{Stored, Store as Blocks}
+use Rattle.tbl_kinds.specs.StoreCalls.{reserve, CanBreak}
 use Rattle.tbl_kinds.specs.StoreSteps.{same_kind, same_block, is_of, is_doubtful_of, is_open_of, stored_at, doubtful_of, open_of, taken, freed, has_room, closed, made, reserved, reserve_broken, in_doubt}
 use Rattle.tbl_kinds.specs.Free.{least_free}
 use Rattle.tbl_kinds.specs.declared.block.Block.{Block}
 use Rattle.tbl_kinds.specs.declared.block.BlockKind.{BlockKind}
 use Rattle.tbl_kinds.specs.declared.block.BlockKind.TheVariants.{Table, App}
-use Rattle.cds_store.specs.Moments.{ShowsIn, MakeLeaves, ReserveLeaves}
+use Rattle.cds_layout.proofs.DirectoryLaws.{same_kind-sym, bytes_eq-sym}
+use Rattle.cds_store.specs.Calls.{IfBank, is_gate, is_old}
+use Rattle.cds_store.specs.Moments.{ShowsIn, LeavesIn, MakeLeaves}
 use Rattle.cds_store.specs.Slots.{is_open_slot, is_doubtful_slot, open_slot, doubtful_slot, without_slot, block_of, blocks_of, both, room_in}
 use Rattle.cds_store.specs.Sound.{slot_at, AreTogether, IsNew, IsOpenOf}
-use Rattle.cds_store.specs.Standing.{slot_of, with_new, closing, broken_at}
+use Rattle.cds_store.specs.Standing.{StandsFor, slot_of, with_new, closing, broken_at}
+use Rattle.cds_store.specs.declared.fault.ReserveFault.{ReserveFault}
+use Rattle.cds_store.specs.declared.fault.ReserveFault.TheVariants.{NoRoom, Bank}
 use Rattle.cds_store.specs.declared.slot.Slot.{Slot}
-use Rattle.cds_store.proofs.Together.{bytes_eq_back, same_kind_back}
 
 -- ---- lists of places
-
-position_or_len-map : {X Y : Type 0} (p : Y → Bool) (q : X → Bool) (f : X → Y) → ((x : X) → p (f x) ≡ q x) → (xs : List X) → position_or_len p (map f xs) ≡ position_or_len q xs
-position_or_len-map p q f same [] = refl
-position_or_len-map p q f same (x ∷ xs) = rw (same x, position_or_len-map p q f same xs) refl
-
-pub position-map : {X Y : Type 0} (p : Y → Bool) (q : X → Bool) (f : X → Y) → ((x : X) → p (f x) ≡ q x) → (xs : List X) → position p (map f xs) ≡ position q xs
-position-map p q f same xs = rw (position_or_len-map p q f same xs, length-map xs f) refl
-
-past_none : (n all : ℕ) → cond (nat_lt n all) (Some n) None ≡ None → all ≤ n
-past_none n all none = grind (arith, nat_tests)
-
--- where no place is the first that passes, none passes, and none past the end
-pub position-None : {X : Type 0} (p : X → Bool) (xs : List X) (k : ℕ) (d : X) → position p xs ≡ None → p d ≡ false → p (slice_index_or xs k d) ≡ false
-position-None p xs k d none fails =
-    let past : length xs ≤ position_or_len p xs = past_none (position_or_len p xs) (length xs) none in
-    elim (cases_lt k (length xs)) [
-      | inl within ↦ fails_before_first p xs k d (omega arith)
-      | inr beyond ↦ rw (get_or_past xs k d beyond) fails
-    ]
 
 free_there : {X : Type 0} (place : Option X) → is_none place ≡ true → place ≡ None
 free_there None free = refl
@@ -157,11 +143,11 @@ module _ (kind : BlockKind) (name : List ℕ) (size n at : ℕ) (old : Option �
   broken_is true false both_set = sym (made_is true)
   broken_is false false both_set = ap (λ (o : Option ℕ). freed o blocks) is
 
-  pub make_leaves : (image : List ℕ) → MakeLeaves old n (record { kind = kind; offset = at; size = size; name = name }) blocks image → ReserveLeaves kind name size blocks image
+  pub make_leaves : (image : List ℕ) → MakeLeaves old n (record { kind = kind; offset = at; size = size; name = name }) blocks image → LeavesIn (reserve kind name size) blocks image
   make_leaves image (inl before) = inl before
-  make_leaves image (inr (inl closed_then)) = inr (inr (false, false, subst (λ (o : Option ℕ). ShowsIn (freed o blocks) image) is closed_then))
+  make_leaves image (inr (inl closed_then)) = inr (inr (false, false, (λ set. absurd (cc set)), subst (λ (o : Option ℕ). ShowsIn (freed o blocks) image) is closed_then))
   make_leaves image (inr (inr (inl in_closing))) = inl (subst (λ (l : Blocks). ShowsIn l image) (closing_at old is) in_closing)
-  make_leaves image (inr (inr (inr made_then))) = inr (inr (true, false, subst (λ (l : Blocks). ShowsIn l image) (sym (made_is true)) made_then))
+  make_leaves image (inr (inr (inr made_then))) = inr (inr (true, false, (λ set. absurd (cc set)), subst (λ (l : Blocks). ShowsIn l image) (sym (made_is true)) made_then))
 
 -- ---- the new block is new
 
@@ -173,7 +159,7 @@ kinds_alike Table App App p q = p
 kinds_alike App Table Table p q = p
 kinds_alike App Table App p q = q
 
-both_of : (kind : BlockKind) (name : List ℕ) (a b : Block) → is_of kind name a ≡ true → is_of kind name b ≡ true → same_block a b ≡ true
+pub both_of : (kind : BlockKind) (name : List ℕ) (a b : Block) → is_of kind name a ≡ true → is_of kind name b ≡ true → same_block a b ≡ true
 both_of kind name a b p q =
     let pa = and_parts (same_kind a.kind kind) (bytes_eq a.name name) p in
     let qb = and_parts (same_kind b.kind kind) (bytes_eq b.name name) q in
@@ -184,7 +170,7 @@ of_doubtful : (kind : BlockKind) (name : List ℕ) (o : Option Slot) → is_doub
 of_doubtful kind name None there = absurd (cc there)
 of_doubtful kind name (Some s) there = (s, refl, (and_parts (is_of kind name s.block) s.doubtful there).0)
 
-same_not : (b : Bool) → not b ≡ true → b ≡ true → ⊥
+pub same_not : (b : Bool) → not b ≡ true → b ≡ true → ⊥
 same_not true p q = cc p
 same_not false p q = cc q
 
@@ -260,7 +246,7 @@ unfolding place
 place_fits taken_blocks size at found = find_passes (fits taken_blocks size) (range_with_len blocks_begin (bank_size - blocks_begin)) at found
 
 no_same_block : (kind : BlockKind) (name : List ℕ) (size at : ℕ) (s : Block) → is_of kind name s ≡ false → not (same_block (record { kind = kind; offset = at; size = size; name = name }) s) ≡ true
-no_same_block kind name size at s other = rw (same_kind_back kind s.kind, bytes_eq_back name s.name, other) refl
+no_same_block kind name size at s other = rw (same_kind-sym kind s.kind, bytes_eq-sym name s.name, other) refl
 
 length-without : (old : Option ℕ) (slots : List (Option Slot)) → length (without_slot old slots) ≡ length slots
 length-without None slots = refl
@@ -306,3 +292,13 @@ open_with_size kind name size (Some s) b is there fits =
 pub found_is_open : (kind : BlockKind) (name : List ℕ) (size n : ℕ) (slots : List (Option Slot)) (b : Block) → open_slot kind name slots ≡ Some n → option_map block_of (slot_at slots n) ≡ Some b → b.size ≡ size → IsOpenOf size (slot_at slots n)
 found_is_open kind name size n slots b found there fits =
     open_with_size kind name size (slot_at slots n) b (position-Some (is_open_slot kind name) slots n None found).1 there fits
+
+-- ---- where a reservation can break off
+
+pub can_break : {B : Type 0} (tells : Type 0) (now : B → List ℕ) (kind : BlockKind) (name : List ℕ) (size : ℕ) (slots : List (Option Slot)) (bank : B) (booted : Bool) (fault : ReserveFault)
+    → IfBank fault (λ fault. is_old fault ≡ true → (is_gate fault ≡ true) × IsSome (doubtful_slot kind name slots))
+    → IfBank fault (λ fault. (blocks : Blocks) → StandsFor tells now (record { slots = slots; bank = bank; booted = booted }) blocks → CanBreak (is_gate fault) (is_old fault) (reserve kind name size) blocks)
+can_break tells now kind name size slots bank booted NoRoom flags = tt
+can_break tells now kind name size slots bank booted (Bank fault) flags = λ blocks stands set.
+    let both_set = flags set in
+    (both_set.0, subst IsSome (doubtful_same kind name slots blocks stands.slots) both_set.1)

@@ -18,7 +18,8 @@ use Rattle.cds_store.specs.Writes.{Prepares}
 use Rattle.cds_store.specs.declared.slot.Slot.{Slot}
 use Rattle.cds_store.proofs.Changes.{Elsewhere, elsewhere_on, Stands, stands_slot, stands_after}
 use Rattle.cds_store.proofs.Frames.{gate_stays, tail_stays, held_stays, in_entry, in_block}
-use Rattle.cds_store.proofs.Together.{IsRight, right_parts, there_within, together_without, together_same, together_set}
+use Rattle.cds_layout.proofs.EntryLaws.{IsRight, right-parts}
+use Rattle.cds_store.proofs.Together.{there_within, together_without, together_same, together_set}
 
 -- nothing changes where a place gets what it has
 put_back : {X : Type 0} (xs : List (Option X)) (n : ℕ) (o : Option X) → slice_index_or xs n None ≡ o → slice_set xs n o ≡ xs
@@ -49,8 +50,8 @@ module _ (n : ℕ) (slots : List (Option Slot)) (blocks : Blocks) (old image : L
 
   gate_held : MayGive b (held_in image b.block)
   gate_held =
-      let right = right_parts b.block (stands.together.right n (slot_of b) gate_slot) in
-      subst (MayGive b) (sym (held_stays (gate_place n) 1 old image torn b.block right.some_bytes (inr (omega (arith, gate_within, right.behind))))) (stands.held n b there)
+      let right = right-parts b.block (stands.together.right n (slot_of b) gate_slot) in
+      subst (MayGive b) (sym (held_stays (gate_place n) 1 old image torn b.block right.some (inr (omega (arith, gate_within, right.behind))))) (stands.held n b there)
 
   -- it is in doubt
   pub gate_torn : Stands image (slice_set slots n (Some (slot_of (in_doubt b)))) (delete_broken n blocks)
@@ -82,7 +83,7 @@ module _ (n : ℕ) (slots : List (Option Slot)) (blocks : Blocks) (old image : L
   -- before its gate is opened, nothing has changed
   pub prepared : Prepares n block old image → Stands image slots blocks
   prepared prepares =
-      let right = right_parts block new.right in
+      let right = right-parts block new.right in
       let head : Elsewhere n slots old prepares.wiped = in_block block.offset 8 old prepares.wiped n slots block prepares.head stands.together right.behind new_agrees (omega arith) (omega arith) in
       let entry : Elsewhere n slots prepares.wiped image = in_entry (tail_place n) tail_len prepares.wiped image n slots prepares.entry stands.together new.within (omega arith) (omega arith) in
       let gate : gate_at image n ≡ gate_at old n =
@@ -101,14 +102,14 @@ module _ (n : ℕ) (slots : List (Option Slot)) (blocks : Blocks) (old image : L
       → (doubtful ≡ false → (gate_at image n == gate_open) ≡ true)
       → Stands image (slice_set slots n (Some (record { block = block; doubtful = doubtful }))) (slice_set blocks n (Some (new_block doubtful block.kind block.name block.size block.offset)))
   made_torn doubtful torn told wiped sure =
-      let right = right_parts block new.right in
+      let right = right-parts block new.right in
       let made = new_block doubtful block.kind block.name block.size block.offset in
       stands_after n slots blocks old image (in_entry (gate_place n) 1 old image n slots torn stands.together new.within (omega arith) (omega arith)) new.within stands (Some made)
       (together_set slots n (Some (slot_of made)) stands.together new.within
       (λ s is. rw (← same_Some (slot_of made) s is) new.right)
       (λ k s t other there is. rw (← same_Some (slot_of made) t is) (new.agrees k s there)))
       (ap block_in (tail_stays (gate_place n) 1 old image torn n (inr (omega arith))) ∙ told, sure)
-      (λ c is. rw (← same_Some made c is) (held_stays (gate_place n) 1 old image torn block right.some_bytes (inr (omega (arith, new.within, right.behind))) ∙ wiped))
+      (λ c is. rw (← same_Some made c is) (held_stays (gate_place n) 1 old image torn block right.some (inr (omega (arith, new.within, right.behind))) ∙ wiped))
 
 -- ---- the bytes of a block
 
@@ -132,7 +133,7 @@ module _ (n : ℕ) (slots : List (Option Slot)) (blocks : Blocks) (old image : L
   own_within = within_slots slots n (slot_of b) stands.together own_slot
 
   own_right : IsRight b.block
-  own_right = right_parts b.block (stands.together.right n (slot_of b) own_slot)
+  own_right = right-parts b.block (stands.together.right n (slot_of b) own_slot)
 
   -- what is known of it changes, and neither its entry nor its slot does
   own_changed : (c : Stored) → slot_of c ≡ slot_of b → Torn b.block.offset (8 + b.block.size) old image → MayGive c (held_in image c.block) → Stands image slots (slice_set blocks n (Some c))

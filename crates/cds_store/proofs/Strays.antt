@@ -20,7 +20,7 @@ use Rattle.cds_store.specs.Moments.{ShowsIn}
 use Rattle.cds_store.specs.Sound.{EntryIs}
 use Rattle.cds_store.proofs.Frames.{IsApart, gate_stays, tail_stays, live_stays, held_stays}
 use Rattle.cds_store.proofs.Reading.{is_open}
-use Rattle.cds_store.proofs.Together.{right_parts}
+use Rattle.cds_layout.proofs.EntryLaws.{right-parts}
 
 -- ---- the directory, slot by slot
 
@@ -141,8 +141,8 @@ module _ (n : ℕ) (old image : List ℕ) (torn : Torn (gate_place n) 1 old imag
     gate_kept lt = record {
       directory = directory_by_count slot_count refl;
       held = λ k b there.
-          let right = right_parts b (directory-right old k b there) in
-          held_stays (gate_place n) 1 old image torn b right.some_bytes (inr (omega (arith, lt, right.behind)));
+          let right = right-parts b (directory-right old k b there) in
+          held_stays (gate_place n) 1 old image torn b right.some (inr (omega (arith, lt, right.behind)));
     }
 
 pub same_store : (bytes : List ℕ) → SameStore bytes bytes

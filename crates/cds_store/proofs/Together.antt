@@ -16,54 +16,11 @@ use Rattle.tbl_kinds.specs.declared.block.BlockKind.{BlockKind}
 use Rattle.tbl_kinds.specs.declared.block.BlockKind.TheVariants.{Table, App}
 use Rattle.cds_layout.specs.Entries.{slot_count, is_right}
 use Rattle.cds_layout.specs.Directory.{agree}
+use Rattle.cds_layout.proofs.DirectoryLaws.{agree-sym}
 use Rattle.cds_store.specs.Sound.{slot_at, AreTogether}
 use Rattle.cds_store.specs.declared.slot.Slot.{Slot}
 
--- ---- a right block
-
-pub record IsRight (b : Block) : Type 0 where
-  pub some_bytes : 0 < b.size
-  pub within : b.size ≤ table_limit
-  pub behind : blocks_begin ≤ b.offset
-  pub inside : end_of b.offset b.size ≤ bank_size
-  pub named : is_name b.name ≡ true
-
-pub right_parts : (b : Block) → is_right b ≡ true → IsRight b
-right_parts b right =
-    let first = and_parts (nat_lt 0 b.size && nat_le b.size table_limit && is_inside b.offset b.size) (is_name b.name) right in
-    let second = and_parts (nat_lt 0 b.size && nat_le b.size table_limit) (is_inside b.offset b.size) first.0 in
-    let third = and_parts (nat_lt 0 b.size) (nat_le b.size table_limit) second.0 in
-    let fourth = and_parts (nat_le blocks_begin b.offset) (nat_le (end_of b.offset b.size) bank_size) second.1 in
-    record {
-      some_bytes = leb-true 1 b.size third.0;
-      within = leb-true b.size table_limit third.1;
-      behind = leb-true blocks_begin b.offset fourth.0;
-      inside = leb-true (end_of b.offset b.size) bank_size fourth.1;
-      named = first.1;
-    }
-
 -- ---- blocks that agree
-
-pub same_kind_back : (a b : BlockKind) → same_kind a b ≡ same_kind b a
-same_kind_back Table Table = refl
-same_kind_back Table App = refl
-same_kind_back App Table = refl
-same_kind_back App App = refl
-
-pub bytes_eq_back : (a b : List ℕ) → bytes_eq a b ≡ bytes_eq b a
-bytes_eq_back a b =
-    elim (cases_Bool (bytes_eq a b)) [
-      | inl same ↦ same ∙ sym ((bytes_eq-Decides b a).1 (sym ((bytes_eq-Decides a b).0 same)))
-      | inr differ ↦
-          differ ∙ sym (elim (cases_Bool (bytes_eq b a)) [
-            | inl back ↦ absurd (cc ((bytes_eq-Decides a b).1 (sym ((bytes_eq-Decides b a).0 back)), differ))
-            | inr other ↦ other
-          ])
-    ]
-
-pub agree_back : (a b : Block) → agree a b ≡ agree b a
-agree_back a b =
-    rw (or_comm (nat_le (end_of a.offset a.size) b.offset) (nat_le (end_of b.offset b.size) a.offset), same_kind_back a.kind b.kind, bytes_eq_back a.name b.name) refl
 
 -- one of them ends before the other begins
 pub ends_before : (a b : Block) → agree a b ≡ true → (end_of a.offset a.size ≤ b.offset) ⊎ (end_of b.offset b.size ≤ a.offset)
@@ -101,7 +58,7 @@ module _ (slots : List (Option Slot)) (n : ℕ) (o : Option Slot) (together : Ar
         | inl is ↦ agrees m b a (λ m_is. differ (is ∙ sym m_is)) (sym (at_other m (λ m_is. differ (is ∙ sym m_is))) ∙ at_m) (sym here ∙ subst (λ i. slot_at (slice_set slots n o) i ≡ Some a) is at_k)
         | inr other ↦
             elim (cases_eq m n) [
-              | inl is ↦ agree_back a.block b.block ∙ agrees k a b other (sym (at_other k other) ∙ at_k) (sym here ∙ subst (λ i. slot_at (slice_set slots n o) i ≡ Some b) is at_m)
+              | inl is ↦ agree-sym a.block b.block ∙ agrees k a b other (sym (at_other k other) ∙ at_k) (sym here ∙ subst (λ i. slot_at (slice_set slots n o) i ≡ Some b) is at_m)
               | inr other' ↦ together.apart k m differ a (sym (at_other k other) ∙ at_k) b (sym (at_other m other') ∙ at_m)
             ]
       ]

@@ -1,6 +1,6 @@
--- What holds of the bank after each call, and why a call broke off.
-use Rattle.std.specs.Prelude.{◌≡◌, ℕ, ◌≤◌, Bool, true, false, Result, Err}
-use Rattle.tbl_outside.specs.Counts.{Rose}
+-- What holds of the bank after each call, and what a call that broke off counted.
+use Rattle.std.specs.Prelude.{◌≡◌, ℕ, ◌≤◌, Bool, true, false, Result, Ok, Err}
+use Rattle.tbl_outside.specs.Counts.{Still, RoseAlone}
 use Rattle.cds_store.specs.declared.fault.ReserveFault.{ReserveFault}
 use Rattle.cds_store.specs.declared.fault.ReserveFault.TheVariants.{NoRoom, Bank}
 use Rattle.cds_store.specs.declared.fault.BankFault.{BankFault}
@@ -12,10 +12,18 @@ pub record Steady {B : Type 0} (size faults stops : B → ℕ) (old new : B) : T
   pub fault_count : faults old ≤ faults new
   pub stop_count : stops old ≤ stops new
 
--- a fault came only where the bank failed, and a stop where it was stopped
-abbrev pub IsCaused : {B : Type 0} → (B → ℕ) → (B → ℕ) → B → B → BankFault → Type 0
-IsCaused faults stops old new (Fault gate old_gate) = Rose (faults old) (faults new)
-IsCaused faults stops old new (Stopped gate old_gate) = Rose (stops old) (stops new)
+-- a fault moved the count of faults alone, a stop that of stops, and a call that is done moved neither
+abbrev pub CallCounted : {A B : Type 0} → (B → ℕ) → (B → ℕ) → B → B → Result A BankFault → Type 0
+CallCounted faults stops old new (Ok x) = Still faults stops old new
+CallCounted faults stops old new (Err (Fault gate old_gate)) = RoseAlone faults stops old new
+CallCounted faults stops old new (Err (Stopped gate old_gate)) = RoseAlone stops faults old new
+
+-- nor did a reservation for which there was no room
+abbrev pub ReserveCounted : {A B : Type 0} → (B → ℕ) → (B → ℕ) → B → B → Result A ReserveFault → Type 0
+ReserveCounted faults stops old new (Ok x) = Still faults stops old new
+ReserveCounted faults stops old new (Err NoRoom) = Still faults stops old new
+ReserveCounted faults stops old new (Err (Bank (Fault gate old_gate))) = RoseAlone faults stops old new
+ReserveCounted faults stops old new (Err (Bank (Stopped gate old_gate))) = RoseAlone stops faults old new
 
 -- whether the write that broke off was of a gate byte, and whether of that of a doubtful block
 abbrev pub is_gate : BankFault → Bool

@@ -1,12 +1,13 @@
 -- What a reset inside a call of the store may leave.
-use Rattle.std.specs.Prelude.{◌≡◌, ◌⊎◌, ℕ, List, Bool, true, Option}
+use Rattle.std.specs.Prelude.{◌≡◌, ◌⊎◌, ℕ, List, true, Option}
 use Rattle.tbl_kinds.specs.Blocks.{Store as Blocks, empty_store}
-use Rattle.tbl_kinds.specs.StoreSteps.{Shows, freed, reserved, reserve_broken, copied, copy_broken, deleted, delete_broken}
+use Rattle.tbl_kinds.specs.StoreCalls.{StoreCall, Leaves}
+use Rattle.tbl_kinds.specs.StoreSteps.{Shows, freed}
 use Rattle.tbl_kinds.specs.declared.block.Block.{Block}
-use Rattle.tbl_kinds.specs.declared.block.BlockKind.{BlockKind}
 use Rattle.tbl_kinds.specs.declared.request.ResetKind.{ResetKind}
 use Rattle.tbl_kinds.specs.declared.request.ResetKind.TheVariants.{PowerOn}
-use Rattle.tbl_outside.specs.Bank.{Torn, overwritten}
+use Rattle.tbl_kinds.specs.Numbers.{overwritten}
+use Rattle.tbl_outside.specs.Bank.{Torn}
 use Rattle.cds_store.specs.Standing.{closing, with_new}
 use Rattle.cds_layout.specs.Images.{store_of, head_len, data_place}
 
@@ -18,19 +19,9 @@ ShowsIn blocks image = Shows blocks (store_of image)
 abbrev pub BootLeaves : ResetKind → Blocks → List ℕ → Type 0
 BootLeaves kind blocks image = ShowsIn blocks image ⊎ ((kind ≡ PowerOn) × ShowsIn empty_store image)
 
--- a reservation leaves the blocks as they were, as they are when it is done, or as they are where it broke off
-abbrev pub ReserveLeaves : BlockKind → List ℕ → ℕ → Blocks → List ℕ → Type 0
-ReserveLeaves kind name size blocks image =
-    ShowsIn blocks image ⊎ ShowsIn (reserved kind name size blocks) image
-    ⊎ ((gate : Bool) × (old : Bool) × ShowsIn (reserve_broken gate old kind name size blocks) image)
-
-abbrev pub CopyLeaves : ℕ → List ℕ → Blocks → List ℕ → Type 0
-CopyLeaves slot copy blocks image =
-    ShowsIn blocks image ⊎ ShowsIn (copied slot copy blocks) image ⊎ ShowsIn (copy_broken slot copy blocks) image
-
-abbrev pub DeleteLeaves : ℕ → Blocks → List ℕ → Type 0
-DeleteLeaves slot blocks image =
-    ShowsIn blocks image ⊎ ShowsIn (deleted slot blocks) image ⊎ ShowsIn (delete_broken slot blocks) image
+-- another call leaves what its definition says
+abbrev pub LeavesIn : StoreCall → Blocks → List ℕ → Type 0
+LeavesIn call blocks image = Leaves call blocks (store_of image)
 
 -- a new block that is made in a slot, once a doubtful one is closed
 abbrev pub MakeLeaves : Option ℕ → ℕ → Block → Blocks → List ℕ → Type 0

@@ -2,7 +2,8 @@
 use Rattle.std.specs.Prelude.{◌≡◌, ℕ, List, map, slice_set, Bool, true, false, Option, Some, None, Result, Ok, Err, option_and_then}
 use Rattle.std.specs.Option.{option_map, ForSome}
 use Rattle.tbl_kinds.specs.Blocks.{Stored, Store as Blocks}
-use Rattle.tbl_kinds.specs.StoreSteps.{Shows, stored_at, MayGive, new_block, freed, delete_broken, restored}
+use Rattle.tbl_kinds.specs.StoreCalls.{restore, after, broken}
+use Rattle.tbl_kinds.specs.StoreSteps.{Shows, stored_at, MayGive, new_block, freed, delete_broken}
 use Rattle.tbl_kinds.specs.declared.block.Block.{Block}
 use Rattle.cds_layout.specs.declared.blocks.RestoreFault.{RestoreFault}
 use Rattle.cds_layout.specs.declared.blocks.RestoreFault.TheVariants.{Torn, Fault}
@@ -56,10 +57,10 @@ abbrev pub broken_at : Bool → Bool → Option ℕ → ℕ → Block → Blocks
 broken_at gate true old slot block blocks = closing old blocks
 broken_at gate false old slot block blocks = made_or_not gate slot block (freed old blocks)
 
--- a restore that gave no image: of a torn block it is known that it holds none, and after a fault nothing more is
+-- a restore that gave no image: a torn block gave none, and a fault broke the restore off
 abbrev pub after_fault : RestoreFault → ℕ → Blocks → Blocks
-after_fault (Torn length stated found) slot blocks = restored slot None blocks
-after_fault Fault slot blocks = blocks
+after_fault (Torn length stated found) slot blocks = after (restore slot None) blocks
+after_fault Fault slot blocks = broken false false (restore slot None) blocks
 
 -- what the block in a slot holds
 abbrev pub held_at : ℕ → Blocks → Option (List ℕ)

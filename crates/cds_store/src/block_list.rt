@@ -2,12 +2,13 @@
 
 ghost use Rattle.std.specs.Prelude.{◌≡◌, ◌<◌, [], ◌∷◌, ◌++◌, length};
 
+use cds_layout::SLOTS;
 use std::array::from_fn;
 use std::marker::Model;
 use tbl_kinds::{Block, BlockKind, Name};
 
 /// How many blocks there can be: as many as slots.
-const ROOM: usize = 128;
+const ROOM: usize = SLOTS as usize;
 
 /// At most 128 blocks, in their order. (`ArrayVec` asks for a default value, and no block is one.)
 #[derive(Drop)]

@@ -1,17 +1,20 @@
 //! A boot reads the directory and makes it match the slots.
 
-ghost use Rattle.std.specs.Prelude.{◌≡◌, ◌⊎◌, ◌≤◌, true, List, ℕ, [], length, map, replicate, None, IfOk, OnOk, OnErr, IfErr};
+ghost use Rattle.std.specs.Prelude.{◌≡◌, ◌⊎◌, ◌≤◌, true, List, ℕ, [], ◌∷◌, false, length, is_ok, map, replicate, None, IfOk, OnOk, OnErr, IfErr};
 ghost use Rattle.std.specs.Option.{option_map};
 ghost use Rattle.tbl_kinds.specs.Numbers.{piece, byte_at};
 ghost use Rattle.tbl_kinds.specs.Places.{bank_size};
 ghost use Rattle.tbl_kinds.specs.Blocks.{Store as Blocks};
 ghost use Rattle.tbl_kinds.specs.StoreSteps.{booted};
+ghost use Rattle.tbl_kinds.specs.declared.request.ResetKind.TheVariants.{Processor, PowerOn};
 ghost use Rattle.tbl_outside.specs.Bank.{LeavesOnly};
+ghost use Rattle.tbl_outside.specs.BankCalls.{Asks, read};
 ghost use Rattle.cds_layout.specs.Directory.{directory_len, directory_of, is_live};
 ghost use Rattle.cds_layout.specs.Entries.{slot_count};
 ghost use Rattle.cds_store.specs.Boots.{IsFront, SameStore, IsTidy, IsCleared, Clears, AreZeros, BeginsAt, opened_slot, found_open, found_by};
 ghost use Rattle.cds_layout.specs.Images.{store_of};
-ghost use Rattle.cds_store.specs.Calls.{Steady, IsCaused};
+ghost use Rattle.cds_layout.specs.Order.{clear_calls, boot_writes, boot_calls};
+ghost use Rattle.cds_store.specs.Calls.{Steady, CallCounted, is_old};
 ghost use Rattle.cds_store.specs.Moments.{BootLeaves};
 ghost use Rattle.cds_store.specs.Sound.{IsSound};
 ghost use Rattle.cds_store.specs.Standing.{StandsFor, kept};
@@ -21,15 +24,9 @@ use crate::fault::BankFault;
 use crate::settling::{find_found, forget_all, open_all};
 use crate::slot::Slot;
 use crate::tidying::tidy_live;
-use cds_layout::{Directory, read_directory};
+use cds_layout::{Directory, ENTRIES_PLACE, is_live, read_directory};
 use tbl_kinds::{ResetKind, Slots};
 use tbl_outside::{Bank, Failed};
-
-/// Where the entries begin, behind the live mark and twelve zeros.
-const ENTRIES_PLACE: usize = 16;
-
-/// The live mark of the bank.
-const LIVE_MARK: [u8; 4] = *b"CDS1";
 
 /// Reads the first bytes of the bank, and the directory that they tell.
 pub(crate) fn read_front<B: Bank>(
@@ -46,7 +43,9 @@ pub(crate) fn read_front<B: Bank>(
     ensures moments { B.tells_moments →
         LeavesOnly B.clock B.left_since bank.old bank.new (λ image. image ≡ B.now bank.old) }
     ensures steady { Steady B.size B.faults B.stops bank.old bank.new }
-    ensures cause { IfErr result (IsCaused B.faults B.stops bank.old bank.new) }
+    ensures counted { CallCounted B.faults B.stops bank.old bank.new result }
+    ensures asked { Asks B.tells_calls B.calls bank.old bank.new (is_ok result) (read 0 directory_len ∷ []) }
+    ensures not_old { IfErr result (λ fault. is_old fault ≡ false) }
 {
     match bank.read_at(0, front) {
         Ok(()) => {
@@ -58,14 +57,6 @@ pub(crate) fn read_front<B: Bank>(
             old: false,
         }),
     }
-}
-
-/// Whether the bank is live.
-fn is_live(front: &[u8]) -> bool
-    requires { length front.now ≡ directory_len }
-    ensures { result ≡ is_live front.now }
-{
-    &front[..LIVE_MARK.len()] == LIVE_MARK.as_slice()
 }
 
 #[tactic(auto, using(crate::proofs::Emptied::zeros_replicate))]
@@ -82,7 +73,7 @@ fn entries_of(bytes: &[u8]) -> &[u8]
     ensures len { length result.now ≡ 8192 }
     ensures zeros { AreZeros bytes.now → AreZeros result.now }
 {
-    &bytes[ENTRIES_PLACE..]
+    &bytes[ENTRIES_PLACE as usize..]
 }
 
 /// The first of the bytes.
@@ -103,7 +94,10 @@ pub(crate) fn clear_all<B: Bank>(bank: &mut B, front: &mut [u8]) -> Result<(), B
     ensures left { B.tells → Clears (B.now bank.old) (B.now bank.new) }
     ensures moments { B.tells_moments → LeavesOnly B.clock B.left_since bank.old bank.new (Clears (B.now bank.old)) }
     ensures steady { Steady B.size B.faults B.stops bank.old bank.new }
-    ensures cause { IfErr result (IsCaused B.faults B.stops bank.old bank.new) }
+    ensures counted { CallCounted B.faults B.stops bank.old bank.new result }
+    ensures asked { B.tells →
+        Asks B.tells_calls B.calls bank.old bank.new (is_ok result) (clear_calls (B.now bank.old)) }
+    ensures not_old { IfErr result (λ fault. is_old fault ≡ false) }
 {
     let first = first_of(front);
     zero_all(front);
@@ -121,7 +115,10 @@ fn tidy<B: Bank>(bank: &mut B, front: &mut [u8], directory: &Directory) -> Resul
     ensures moments { B.tells_moments →
         LeavesOnly B.clock B.left_since bank.old bank.new (SameStore (B.now bank.old)) }
     ensures steady { Steady B.size B.faults B.stops bank.old bank.new }
-    ensures cause { IfErr result (IsCaused B.faults B.stops bank.old bank.new) }
+    ensures counted { CallCounted B.faults B.stops bank.old bank.new result }
+    ensures asked { B.tells →
+        Asks B.tells_calls B.calls bank.old bank.new (is_ok result) (boot_writes Processor (B.now bank.old)) }
+    ensures not_old { IfErr result (λ fault. is_old fault ≡ false) }
 {
     if is_live(front) {
         tidy_live(bank, front, directory)
@@ -151,7 +148,10 @@ pub(crate) fn boot_processor<B: Bank>(
     ensures moments { B.tells_moments →
         LeavesOnly B.clock B.left_since bank.old bank.new (SameStore (B.now bank.old)) }
     ensures steady { Steady B.size B.faults B.stops bank.old bank.new }
-    ensures cause { IfErr result (IsCaused B.faults B.stops bank.old bank.new) }
+    ensures counted { CallCounted B.faults B.stops bank.old bank.new result }
+    ensures asked { B.tells →
+        Asks B.tells_calls B.calls bank.old bank.new (is_ok result) (boot_writes Processor (B.now bank.old)) }
+    ensures not_old { IfErr result (λ fault. is_old fault ≡ false) }
 {
     tidy(bank, front, directory)?;
     let found = find_found(slots, directory);
@@ -177,7 +177,10 @@ pub(crate) fn boot_power_on<B: Bank>(
     ensures left { B.tells → Clears (B.now bank.old) (B.now bank.new) }
     ensures moments { B.tells_moments → LeavesOnly B.clock B.left_since bank.old bank.new (Clears (B.now bank.old)) }
     ensures steady { Steady B.size B.faults B.stops bank.old bank.new }
-    ensures cause { IfErr result (IsCaused B.faults B.stops bank.old bank.new) }
+    ensures counted { CallCounted B.faults B.stops bank.old bank.new result }
+    ensures asked { B.tells →
+        Asks B.tells_calls B.calls bank.old bank.new (is_ok result) (boot_writes PowerOn (B.now bank.old)) }
+    ensures not_old { IfErr result (λ fault. is_old fault ≡ false) }
 {
     clear_all(bank, front)?;
     forget_all(slots);
@@ -210,7 +213,10 @@ fn boot_as<B: Bank>(
         BeginsAt B.tells B.now (kept slots.old.items bank.old) blocks →
         LeavesOnly B.clock B.left_since bank.old bank.new (BootLeaves kind blocks) }
     ensures steady { Steady B.size B.faults B.stops bank.old bank.new }
-    ensures cause { IfErr result (IsCaused B.faults B.stops bank.old bank.new) }
+    ensures counted { CallCounted B.faults B.stops bank.old bank.new result }
+    ensures asked { B.tells →
+        Asks B.tells_calls B.calls bank.old bank.new (is_ok result) (boot_writes kind (B.now bank.old)) }
+    ensures not_old { IfErr result (λ fault. is_old fault ≡ false) }
 {
     match kind {
         ResetKind::Processor => boot_processor(bank, slots, front, directory),
@@ -242,7 +248,10 @@ pub(crate) fn boot<B: Bank>(
         BeginsAt B.tells B.now (kept slots.old.items bank.old) blocks →
         LeavesOnly B.clock B.left_since bank.old bank.new (BootLeaves kind blocks) }
     ensures steady { Steady B.size B.faults B.stops bank.old bank.new }
-    ensures cause { IfErr result (IsCaused B.faults B.stops bank.old bank.new) }
+    ensures counted { CallCounted B.faults B.stops bank.old bank.new result }
+    ensures asked { B.tells →
+        Asks B.tells_calls B.calls bank.old bank.new (is_ok result) (boot_calls kind (B.now bank.old)) }
+    ensures not_old { IfErr result (λ fault. is_old fault ≡ false) }
 {
     read_front(bank, front, directory)?;
     boot_as(bank, slots, front, directory, kind)

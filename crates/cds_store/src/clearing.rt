@@ -1,24 +1,24 @@
 //! The whole directory is cleared.
 
-ghost use Rattle.std.specs.Prelude.{◌≡◌, ◌≤◌, true, length, OnOk, IfErr};
+ghost use Rattle.std.specs.Prelude.{◌≡◌, ◌≤◌, ◌==◌, true, false, [], ◌∷◌, length, replicate, is_ok, OnOk, IfErr, if◌then◌else◌};
 ghost use Rattle.tbl_kinds.specs.Numbers.{byte_at};
 ghost use Rattle.tbl_kinds.specs.Places.{bank_size};
 ghost use Rattle.tbl_outside.specs.Bank.{Torn, LeavesOnly};
+ghost use Rattle.tbl_outside.specs.BankCalls.{Asks, write};
+ghost use Rattle.cds_layout.specs.Order.{clear_by};
 ghost use Rattle.cds_store.specs.Boots.{is_dead, HasMark, AllShut, AreZeros, IsCleared, IsEmptied, Clears};
-ghost use Rattle.cds_store.specs.Calls.{Steady, IsCaused};
+ghost use Rattle.cds_store.specs.Calls.{Steady, CallCounted, is_old};
 
 use crate::fault::BankFault;
 use crate::writes::write;
+use cds_layout::{ENTRIES_PLACE, LIVE_MARK};
 use tbl_outside::Bank;
 
-/// The first byte of the live mark `CDS1`.
-const LIVE: u8 = 0x43;
+/// The first byte of the live mark.
+const LIVE: u8 = LIVE_MARK[0];
 
 /// Where the rest of the mark begins, and twelve zeros.
 const MARK_PLACE: u32 = 1;
-
-/// Where the entries begin.
-const ENTRIES_PLACE: u32 = 16;
 
 /// Takes the first byte of the live mark away, where it is there: from then on the bank shows no block.
 fn close_live<B: Bank>(bank: &mut B, first: u8) -> Result<(), BankFault>
@@ -28,7 +28,9 @@ fn close_live<B: Bank>(bank: &mut B, first: u8) -> Result<(), BankFault>
     ensures left { B.tells → Clears (B.now bank.old) (B.now bank.new) }
     ensures moments { B.tells_moments → LeavesOnly B.clock B.left_since bank.old bank.new (Clears (B.now bank.old)) }
     ensures steady { Steady B.size B.faults B.stops bank.old bank.new }
-    ensures cause { IfErr result (IsCaused B.faults B.stops bank.old bank.new) }
+    ensures counted { CallCounted B.faults B.stops bank.old bank.new result }
+    ensures asked { Asks B.tells_calls B.calls bank.old bank.new (is_ok result) (if first == 0x43 then write 0 (0 ∷ []) ∷ [] else []) }
+    ensures not_old { IfErr result (λ fault. is_old fault ≡ false) }
 {
     if first == LIVE {
         write(bank, 0, &[0], false, false)
@@ -46,7 +48,9 @@ fn write_mark<B: Bank>(bank: &mut B) -> Result<(), BankFault>
     ensures left { B.tells → IsEmptied (B.now bank.new) }
     ensures moments { B.tells_moments → LeavesOnly B.clock B.left_since bank.old bank.new IsEmptied }
     ensures steady { Steady B.size B.faults B.stops bank.old bank.new }
-    ensures cause { IfErr result (IsCaused B.faults B.stops bank.old bank.new) }
+    ensures counted { CallCounted B.faults B.stops bank.old bank.new result }
+    ensures asked { Asks B.tells_calls B.calls bank.old bank.new (is_ok result) (write 1 (0x44 ∷ 0x53 ∷ 0x31 ∷ replicate 12 0) ∷ []) }
+    ensures not_old { IfErr result (λ fault. is_old fault ≡ false) }
 {
     write(
         bank,
@@ -69,7 +73,9 @@ fn write_entries<B: Bank>(bank: &mut B, zeros: &[u8]) -> Result<(), BankFault>
     ensures left { B.tells → IsEmptied (B.now bank.new) }
     ensures moments { B.tells_moments → LeavesOnly B.clock B.left_since bank.old bank.new IsEmptied }
     ensures steady { Steady B.size B.faults B.stops bank.old bank.new }
-    ensures cause { IfErr result (IsCaused B.faults B.stops bank.old bank.new) }
+    ensures counted { CallCounted B.faults B.stops bank.old bank.new result }
+    ensures asked { Asks B.tells_calls B.calls bank.old bank.new (is_ok result) (write 16 zeros.now ∷ []) }
+    ensures not_old { IfErr result (λ fault. is_old fault ≡ false) }
 {
     write(bank, ENTRIES_PLACE, zeros, false, false)
 }
@@ -83,7 +89,9 @@ fn open_live<B: Bank>(bank: &mut B) -> Result<(), BankFault>
     ensures left { B.tells → IsEmptied (B.now bank.new) }
     ensures moments { B.tells_moments → LeavesOnly B.clock B.left_since bank.old bank.new IsEmptied }
     ensures steady { Steady B.size B.faults B.stops bank.old bank.new }
-    ensures cause { IfErr result (IsCaused B.faults B.stops bank.old bank.new) }
+    ensures counted { CallCounted B.faults B.stops bank.old bank.new result }
+    ensures asked { Asks B.tells_calls B.calls bank.old bank.new (is_ok result) (write 0 (0x43 ∷ []) ∷ []) }
+    ensures not_old { IfErr result (λ fault. is_old fault ≡ false) }
 {
     write(bank, 0, &[LIVE], false, false)
 }
@@ -99,7 +107,9 @@ pub(crate) fn clear<B: Bank>(bank: &mut B, first: u8, zeros: &[u8]) -> Result<()
     ensures left { B.tells → Clears (B.now bank.old) (B.now bank.new) }
     ensures moments { B.tells_moments → LeavesOnly B.clock B.left_since bank.old bank.new (Clears (B.now bank.old)) }
     ensures steady { Steady B.size B.faults B.stops bank.old bank.new }
-    ensures cause { IfErr result (IsCaused B.faults B.stops bank.old bank.new) }
+    ensures counted { CallCounted B.faults B.stops bank.old bank.new result }
+    ensures asked { Asks B.tells_calls B.calls bank.old bank.new (is_ok result) (clear_by first zeros.now) }
+    ensures not_old { IfErr result (λ fault. is_old fault ≡ false) }
 {
     close_live(bank, first)?;
     write_mark(bank)?;

@@ -1,15 +1,17 @@
 //! The image of an open block is copied and restored.
 
-ghost use Rattle.std.specs.Prelude.{◌≡◌, ◌≤◌, [], Some, Err, false, length, OnOk, OnErr, IfErr};
+ghost use Rattle.std.specs.Prelude.{◌≡◌, ◌≤◌, [], Some, false, length, is_ok, OnOk, OnErr, IfErr};
 ghost use Rattle.std.specs.Option.{ForSome};
 ghost use Rattle.tbl_kinds.specs.Blocks.{Store as Blocks};
+ghost use Rattle.tbl_kinds.specs.StoreCalls.{copy};
 ghost use Rattle.tbl_kinds.specs.StoreSteps.{stored_at, copied, copy_broken, restored};
 ghost use Rattle.tbl_outside.specs.Bank.{LeavesOnly};
-ghost use Rattle.tbl_outside.specs.Counts.{Rose};
+ghost use Rattle.tbl_outside.specs.BankCalls.{Asks};
 ghost use Rattle.cds_layout.specs.Images.{store_of};
-ghost use Rattle.cds_layout.specs.Restores.{TellsTorn, SaysWhy};
-ghost use Rattle.cds_store.specs.Calls.{Steady, IsCaused, HasFlags};
-ghost use Rattle.cds_store.specs.Moments.{CopyTears, CopyLeaves};
+ghost use Rattle.cds_layout.specs.Order.{copy_calls, restore_calls};
+ghost use Rattle.cds_layout.specs.Restores.{TellsTorn, SaysWhy, RestoreCounted, was_read};
+ghost use Rattle.cds_store.specs.Calls.{Steady, CallCounted, HasFlags};
+ghost use Rattle.cds_store.specs.Moments.{LeavesIn, CopyTears};
 ghost use Rattle.cds_store.specs.Sound.{slot_at, IsSound, IsOpenOf};
 ghost use Rattle.cds_store.specs.Standing.{StandsFor, kept, after_fault, held_at, ComesBack};
 
@@ -34,11 +36,13 @@ pub(crate) fn copy<B: Bank>(
     ensures err { OnErr result ((blocks : Blocks) → StandsFor B.tells B.now (kept slots.now bank.old) blocks →
         StandsFor B.tells B.now (kept slots.now bank.new) (copy_broken slot image.now blocks)) }
     ensures moments { B.tells_moments → (blocks : Blocks) → StandsFor B.tells B.now (kept slots.now bank.old) blocks →
-        LeavesOnly B.clock B.left_since bank.old bank.new (CopyLeaves slot image.now blocks) }
+        LeavesOnly B.clock B.left_since bank.old bank.new (LeavesIn (copy slot image.now) blocks) }
     ensures bytewise { B.tells_moments → ForSome (slot_at slots.now slot) (λ s.
         LeavesOnly B.clock B.left_since bank.old bank.new (CopyTears s.block image.now (B.now bank.old))) }
     ensures steady { Steady B.size B.faults B.stops bank.old bank.new }
-    ensures cause { IfErr result (IsCaused B.faults B.stops bank.old bank.new) }
+    ensures counted { CallCounted B.faults B.stops bank.old bank.new result }
+    ensures asked { ForSome (slot_at slots.now slot) (λ s.
+        Asks B.tells_calls B.calls bank.old bank.new (is_ok result) (copy_calls s.block image.now)) }
     ensures flags { IfErr result (HasFlags false false) }
 {
     match &slots[slot as usize] {
@@ -71,7 +75,9 @@ pub(crate) fn restore<B: Bank>(
     ensures moments { B.tells_moments →
         LeavesOnly B.clock B.left_since bank.old bank.new (λ image. image ≡ B.now bank.old) }
     ensures steady { Steady B.size B.faults B.stops bank.old bank.new }
-    ensures cause { result ≡ Err RestoreFault.Fault → Rose (B.faults bank.old) (B.faults bank.new) }
+    ensures counted { RestoreCounted B.faults B.stops bank.old bank.new result }
+    ensures asked { ForSome (slot_at slots.now slot) (λ s.
+        Asks B.tells_calls B.calls bank.old bank.new (was_read result) (restore_calls s.block)) }
 {
     match &slots[slot as usize] {
         Some(taken) => read_block(bank, &taken.block, into),

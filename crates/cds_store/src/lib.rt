@@ -11,6 +11,7 @@ mod gates;
 mod images;
 mod lookups;
 mod making;
+mod recovery;
 mod reserving;
 mod settling;
 mod slot;
@@ -20,6 +21,7 @@ mod writes;
 
 pub use cds_layout::RestoreFault;
 pub use fault::{BankFault, ReserveFault};
+pub use recovery::{RecoverFault, recover};
 pub use slot::Slot;
 pub use store::Store;
 

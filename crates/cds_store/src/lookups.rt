@@ -57,7 +57,8 @@ fn position_of_doubtful(slots: &[Option<Slot>], kind: BlockKind, name: &Name40) 
 /// The slot of the open block of this kind and name.
 pub(crate) fn find_open(slots: &[Option<Slot>], kind: BlockKind, name: &Name40) -> Option<u8>
     requires { length slots.now ≤ 256 }
-    ensures { result ≡ open_slot kind name.now slots.now }
+    ensures slot { result ≡ open_slot kind name.now slots.now }
+    ensures within { IfSome result (λ n. n < length slots.now) }
 {
     match position_of_open(slots, kind, name) {
         Some(slot) => Some(slot as u8),

@@ -1,11 +1,13 @@
 //! A block is made in a free slot.
 
-ghost use Rattle.std.specs.Prelude.{◌≡◌, ◌⊎◌, ◌<◌, ◌≤◌, None, Some, true, false, List, ℕ, is_err, OnOk, IfErr};
+ghost use Rattle.std.specs.Prelude.{◌≡◌, ◌⊎◌, ◌<◌, ◌≤◌, None, Some, true, false, List, ℕ, [], ◌∷◌, is_ok, is_err, OnOk, IfErr};
 ghost use Rattle.tbl_kinds.specs.Blocks.{Store as Blocks};
 ghost use Rattle.tbl_outside.specs.Bank.{LeavesOnly};
-ghost use Rattle.cds_layout.specs.Entries.{tail_at, block_in};
+ghost use Rattle.tbl_outside.specs.BankCalls.{Asks, write};
+ghost use Rattle.cds_layout.specs.Entries.{gate_place, gate_open, tail_at, block_in};
 ghost use Rattle.cds_layout.specs.Images.{held_in};
-ghost use Rattle.cds_store.specs.Calls.{Steady, IsCaused, HasFlags, is_gate, is_old};
+ghost use Rattle.cds_layout.specs.Order.{make_calls};
+ghost use Rattle.cds_store.specs.Calls.{Steady, CallCounted, HasFlags, is_gate, is_old};
 ghost use Rattle.cds_store.specs.Moments.{ShowsIn};
 ghost use Rattle.cds_store.specs.Sound.{slot_at, IsSound, IsNew};
 ghost use Rattle.cds_store.specs.Standing.{StandsFor, kept, with_new, made_or_not};
@@ -13,11 +15,9 @@ ghost use Rattle.cds_store.specs.Standing.{StandsFor, kept, with_new, made_or_no
 use crate::fault::BankFault;
 use crate::slot::Slot;
 use crate::writes::{prepare, set_gate};
+use cds_layout::GATE_OPEN;
 use tbl_kinds::Block;
 use tbl_outside::Bank;
-
-/// The gate byte of an open slot.
-const OPEN: u8 = 0xA5;
 
 /// Opens the gate of a free slot whose entry tells a block that holds no image. Where the write breaks off, the slot is
 /// in doubt.
@@ -38,10 +38,11 @@ fn open_gate<B: Bank>(
         StandsFor B.tells B.now (kept slots.old.items bank.old) blocks →
         LeavesOnly B.clock B.left_since bank.old bank.new (ShowsIn (with_new true slot block blocks)) }
     ensures steady { Steady B.size B.faults B.stops bank.old bank.new }
-    ensures cause { IfErr result (IsCaused B.faults B.stops bank.old bank.new) }
+    ensures counted { CallCounted B.faults B.stops bank.old bank.new result }
+    ensures asked { Asks B.tells_calls B.calls bank.old bank.new (is_ok result) (write (gate_place slot) (gate_open ∷ []) ∷ []) }
     ensures flags { IfErr result (HasFlags true false) }
 {
-    let written = set_gate(bank, slot, OPEN, false);
+    let written = set_gate(bank, slot, GATE_OPEN, false);
     slots[slot as usize] = Some(Slot {
         block,
         doubtful: written.is_err(),
@@ -70,7 +71,8 @@ pub(crate) fn make<B: Bank>(
         LeavesOnly B.clock B.left_since bank.old bank.new
         (λ image. ShowsIn blocks image ⊎ ShowsIn (with_new true slot block blocks) image) }
     ensures steady { Steady B.size B.faults B.stops bank.old bank.new }
-    ensures cause { IfErr result (IsCaused B.faults B.stops bank.old bank.new) }
+    ensures counted { CallCounted B.faults B.stops bank.old bank.new result }
+    ensures asked { Asks B.tells_calls B.calls bank.old bank.new (is_ok result) (make_calls slot block) }
     ensures flags { IfErr result (λ fault. is_old fault ≡ false) }
 {
     prepare(bank, slot, &block)?;

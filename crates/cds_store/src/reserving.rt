@@ -1,14 +1,18 @@
 //! A block is reserved.
 
-ghost use Rattle.std.specs.Prelude.{◌≡◌, ◌⊎◌, ◌≤◌, None, Some, Err, true, false, not, length, IsSome, IfSome, IfOk, OnOk, IfErr};
+ghost use Rattle.std.specs.Prelude.{◌≡◌, ◌⊎◌, ◌≤◌, None, Some, Err, true, false, not, length, is_ok, IsSome, IfSome, IfOk, OnOk, IfErr};
+ghost use Rattle.std.specs.Option.{ForSome};
 ghost use Rattle.tbl_kinds.specs.Names.{is_name};
 ghost use Rattle.tbl_kinds.specs.Blocks.{Store as Blocks};
+ghost use Rattle.tbl_kinds.specs.StoreCalls.{reserve};
 ghost use Rattle.tbl_kinds.specs.StoreSteps.{freed, closed, reserved, reserve_broken, doubtful_of, has_room};
 ghost use Rattle.tbl_kinds.specs.Free.{least_free};
 ghost use Rattle.tbl_outside.specs.Bank.{LeavesOnly};
-ghost use Rattle.cds_store.specs.Calls.{Steady, IsCaused, HasFlags, IfBank, lacks_room, is_gate, is_old};
-ghost use Rattle.cds_store.specs.Moments.{ShowsIn, MakeLeaves, ReserveLeaves};
-ghost use Rattle.cds_store.specs.Slots.{open_slot, doubtful_slot, without_slot};
+ghost use Rattle.tbl_outside.specs.BankCalls.{Asks};
+ghost use Rattle.cds_layout.specs.Order.{close_calls, reserve_calls};
+ghost use Rattle.cds_store.specs.Calls.{Steady, CallCounted, ReserveCounted, HasFlags, IfBank, lacks_room, is_gate, is_old};
+ghost use Rattle.cds_store.specs.Moments.{ShowsIn, LeavesIn, MakeLeaves};
+ghost use Rattle.cds_store.specs.Slots.{open_slot, doubtful_slot, without_slot, room_in};
 ghost use Rattle.cds_store.specs.Sound.{slot_at, IsSound, IsNew};
 ghost use Rattle.cds_store.specs.Standing.{StandsFor, kept, with_new, closing, broken_at};
 
@@ -40,7 +44,8 @@ fn close_old<B: Bank>(
         (λ image. ShowsIn blocks image ⊎ ShowsIn (freed old blocks) image ⊎ ShowsIn (closing old blocks) image) }
     ensures freed { OnOk result (slots.new.items ≡ without_slot old slots.old.items) }
     ensures steady { Steady B.size B.faults B.stops bank.old bank.new }
-    ensures cause { IfErr result (IsCaused B.faults B.stops bank.old bank.new) }
+    ensures counted { CallCounted B.faults B.stops bank.old bank.new result }
+    ensures asked { Asks B.tells_calls B.calls bank.old bank.new (is_ok result) (close_calls old) }
     ensures flags { IfErr result (HasFlags true true) }
     ensures there { IfErr result (λ fault. IsSome old) }
 {
@@ -72,7 +77,8 @@ fn make_instead<B: Bank>(
         StandsFor B.tells B.now (kept slots.old.items bank.old) blocks →
         LeavesOnly B.clock B.left_since bank.old bank.new (MakeLeaves old slot block blocks) }
     ensures steady { Steady B.size B.faults B.stops bank.old bank.new }
-    ensures cause { IfErr result (IsCaused B.faults B.stops bank.old bank.new) }
+    ensures counted { CallCounted B.faults B.stops bank.old bank.new result }
+    ensures asked { Asks B.tells_calls B.calls bank.old bank.new (is_ok result) (reserve_calls old slot block) }
     ensures flags { IfErr result (λ fault. is_old fault ≡ true → (is_gate fault ≡ true) × IsSome old) }
 {
     close_old(bank, slots, old)?;
@@ -110,9 +116,13 @@ pub(crate) fn reserve<B: Bank>(
         (is_gate fault ≡ true) × IsSome (doubtful_slot kind name.now slots.old.items))) }
     ensures moments { B.tells_moments → (blocks : Blocks) →
         StandsFor B.tells B.now (kept slots.old.items bank.old) blocks →
-        LeavesOnly B.clock B.left_since bank.old bank.new (ReserveLeaves kind name.now size blocks) }
+        LeavesOnly B.clock B.left_since bank.old bank.new (LeavesIn (reserve kind name.now size) blocks) }
     ensures steady { Steady B.size B.faults B.stops bank.old bank.new }
-    ensures cause { IfErr result (λ fault. IfBank fault (IsCaused B.faults B.stops bank.old bank.new)) }
+    ensures counted { ReserveCounted B.faults B.stops bank.old bank.new result }
+    ensures asked { let old = doubtful_slot kind name.now slots.old.items in
+        ForSome (room_in size (without_slot old slots.old.items)) (λ room.
+        Asks B.tells_calls B.calls bank.old bank.new (is_ok result)
+        (reserve_calls old room.0 (record { kind = kind; offset = room.1; size = size; name = name.now }))) }
 {
     let old = find_doubtful(slots, kind, name);
     let Some((slot, offset)) = room_for(slots, size, old) else {

@@ -7,11 +7,8 @@ ghost use Rattle.cds_store.specs.Boots.{opened_slot, is_doubtful_slot, is_found,
 
 use crate::lookups::copy_of;
 use crate::slot::Slot;
-use cds_layout::Directory;
+use cds_layout::{Directory, SLOTS};
 use tbl_kinds::Slots;
-
-/// How many slots there are.
-const SLOTS: u8 = 128;
 
 /// Whether a slot is in doubt.
 fn is_doubtful(slot: &Option<Slot>) -> bool

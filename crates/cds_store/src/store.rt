@@ -1,19 +1,21 @@
-ghost use Rattle.std.specs.Prelude.{◌≡◌, ◌≤◌, ◌<◌, None, Some, Err, true, false, not, List, ℕ, [], length, replicate, is_ok, IsSome, IfSome, IfOk, OnOk, OnErr, IfErr};
+ghost use Rattle.std.specs.Prelude.{◌≡◌, ◌≤◌, ◌<◌, None, Some, true, false, not, List, ℕ, [], length, replicate, is_ok, IsSome, IfSome, IfOk, OnOk, OnErr, IfErr};
 ghost use Rattle.std.specs.Option.{ForSome, option_map, option_copied};
 ghost use Rattle.tbl_kinds.specs.Names.{is_name};
 ghost use Rattle.tbl_kinds.specs.Places.{bank_size};
 ghost use Rattle.tbl_kinds.specs.Blocks.{Stored, Store as Blocks};
-ghost use Rattle.tbl_kinds.specs.StoreSteps.{stored_at, open_of, doubtful_of, has_room, closed, reserved, reserve_broken, booted, copied, copy_broken, restored, deleted, delete_broken};
+ghost use Rattle.tbl_kinds.specs.StoreCalls.{reserve, copy, restore, delete, after, broken, CanBreak};
+ghost use Rattle.tbl_kinds.specs.StoreSteps.{stored_at, open_of, doubtful_of, has_room, closed, booted};
 ghost use Rattle.tbl_kinds.specs.Free.{least_free};
 ghost use Rattle.tbl_outside.specs.Bank.{LeavesOnly};
-ghost use Rattle.tbl_outside.specs.Counts.{Rose};
 ghost use Rattle.cds_layout.specs.Directory.{directory_len};
+ghost use Rattle.tbl_outside.specs.BankCalls.{Asks};
 ghost use Rattle.cds_layout.specs.Images.{store_of};
-ghost use Rattle.cds_layout.specs.Restores.{TellsTorn, SaysWhy};
+ghost use Rattle.cds_layout.specs.Order.{boot_calls, reserve_calls, copy_calls, restore_calls, delete_calls};
+ghost use Rattle.cds_layout.specs.Restores.{TellsTorn, SaysWhy, RestoreCounted, was_read};
 ghost use Rattle.cds_store.specs.Boots.{BeginsAt, found_by};
-ghost use Rattle.cds_store.specs.Calls.{Steady, IsCaused, HasFlags, IfBank, lacks_room, is_gate, is_old};
-ghost use Rattle.cds_store.specs.Moments.{BootLeaves, ReserveLeaves, CopyLeaves, CopyTears, DeleteLeaves};
-ghost use Rattle.cds_store.specs.Slots.{open_slot, doubtful_slot, block_of};
+ghost use Rattle.cds_store.specs.Calls.{Steady, CallCounted, ReserveCounted, HasFlags, IfBank, lacks_room, is_gate, is_old};
+ghost use Rattle.cds_store.specs.Moments.{BootLeaves, LeavesIn, CopyTears};
+ghost use Rattle.cds_store.specs.Slots.{open_slot, doubtful_slot, without_slot, room_in, block_of};
 ghost use Rattle.cds_store.specs.Sound.{slot_at, IsOpenOf};
 ghost use Rattle.cds_store.specs.Standing.{StandsFor, after_fault, held_at, ComesBack};
 
@@ -24,17 +26,11 @@ use crate::images::{copy, restore};
 use crate::lookups::{block_in, find_doubtful, find_open, room_for};
 use crate::reserving::reserve;
 use crate::slot::Slot;
-use cds_layout::{Directory, RestoreFault};
+use cds_layout::{BLOCKS_BEGIN, Directory, RestoreFault, SLOTS};
 use std::alloc::{AllocError, Global};
 use std::marker::Model;
 use tbl_kinds::{Block, BlockKind, Memory, Name40, ResetKind, Slots};
 use tbl_outside::{Back, Bank};
-
-/// How many slots there are.
-const SLOTS: usize = 128;
-
-/// How many bytes the live mark and the directory have.
-const FRONT_LENGTH: usize = 8_208;
 
 /// The Critical Data Store in a bank: what is known of the 128 slots of its directory, and the bank. It takes all its
 /// memory when it is made.
@@ -63,7 +59,7 @@ impl<B: Bank> Model for Store<B> {
 fn free_slots(alloc: Global) -> Result<Vec<Option<Slot>>, AllocError>
     ensures { IfOk result (λ slots. slots.items ≡ replicate 128 None) }
 {
-    let mut slots = Vec::with_capacity(alloc, SLOTS)?;
+    let mut slots = Vec::with_capacity(alloc, usize::from(SLOTS))?;
     for _ in 0..SLOTS {
         slots.push(None)?;
     }
@@ -74,8 +70,8 @@ fn free_slots(alloc: Global) -> Result<Vec<Option<Slot>>, AllocError>
 fn front_bytes(alloc: Global) -> Result<Vec<u8>, AllocError>
     ensures { IfOk result (λ front. length front.items ≡ directory_len) }
 {
-    let mut front = Vec::with_capacity(alloc, FRONT_LENGTH)?;
-    for _ in 0..FRONT_LENGTH {
+    let mut front = Vec::with_capacity(alloc, BLOCKS_BEGIN as usize)?;
+    for _ in 0..BLOCKS_BEGIN {
         front.push(0)?;
     }
     Ok(front)
@@ -147,7 +143,10 @@ impl<B: Bank> Store<B> {
         ensures moments { B.tells_moments → (blocks : Blocks) → BeginsAt B.tells B.now self.old blocks →
             LeavesOnly B.clock B.left_since self.old.bank self.new.bank (BootLeaves kind blocks) }
         ensures steady { Steady B.size B.faults B.stops self.old.bank self.new.bank }
-        ensures cause { IfErr result (IsCaused B.faults B.stops self.old.bank self.new.bank) }
+        ensures counted { CallCounted B.faults B.stops self.old.bank self.new.bank result }
+        ensures asked { B.tells →
+            Asks B.tells_calls B.calls self.old.bank self.new.bank (is_ok result) (boot_calls kind (B.now self.old.bank)) }
+        ensures not_old { IfErr result (λ fault. is_old fault ≡ false) }
     {
         self.booted = false;
         let found = boot(
@@ -166,6 +165,7 @@ impl<B: Bank> Store<B> {
         ensures slot { result ≡ open_slot kind name.now self.now.slots }
         ensures block { (blocks : Blocks) → StandsFor B.tells B.now self.now blocks →
             result ≡ open_of kind name.now blocks }
+        ensures within { IfSome result (λ slot. slot < 128) }
     {
         find_open(&self.slots, kind, name)
     }
@@ -175,6 +175,7 @@ impl<B: Bank> Store<B> {
         ensures slot { result ≡ doubtful_slot kind name.now self.now.slots }
         ensures block { (blocks : Blocks) → StandsFor B.tells B.now self.now blocks →
             result ≡ doubtful_of kind name.now blocks }
+        ensures within { IfSome result (λ slot. slot < 128) }
     {
         find_doubtful(&self.slots, kind, name)
     }
@@ -211,7 +212,7 @@ impl<B: Bank> Store<B> {
         requires none_open { open_slot kind name.now self.old.slots ≡ None }
         ensures booted { self.new.booted ≡ true }
         ensures ok { OnOk result ((blocks : Blocks) → StandsFor B.tells B.now self.old blocks →
-            StandsFor B.tells B.now self.new (reserved kind name.now size blocks)) }
+            StandsFor B.tells B.now self.new (after (reserve kind name.now size) blocks)) }
         ensures slot { IfOk result (λ slot. (blocks : Blocks) → StandsFor B.tells B.now self.old blocks →
             least_free (closed kind name.now blocks) ≡ Some slot) }
 
@@ -221,13 +222,20 @@ impl<B: Bank> Store<B> {
         ensures untouched { lacks_room result ≡ true → self.new ≡ self.old }
         ensures err { IfErr result (λ fault. IfBank fault (λ fault. (blocks : Blocks) →
             StandsFor B.tells B.now self.old blocks →
-            StandsFor B.tells B.now self.new (reserve_broken (is_gate fault) (is_old fault) kind name.now size blocks))) }
+            StandsFor B.tells B.now self.new (broken (is_gate fault) (is_old fault) (reserve kind name.now size) blocks))) }
+        ensures breaks { IfErr result (λ fault. IfBank fault (λ fault. (blocks : Blocks) →
+            StandsFor B.tells B.now self.old blocks →
+            CanBreak (is_gate fault) (is_old fault) (reserve kind name.now size) blocks)) }
         ensures flags { IfErr result (λ fault. IfBank fault (λ fault. is_old fault ≡ true →
             (is_gate fault ≡ true) × IsSome (doubtful_slot kind name.now self.old.slots))) }
         ensures moments { B.tells_moments → (blocks : Blocks) → StandsFor B.tells B.now self.old blocks →
-            LeavesOnly B.clock B.left_since self.old.bank self.new.bank (ReserveLeaves kind name.now size blocks) }
+            LeavesOnly B.clock B.left_since self.old.bank self.new.bank (LeavesIn (reserve kind name.now size) blocks) }
         ensures steady { Steady B.size B.faults B.stops self.old.bank self.new.bank }
-        ensures cause { IfErr result (λ fault. IfBank fault (IsCaused B.faults B.stops self.old.bank self.new.bank)) }
+        ensures counted { ReserveCounted B.faults B.stops self.old.bank self.new.bank result }
+        ensures asked { let old = doubtful_slot kind name.now self.old.slots in
+            ForSome (room_in size (without_slot old self.old.slots)) (λ room.
+            Asks B.tells_calls B.calls self.old.bank self.new.bank (is_ok result)
+            (reserve_calls old room.0 (record { kind = kind; offset = room.1; size = size; name = name.now }))) }
     {
         reserve(&mut self.bank, &mut self.slots, kind, name, size)
     }
@@ -239,16 +247,18 @@ impl<B: Bank> Store<B> {
         ensures booted { self.new.booted ≡ true }
         ensures slots { self.new.slots ≡ self.old.slots }
         ensures ok { OnOk result ((blocks : Blocks) → StandsFor B.tells B.now self.old blocks →
-            StandsFor B.tells B.now self.new (copied slot image.now blocks)) }
-        ensures err { OnErr result ((blocks : Blocks) → StandsFor B.tells B.now self.old blocks →
-            StandsFor B.tells B.now self.new (copy_broken slot image.now blocks)) }
+            StandsFor B.tells B.now self.new (after (copy slot image.now) blocks)) }
+        ensures err { IfErr result (λ fault. (blocks : Blocks) → StandsFor B.tells B.now self.old blocks →
+            StandsFor B.tells B.now self.new (broken (is_gate fault) (is_old fault) (copy slot image.now) blocks)) }
         ensures moments { B.tells_moments → (blocks : Blocks) → StandsFor B.tells B.now self.old blocks →
-            LeavesOnly B.clock B.left_since self.old.bank self.new.bank (CopyLeaves slot image.now blocks) }
+            LeavesOnly B.clock B.left_since self.old.bank self.new.bank (LeavesIn (copy slot image.now) blocks) }
         ensures bytewise { B.tells_moments → ForSome (slot_at self.old.slots slot) (λ s.
             LeavesOnly B.clock B.left_since self.old.bank self.new.bank
             (CopyTears s.block image.now (B.now self.old.bank))) }
         ensures steady { Steady B.size B.faults B.stops self.old.bank self.new.bank }
-        ensures cause { IfErr result (IsCaused B.faults B.stops self.old.bank self.new.bank) }
+        ensures counted { CallCounted B.faults B.stops self.old.bank self.new.bank result }
+        ensures asked { ForSome (slot_at self.old.slots slot) (λ s.
+            Asks B.tells_calls B.calls self.old.bank self.new.bank (is_ok result) (copy_calls s.block image.now)) }
         ensures flags { IfErr result (HasFlags false false) }
     {
         copy(&mut self.bank, &self.slots, slot, image)
@@ -262,7 +272,7 @@ impl<B: Bank> Store<B> {
         ensures slots { self.new.slots ≡ self.old.slots }
         ensures image { OnOk result (B.tells → held_at slot (store_of (B.now self.old.bank)) ≡ Some into.new) }
         ensures ok { OnOk result ((blocks : Blocks) → StandsFor B.tells B.now self.old blocks →
-            StandsFor B.tells B.now self.new (restored slot (Some into.new) blocks)) }
+            StandsFor B.tells B.now self.new (after (restore slot (Some into.new)) blocks)) }
 
         // A block whose copies were all completed comes back as the last of them, or as none where it has had none.
         ensures comes_back { B.tells → (blocks : Blocks) → StandsFor B.tells B.now self.old blocks →
@@ -276,7 +286,9 @@ impl<B: Bank> Store<B> {
         ensures moments { B.tells_moments →
             LeavesOnly B.clock B.left_since self.old.bank self.new.bank (λ image. image ≡ B.now self.old.bank) }
         ensures steady { Steady B.size B.faults B.stops self.old.bank self.new.bank }
-        ensures cause { result ≡ Err RestoreFault.Fault → Rose (B.faults self.old.bank) (B.faults self.new.bank) }
+        ensures counted { RestoreCounted B.faults B.stops self.old.bank self.new.bank result }
+        ensures asked { ForSome (slot_at self.old.slots slot) (λ s.
+            Asks B.tells_calls B.calls self.old.bank self.new.bank (was_read result) (restore_calls s.block)) }
     {
         restore(&mut self.bank, &self.slots, slot, into)
     }
@@ -287,13 +299,14 @@ impl<B: Bank> Store<B> {
         requires taken { IsSome (slot_at self.old.slots slot) }
         ensures booted { self.new.booted ≡ true }
         ensures ok { OnOk result ((blocks : Blocks) → StandsFor B.tells B.now self.old blocks →
-            StandsFor B.tells B.now self.new (deleted slot blocks)) }
-        ensures err { OnErr result ((blocks : Blocks) → StandsFor B.tells B.now self.old blocks →
-            StandsFor B.tells B.now self.new (delete_broken slot blocks)) }
+            StandsFor B.tells B.now self.new (after (delete slot) blocks)) }
+        ensures err { IfErr result (λ fault. (blocks : Blocks) → StandsFor B.tells B.now self.old blocks →
+            StandsFor B.tells B.now self.new (broken (is_gate fault) (is_old fault) (delete slot) blocks)) }
         ensures moments { B.tells_moments → (blocks : Blocks) → StandsFor B.tells B.now self.old blocks →
-            LeavesOnly B.clock B.left_since self.old.bank self.new.bank (DeleteLeaves slot blocks) }
+            LeavesOnly B.clock B.left_since self.old.bank self.new.bank (LeavesIn (delete slot) blocks) }
         ensures steady { Steady B.size B.faults B.stops self.old.bank self.new.bank }
-        ensures cause { IfErr result (IsCaused B.faults B.stops self.old.bank self.new.bank) }
+        ensures counted { CallCounted B.faults B.stops self.old.bank self.new.bank result }
+        ensures asked { Asks B.tells_calls B.calls self.old.bank self.new.bank (is_ok result) (delete_calls slot) }
         ensures flags { IfErr result (HasFlags true false) }
     {
         close(&mut self.bank, &mut self.slots, slot, false)

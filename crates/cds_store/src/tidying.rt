@@ -1,40 +1,27 @@
 //! The gates of a live bank that tell no block are closed.
 
-ghost use Rattle.std.specs.Prelude.{◌≡◌, ◌≤◌, ◌<◌, ◌+◌, ◌==◌, ◌&&◌, List, ℕ, None, true, length, is_none, slice_index_or, OnOk, IfErr};
+ghost use Rattle.std.specs.Prelude.{◌≡◌, ◌≤◌, ◌<◌, ◌+◌, List, ℕ, [], true, false, length, is_ok, OnOk, IfErr, if◌then◌else◌};
 ghost use Rattle.tbl_kinds.specs.Places.{bank_size};
 ghost use Rattle.tbl_outside.specs.Bank.{LeavesOnly};
+ghost use Rattle.tbl_outside.specs.BankCalls.{Asks};
 ghost use Rattle.cds_layout.specs.Directory.{directory_len, is_live};
-ghost use Rattle.cds_layout.specs.Entries.{slot_count, gate_open, gate_at};
+ghost use Rattle.cds_layout.specs.Entries.{slot_count};
+ghost use Rattle.cds_layout.specs.Order.{is_stray, strays_to, delete_calls};
 ghost use Rattle.cds_store.specs.Boots.{IsFront, SameStore, Tidied};
-ghost use Rattle.cds_store.specs.Calls.{Steady, IsCaused};
+ghost use Rattle.cds_store.specs.Calls.{Steady, CallCounted, is_old};
 
 use crate::fault::BankFault;
 use crate::writes::set_gate;
-use cds_layout::Directory;
+use cds_layout::{Directory, GATE_CLOSED, GATE_OPEN, SLOTS, gate_place};
 use tbl_outside::Bank;
-
-/// Where the first entry begins, behind the live mark and twelve zeros.
-const FIRST_ENTRY: usize = 16;
-
-/// How many bytes an entry has.
-const ENTRY_LENGTH: usize = 64;
-
-/// The gate byte of an open slot.
-const OPEN: u8 = 0xA5;
-
-/// The gate byte of a closed slot.
-const CLOSED: u8 = 0;
-
-/// How many slots there are.
-const SLOTS: u8 = 128;
 
 /// Whether the gate of a slot is open, and its entry tells no block of the directory.
 fn is_stray(front: &[u8], directory: &Directory, slot: u8) -> bool
     requires len { length front.now ≡ directory_len }
     requires within { slot < slot_count }
-    ensures { result ≡ ((gate_at front.now slot == gate_open) && is_none (slice_index_or directory.now slot None)) }
+    ensures { result ≡ is_stray front.now directory.now slot }
 {
-    front[FIRST_ENTRY + ENTRY_LENGTH * slot as usize] == OPEN && directory.slot(slot).is_none()
+    front[gate_place(slot) as usize] == GATE_OPEN && directory.slot(slot).is_none()
 }
 
 /// Closes the gate of a slot, where it tells no block of the directory. The first bytes and the directory are those with
@@ -55,10 +42,13 @@ fn tidy_slot<B: Bank>(
     ensures moments { B.tells_moments → (old : List ℕ) → IsFront front.now directory.now old →
         Tidied old (B.now bank.old) slot → LeavesOnly B.clock B.left_since bank.old bank.new (SameStore old) }
     ensures steady { Steady B.size B.faults B.stops bank.old bank.new }
-    ensures cause { IfErr result (IsCaused B.faults B.stops bank.old bank.new) }
+    ensures counted { CallCounted B.faults B.stops bank.old bank.new result }
+    ensures asked { Asks B.tells_calls B.calls bank.old bank.new (is_ok result)
+        (if is_stray front.now directory.now slot then delete_calls slot else []) }
+    ensures not_old { IfErr result (λ fault. is_old fault ≡ false) }
 {
     if is_stray(front, directory, slot) {
-        set_gate(bank, slot, CLOSED, false)
+        set_gate(bank, slot, GATE_CLOSED, false)
     } else {
         Ok(())
     }
@@ -79,7 +69,9 @@ pub(crate) fn tidy_live<B: Bank>(
     ensures moments { B.tells_moments →
         LeavesOnly B.clock B.left_since bank.old bank.new (SameStore (B.now bank.old)) }
     ensures steady { Steady B.size B.faults B.stops bank.old bank.new }
-    ensures cause { IfErr result (IsCaused B.faults B.stops bank.old bank.new) }
+    ensures counted { CallCounted B.faults B.stops bank.old bank.new result }
+    ensures asked { Asks B.tells_calls B.calls bank.old bank.new (is_ok result) (strays_to slot_count front.now directory.now) }
+    ensures not_old { IfErr result (λ fault. is_old fault ≡ false) }
 {
     for slot in 0..SLOTS {
         tidy_slot(bank, front, directory, slot)?;

@@ -1,29 +1,23 @@
 //! The writes of a call to the bank, with what each leaves of its bytes, whole or broken off.
 
-ghost use Rattle.std.specs.Prelude.{◌≡◌, ◌+◌, ◌^◌, ◌<◌, ◌≤◌, None, Some, true, false, length, OnOk, IfErr};
+ghost use Rattle.std.specs.Prelude.{◌≡◌, ◌+◌, ◌^◌, ◌<◌, ◌≤◌, None, Some, true, false, [], ◌∷◌, length, replicate, is_ok, OnOk, IfErr};
 ghost use Rattle.tbl_kinds.specs.Check.{check16};
 ghost use Rattle.tbl_kinds.specs.Places.{bank_size};
-ghost use Rattle.tbl_outside.specs.Bank.{overwritten, Torn, LeavesOnly};
-ghost use Rattle.cds_layout.specs.Entries.{slot_count, gate_place, gate_at, tail_place, tail_at, block_in, is_right};
-ghost use Rattle.cds_layout.specs.Images.{held_in, data_place, block_head};
-ghost use Rattle.cds_store.specs.Calls.{Steady, IsCaused, HasFlags};
+ghost use Rattle.tbl_kinds.specs.Numbers.{overwritten};
+ghost use Rattle.tbl_outside.specs.Bank.{Torn, LeavesOnly};
+ghost use Rattle.tbl_outside.specs.BankCalls.{Asks, write};
+ghost use Rattle.cds_layout.specs.Entries.{slot_count, gate_place, gate_at, tail_place, tail_at, entry_tail, block_in, is_right};
+ghost use Rattle.cds_layout.specs.Images.{head_len, held_in, data_place, block_head};
+ghost use Rattle.cds_layout.specs.Order.{copy_calls};
+ghost use Rattle.cds_store.specs.Calls.{Steady, CallCounted, HasFlags};
 ghost use Rattle.cds_store.specs.Moments.{CopyTears};
 ghost use Rattle.cds_store.specs.Writes.{Prepares};
 
 use crate::fault::BankFault;
-use cds_layout::{entry_bytes, head_bytes};
+use cds_layout::{HEAD_LENGTH, entry_bytes, gate_place, head_bytes};
 use check_word::check16;
 use tbl_kinds::Block;
 use tbl_outside::{Bank, Written};
-
-/// Where the first entry begins, behind the live mark and twelve zeros.
-const FIRST_ENTRY: u32 = 16;
-
-/// How many bytes an entry has: a gate byte, and a tail.
-const ENTRY_LENGTH: u32 = 64;
-
-/// How many bytes the head of a block has.
-const HEAD_LENGTH: u32 = 8;
 
 /// Writes over a piece, which may be a gate byte, also that of a doubtful block.
 pub(crate) fn write<B: Bank>(
@@ -39,7 +33,8 @@ pub(crate) fn write<B: Bank>(
     ensures moments { B.tells_moments →
         LeavesOnly B.clock B.left_since bank.old bank.new (Torn at (length bytes.now) (B.now bank.old)) }
     ensures steady { Steady B.size B.faults B.stops bank.old bank.new }
-    ensures cause { IfErr result (IsCaused B.faults B.stops bank.old bank.new) }
+    ensures counted { CallCounted B.faults B.stops bank.old bank.new result }
+    ensures asked { Asks B.tells_calls B.calls bank.old bank.new (is_ok result) (write at bytes.now ∷ []) }
     ensures flags { IfErr result (HasFlags gate old) }
 {
     match bank.write_at(at, bytes) {
@@ -47,14 +42,6 @@ pub(crate) fn write<B: Bank>(
         Written::Failed => Err(BankFault::Fault { gate, old }),
         Written::Stopped => Err(BankFault::Stopped { gate, old }),
     }
-}
-
-/// Where the entry of a slot begins.
-fn entry_place(slot: u8) -> u32
-    requires { slot < slot_count }
-    ensures { result ≡ gate_place slot }
-{
-    FIRST_ENTRY + ENTRY_LENGTH * u32::from(slot)
 }
 
 /// Writes the gate byte of a slot.
@@ -71,10 +58,11 @@ pub(crate) fn set_gate<B: Bank>(
     ensures moments { B.tells_moments →
         LeavesOnly B.clock B.left_since bank.old bank.new (Torn (gate_place slot) 1 (B.now bank.old)) }
     ensures steady { Steady B.size B.faults B.stops bank.old bank.new }
-    ensures cause { IfErr result (IsCaused B.faults B.stops bank.old bank.new) }
+    ensures counted { CallCounted B.faults B.stops bank.old bank.new result }
+    ensures asked { Asks B.tells_calls B.calls bank.old bank.new (is_ok result) (write (gate_place slot) (gate ∷ []) ∷ []) }
     ensures flags { IfErr result (HasFlags true old) }
 {
-    write(bank, entry_place(slot), &[gate], true, old)
+    write(bank, gate_place(slot), &[gate], true, old)
 }
 
 /// Wipes the head of a block, so that it holds no image: what an earlier block left at its place never comes back.
@@ -86,7 +74,8 @@ fn wipe_head<B: Bank>(bank: &mut B, block: &Block) -> Result<(), BankFault>
     ensures moments { B.tells_moments →
         LeavesOnly B.clock B.left_since bank.old bank.new (Torn block.now.offset 8 (B.now bank.old)) }
     ensures steady { Steady B.size B.faults B.stops bank.old bank.new }
-    ensures cause { IfErr result (IsCaused B.faults B.stops bank.old bank.new) }
+    ensures counted { CallCounted B.faults B.stops bank.old bank.new result }
+    ensures asked { Asks B.tells_calls B.calls bank.old bank.new (is_ok result) (write block.now.offset (replicate head_len 0) ∷ []) }
     ensures flags { IfErr result (HasFlags false false) }
 {
     write(bank, block.offset, &[0; 8], false, false)
@@ -102,12 +91,13 @@ fn write_entry<B: Bank>(bank: &mut B, slot: u8, block: &Block) -> Result<(), Ban
     ensures moments { B.tells_moments →
         LeavesOnly B.clock B.left_since bank.old bank.new (Torn (tail_place slot) 63 (B.now bank.old)) }
     ensures steady { Steady B.size B.faults B.stops bank.old bank.new }
-    ensures cause { IfErr result (IsCaused B.faults B.stops bank.old bank.new) }
+    ensures counted { CallCounted B.faults B.stops bank.old bank.new result }
+    ensures asked { Asks B.tells_calls B.calls bank.old bank.new (is_ok result) (write (tail_place slot) (entry_tail block.now) ∷ []) }
     ensures flags { IfErr result (HasFlags false false) }
 {
     write(
         bank,
-        entry_place(slot) + 1,
+        gate_place(slot) + 1,
         &entry_bytes(block),
         false,
         false,
@@ -125,7 +115,9 @@ pub(crate) fn prepare<B: Bank>(bank: &mut B, slot: u8, block: &Block) -> Result<
     ensures moments { B.tells_moments →
         LeavesOnly B.clock B.left_since bank.old bank.new (Prepares slot block.now (B.now bank.old)) }
     ensures steady { Steady B.size B.faults B.stops bank.old bank.new }
-    ensures cause { IfErr result (IsCaused B.faults B.stops bank.old bank.new) }
+    ensures counted { CallCounted B.faults B.stops bank.old bank.new result }
+    ensures asked { Asks B.tells_calls B.calls bank.old bank.new (is_ok result)
+        (write block.now.offset (replicate head_len 0) ∷ write (tail_place slot) (entry_tail block.now) ∷ []) }
     ensures flags { IfErr result (HasFlags false false) }
 {
     wipe_head(bank, block)?;
@@ -142,7 +134,8 @@ fn write_data<B: Bank>(bank: &mut B, block: &Block, image: &[u8]) -> Result<(), 
     ensures moments { B.tells_moments →
         LeavesOnly B.clock B.left_since bank.old bank.new (Torn (data_place block.now) block.now.size (B.now bank.old)) }
     ensures steady { Steady B.size B.faults B.stops bank.old bank.new }
-    ensures cause { IfErr result (IsCaused B.faults B.stops bank.old bank.new) }
+    ensures counted { CallCounted B.faults B.stops bank.old bank.new result }
+    ensures asked { Asks B.tells_calls B.calls bank.old bank.new (is_ok result) (write (data_place block.now) image.now ∷ []) }
     ensures flags { IfErr result (HasFlags false false) }
 {
     write(bank, block.offset + HEAD_LENGTH, image, false, false)
@@ -160,7 +153,8 @@ fn write_head<B: Bank>(bank: &mut B, block: &Block, image: &[u8]) -> Result<(), 
     ensures moments { B.tells_moments →
         LeavesOnly B.clock B.left_since bank.old bank.new (Torn block.now.offset 8 (B.now bank.old)) }
     ensures steady { Steady B.size B.faults B.stops bank.old bank.new }
-    ensures cause { IfErr result (IsCaused B.faults B.stops bank.old bank.new) }
+    ensures counted { CallCounted B.faults B.stops bank.old bank.new result }
+    ensures asked { Asks B.tells_calls B.calls bank.old bank.new (is_ok result) (write block.now.offset (block_head block.now.size (check16 image.now)) ∷ []) }
     ensures flags { IfErr result (HasFlags false false) }
 {
     let head = head_bytes(block.size, check16(image));
@@ -181,7 +175,8 @@ pub(crate) fn write_image<B: Bank>(
     ensures moments { B.tells_moments →
         LeavesOnly B.clock B.left_since bank.old bank.new (CopyTears block.now image.now (B.now bank.old)) }
     ensures steady { Steady B.size B.faults B.stops bank.old bank.new }
-    ensures cause { IfErr result (IsCaused B.faults B.stops bank.old bank.new) }
+    ensures counted { CallCounted B.faults B.stops bank.old bank.new result }
+    ensures asked { Asks B.tells_calls B.calls bank.old bank.new (is_ok result) (copy_calls block.now image.now) }
     ensures flags { IfErr result (HasFlags false false) }
 {
     write_data(bank, block, image)?;

@@ -1,7 +1,8 @@
 -- What a reset may leave of a bank in memory goes on with each call.
 use Rattle.std.proofs.Common.{◌≡◌, ◌⊎◌, inl, inr, ⊎_elim, ℕ, ◌+◌, ◌≤◌, List, [], ◌∷◌, ◌++◌, length, take, drop, refl, sym, ◌∙◌, ap, subst, arith, length-append}
 use Rattle.std.proofs.lemmas.List.{drop-append-le}
-use Rattle.tbl_outside.specs.Bank.{overwritten, Torn, LeavesOnly}
+use Rattle.tbl_kinds.specs.Numbers.{overwritten}
+use Rattle.tbl_outside.specs.Bank.{Torn, LeavesOnly}
 use Rattle.tbl_outside.proofs.Pieces.{torn_same, torn_front}
 use Rattle.tbl_fakes.specs.Banks.{Banking, written_over, IsFromInside, moment, MayHaveLeft, only_bytes}
 use Rattle.tbl_fakes.specs.Past.{Passed}

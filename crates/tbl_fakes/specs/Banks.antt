@@ -2,16 +2,26 @@
 use mathlib.Core.Logic.{inl, inr}
 use Rattle.std.specs.Prelude.{◌≡◌, ◌⊎◌, ℕ, Bool, ◌&&◌, nat_lt, nat_le, List, [], ◌∷◌, length, drop}
 use Rattle.tbl_outside.specs.Bank.{Torn}
+use Rattle.tbl_fakes.specs.Notes.{Noting}
 use Rattle.tbl_fakes.specs.Past.{Passed}
 use Rattle.tbl_fakes.specs.Troubles.{Trouble}
 
--- its bytes, its writes so far, how many more its record has room for and with how many bytes, and what goes wrong
+-- its bytes, its writes so far, how many more its record has room for and with how many bytes, what it notes of its
+-- calls, and what goes wrong
 pub record Banking : Type 0 where
   pub bytes : List ℕ
   pub past : List Passed
   pub writes_left : ℕ
   pub room : ℕ
+  pub notes : Noting
   pub trouble : Trouble
+
+-- how often it failed, and how often it was stopped
+abbrev pub faults_of : Banking → ℕ
+faults_of bank = bank.trouble.faults
+
+abbrev pub stops_of : Banking → ℕ
+stops_of bank = bank.trouble.stops
 
 -- there is room in its record for one more write, and for so many bytes
 abbrev pub has_room : Banking → ℕ → Bool

@@ -1,6 +1,7 @@
 pub mod Banks
 pub mod Calls
 pub mod Contents
+pub mod Notes
 pub mod Past
 pub mod Troubles
 pub mod Verdicts

@@ -1,6 +1,6 @@
 -- What a bank in memory keeps of its writes, and the contents that it had.
 use Rattle.std.specs.Prelude.{◌≡◌, ℕ, Bool, ◌&&◌, nat_lt, nat_le, List, [], ◌∷◌, length, take, drop, sum_by}
-use Rattle.tbl_outside.specs.Bank.{overwritten}
+use Rattle.tbl_kinds.specs.Numbers.{overwritten}
 use Rattle.tbl_fakes.specs.declared.past.Span.{Span}
 
 -- the ranges written, oldest first, the bytes that stood in each before, and the room that is left

@@ -1,12 +1,13 @@
 // A bank that never fails.
-ghost use Rattle.std.specs.Prelude.{◌≡◌, ◌+◌, ◌<◌, ◌≤◌, ◌^◌, ℕ, List, length, IsOk, ⊤, refl};
-ghost use Rattle.tbl_outside.specs.Bank.{piece, overwritten};
+ghost use Rattle.std.specs.Prelude.{◌≡◌, ◌+◌, ◌<◌, ◌≤◌, ◌^◌, ℕ, List, length, IsOk, ⊤, refl, []};
+ghost use Rattle.tbl_kinds.specs.Numbers.{piece, overwritten};
 
 use std::marker::Model;
 use tbl_kinds::Bytes;
 use tbl_outside::{Bank, Failed, Written};
 
-/// Preserved memory that never fails and is never stopped. It keeps no record, so it tells its bytes and not its moments.
+/// Preserved memory that never fails and is never stopped. It keeps no record, so it tells its bytes, and
+/// neither its moments nor what it was asked.
 #[derive(Debug, Drop)]
 pub struct CalmBank {
     bytes: Bytes,
@@ -58,6 +59,10 @@ impl Bank for CalmBank {
 
     ghost stops = { λ _. 0 };
 
+    ghost tells_calls = { λ _. ⊥ };
+
+    ghost calls = { λ _. [] };
+
     ghost tells_both = { λ untold. absurd untold };
 
     ghost whole = { λ bank told. refl };
@@ -79,7 +84,7 @@ impl Bank for CalmBank {
     fn read_at(&mut self, at: u32, into: &mut [u8]) -> Result<(), Failed>
         requires { at + length into.old ≤ length self.old }
         ensures ok { IsOk result }
-        ensures read { into.new ≡ piece self.old at (length into.old) }
+        ensures read { into.new ≡ piece at (length into.old) self.old }
         ensures kept { self.new ≡ self.old }
     {
         let from = at as usize;

@@ -7,6 +7,7 @@ mod calm_bank;
 mod mem_bank;
 mod mem_sink;
 mod mem_source;
+mod notes;
 mod past;
 mod plan;
 mod supply;

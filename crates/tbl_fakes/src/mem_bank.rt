@@ -1,12 +1,16 @@
 // A bank in memory.
 ghost use Rattle.std.specs.Prelude.{◌≡◌, ◌+◌, ◌-◌, ◌<◌, ◌≤◌, ◌^◌, [], ◌∷◌, ◌++◌, List, ℕ, ⊤, IsTrue, IfOk, OnOk, OnErr, false, is_err, length, map, refl};
 ghost use Rattle.std.proofs.Common.{inl};
-ghost use Rattle.tbl_outside.specs.Bank.{piece, overwritten, Torn, LeavesOnly};
-ghost use Rattle.tbl_outside.specs.Counts.{Rose};
+ghost use Rattle.tbl_kinds.specs.Numbers.{piece, overwritten};
+ghost use Rattle.tbl_outside.specs.Bank.{Torn, LeavesOnly};
+ghost use Rattle.tbl_outside.specs.BankCalls.{read, write};
+ghost use Rattle.tbl_outside.specs.Counts.{Still, RoseAlone, Counted};
 ghost use Rattle.tbl_fakes.specs.Troubles.{none_yet, next_break, is_bad_read, front_of, how_ends};
 ghost use Rattle.tbl_fakes.specs.Troubles.{one_write, one_read, one_fault, one_end};
-ghost use Rattle.tbl_fakes.specs.Banks.{has_room, written_over, moment, MayHaveLeft, only_bytes};
+ghost use Rattle.tbl_fakes.specs.Banks.{faults_of, stops_of, has_room, written_over, moment, MayHaveLeft, only_bytes};
+ghost use Rattle.tbl_fakes.specs.Notes.{noted};
 
+use crate::notes::Notes;
 use crate::past::{Past, Span};
 use crate::troubles::{Break, Troubles, reach};
 use std::alloc::Global;
@@ -14,12 +18,16 @@ use std::marker::Model;
 use tbl_kinds::{Bytes, Memory};
 use tbl_outside::{Bank, Failed, Written};
 
+/// For how many reads a bank in memory has room in its record.
+const READS_NOTED: usize = 4_096;
+
 /// Preserved memory whose writes break off, and whose reads fail, where their number says so. It keeps a record of its
-/// writes with what stood before them, from which its moments are told.
+/// writes with what stood before them, from which its moments are told, and one of the calls that it was asked for.
 #[derive(Debug, Drop)]
 pub struct MemBank {
     bytes: Bytes,
     past: Past,
+    notes: Notes,
     troubles: Troubles,
 }
 
@@ -35,6 +43,7 @@ impl Model for MemBank {
       past = passed b.past.spans b.past.olds b.bytes.list;
       writes_left = b.past.writes;
       room = b.past.room;
+      notes = b.notes;
       trouble = b.troubles;
     } };
 
@@ -42,8 +51,8 @@ impl Model for MemBank {
 }
 
 impl MemBank {
-    /// A bank of these bytes, with room in its record for so many writes and so many bytes written in all. Writes and
-    /// reads are numbered from 1. All memory that it needs is taken here.
+    /// A bank of these bytes, with room in its record for so many writes, so many bytes written in all, and 4,096 reads.
+    /// Writes and reads are numbered from 1. All memory that it needs is taken here.
     pub fn make(
         alloc: Global,
         bytes: Bytes,
@@ -57,11 +66,13 @@ impl MemBank {
         ensures past { IfOk result (λ b. b.past ≡ []) }
         ensures writes_left { IfOk result (λ b. b.writes_left ≡ writes) }
         ensures room { IfOk result (λ b. b.room ≡ room) }
+        ensures notes { IfOk result (λ b. b.notes ≡ record { calls = []; left = writes + 4096; room = room; missed = false }) }
         ensures trouble { IfOk result (λ b. b.trouble ≡ none_yet breaks.now bad_reads.now) }
     {
         Ok(MemBank {
             bytes,
             past: Past::make(alloc, writes, room)?,
+            notes: Notes::make(alloc, writes as usize + READS_NOTED, room)?,
             troubles: Troubles::make(alloc, breaks, bad_reads)?,
         })
     }
@@ -117,9 +128,13 @@ impl Bank for MemBank {
 
     ghost left_since = { MayHaveLeft };
 
-    ghost faults = { λ b. b.trouble.faults };
+    ghost faults = { faults_of };
 
-    ghost stops = { λ b. b.trouble.stops };
+    ghost stops = { stops_of };
+
+    ghost tells_calls = { λ b. b.notes.missed ≡ false };
+
+    ghost calls = { λ b. b.notes.calls };
 
     ghost tells_both = { λ told. told };
 
@@ -141,20 +156,31 @@ impl Bank for MemBank {
 
     fn read_at(&mut self, at: u32, into: &mut [u8]) -> Result<(), Failed>
         requires { at + length into.old ≤ length self.old.bytes }
-        ensures read { OnOk result (into.new ≡ piece self.old.bytes at (length into.old)) }
+        ensures read { OnOk result (into.new ≡ piece at (length into.old) self.old.bytes) }
         ensures kept { self.new.bytes ≡ self.old.bytes }
         ensures moments { LeavesOnly moment MayHaveLeft self.old self.new (λ image. image ≡ self.old.bytes) }
         ensures size { length self.new.bytes ≡ length self.old.bytes }
-        ensures cause { OnErr result (Rose self.old.trouble.faults self.new.trouble.faults) }
+        ensures done { OnOk result (Still faults_of stops_of self.old self.new) }
+        ensures failed { OnErr result (RoseAlone faults_of stops_of self.old self.new) }
         ensures fault_count { self.old.trouble.faults ≤ self.new.trouble.faults }
         ensures stop_count { self.old.trouble.stops ≤ self.new.trouble.stops }
+        ensures told { self.new.notes.missed ≡ false → self.old.notes.missed ≡ false }
+        ensures asked { self.new.notes.missed ≡ false →
+            self.new.notes.calls ≡ read at (length into.old) ∷ self.old.notes.calls }
 
-        // It fails exactly where its number is listed, and then moves nothing.
+        // It fails exactly where its number is listed, and then moves nothing. It notes the call where it has room.
         ensures fails { is_err result ≡ is_bad_read self.old.trouble }
         ensures unmoved { OnErr result (into.new ≡ into.old) }
-        ensures ok { OnOk result (self.new ≡ record self.old { trouble = one_read self.old.trouble }) }
-        ensures err { OnErr result (self.new ≡ record self.old { trouble = one_fault (one_read self.old.trouble) }) }
+        ensures ok { OnOk result (self.new ≡ record self.old {
+          notes = noted (read at (length into.old)) self.old.notes;
+          trouble = one_read self.old.trouble;
+        }) }
+        ensures err { OnErr result (self.new ≡ record self.old {
+          notes = noted (read at (length into.old)) self.old.notes;
+          trouble = one_fault (one_read self.old.trouble);
+        }) }
     {
+        self.notes.note_read(at, into.len() as u32);
         if self.troubles.next_read_fails() {
             self.troubles.fault();
             return Err(Failed);
@@ -170,10 +196,15 @@ impl Bank for MemBank {
         ensures torn { Torn at (length bytes.now) self.old.bytes self.new.bytes }
         ensures moments { LeavesOnly moment MayHaveLeft self.old self.new (Torn at (length bytes.now) self.old.bytes) }
         ensures size { length self.new.bytes ≡ length self.old.bytes }
-        ensures failed { result ≡ Written.Failed → Rose self.old.trouble.faults self.new.trouble.faults }
-        ensures stopped { result ≡ Written.Stopped → Rose self.old.trouble.stops self.new.trouble.stops }
+        ensures counted { Counted faults_of stops_of self.old self.new result }
         ensures fault_count { self.old.trouble.faults ≤ self.new.trouble.faults }
         ensures stop_count { self.old.trouble.stops ≤ self.new.trouble.stops }
+        ensures told { self.new.notes.missed ≡ false → self.old.notes.missed ≡ false }
+        ensures asked { self.new.notes.missed ≡ false →
+            self.new.notes.calls ≡ write at bytes.now ∷ self.old.notes.calls }
+
+        // It notes the call where it has room.
+        ensures notes { self.new.notes ≡ noted (write at bytes.now) self.old.notes }
 
         // With room for it, it ends as its number says, and joins the record: each image from inside it is told.
         ensures ends { IsTrue (has_room self.old (length bytes.now)) → result ≡ how_ends (next_break self.old.trouble) }
@@ -194,8 +225,12 @@ impl Bank for MemBank {
         ensures full { has_room self.old (length bytes.now) ≡ false →
             result ≡ Written.Failed }
         ensures unwritten { has_room self.old (length bytes.now) ≡ false →
-            self.new ≡ record self.old { trouble = one_fault (one_write self.old.trouble) } }
+            self.new ≡ record self.old {
+              notes = noted (write at bytes.now) self.old.notes;
+              trouble = one_fault (one_write self.old.trouble);
+            } }
     {
+        self.notes.note_write(at, bytes);
         let planned = self.troubles.next_write();
         if !self.past.has_room(bytes.len()) {
             self.troubles.fault();

@@ -2,3 +2,4 @@ pub mod Names
 pub mod NameFields
 pub mod RecordLaws
 pub mod TranscriptLaws
+pub mod Positions

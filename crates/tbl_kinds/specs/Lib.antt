@@ -17,6 +17,7 @@ pub mod Free
 pub mod Places
 pub mod Blocks
 pub mod StoreSteps
+pub mod StoreCalls
 pub mod Drawer
 pub mod Check
 pub mod Vectors

@@ -1,3 +1,4 @@
+pub mod BankCalls
 pub mod Counts
 pub mod Moments
 pub mod Pieces

@@ -1,16 +1,17 @@
 -- What a write leaves of the bytes, whole or broken off.
 use Rattle.std.proofs.Common.{◌≡◌, ℕ, ◌+◌, ◌-◌, ◌<◌, ◌≤◌, List, ◌++◌, length, take, drop, get_or, refl, sym, ◌∙◌, ap, arith, length-append}
 use Rattle.std.proofs.lemmas.List.{length-take, length-drop, take-take, drop-drop, drop-take, take_at, drop_at, take-append-drop, get_or-take, get_or-drop, append_assoc}
-use Rattle.tbl_outside.specs.Bank.{piece, overwritten, Torn}
+use Rattle.tbl_kinds.specs.Numbers.{piece, overwritten}
+use Rattle.tbl_outside.specs.Bank.{Torn}
 
-pub length-piece : (bytes : List ℕ) (at count : ℕ) → at + count ≤ length bytes → length (piece bytes at count) ≡ count
+pub length-piece : (bytes : List ℕ) (at count : ℕ) → at + count ≤ length bytes → length (piece at count bytes) ≡ count
 length-piece bytes at count fits = simp (length-take, length-drop) (omega arith)
 
 pub length-overwritten : (bytes : List ℕ) (at : ℕ) (others : List ℕ) → at + length others ≤ length bytes → length (overwritten bytes at others) ≡ length bytes
 length-overwritten bytes at others fits = simp (length-append, length-take, length-drop) (omega arith)
 
 -- what was written is read again
-pub piece-overwritten : (bytes : List ℕ) (at : ℕ) (others : List ℕ) → at + length others ≤ length bytes → piece (overwritten bytes at others) at (length others) ≡ others
+pub piece-overwritten : (bytes : List ℕ) (at : ℕ) (others : List ℕ) → at + length others ≤ length bytes → piece at (length others) (overwritten bytes at others) ≡ others
 piece-overwritten bytes at others fits =
     let front : length (take at bytes) ≡ at = simp length-take (omega arith) in
     ap (take (length others)) (ap (drop at) (append_assoc (take at bytes) others (drop (at + length others) bytes)) ∙ drop_at (take at bytes) (others ++ drop (at + length others) bytes) at front)
@@ -62,13 +63,13 @@ torn_back at count old image torn = record {
 }
 
 -- pieces outside the range stay
-pub piece_before : (at count : ℕ) (old image : List ℕ) (from size : ℕ) → Torn at count old image → from + size ≤ at → piece image from size ≡ piece old from size
+pub piece_before : (at count : ℕ) (old image : List ℕ) (from size : ℕ) → Torn at count old image → from + size ≤ at → piece from size image ≡ piece from size old
 piece_before at count old image from size torn le =
     sym (drop-take from size image)
     ∙ ap (drop from) (sym (take-take (from + size) at image le) ∙ ap (take (from + size)) torn.before ∙ take-take (from + size) at old le)
     ∙ drop-take from size old
 
-pub piece_behind : (at count : ℕ) (old image : List ℕ) (from size : ℕ) → Torn at count old image → at + count ≤ from → piece image from size ≡ piece old from size
+pub piece_behind : (at count : ℕ) (old image : List ℕ) (from size : ℕ) → Torn at count old image → at + count ≤ from → piece from size image ≡ piece from size old
 piece_behind at count old image from size torn le =
     let there : (at + count) + (from - (at + count)) ≡ from = omega arith in
     ap (take size) (
@@ -94,17 +95,17 @@ byte_behind at count old image i torn le =
     ∙ ap (λ n. get_or old n 0) there
 
 -- an image of a write that broke off is the old bytes with some written over them
-pub torn_is : (at count : ℕ) (old image : List ℕ) → Torn at count old image → at + count ≤ length old → image ≡ overwritten old at (piece image at count)
+pub torn_is : (at count : ℕ) (old image : List ℕ) → Torn at count old image → at + count ≤ length old → image ≡ overwritten old at (piece at count image)
 torn_is at count old image torn fits =
-    let size : length (piece image at count) ≡ count = length-piece image at count (omega (arith, torn.same_length)) in
+    let size : length (piece at count image) ≡ count = length-piece image at count (omega (arith, torn.same_length)) in
     sym (take-append-drop at image)
     ∙ ap (λ (l : List ℕ). take at image ++ l) (sym (take-append-drop count (drop at image)))
-    ∙ sym (append_assoc (take at image) (piece image at count) (drop count (drop at image)))
-    ∙ ap (λ (l : List ℕ). l ++ piece image at count ++ drop count (drop at image)) torn.before
-    ∙ ap (λ (l : List ℕ). take at old ++ piece image at count ++ l) (drop-drop count at image ∙ torn.behind ∙ ap (λ n. drop (at + n) old) (sym size))
+    ∙ sym (append_assoc (take at image) (piece at count image) (drop count (drop at image)))
+    ∙ ap (λ (l : List ℕ). l ++ piece at count image ++ drop count (drop at image)) torn.before
+    ∙ ap (λ (l : List ℕ). take at old ++ piece at count image ++ l) (drop-drop count at image ∙ torn.behind ∙ ap (λ n. drop (at + n) old) (sym size))
 
 -- a write that broke off is undone by writing what was there
-pub undone : (at count : ℕ) (old image : List ℕ) → Torn at count old image → at + count ≤ length old → overwritten image at (piece old at count) ≡ old
+pub undone : (at count : ℕ) (old image : List ℕ) → Torn at count old image → at + count ≤ length old → overwritten image at (piece at count old) ≡ old
 undone at count old image torn fits =
     sym (torn_is at count image old (torn_back at count old image torn) (omega (arith, torn.same_length)))
 

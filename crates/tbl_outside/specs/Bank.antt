@@ -1,13 +1,5 @@
 -- What the calls of a bank do to its bytes, and what a reset may leave meanwhile.
-use Rattle.std.specs.Prelude.{◌≡◌, ◌⊎◌, ℕ, ◌+◌, ◌≤◌, List, ◌++◌, length, take, drop}
-
--- so many of the bytes, from a place on
-abbrev pub piece : List ℕ → ℕ → ℕ → List ℕ
-piece bytes at count = take count (drop at bytes)
-
--- the bytes, with others written over them from a place on
-abbrev pub overwritten : List ℕ → ℕ → List ℕ → List ℕ
-overwritten bytes at others = take at bytes ++ others ++ drop (at + length others) bytes
+use Rattle.std.specs.Prelude.{◌≡◌, ◌⊎◌, ℕ, ◌+◌, ◌≤◌, List, length, take, drop}
 
 -- an image that is the old bytes but for so many from a place on, which are any bytes
 pub record Torn (at count : ℕ) (old image : List ℕ) : Type 0 where

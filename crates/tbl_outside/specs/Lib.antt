@@ -1,3 +1,4 @@
 pub mod Bank
+pub mod BankCalls
 pub mod Counts
 pub mod Streams

@@ -1,7 +1,9 @@
 // Preserved memory: what it holds, and what a reset at any moment may leave of it.
-ghost use Rattle.std.specs.Prelude.{◌≡◌, ◌+◌, ◌≤◌, ℕ, List, length, OnOk, OnErr};
-ghost use Rattle.tbl_outside.specs.Bank.{piece, overwritten, Torn, LeavesOnly};
-ghost use Rattle.tbl_outside.specs.Counts.{Rose};
+ghost use Rattle.std.specs.Prelude.{◌≡◌, ◌+◌, ◌≤◌, ℕ, List, ◌∷◌, length, OnOk, OnErr};
+ghost use Rattle.tbl_kinds.specs.Numbers.{piece, overwritten};
+ghost use Rattle.tbl_outside.specs.Bank.{Torn, LeavesOnly};
+ghost use Rattle.tbl_outside.specs.BankCalls.{BankCall, read, write};
+ghost use Rattle.tbl_outside.specs.Counts.{Still, RoseAlone, Counted};
 
 use crate::stream::Failed;
 
@@ -46,6 +48,12 @@ pub trait Bank: Drop {
     /// How often a write was stopped. It may stand still from 2^64 - 1 on.
     ghost stops: { Self → ℕ };
 
+    /// Whether it tells what it was asked. It may stop to, where it has no room left to keep it, and doesn't begin again.
+    ghost tells_calls: { Self → Type 0 };
+
+    /// What it was asked so far, the newest call first. Asking for its size isn't among it.
+    ghost calls: { Self → List BankCall };
+
     /// How many bytes it has.
     fn size(&self) -> u32
         ensures { result ≡ size self.now };
@@ -53,14 +61,17 @@ pub trait Bank: Drop {
     /// Reads a piece that lies inside the bank. After a failure `into` is left open.
     fn read_at(&mut self, at: u32, into: &mut [u8]) -> Result<(), Failed>
         requires { at + length into.old ≤ size self.old }
-        ensures read { OnOk result (tells → into.new ≡ piece (now self.old) at (length into.old)) }
+        ensures read { OnOk result (tells → into.new ≡ piece at (length into.old) (now self.old)) }
         ensures kept { tells → now self.new ≡ now self.old }
         ensures moments { tells_moments →
             LeavesOnly clock left_since self.old self.new (λ image. image ≡ now self.old) }
         ensures size { size self.new ≡ size self.old }
-        ensures cause { OnErr result (Rose (faults self.old) (faults self.new)) }
+        ensures done { OnOk result (Still faults stops self.old self.new) }
+        ensures failed { OnErr result (RoseAlone faults stops self.old self.new) }
         ensures fault_count { faults self.old ≤ faults self.new }
-        ensures stop_count { stops self.old ≤ stops self.new };
+        ensures stop_count { stops self.old ≤ stops self.new }
+        ensures told { tells_calls self.new → tells_calls self.old }
+        ensures asked { tells_calls self.new → calls self.new ≡ read at (length into.old) ∷ calls self.old };
 
     /// Writes over a piece that lies inside the bank.
     fn write_at(&mut self, at: u32, bytes: &[u8]) -> Written
@@ -70,10 +81,11 @@ pub trait Bank: Drop {
         ensures moments { tells_moments →
             LeavesOnly clock left_since self.old self.new (Torn at (length bytes.now) (now self.old)) }
         ensures size { size self.new ≡ size self.old }
-        ensures failed { result ≡ Written.Failed → Rose (faults self.old) (faults self.new) }
-        ensures stopped { result ≡ Written.Stopped → Rose (stops self.old) (stops self.new) }
+        ensures counted { Counted faults stops self.old self.new result }
         ensures fault_count { faults self.old ≤ faults self.new }
-        ensures stop_count { stops self.old ≤ stops self.new };
+        ensures stop_count { stops self.old ≤ stops self.new }
+        ensures told { tells_calls self.new → tells_calls self.old }
+        ensures asked { tells_calls self.new → calls self.new ≡ write at bytes.now ∷ calls self.old };
 
     /// A bank that tells its moments tells its bytes.
     ghost tells_both: { tells_moments → tells };

@@ -1,8 +1,9 @@
-use Rattle.std.proofs.Common.{◌≤◌, ◌∙◌, ap, sym, List, Option, slice_set, arith, subst}
+use Rattle.std.proofs.Common.{◌≤◌, ◌==◌, ◌∙◌, ap, sym, List, Option, slice_set, arith, subst}
 use Rattle.std.specs.Option.{option_map}
 use Rattle.tbl_kinds.specs.Places.{bank_size}
 use Rattle.tbl_kinds.specs.StoreSteps.{delete_broken}
 use Rattle.tbl_outside.proofs.Moments.{leaves_among}
+use Rattle.cds_layout.specs.Entries.{gate_open}
 use Rattle.cds_store.specs.Sound.{slot_at, IsSound}
 use Rattle.cds_store.specs.Standing.{StandsFor, kept, doubted}
 use Rattle.cds_store.specs.declared.slot.Slot.{Slot}
@@ -14,14 +15,14 @@ returns-in-Ok-clause-sound g c =
     let b = g.B.Bank in
     let s = some_there (slot_at c.args.slots.now.items c.args.slot) c.requires.taken in
     let room : bank_size ≤ b.size c.set_gate.new.bank = omega (arith, c.requires.sound.room, c.set_gate.ensures.steady.size_kept) in
-    closed_sound b.tells b.size b.now c.args.slots.now.items c.args.bank.now c.requires.sound c.args.slot s.0 s.1 c.set_gate.new.bank room c.set_gate.ensures.torn (c.in-Ok.ensures.done)
+    closed_sound b.tells b.size b.now c.args.slots.now.items c.args.bank.now c.requires.sound c.args.slot s.0 s.1 c.set_gate.new.bank room c.set_gate.ensures.torn (λ told. ap (λ g. g == gate_open) (c.in-Ok.ensures.done told))
 
 pub returns-in-Ok-clause-ok : goal.returns-in-Ok-clause-ok
 returns-in-Ok-clause-ok g c =
     let b = g.B.Bank in
     let s = some_there (slot_at c.args.slots.now.items c.args.slot) c.requires.taken in
     let room : bank_size ≤ b.size c.set_gate.new.bank = omega (arith, c.requires.sound.room, c.set_gate.ensures.steady.size_kept) in
-    closed_for b.tells b.size b.now c.args.slots.now.items c.args.bank.now c.requires.sound c.args.slot s.0 s.1 c.set_gate.new.bank room c.set_gate.ensures.torn (c.in-Ok.ensures.done)
+    closed_for b.tells b.size b.now c.args.slots.now.items c.args.bank.now c.requires.sound c.args.slot s.0 s.1 c.set_gate.new.bank room c.set_gate.ensures.torn (λ told. ap (λ g. g == gate_open) (c.in-Ok.ensures.done told))
 
 pub returns-in-Ok-clause-moments : goal.returns-in-Ok-clause-moments
 returns-in-Ok-clause-moments g c told blocks stands =

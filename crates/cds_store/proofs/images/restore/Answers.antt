@@ -3,7 +3,7 @@ use Rattle.std.proofs.lemmas.Result.{on_ok_weaker, IfErr-weaker}
 use Rattle.tbl_kinds.specs.Places.{bank_size}
 use Rattle.cds_layout.specs.Restores.{TellsTorn}
 use Rattle.cds_store.proofs.Contents.{read_there, open_parts, shown_held, restored_for, fault_for, comes_back}
-use Rattle.cds_store.proofs.Together.{right_parts}
+use Rattle.cds_layout.proofs.EntryLaws.{right-parts}
 use Rattle.cds_store.proofs.images.restore.Goals as goal
 
 pub read_block-requires-clause-inside : goal.read_block-requires-clause-inside
@@ -12,7 +12,7 @@ read_block-requires-clause-inside g c =
     let slots = c.args.slots.now in
     let taken = read_there (length c.args.into.now) slots c.args.slot c.index-slots-slot.result c.in-Some.taken c.requires.can c.index-slots-slot.is c.in-Some.is in
     let parts = open_parts (length c.args.into.now) slots c.args.slot c.in-Some.taken c.requires.can taken in
-    omega (arith, (right_parts c.in-Some.taken.block (c.requires.sound.together.right c.args.slot c.in-Some.taken taken)).inside, c.requires.sound.room)
+    omega (arith, (right-parts c.in-Some.taken.block (c.requires.sound.together.right c.args.slot c.in-Some.taken taken)).inside, c.requires.sound.room)
 
 pub returns-clause-image : goal.returns-clause-image
 returns-clause-image g c =

@@ -1,10 +1,11 @@
 use Rattle.std.proofs.Common.{◌≡◌, ℕ, List, Option, Some, None, false, not, ap, sym, ◌∙◌, subst}
 use Rattle.tbl_kinds.specs.Blocks.{Store as Blocks}
+use Rattle.tbl_kinds.specs.StoreCalls.{reserve}
 use Rattle.tbl_kinds.specs.StoreSteps.{freed, doubtful_of, has_room}
 use Rattle.tbl_kinds.specs.Free.{least_free}
 use Rattle.tbl_outside.proofs.Moments.{leaves_among}
 use Rattle.cds_store.specs.Calls.{is_gate, is_old}
-use Rattle.cds_store.specs.Moments.{MakeLeaves, ReserveLeaves}
+use Rattle.cds_store.specs.Moments.{LeavesIn, MakeLeaves}
 use Rattle.cds_store.specs.Slots.{doubtful_slot, room_in, without_slot}
 use Rattle.cds_store.specs.Sound.{IsNew}
 use Rattle.cds_store.specs.Standing.{StandsFor, kept, with_new, broken_at}
@@ -76,7 +77,7 @@ returns-in-Ok-clause-moments g c told blocks stands =
     ap (λ (l : List (Option Slot)). room_in c.args.size (without_slot c.find_doubtful-old.result l)) (sym c.deref-2.ensures.value) ∙ sym c.room_for.ensures ∙ c.in-Some.is in
     let there = room_there c.find_doubtful-old.result c.args.size c.in-Some.slot c.in-Some.offset slots blocks stands.slots room in
     leaves_among (c.make_instead.ensures.moments told blocks stands)
-    (subst (λ (name : List ℕ). (image : List ℕ) → MakeLeaves c.find_doubtful-old.result c.in-Some.slot (record { kind = c.args.kind; offset = c.in-Some.offset; size = c.args.size; name = name }) blocks image → ReserveLeaves c.args.kind c.args.name.now c.args.size blocks image) (sym c.copy.ensures)
+    (subst (λ (name : List ℕ). (image : List ℕ) → MakeLeaves c.find_doubtful-old.result c.in-Some.slot (record { kind = c.args.kind; offset = c.in-Some.offset; size = c.args.size; name = name }) blocks image → LeavesIn (reserve c.args.kind c.args.name.now c.args.size) blocks image) (sym c.copy.ensures)
     (make_leaves c.args.kind c.args.name.now c.args.size c.in-Some.slot c.in-Some.offset c.find_doubtful-old.result blocks old there))
 
 pub returns-in-Err-clause-full : goal.returns-in-Err-clause-full
@@ -112,5 +113,5 @@ returns-in-Err-clause-moments g c told blocks stands =
     ap (λ (l : List (Option Slot)). room_in c.args.size (without_slot c.find_doubtful-old.result l)) (sym c.deref-2.ensures.value) ∙ sym c.room_for.ensures ∙ c.in-Some.is in
     let there = room_there c.find_doubtful-old.result c.args.size c.in-Some.slot c.in-Some.offset slots blocks stands.slots room in
     leaves_among (c.make_instead.ensures.moments told blocks stands)
-    (subst (λ (name : List ℕ). (image : List ℕ) → MakeLeaves c.find_doubtful-old.result c.in-Some.slot (record { kind = c.args.kind; offset = c.in-Some.offset; size = c.args.size; name = name }) blocks image → ReserveLeaves c.args.kind c.args.name.now c.args.size blocks image) (sym c.copy.ensures)
+    (subst (λ (name : List ℕ). (image : List ℕ) → MakeLeaves c.find_doubtful-old.result c.in-Some.slot (record { kind = c.args.kind; offset = c.in-Some.offset; size = c.args.size; name = name }) blocks image → LeavesIn (reserve c.args.kind c.args.name.now c.args.size) blocks image) (sym c.copy.ensures)
     (make_leaves c.args.kind c.args.name.now c.args.size c.in-Some.slot c.in-Some.offset c.find_doubtful-old.result blocks old there))

@@ -1,3 +1,7 @@
+use Rattle.std.proofs.Common.{true}
+use Rattle.tbl_outside.specs.BankCalls.{Asks}
+use Rattle.tbl_outside.specs.Counts.{Still}
+use Rattle.cds_layout.specs.Order.{strays_to}
 use Rattle.tbl_outside.specs.Bank.{LeavesOnly}
 use Rattle.cds_store.specs.Boots.{SameStore, Tidied}
 use Rattle.cds_store.specs.Calls.{Steady}
@@ -9,5 +13,7 @@ invariant-loop-slot g l =
     record {
       tidied : b.tells → Tidied (b.now l.fn.bank) (b.now l.bank) l.slot;
       steady : Steady b.size b.faults b.stops l.fn.bank l.bank;
+      still : Still b.faults b.stops l.fn.bank l.bank;
+      asked : Asks b.tells_calls b.calls l.fn.bank l.bank true (strays_to l.slot l.front l.directory);
       moments : b.tells_moments → LeavesOnly b.clock b.left_since l.fn.bank l.bank (SameStore (b.now l.fn.bank));
     }

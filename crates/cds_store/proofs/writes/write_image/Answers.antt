@@ -1,13 +1,13 @@
 use Rattle.std.proofs.Common.{arith}
 use Rattle.std.proofs.lemmas.Result.{on_ok_weaker}
 use Rattle.cds_store.proofs.Bytes.{written}
-use Rattle.cds_store.proofs.Together.{right_parts}
+use Rattle.cds_layout.proofs.EntryLaws.{right-parts}
 use Rattle.cds_store.proofs.writes.write_image.Goals as goal
 
 pub returns-clause-done : goal.returns-clause-done
 returns-clause-done g c =
     let b = c.args.block.now in
-    let right = right_parts b c.requires.right in
+    let right = right-parts b c.requires.right in
     let old = g.B.Bank.now c.args.bank.now in
     let mid = g.B.Bank.now c.write_data.new.bank in
     let new = g.B.Bank.now c.write_head.new.bank in

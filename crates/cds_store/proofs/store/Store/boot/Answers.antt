@@ -19,3 +19,9 @@ returns-clause-moments g c told blocks begins =
     let k : Kept _ = record { slots = c.self.inside.slots.items; bank = c.self.inside.bank; booted = c.self.inside.booted } in
     subst (λ (s : Kept _). LeavesOnly b.clock b.left_since s.bank c.boot.new.bank (BootLeaves c.args.kind blocks)) c.self.view_is
     (c.boot.ensures.moments told blocks (begins_kept b.tells b.now k blocks (subst (λ (s : Kept _). BeginsAt b.tells b.now s blocks) (sym c.self.view_is) begins)))
+
+pub returns-clause-ok : goal.returns-clause-ok
+returns-clause-ok g c told blocks begins =
+    let b = g.B.Bank in
+    let k : Kept _ = record { slots = c.self.inside.slots.items; bank = c.self.inside.bank; booted = c.self.inside.booted } in
+    c.in_ok-found.ensures.ok told blocks (begins_kept b.tells b.now k blocks (subst (λ (s : Kept _). BeginsAt b.tells b.now s blocks) (sym c.self.view_is) begins))

@@ -1,6 +1,7 @@
 -- A write that had room joins the record.
 use Rattle.std.proofs.Common.{◌≡◌, ◌+◌, ◌-◌, ◌≤◌, ◌++◌, ◌∷◌, [], ℕ, List, length, take, drop, arith, sym, ap, subst, ◌∙◌}
-use Rattle.tbl_outside.specs.Bank.{piece, Torn, overwritten}
+use Rattle.tbl_kinds.specs.Numbers.{piece, overwritten}
+use Rattle.tbl_outside.specs.Bank.{Torn}
 use Rattle.tbl_outside.proofs.Pieces.{torn_front}
 use Rattle.tbl_fakes.specs.Banks.{Banking, written_over}
 use Rattle.tbl_fakes.specs.Past.{passed}
@@ -20,7 +21,7 @@ more c =
     let count = length c.args.bytes.now in
     let fits : at + count ≤ length b.bytes.list = omega (arith, c.requires, ap (λ (bank : Banking). length bank.bytes) c.self.view_is) in
     let size : at + count - at ≡ count = omega arith in
-    let old : take (at + count - at) (drop at c.bytes.result.now) ≡ piece b.bytes.list at count =
+    let old : take (at + count - at) (drop at c.bytes.result.now) ≡ piece at count b.bytes.list =
     ap (λ (l : List ℕ). take (at + count - at) (drop at l)) c.bytes.ensures ∙ ap (λ n. take n (drop at b.bytes.list)) size in
     rw (← c.self.view_is) (kept_and_written b.past.spans _ b.past.olds _ b.bytes.list _ _ c.args.bytes.now at c.reach-reach.result c.keep.ensures.whole fits old c.keep.ensures.spans c.keep.ensures.olds c.write_over.ensures.bytes)
 

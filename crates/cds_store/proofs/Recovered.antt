@@ -1,0 +1,97 @@
+-- What the open blocks of a bank hold comes back.
+use Rattle.std.proofs.Common.{◌≡◌, inl, inr, ℕ, ◌+◌, List, [], ◌∷◌, map, slice_index_or, Bool, true, false, not, Option, Some, None, refl, sym, ◌∙◌, ap, subst}
+use Rattle.std.specs.Option.{option_map}
+use Rattle.std.proofs.lemmas.Bool.{cases_eq, and_parts, and_from}
+use Rattle.std.proofs.lemmas.List.Quantifiers.{position-Some}
+use Rattle.tbl_kinds.proofs.Positions.{position-None}
+use Rattle.tbl_kinds.specs.Blocks.{Stored, Store as Blocks}
+use Rattle.tbl_kinds.specs.Places.{are_apart}
+use Rattle.tbl_kinds.specs.StoreSteps.{same_block, is_of, is_open_of, open_of, stored_at, MayGive, MayShow, Shows, settled_from, booted, shown}
+use Rattle.tbl_kinds.specs.declared.block.Block.{Block}
+use Rattle.tbl_kinds.specs.declared.block.BlockKind.{BlockKind}
+use Rattle.tbl_kinds.specs.declared.request.ResetKind.TheVariants.{Processor}
+use Rattle.cds_layout.specs.Directory.{directory_of}
+use Rattle.cds_layout.specs.Images.{stored_in, store_of}
+use Rattle.cds_layout.proofs.DirectoryLaws.{directory-agree_both}
+use Rattle.cds_store.specs.Recovery.{Recovers}
+use Rattle.cds_store.specs.Slots.{is_open_slot, open_slot, block_of}
+use Rattle.cds_store.specs.Sound.{slot_at}
+use Rattle.cds_store.specs.declared.slot.Slot.{Slot}
+use Rattle.cds_store.proofs.Reservations.{both_of, same_not}
+use Rattle.cds_store.proofs.Strays.{stored_there}
+
+-- ---- a block that is found stands in its slot
+
+none_there : (kind : BlockKind) (name : List ℕ) (o : Option Slot) → is_open_slot kind name o ≡ true → None ≡ option_map block_of o → ⊥
+none_there kind name None opens none = cc opens
+none_there kind name (Some s) opens none = cc none
+
+pub found_there : (kind : BlockKind) (name : List ℕ) (slots : List (Option Slot)) (n : ℕ) → Some n ≡ open_slot kind name slots → None ≡ option_map block_of (slot_at slots n) → ⊥
+found_there kind name slots n found none = none_there kind name (slot_at slots n) (position-Some (is_open_slot kind name) slots n None (sym found)).1 none
+
+-- ---- the blocks that a bank shows are all open, so a boot settles none
+
+settled_all : (bytes : List ℕ) (found : List ℕ) (k : ℕ) (blocks : List (Option Block))
+    → settled_from found k (map (option_map (stored_in bytes)) blocks) ≡ map (option_map (stored_in bytes)) blocks
+settled_all bytes found k [] = refl
+settled_all bytes found k (None ∷ blocks) = ap (λ (l : Blocks). None ∷ l) (settled_all bytes found (k + 1) blocks)
+settled_all bytes found k (Some b ∷ blocks) = ap (λ (l : Blocks). Some (stored_in bytes b) ∷ l) (settled_all bytes found (k + 1) blocks)
+
+pub booted_alike : (bytes : List ℕ) (found : List ℕ) → booted Processor found (store_of bytes) ≡ store_of bytes
+unfolding store_of
+booted_alike bytes found = settled_all bytes found 0 (directory_of bytes)
+
+-- ---- a bank shows one block of a kind and a name
+
+of_stored : (bytes : List ℕ) (kind : BlockKind) (name : List ℕ) (o : Option Block) → is_open_of kind name (option_map (stored_in bytes) o) ≡ true
+    → (b : Block) × (o ≡ Some b) × (is_of kind name b ≡ true)
+of_stored bytes kind name None opens = absurd (cc opens)
+of_stored bytes kind name (Some b) opens = (b, refl, (and_parts (is_of kind name b) true opens).0)
+
+in_directory : (bytes : List ℕ) (kind : BlockKind) (name : List ℕ) (n : ℕ) → is_open_of kind name (stored_at (store_of bytes) n) ≡ true
+    → (b : Block) × (slice_index_or (directory_of bytes) n None ≡ Some b) × (is_of kind name b ≡ true)
+in_directory bytes kind name n opens =
+    of_stored bytes kind name (slice_index_or (directory_of bytes) n None) (subst (λ o. is_open_of kind name o ≡ true) (stored_there bytes n) opens)
+
+one_of_a_name : (bytes : List ℕ) (kind : BlockKind) (name : List ℕ) (n m : ℕ) → is_open_of kind name (stored_at (store_of bytes) n) ≡ true → is_open_of kind name (stored_at (store_of bytes) m) ≡ true → n ≡ m
+one_of_a_name bytes kind name n m opens opens' =
+    let a = in_directory bytes kind name n opens in
+    let b = in_directory bytes kind name m opens' in
+    elim (cases_eq n m) [
+      | inl same ↦ same
+      | inr other ↦
+          absurd (same_not (same_block a.0 b.0)
+          (and_parts (are_apart a.0.offset a.0.size b.0.offset b.0.size) (not (same_block a.0 b.0)) (directory-agree_both bytes n m a.0 b.0 other a.1 b.1)).1
+          (both_of kind name a.0 b.0 a.2 b.2))
+    ]
+
+shown_at : (bytes : List ℕ) (kind : BlockKind) (name : List ℕ) (n : ℕ) (o : Option ℕ) → open_of kind name (store_of bytes) ≡ o → is_open_of kind name (stored_at (store_of bytes) n) ≡ true → open_of kind name (store_of bytes) ≡ Some n
+shown_at bytes kind name n None none opens = absurd (cc (sym opens ∙ position-None (is_open_of kind name) (store_of bytes) n None none refl))
+shown_at bytes kind name n (Some m) found opens =
+    found ∙ ap (λ k. Some k) (one_of_a_name bytes kind name m n (position-Some (is_open_of kind name) (store_of bytes) m None found).1 opens)
+
+-- ---- what it holds
+
+gives_alike : (b left : Stored) (image : Option (List ℕ)) → left ≡ shown b left.held → MayGive b left.held → MayGive left image → MayGive b image
+gives_alike b left image is gives restored =
+    let held : image ≡ left.held = subst (λ (s : Stored). MayGive s image) is restored in
+    subst (MayGive b) (sym held) gives
+
+open_shown : (kind : BlockKind) (name : List ℕ) (b : Stored) (o : Option Stored) (image : Option (List ℕ)) → is_open_of kind name (Some b) ≡ true → MayShow (Some b) o
+    → (is_open_of kind name o ≡ true) × (((left : Stored) → o ≡ Some left → MayGive left image) → MayGive b image)
+open_shown kind name b None image opens shows =
+    absurd (cc (sym shows ∙ not_true b.doubtful (and_parts (is_of kind name b.block) (not b.doubtful) opens).1))
+  where
+    not_true : (doubtful : Bool) → not doubtful ≡ true → doubtful ≡ false
+    not_true true is = absurd (cc is)
+    not_true false is = refl
+open_shown kind name b (Some left) image opens shows = (
+  subst (λ (s : Stored). is_open_of kind name (Some s) ≡ true) (sym shows.0) (and_from (is_of kind name b.block) true (and_parts (is_of kind name b.block) (not b.doubtful) opens).0 refl),
+  λ gives. gives_alike b left image shows.0 shows.1 (gives left refl),
+)
+
+pub shown_recovers : (bytes : List ℕ) (blocks : Blocks) (kind : BlockKind) (name : List ℕ) (image : Option (List ℕ)) → Shows blocks (store_of bytes) → Recovers kind name (store_of bytes) image → Recovers kind name blocks image
+shown_recovers bytes blocks kind name image shows recovers slot found b there =
+    let opens : is_open_of kind name (Some b) ≡ true = subst (λ o. is_open_of kind name o ≡ true) there (position-Some (is_open_of kind name) blocks slot None found).1 in
+    let left = open_shown kind name b (stored_at (store_of bytes) slot) image opens (subst (λ o. MayShow o (stored_at (store_of bytes) slot)) there (shows.each slot)) in
+    left.1 (recovers slot (shown_at bytes kind name slot (open_of kind name (store_of bytes)) refl left.0))

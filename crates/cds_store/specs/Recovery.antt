@@ -1,0 +1,20 @@
+-- What comes back of a block.
+use Rattle.std.specs.Prelude.{◌≡◌, ℕ, List, Option, Some}
+use Rattle.std.specs.Option.{ForSome}
+use Rattle.tbl_kinds.specs.Blocks.{Store as Blocks}
+use Rattle.tbl_kinds.specs.StoreSteps.{stored_at, open_of, MayGive}
+use Rattle.tbl_outside.specs.Counts.{Still, RoseAlone}
+use Rattle.cds_store.specs.declared.recovery.RecoverFault.{RecoverFault}
+use Rattle.cds_store.specs.declared.recovery.RecoverFault.TheVariants.{Fault, Stopped, Memory}
+use Rattle.tbl_kinds.specs.declared.block.BlockKind.{BlockKind}
+
+-- where a block of this kind and name is open, this is what it holds: its last completed image, or none where it has had
+-- none; and where copies of it broke off since, any image of its size, or none
+abbrev pub Recovers : BlockKind → List ℕ → Blocks → Option (List ℕ) → Type 0
+Recovers kind name blocks image = (slot : ℕ) → open_of kind name blocks ≡ Some slot → ForSome (stored_at blocks slot) (λ b. MayGive b image)
+
+-- what was counted where nothing is told: a fault or a stop alone, or nothing where memory ran out
+abbrev pub RecoverCounted : {B : Type 0} → (B → ℕ) → (B → ℕ) → B → B → RecoverFault → Type 0
+RecoverCounted faults stops old new Fault = RoseAlone faults stops old new
+RecoverCounted faults stops old new Stopped = RoseAlone stops faults old new
+RecoverCounted faults stops old new Memory = Still faults stops old new

@@ -1,0 +1,40 @@
+//! The words of a line.
+
+use std::str::SplitWhitespace;
+
+/// What is left of a line, word by word.
+#[derive(Drop)]
+pub(crate) struct Words<'a> {
+    left: SplitWhitespace<'a>,
+}
+
+impl<'a> Words<'a> {
+    pub(crate) fn of(line: &'a str) -> Words<'a> {
+        Words {
+            left: line.split_whitespace(),
+        }
+    }
+
+    /// The next word, or one without letters.
+    pub(crate) fn next(&mut self) -> &'a str {
+        self.left.next().unwrap_or("")
+    }
+
+    /// The next word as a number, or 0.
+    pub(crate) fn number(&mut self) -> u32 {
+        self.next().parse::<u32>().unwrap_or(0)
+    }
+
+    /// The next word as bytes; `-` stands for none.
+    pub(crate) fn bytes(&mut self) -> &'a [u8] {
+        match self.next() {
+            "-" => b"",
+            word => word.as_bytes(),
+        }
+    }
+}
+
+/// Bytes as text.
+pub(crate) fn text(bytes: &[u8]) -> &str {
+    std::str::from_utf8(bytes).unwrap_or("no text")
+}
