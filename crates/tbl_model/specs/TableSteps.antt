@@ -1,9 +1,9 @@
 -- What is asked of the tables, and how they change: one function for each question and each change.
-use Rattle.std.specs.Prelude.{ℕ, ◌+◌, ◌-◌, ◌==◌, List, [], ◌++◌, take, drop, length, replicate, Bool, false, not, ◌&&◌, nat_lt, if◌then◌else◌, position, Option, Some, None, is_some, unwrap_or, option_and_then, slice_index_or, slice_set, Result, Ok, Err}
+use Rattle.std.specs.Prelude.{ℕ, ◌+◌, ◌-◌, ◌==◌, List, [], length, replicate, Bool, false, not, ◌&&◌, nat_lt, if◌then◌else◌, position, Option, Some, None, is_some, unwrap_or, option_and_then, slice_index_or, slice_set, Result, Ok, Err}
 use Rattle.std.specs.List.{list_any}
 use Rattle.std.specs.Option.{option_map, option_map_or}
 use Rattle.std.specs.Str.{bytes_eq}
-use Rattle.tbl_kinds.specs.Numbers.{piece}
+use Rattle.tbl_kinds.specs.Numbers.{piece, patched}
 use Rattle.tbl_model.specs.State.{Load, Table, Handle, Tables, quiet}
 use Rattle.tbl_model.specs.Tables.{table_at, is_double}
 use Rattle.tbl_kinds.specs.declared.status.Status.{Status}
@@ -160,10 +160,6 @@ read number offset len tables =
     option_map_or (λ (a : Access). read_of a.handle a.table offset len) (access_of tables number) (Err ERR_INVALID_HANDLE)
 
 -- ---- loads
-
--- other bytes over some of an image
-abbrev pub patched : List ℕ → ℕ → List ℕ → List ℕ
-patched image offset bytes = take offset image ++ bytes ++ drop (offset + length bytes) image
 
 -- what a load begins with: the image of the open load, else the last image, else zeros
 abbrev pub base : Table → List ℕ
