@@ -176,9 +176,9 @@ changed_in tables row change (Some t) = with_table row (change t) tables
 abbrev pub changed : ℕ → (Table → Table) → Tables → Tables
 changed row change tables = changed_in tables row change (table_at tables row)
 
--- the load opens
-abbrev pub open_load : ℕ → Tables → Tables
-open_load row tables = changed row (λ t. record t { load = unchecked (base t) }) tables
+-- the load has this image, and is opened where none is open
+abbrev pub set_load : ℕ → List ℕ → Tables → Tables
+set_load row image tables = changed row (λ t. record t { load = unchecked image }) tables
 
 -- bytes go into the load
 abbrev pub patch : ℕ → ℕ → List ℕ → Tables → Tables

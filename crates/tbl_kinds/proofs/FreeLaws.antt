@@ -3,6 +3,7 @@ use Rattle.std.proofs.Common.{◌≡◌, ℕ, ◌+◌, ◌≤◌, ◌↔◌, Lis
 use Rattle.std.specs.List.{position_or_len}
 use Rattle.std.proofs.lemmas.Bool.Decides.{nat_tests}
 use Rattle.std.proofs.lemmas.List.Sums.{count_by-le-length, sum_by-cons}
+use Rattle.tbl_kinds.specs.Free.{least_free}
 
 all_taken : {X : Type 0} (places : List (Option X)) → length places ≤ position_or_len is_none places → count_by is_some places ≡ length places
 all_taken [] h = refl
@@ -25,11 +26,12 @@ none_past n all h = grind (arith, nat_tests)
 past_none : (n all : ℕ) → IsNone (cond (nat_lt n all) (Some n) None) → all ≤ n
 past_none n all h = grind (arith, nat_tests)
 
-pub none_where_full : {X : Type 0} (places : List (Option X)) → IsNone (position is_none places) ↔ (count_by is_some places ≡ length places)
+pub none_where_full : {X : Type 0} (places : List (Option X)) → IsNone (least_free places) ↔ (count_by is_some places ≡ length places)
 none_where_full places = (
   λ none. all_taken places (past_none (position_or_len is_none places) (length places) none),
   λ full. none_past (position_or_len is_none places) (length places) (none_free places full),
 )
 
-pub none_at_256 : {X : Type 0} (places : List (Option X)) (r : Option ℕ) → r ≡ position is_none places → length places ≡ 256 → IsNone r ↔ (count_by is_some places ≡ 256)
-none_at_256 places r least all = rw (least, ← all) (none_where_full places)
+-- of so many places, by what a search for a free one gave
+pub none_at : {X : Type 0} (places : List (Option X)) (found : Option ℕ) (all : ℕ) → found ≡ least_free places → length places ≡ all → IsNone found ↔ (count_by is_some places ≡ all)
+none_at places found all least many = rw (least, ← many) (none_where_full places)
