@@ -49,7 +49,7 @@ pub struct Tables {
 }
 
 impl Model for Tables {
-    ghost use Rattle.tbl_kinds.specs.State.{Tables};
+    ghost use Rattle.tbl_model.specs.State.{Tables};
 
     ghost Value = { Tables };
 
