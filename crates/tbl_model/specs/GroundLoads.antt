@@ -5,7 +5,7 @@ use Rattle.tbl_model.specs.Tables.{table_at, is_double, is_dump_only}
 use Rattle.tbl_model.specs.TableSteps.{find, locker, patch, set_file}
 use Rattle.tbl_kinds.specs.Drawer.{contents_of}
 use Rattle.tbl_kinds.specs.TableFiles.{TableFile, FileFlaw, file_flaw, file_status, table_file_in}
-use Rattle.tbl_model.specs.Effects.{Effect, answered}
+use Rattle.tbl_model.specs.Effects.{Effect, answered, named}
 use Rattle.tbl_model.specs.Applications.{if_free}
 use Rattle.tbl_kinds.specs.declared.status.TheConstants.Status.{SUCCESS, ERR_DUMP_ONLY, ERR_FILE_NOT_FOUND, ERR_PARTIAL_LOAD, ERR_ZERO_LOAD, ERR_PAST_END, ERR_NO_SUCH_TABLE, ERR_UPDATE_PENDING}
 
@@ -35,7 +35,7 @@ load_into s name file row (Some t) =
 -- from here on the command is about this table
 abbrev pub load_found : State → List ℕ → TableFile → Option ℕ → Effect
 load_found s name file None = answered s ERR_NO_SUCH_TABLE 0
-load_found s name file (Some row) = record (load_into s name file row (table_at s.tables row)) { row = Some row }
+load_found s name file (Some row) = record (load_into s name file row (table_at s.tables row)) { table = named file.name (Some row) }
 
 -- the effect of a table file, by the file's name
 unfoldable pub load_file_effect : State → List ℕ → TableFile → Effect
