@@ -95,7 +95,8 @@ register_effect s app short size flags validator = if_running s app (λ app_name
 abbrev pub activate_effect : State → ℕ → Table → List ℕ → Effect
 activate_effect s row t image = record (answered s SUCCESS 0) {
   table = named t.name (Some row);
-  done = activated row t image ∷ [];
+  deeds = activated row t ∷ [];
+  images = Some image ∷ [];
   next = record s { tables = set_time row s.seconds s.sub (put row image s.tables) };
 }
 

@@ -5,7 +5,7 @@ use Rattle.std.specs.Option.{option_map, option_or}
 use Rattle.std.proofs.Common.{ℤ, pos}
 use Rattle.tbl_model.specs.State.{State}
 use Rattle.tbl_kinds.specs.Statuses.{is_success}
-use Rattle.tbl_model.specs.Effects.{Effect, deeds_of}
+use Rattle.tbl_model.specs.Effects.{Effect}
 use Rattle.tbl_model.specs.Commands.{Asked, asked_in, asks_housekeeping, asks_reset_counters, asks_validate, asked_file}
 use Rattle.tbl_model.specs.Events.{events_of, is_good}
 use Rattle.tbl_model.specs.declared.deeds.Deed.{Deed}
@@ -75,7 +75,7 @@ is_finished_badly _ = false
 
 -- so many deeds of the entry pass
 abbrev pub deeds_by : (Deed → Bool) → Told → ℕ
-deeds_by test t = count_by test (deeds_of t.effect)
+deeds_by test t = count_by test t.effect.deeds
 
 -- ---- the latest
 
@@ -98,7 +98,7 @@ validation_of (Finished row active check verdict name) = Some (record { check = 
 validation_of _ = None
 
 abbrev pub validation_in : Told → Option Validation
-validation_in t = latest validation_of (deeds_of t.effect)
+validation_in t = latest validation_of t.effect.deeds
 
 -- an image that went active: when, and the table's name
 pub record Update : Type 0 where
@@ -116,14 +116,14 @@ updated_name _ = None
 
 -- at the service's time
 abbrev pub update_in : Told → Option Update
-update_in t = option_map (λ name. record { seconds = t.before.seconds; sub = t.before.sub; name = name }) (latest updated_name (deeds_of t.effect))
+update_in t = option_map (λ name. record { seconds = t.before.seconds; sub = t.before.sub; name = name }) (latest updated_name t.effect.deeds)
 
 abbrev pub dump_of : Deed → Option (List ℕ)
 dump_of (Dumped row file len) = Some file
 dump_of _ = None
 
 abbrev pub dump_in : Told → Option (List ℕ)
-dump_in t = latest dump_of (deeds_of t.effect)
+dump_in t = latest dump_of t.effect.deeds
 
 -- LOAD, LoadImage and LoadFile fill a load, or a table through it
 abbrev pub asks_load : Request → Asked → Bool

@@ -1,8 +1,7 @@
 -- The effect of a request: its answer, its deeds, and the state that it leaves.
-use Rattle.std.specs.Prelude.{ℕ, List, [], map, Option, None}
+use Rattle.std.specs.Prelude.{ℕ, List, [], Option, None}
 use Rattle.std.specs.Option.{option_map}
 use Rattle.tbl_model.specs.State.{State, Notice}
-use Rattle.tbl_model.specs.Deeds.{Done}
 use Rattle.tbl_model.specs.declared.deeds.Deed.{Deed}
 use Rattle.tbl_model.specs.declared.deeds.Named.{Named}
 use Rattle.tbl_model.specs.declared.deeds.Shown.{Shown}
@@ -14,14 +13,11 @@ pub record Effect : Type 0 where
   pub detail : ℕ
   pub bytes : List ℕ  -- the reply's bytes
   pub table : Option Named  -- the table that a command names or a load fills
-  pub done : List Done
-  pub shown : Shown  -- the packet that follows the events
+  pub deeds : List Deed  -- what is done that telemetry tells of, in order
+  pub images : List (Option (List ℕ))  -- the image that each deed is about, none where it is about no image
+  pub shown : Shown  -- the packet behind the events
   pub notice : Option Notice
   pub next : State
-
--- what telemetry tells of what was done
-abbrev pub deeds_of : Effect → List Deed
-deeds_of effect = map (λ d. d.deed) effect.done
 
 -- an answer that leaves the state and does nothing
 abbrev pub answered : State → Status → ℕ → Effect
@@ -30,7 +26,8 @@ answered s status detail = record {
   detail = detail;
   bytes = [];
   table = None;
-  done = [];
+  deeds = [];
+  images = [];
   shown = Nothing;
   notice = None;
   next = s;

@@ -4,7 +4,7 @@ use Rattle.std.specs.Option.{option_map}
 use Rattle.std.specs.Int.{w32, cast_unsigned}
 use Rattle.std.proofs.Common.{ℤ}
 use Rattle.tbl_kinds.specs.Statuses.{is_success}
-use Rattle.tbl_model.specs.Effects.{Effect, deeds_of}
+use Rattle.tbl_model.specs.Effects.{Effect}
 use Rattle.tbl_model.specs.Commands.{Asked, asked_in, asks_housekeeping, asked_code}
 use Rattle.tbl_model.specs.declared.deeds.Deed.{Deed}
 use Rattle.tbl_model.specs.declared.deeds.Deed.TheVariants.{Finished, Judged, Activated, CopyFailed, Dumped, NotDumped}
@@ -55,4 +55,4 @@ command_events asked effect =
 
 -- the command's own event, and then those of what was done, in order
 abbrev pub events_of : Request → Effect → List Event
-events_of request effect = command_events (asked_in request) effect ++ map deed_event (deeds_of effect)
+events_of request effect = command_events (asked_in request) effect ++ map deed_event effect.deeds
