@@ -6,7 +6,7 @@ use Rattle.tbl_model.specs.Tables.{table_at, in_use}
 use Rattle.tbl_model.specs.TableSteps.{find, patched, base, unchecked, patch, set_file, open_load}
 use Rattle.tbl_kinds.specs.TableFiles.{TableFile}
 use Rattle.tbl_model.specs.GroundLoads.{loaded_effect, load_into, load_file_effect}
-use Rattle.tbl_model.specs.Effects.{Effect, answered}
+use Rattle.tbl_model.specs.Effects.{Effect, answered, named}
 use Rattle.std.proofs.lemmas.Bool.{cases_lt}
 use Rattle.std.proofs.lemmas.List.{get_or_past, get_or-set_same, set-set}
 use Rattle.tbl_registry.specs.Seen.{padded}
@@ -68,11 +68,11 @@ module _ (s : State) (name : List ℕ) (file : TableFile) (row : ℕ) where
   not_found none = rw none refl
 
   module _ (t : Table) (found : find file.name s.tables ≡ Some row) (there : table_at s.tables row ≡ Some t) (plain : IsPlain t) where
-    pub refused : (status : Status) → Some status ≡ refusal_of t (length (in_use s.tables)) file.offset (length file.image) → load_file_effect s name file ≡ load_answered s (Some row) (record { status = status; detail = 0 }) s.tables
+    pub refused : (status : Status) → Some status ≡ refusal_of t (length (in_use s.tables)) file.offset (length file.image) → load_file_effect s name file ≡ load_answered s (named file.name (Some row)) (record { status = status; detail = 0 }) s.tables
     unfolding load_file_effect
     refused status first = rw (found, there, into_plain t plain, ← first) refl
 
-    pub filled : None ≡ refusal_of t (length (in_use s.tables)) file.offset (length file.image) → load_file_effect s name file ≡ load_answered s (Some row) (record { status = SUCCESS; detail = 0 }) (set_file row name (patch row file.offset file.image s.tables))
+    pub filled : None ≡ refusal_of t (length (in_use s.tables)) file.offset (length file.image) → load_file_effect s name file ≡ load_answered s (named file.name (Some row)) (record { status = SUCCESS; detail = 0 }) (set_file row name (patch row file.offset file.image s.tables))
     unfolding load_file_effect
     filled first =
         let e : load_into s name file row (table_at s.tables row) ≡ loaded_effect s name file row = ap (load_into s name file row) there ∙ into_plain t plain ∙ sym (ap (λ (r : Option Status). by_refusal s r (loaded_effect s name file row)) first) in

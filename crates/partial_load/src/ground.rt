@@ -6,7 +6,7 @@ ghost use Rattle.tbl_model.specs.State.{State, Table};
 ghost use Rattle.tbl_model.specs.Tables.{table_at, in_use};
 ghost use Rattle.tbl_model.specs.TableSteps.{find, patch, set_file};
 ghost use Rattle.tbl_model.specs.GroundLoads.{load_file_effect, load_into};
-ghost use Rattle.tbl_model.specs.Effects.{answered};
+ghost use Rattle.tbl_model.specs.Effects.{answered, named};
 ghost use Rattle.table_files.specs.Files.{with_image};
 ghost use Rattle.partial_load.specs.Answers.{load_answered};
 ghost use Rattle.partial_load.specs.Refusals.{misfit_of, refusal_of};
@@ -85,10 +85,10 @@ fn fill(tables: &mut Tables, row: u8, name: &Name64, offset: u32, image: &[u8])
 /// its bytes go into the open load of its table, which opens with the last image, or with zeros, where none is open. The
 /// load isn't validated any more. `image` are the bytes of the file, `file` the name under which it was uplinked.
 /// It takes no memory. Where no shared buffer is free, `Tables::in_use` tells which rows have them.
-#[tactic(auto, unfolding(tbl_kinds::specs::GroundLoads::load_file_effect))]
+#[tactic(auto, unfolding(tbl_model::specs::GroundLoads::load_file_effect))]
 pub fn ground_load(tables: &mut Tables, file: &Name64, parsed: &TableFile, image: &[u8]) -> Answer
     requires { length image.now ≡ parsed.now.count }
-    ensures effect { (s : State) → s.tables ≡ tables.old → load_file_effect s file.now (with_image parsed.now image.now) ≡ load_answered s (find parsed.now.name tables.old) result tables.new }
+    ensures effect { (s : State) → s.tables ≡ tables.old → load_file_effect s file.now (with_image parsed.now image.now) ≡ load_answered s (named parsed.now.name (find parsed.now.name tables.old)) result tables.new }
 {
     let Some(row) = tables.find(parsed.name.bytes()) else {
         return Answer::plain(Status::ERR_NO_SUCH_TABLE);

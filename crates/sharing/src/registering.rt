@@ -95,7 +95,7 @@ fn by_name(tables: &mut Tables, app: u8, name: Name40, size: u32) -> Result<Answ
 /// validation function stands in the kit. A new table's handle is the detail, and also that of a table which
 /// the application has registered already under this name and with this size (`WARN_DUPLICATE`).
 /// After want of memory nothing was changed.
-#[tactic(auto, unfolding(tbl_kinds::specs::Applications::register_effect))]
+#[tactic(auto, unfolding(tbl_model::specs::Applications::register_effect))]
 pub fn register(
     tables: &mut Tables,
     apps: &Apps,

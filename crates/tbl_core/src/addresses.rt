@@ -40,7 +40,7 @@ pub(crate) fn check(
     tables.check(app, handle, owner)
 }
 
-#[tactic(auto, unfolding(tbl_kinds::specs::Applications::get_effect))]
+#[tactic(auto, unfolding(tbl_model::specs::Applications::get_effect))]
 fn get(tables: &mut Tables, apps: &Apps, app: u8, handle: u16) -> Answer
     ensures { (s : State) → s.tables ≡ tables.old → s.apps ≡ apps.now → get_effect s app handle ≡ answered_with s result tables.new }
 {
@@ -50,7 +50,7 @@ fn get(tables: &mut Tables, apps: &Apps, app: u8, handle: u16) -> Answer
     }
 }
 
-#[tactic(auto, unfolding(tbl_kinds::specs::Applications::release_effect))]
+#[tactic(auto, unfolding(tbl_model::specs::Applications::release_effect))]
 fn release(tables: &mut Tables, apps: &Apps, app: u8, handle: u16) -> Answer
     ensures { (s : State) → s.tables ≡ tables.old → s.apps ≡ apps.now → release_effect s app handle ≡ answered_with s result tables.new }
 {
@@ -60,7 +60,7 @@ fn release(tables: &mut Tables, apps: &Apps, app: u8, handle: u16) -> Answer
     }
 }
 
-#[tactic(auto, unfolding(tbl_kinds::specs::Applications::read_effect))]
+#[tactic(auto, unfolding(tbl_model::specs::Applications::read_effect))]
 fn read<'a>(
     tables: &'a Tables,
     apps: &Apps,

@@ -54,7 +54,7 @@ pub(crate) struct Tally {
 
 impl Tally {
     ghost use Rattle.tbl_core.specs.Counters.{tally_view};
-    ghost use Rattle.tbl_kinds.specs.CountsAfter.{no_tally};
+    ghost use Rattle.tbl_model.specs.CountsAfter.{no_tally};
 
     /// Nothing is added.
     pub(crate) fn none() -> Tally

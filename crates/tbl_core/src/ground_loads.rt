@@ -134,7 +134,7 @@ fn load_parsed(
 }
 
 /// Fills the load of a table from a file in the drawer, or answers why not.
-#[tactic(auto, unfolding(tbl_kinds::specs::GroundLoads::load_effect))]
+#[tactic(auto, unfolding(tbl_model::specs::GroundLoads::load_effect))]
 fn load_from(tables: &mut Tables, drawer: &Drawer, file: &Name64, reply: Reply) -> Loaded
     requires empty { reply.bytes.list ≡ [] }
     requires room { 4 ≤ reply.bytes.spare }

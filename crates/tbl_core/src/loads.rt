@@ -108,7 +108,7 @@ fn activate(tables: &mut Tables, row: u8, image: &[u8]) -> Activated
 }
 
 /// Loads an image for the owner of a table, or answers why not.
-#[tactic(auto, unfolding(tbl_kinds::specs::Applications::load_image_effect))]
+#[tactic(auto, unfolding(tbl_model::specs::Applications::load_image_effect))]
 fn load(
     tables: &mut Tables,
     apps: &Apps,

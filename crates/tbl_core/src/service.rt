@@ -48,7 +48,7 @@ impl Model for Core {
 
 impl Core {
     /// The service at its start, with an empty history.
-    #[tactic(auto, unfolding(tbl_kinds::specs::Counts::counts_of))]
+    #[tactic(auto, unfolding(tbl_model::specs::Counts::counts_of))]
     pub fn start(alloc: Global) -> Result<Core, Memory>
         ensures stands { IfOk result (StandsFor (first_state [] [])) }
         ensures empty { IfOk result (λ core. core.entries ≡ []) }

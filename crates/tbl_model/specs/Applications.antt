@@ -7,7 +7,7 @@ use Rattle.tbl_model.specs.Tables.{table_at}
 use Rattle.tbl_kinds.specs.Free.{least_free}
 use Rattle.tbl_model.specs.TableSteps.{find, check, put, set_time, with_table, with_handle, Step, get_address, release, read, new_table, new_handle}
 use Rattle.tbl_model.specs.Deeds.{activated}
-use Rattle.tbl_model.specs.Effects.{Effect, answered}
+use Rattle.tbl_model.specs.Effects.{Effect, answered, named}
 use Rattle.tbl_model.specs.Refusals.{by_refusal, plan_refusal, image_refusal}
 use Rattle.tbl_kinds.specs.declared.status.Status.{Status}
 use Rattle.tbl_kinds.specs.declared.status.TheConstants.Status.{SUCCESS, WARN_DUPLICATE, ERR_BAD_APP, ERR_UNREGISTERED, ERR_INVALID_NAME, ERR_DUPLICATE_NOT_OWNED, ERR_DUPLICATE_DIFF_SIZE, ERR_REGISTRY_FULL, ERR_HANDLES_FULL, ERR_APP_RUNNING}
@@ -81,8 +81,9 @@ register_effect s app short size flags validator = if_running s app (λ app_name
 -- the image becomes the table's last one, at the service's time
 abbrev pub activate_effect : State → ℕ → Table → List ℕ → Effect
 activate_effect s row t image = record (answered s SUCCESS 0) {
-  row = Some row;
-  deeds = activated row (t.count + 1) image ∷ [];
+  table = named t.name (Some row);
+  deeds = activated row t ∷ [];
+  images = Some image ∷ [];
   next = record s { tables = set_time row s.seconds s.sub (put row image s.tables) };
 }
 

@@ -5,7 +5,7 @@ use Rattle.tbl_model.specs.Tables.{table_at}
 use Rattle.tbl_model.specs.TableSteps.{find, patch, set_file}
 use Rattle.tbl_kinds.specs.Drawer.{contents_of}
 use Rattle.tbl_kinds.specs.TableFiles.{TableFile, FileFlaw, file_flaw, file_status, table_file_in}
-use Rattle.tbl_model.specs.Effects.{Effect, answered}
+use Rattle.tbl_model.specs.Effects.{Effect, answered, named}
 use Rattle.tbl_model.specs.Refusals.{by_refusal, load_refusal}
 use Rattle.tbl_kinds.specs.declared.status.TheConstants.Status.{SUCCESS, ERR_FILE_NOT_FOUND, ERR_NO_SUCH_TABLE}
 
@@ -20,7 +20,7 @@ load_into s name file row (Some t) = by_refusal s (load_refusal s.tables row t f
 -- from here on the command is about this table
 abbrev pub load_found : State → List ℕ → TableFile → Option ℕ → Effect
 load_found s name file None = answered s ERR_NO_SUCH_TABLE 0
-load_found s name file (Some row) = record (load_into s name file row (table_at s.tables row)) { row = Some row }
+load_found s name file (Some row) = record (load_into s name file row (table_at s.tables row)) { table = named file.name (Some row) }
 
 -- the effect of a table file, by the file's name
 unfoldable pub load_file_effect : State → List ℕ → TableFile → Effect

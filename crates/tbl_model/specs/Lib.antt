@@ -8,6 +8,7 @@ pub mod Applications
 pub mod Uplinks
 pub mod GroundLoads
 pub mod Commands
+pub mod Given
 pub mod Dispatch
 pub mod Events
 pub mod Counts
