@@ -1,12 +1,17 @@
--- What holds of a request that isn't refused.
-use Rattle.std.proofs.Common.{◌≡◌, ℕ, ◌+◌, ◌≤◌, ◌==◌, Bool, true, false, not, ◌&&◌, cond, nat_lt, length, Option, Some, None, is_some, refl, arith}
+-- What holds of a request that isn't refused, and of one that is.
+use Rattle.std.proofs.Common.{◌≡◌, ℕ, ◌+◌, ◌≤◌, ◌==◌, List, Bool, true, false, not, ◌&&◌, ◌||◌, cond, nat_lt, length, Option, Some, None, is_some, refl, arith}
+use Rattle.std.specs.Prelude.{IfSome}
 use Rattle.std.specs.Option.{option_or}
 use Rattle.std.proofs.lemmas.Bool.Decides.{nat_tests}
+use Rattle.tbl_kinds.specs.Names.{is_name}
+use Rattle.tbl_kinds.specs.Limits.{table_limit}
+use Rattle.tbl_kinds.specs.Statuses.{is_success}
 use Rattle.tbl_model.specs.State.{Table, Tables}
 use Rattle.tbl_model.specs.Tables.{is_double, is_dump_only, in_use}
 use Rattle.tbl_model.specs.TableSteps.{locker}
-use Rattle.tbl_model.specs.Refusals.{lock_refusal, buffer_refusal, open_refusal, image_refusal, load_refusal}
+use Rattle.tbl_model.specs.Refusals.{are_options, may_use, plan_refusal, lock_refusal, buffer_refusal, open_refusal, image_refusal, load_refusal}
 use Rattle.tbl_kinds.specs.declared.entry.Answer.{Answer}
+use Rattle.tbl_kinds.specs.declared.status.TheConstants.Status.{INFO_STOPPED}
 
 -- a test whose refusal there isn't
 passed : (b : Bool) (a : Answer) (rest : Option Answer) → cond b (Some a) rest ≡ None → (b ≡ false) × (rest ≡ None)
@@ -82,3 +87,54 @@ load_taken tables row t offset len none =
       whole = λ never. not_false _ (rw never at e.0);
       opens = λ closed. rw closed at e.1;
     }
+
+-- ---- what a refusal is
+
+-- an answer that refuses, and of a service that goes on
+pub record IsRefusal (answer : Answer) : Type 0 where
+  pub refuses : is_success answer.status ≡ false
+  pub goes_on : (answer.status.0 == INFO_STOPPED.0) ≡ false
+
+abbrev AreRefusals : Option Answer → Type 0
+AreRefusals r = IfSome r IsRefusal
+
+here : (b : Bool) (r rest : Option Answer) → AreRefusals r → AreRefusals rest → AreRefusals (cond b r rest)
+here true r rest first later = first
+here false r rest first later = later
+
+first_of : (a b : Option Answer) → AreRefusals a → AreRefusals b → AreRefusals (option_or a b)
+first_of None b first later = later
+first_of (Some x) b first later = first
+
+by_lock : (lock : Option ℕ) → AreRefusals (lock_refusal lock)
+by_lock None = tt
+by_lock (Some handle) = record { refuses = refl; goes_on = refl }
+
+by_buffers : (tables : Tables) (t : Table) → AreRefusals (buffer_refusal tables t)
+by_buffers tables t = here (not (is_double t) && length (in_use tables) == 4) _ None record { refuses = refl; goes_on = refl } tt
+
+pub plan_refused : (kit : List (Option ℕ)) (app : ℕ) (short : List ℕ) (size flags : ℕ) (validator : Option ℕ) → IfSome (plan_refusal kit app short size flags validator) IsRefusal
+plan_refused kit app short size flags validator =
+    here (not (is_name short)) _ _ record { refuses = refl; goes_on = refl }
+    (here (size == 0 || nat_lt table_limit size) _ _ record { refuses = refl; goes_on = refl }
+    (here (not (are_options flags)) _ _ record { refuses = refl; goes_on = refl }
+    (here (not (may_use kit app validator)) _ None record { refuses = refl; goes_on = refl } tt)))
+
+pub image_refused : (tables : Tables) (row : ℕ) (t : Table) (len : ℕ) → IfSome (image_refusal tables row t len) IsRefusal
+image_refused tables row t len =
+    here (is_dump_only t) _ _ record { refuses = refl; goes_on = refl }
+    (here (is_some t.load) _ _ record { refuses = refl; goes_on = refl }
+    (here (not (len == t.size)) _ _ record { refuses = refl; goes_on = refl }
+    (first_of (lock_refusal (locker tables row t)) (buffer_refusal tables t) (by_lock (locker tables row t)) (by_buffers tables t))))
+
+open_refused : (tables : Tables) (row : ℕ) (t : Table) → IfSome (open_refusal tables row t) IsRefusal
+open_refused tables row t = first_of (lock_refusal (cond (is_double t) (locker tables row t) None)) (buffer_refusal tables t) (by_lock (cond (is_double t) (locker tables row t) None)) (by_buffers tables t)
+
+pub load_refused : (tables : Tables) (row : ℕ) (t : Table) (offset len : ℕ) → IfSome (load_refusal tables row t offset len) IsRefusal
+load_refused tables row t offset len =
+    here (is_dump_only t) _ _ record { refuses = refl; goes_on = refl }
+    (here t.activation _ _ record { refuses = refl; goes_on = refl }
+    (here (len == 0) _ _ record { refuses = refl; goes_on = refl }
+    (here (nat_lt t.size (offset + len)) _ _ record { refuses = refl; goes_on = refl }
+    (here ((t.count == 0) && not (offset == 0 && len == t.size)) _ _ record { refuses = refl; goes_on = refl }
+    (here (is_some t.load) None _ tt (open_refused tables row t))))))

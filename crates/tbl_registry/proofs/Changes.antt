@@ -102,10 +102,10 @@ module _ (rows : List (Option Table)) (handles : List (Option HandleView)) (buff
   opening_pins image table free k h at of is =
       let p = pinned k h at of is in
       let none_old : h.old ≡ true → ⊥ = λ old.
-          elim (cases_Bool (is_double t)) [
-            | inl double ↦ old_is_not h (no_old_pin rows n t there handles pinned (free (p.closed old) double) double k h at) of is old
-            | inr single ↦ none_is_old single (table.single single) h k at of is old
-          ] in record {
+      elim (cases_Bool (is_double t)) [
+        | inl double ↦ old_is_not h (no_old_pin rows n t there handles pinned (free (p.closed old) double) double k h at) of is old
+        | inr single ↦ none_is_old single (table.single single) h k at of is old
+      ] in record {
         loaded = p.loaded;
         kept = p.kept;
         closed = λ old. absurd (none_old old);

@@ -234,6 +234,7 @@ impl Row {
     /// The image of its open load.
     pub(crate) fn load(&self) -> Option<&[u8]>
         ensures image { option_map (λ (image : Bor (List ℕ)). image.now) result ≡ option_map (λ (load : Load). load.image) self.now.load }
+        ensures size { IfSome result (λ image. length image.now ≡ self.now.size) }
     {
         match &self.load {
             Some(load) => Some(load.image.bytes()),

@@ -1,4 +1,4 @@
-ghost use Rattle.std.specs.Prelude.{◌==◌, ◌≡◌, ◌≢◌, ◌<◌, ◌≤◌, ◌↔◌, ◌+◌, ◌-◌, ◌^◌, ℕ, List, None, Some, Ok, Err, IsTrue, IsSome, IfOk, OnOk, OnErr, IfSome, length, count_by, is_some, option_and_then};
+ghost use Rattle.std.specs.Prelude.{◌==◌, ◌≡◌, ◌≢◌, ◌<◌, ◌≤◌, ◌↔◌, ◌+◌, ◌-◌, ◌^◌, ℕ, List, None, Some, Ok, Err, IsTrue, IsSome, IfOk, OnOk, OnErr, IfSome, IfNone, length, count_by, is_some, option_and_then};
 ghost use Rattle.std.specs.Option.{option_copied, option_map, ForSome};
 ghost use Rattle.std.specs.Borrow.{Bor};
 ghost use Rattle.tbl_kinds.specs.Free.{least_free};
@@ -10,7 +10,9 @@ ghost use Rattle.tbl_registry.specs.Rows.{IsTable};
 ghost use Rattle.tbl_registry.specs.Seen.{padded};
 
 use crate::row::{NewTable, Row, RowView};
-use crate::rows::{free_row, free_rows, loads_in, row_of_name, rows_with_buffer, table_in, tables_in};
+use crate::rows::{
+    free_row, free_rows, loads_in, row_of_name, rows_with_buffer, table_in, tables_in,
+};
 use access_desc::Handles;
 use std::alloc::Global;
 use std::marker::Model;
@@ -154,14 +156,17 @@ impl Tables {
 
     /// The last image of the table of a row, None where there is none.
     pub fn last(&self, row: u8) -> Option<&[u8]>
-        ensures { option_map (λ (image : Bor (List ℕ)). image.now) result ≡ option_and_then (λ (t : Table). t.last) (table_at self.now row) }
+        ensures image { option_map (λ (image : Bor (List ℕ)). image.now) result ≡ option_and_then (λ (t : Table). t.last) (table_at self.now row) }
+        ensures size { IfSome result (λ image. ForSome (table_at self.now row) (λ t. length image.now ≡ t.size)) }
+        ensures none { IfNone result (ForSome (table_at self.now row) (λ t. t.count ≡ 0)) }
     {
         table_in(&self.rows, row)?.image(false)
     }
 
     /// The image of the open load of the table of a row, None where there is none.
     pub fn load(&self, row: u8) -> Option<&[u8]>
-        ensures { option_map (λ (image : Bor (List ℕ)). image.now) result ≡ option_map (λ (load : Load). load.image) (option_and_then (λ (t : Table). t.load) (table_at self.now row)) }
+        ensures image { option_map (λ (image : Bor (List ℕ)). image.now) result ≡ option_map (λ (load : Load). load.image) (option_and_then (λ (t : Table). t.load) (table_at self.now row)) }
+        ensures size { IfSome result (λ image. ForSome (table_at self.now row) (λ t. length image.now ≡ t.size)) }
     {
         table_in(&self.rows, row)?.load()
     }
