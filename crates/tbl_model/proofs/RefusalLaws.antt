@@ -1,5 +1,5 @@
 -- What holds of a request that isn't refused, and of one that is.
-use Rattle.std.proofs.Common.{◌≡◌, ℕ, ◌+◌, ◌≤◌, ◌==◌, List, Bool, true, false, not, ◌&&◌, ◌||◌, cond, nat_lt, length, Option, Some, None, is_some, refl, arith}
+use Rattle.std.proofs.Common.{◌≡◌, ℕ, ◌+◌, ◌<◌, ◌≤◌, ◌==◌, List, [], Bool, true, false, not, ◌&&◌, ◌||◌, cond, nat_lt, length, Option, Some, None, is_some, refl, arith}
 use Rattle.std.specs.Prelude.{IfSome}
 use Rattle.std.specs.Option.{option_or}
 use Rattle.std.proofs.lemmas.Bool.Decides.{nat_tests}
@@ -87,6 +87,31 @@ load_taken tables row t offset len none =
       whole = λ never. not_false _ (rw never at e.0);
       opens = λ closed. rw closed at e.1;
     }
+
+-- a registration that may look at the registered tables, while no validation function stands in the kit
+pub record TakesPlan (size flags : ℕ) (validator : Option ℕ) : Type 0 where
+  pub some_bytes : 0 < size
+  pub within : size ≤ table_limit
+  pub no_flag : flags ≡ 0
+  pub no_validator : validator ≡ None
+
+pub plan_taken : (app : ℕ) (short : List ℕ) (size flags : ℕ) (validator : Option ℕ) → plan_refusal [] app short size flags validator ≡ None → TakesPlan size flags validator
+plan_taken app short size flags validator none =
+    let a = passed (not (is_name short)) _ _ none in
+    let b = passed (size == 0 || nat_lt table_limit size) _ _ a.1 in
+    let c = passed (not (are_options flags)) _ _ b.1 in
+    let d = passed (not (may_use [] app validator)) _ _ c.1 in
+    let sized = b.0 in
+    let plain = not_false _ c.0 in record {
+      some_bytes = grind (arith, nat_tests);
+      within = grind (arith, nat_tests);
+      no_flag = grind (arith, nat_tests);
+      no_validator = by validator d.0;
+    }
+  where
+    by : (v : Option ℕ) → not (may_use [] app v) ≡ false → v ≡ None
+    by None _ = refl
+    by (Some number) may = absurd (cc may)
 
 -- ---- what a refusal is
 

@@ -8,7 +8,7 @@ use Rattle.tbl_kinds.specs.Free.{least_free}
 use Rattle.tbl_model.specs.TableSteps.{find, check, put, set_time, with_table, with_handle, Step, get_address, release, read, new_table, new_handle}
 use Rattle.tbl_model.specs.Deeds.{activated}
 use Rattle.tbl_model.specs.Effects.{Effect, answered, named}
-use Rattle.tbl_model.specs.Refusals.{by_refusal, plan_refusal, image_refusal}
+use Rattle.tbl_model.specs.Refusals.{by_answer, by_refusal, plan_refusal, image_refusal}
 use Rattle.tbl_kinds.specs.declared.status.Status.{Status}
 use Rattle.tbl_kinds.specs.declared.status.TheConstants.Status.{SUCCESS, WARN_DUPLICATE, ERR_BAD_APP, ERR_UNREGISTERED, ERR_INVALID_NAME, ERR_DUPLICATE_NOT_OWNED, ERR_DUPLICATE_DIFF_SIZE, ERR_REGISTRY_FULL, ERR_HANDLES_FULL, ERR_APP_RUNNING}
 
@@ -74,7 +74,7 @@ by_name_effect s app name size options validator None = add_effect s app name si
 
 unfoldable pub register_effect : State → ℕ → List ℕ → ℕ → ℕ → Option ℕ → Effect
 register_effect s app short size flags validator = if_running s app (λ app_name.
-    by_refusal s (plan_refusal s.kit app short size flags validator) (by_name_effect s app (full_name app_name short) size flags validator (find (full_name app_name short) s.tables)))
+    by_answer s (plan_refusal s.kit app short size flags validator) (by_name_effect s app (full_name app_name short) size flags validator (find (full_name app_name short) s.tables)))
 
 -- ---- loads
 

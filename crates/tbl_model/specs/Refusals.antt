@@ -15,7 +15,12 @@ use Rattle.tbl_kinds.specs.declared.status.TheConstants.Status.{INFO_TABLE_LOCKE
 abbrev pub refusal : Status → Option Answer
 refusal status = Some (record { status = status; detail = 0 })
 
--- it is answered so, where there is a refusal. Where no shared buffer is free, the reply gives the rows that use them
+-- it is answered so, where there is a refusal
+abbrev pub by_answer : State → Option Answer → Effect → Effect
+by_answer s None effect = effect
+by_answer s (Some answer) effect = answered s answer.status answer.detail
+
+-- the same of a load: where no shared buffer is free, the reply gives the rows that use them
 abbrev pub by_refusal : State → Option Answer → Effect → Effect
 by_refusal s None effect = effect
 by_refusal s (Some answer) effect = record (answered s answer.status answer.detail) {
