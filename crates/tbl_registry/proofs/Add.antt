@@ -1,5 +1,5 @@
 -- A new table.
-use Rattle.std.proofs.Common.{◌≡◌, ◌≢◌, ◌<◌, ◌↔◌, ◌∙◌, ℕ, List, length, count_by, position, slice_index_or, slice_set, true, is_some, is_none, IsSome, IsNone, Option, Some, None, refl, ap, sym, subst}
+use Rattle.std.proofs.Common.{◌≡◌, ◌≢◌, ◌<◌, ◌↔◌, ◌∙◌, ℕ, List, length, count_by, position, slice_index_or, slice_set, is_some, IsSome, IsNone, Option, Some, None, refl, ap, sym, subst}
 use Rattle.std.specs.Option.{option_map}
 use Rattle.std.proofs.lemmas.List.{map-set, get_or-set_same, length-set}
 use Rattle.std.proofs.lemmas.Option.{same_Some}
@@ -15,8 +15,9 @@ use Rattle.tbl_registry.specs.Seen.{tables_of, handle_of}
 use Rattle.tbl_registry.specs.Sound.{IsSound}
 use Rattle.tbl_registry.proofs.Lent.{lent_still}
 use Rattle.tbl_registry.proofs.Named.{named_added}
-use Rattle.tbl_registry.proofs.Pins.{PinsOf, leads_on, handles_stay, tables_with}
-use Rattle.tbl_registry.proofs.Places.{AtEachPlace-set, least_free-None, least_free-within}
+use Rattle.tbl_registry.proofs.Pins.{leads_on, handles_stay, tables_with}
+use Rattle.tbl_kinds.proofs.FreeLaws.{least_free-None, least_free-within}
+use Rattle.tbl_registry.proofs.Places.{AtEachPlace-set}
 
 module _ (rows : List (Option Table)) (handles : List (Option HandleView)) (buffers : List (Option Held)) (row handle app : ℕ) (t : Table) (sound : IsSound rows handles buffers) (free : least_free rows ≡ Some row) where
   empty : slice_index_or rows row None ≡ None

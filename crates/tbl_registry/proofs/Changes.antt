@@ -1,25 +1,23 @@
 -- One table changes in what the registry keeps, and perhaps a handle or a buffer with it.
-use Rattle.std.proofs.Common.{◌≡◌, ◌==◌, ◌+◌, ◌-◌, ◌<◌, not, ◌&&◌, ◌||◌, ℕ, List, length, map, position, slice_index_or, slice_set, Bool, true, false, cond, is_some, IsSome, Option, Some, None, refl, ap, sym, ◌∙◌, subst, inl, inr, arith, rules}
-use Rattle.std.specs.Option.{option_map, ForSome}
-use Rattle.std.specs.List.{list_any}
+use Rattle.std.proofs.Common.{◌≡◌, ◌==◌, ◌+◌, ◌<◌, not, ◌&&◌, ◌||◌, ℕ, List, length, slice_index_or, slice_set, Bool, true, false, cond, is_some, IsSome, Option, Some, None, refl, ◌∙◌, inl, inr, rules}
+use Rattle.std.specs.Option.{option_map}
 use Rattle.std.proofs.lemmas.Bool.{cases_Bool}
 use Rattle.std.proofs.lemmas.List.{get_or-set_same, length-set, set-get_or}
-use Rattle.std.proofs.lemmas.Option.{same_Some}
 use Rattle.tbl_kinds.specs.Numbers.{patched}
-use Rattle.tbl_model.specs.State.{Table, Handle, Tables, Load}
+use Rattle.tbl_model.specs.State.{Table, Load}
 use Rattle.tbl_model.specs.Tables.{is_double, is_dump_only, is_quiet, uses_buffer}
-use Rattle.tbl_model.specs.TableSteps.{with_table, locker, put, base, unchecked, patch, set_load, set_checked, pins as image_pins}
+use Rattle.tbl_model.specs.TableSteps.{with_table, locker, base, unchecked, patch, set_load, set_checked}
 use Rattle.access_desc.specs.declared.handle_view.HandleView.{HandleView}
-use Rattle.access_desc.specs.Steps.{has, pins, pins_old, after_new_image}
+use Rattle.access_desc.specs.Steps.{pins, pins_old}
 use Rattle.working_buffers.specs.Places.{Held}
 use Rattle.tbl_registry.specs.Rows.{IsTable}
-use Rattle.tbl_registry.specs.Pins.{AtEachPlace, Pins, Leads}
+use Rattle.tbl_registry.specs.Pins.{AtEachPlace, Leads}
 use Rattle.tbl_registry.specs.Lent.{AreLent, IsGiven, one_if, wants_buffer}
-use Rattle.tbl_registry.specs.Seen.{tables_of, handle_of, let_go_unless}
+use Rattle.tbl_registry.specs.Seen.{tables_of}
 use Rattle.tbl_registry.specs.Sound.{IsSound}
 use Rattle.tbl_registry.proofs.Named.{named_kept}
-use Rattle.tbl_registry.proofs.Places.{within_places, position-None, none_passes}
-use Rattle.tbl_registry.proofs.Pins.{PinsOf, pins_of, leads_on, change_seen, no_old_pin, no_pin}
+use Rattle.tbl_registry.proofs.Places.{within_places}
+use Rattle.tbl_registry.proofs.Pins.{PinsOf, pins_of, leads_on, change_seen, no_old_pin}
 use Rattle.tbl_registry.proofs.Lent.{lent_given, lent_still}
 
 module _ (rows : List (Option Table)) (handles : List (Option HandleView)) (buffers : List (Option Held)) (n : ℕ) (t : Table) (there : slice_index_or rows n None ≡ Some t) (sound : IsSound rows handles buffers) where

@@ -13,7 +13,7 @@ use Rattle.std.proofs.lemmas.Slice.Eq.{bytes_eq-Decides}
 use Rattle.tbl_model.specs.State.{Table}
 use Rattle.tbl_model.specs.TableSteps.{has_name}
 use Rattle.tbl_registry.specs.Sound.{AreNamed}
-use Rattle.tbl_registry.proofs.Places.{position-None}
+use Rattle.tbl_kinds.proofs.PositionLaws.{position-None}
 
 same_name : (name : List ℕ) → bytes_eq name name ≡ true
 same_name name = (bytes_eq-Decides name name).1 refl

@@ -1,14 +1,14 @@
 -- A table takes a new image: its handles pin the image before, which stays for them.
-use Rattle.std.proofs.Common.{◌≡◌, ◌≢◌, ◌==◌, ◌+◌, ◌-◌, ◌<◌, not, ◌&&◌, ℕ, List, [], ◌∷◌, length, map, position, slice_index_or, slice_set, Bool, true, false, cond, is_some, IsSome, Option, Some, None, refl, ap, sym, ◌∙◌, subst, inl, inr, arith, rules}
+use Rattle.std.proofs.Common.{◌≡◌, ◌≢◌, ◌==◌, ◌+◌, ◌-◌, ◌<◌, not, ◌&&◌, ℕ, List, [], ◌∷◌, length, map, position, slice_index_or, slice_set, Bool, true, false, cond, is_some, IsSome, Option, Some, None, refl, ap, sym, ◌∙◌, subst, arith, rules}
 use Rattle.std.specs.Option.{option_map}
 use Rattle.std.specs.List.{list_any}
-use Rattle.std.proofs.lemmas.Bool.{cases_Bool}
+use Rattle.std.proofs.lemmas.Bool.{and_parts}
 use Rattle.std.proofs.lemmas.Bool.Decides.{nat_tests}
 use Rattle.std.proofs.lemmas.Option.{same_Some}
 use Rattle.std.proofs.lemmas.List.{get_or-set_same}
-use Rattle.tbl_model.specs.State.{Table, Handle, Tables}
+use Rattle.tbl_model.specs.State.{Table, Handle}
 use Rattle.tbl_model.specs.Tables.{is_double}
-use Rattle.tbl_model.specs.TableSteps.{with_table, with_image, locker, put, pins as image_pins}
+use Rattle.tbl_model.specs.TableSteps.{locker, put, pins as image_pins}
 use Rattle.access_desc.specs.declared.handle_view.HandleView.{HandleView}
 use Rattle.access_desc.specs.Steps.{has, is_of, pins, pins_old, after_new_image}
 use Rattle.working_buffers.specs.Places.{Held}
@@ -16,8 +16,9 @@ use Rattle.tbl_registry.specs.Rows.{IsTable}
 use Rattle.tbl_registry.specs.Pins.{AtEachPlace, Pins, Leads}
 use Rattle.tbl_registry.specs.Seen.{tables_of, handle_of}
 use Rattle.tbl_registry.specs.Sound.{IsSound}
-use Rattle.tbl_registry.proofs.Places.{within_places, map-agree, position-map, any-seen, any_is_found, map-through, position-None, AtEachPlace-map}
-use Rattle.tbl_registry.proofs.Pins.{PinsOf, pins_of, leads_on, tables_with, handle_other, handles_stay, number_of, pins_last, pin_here, of_row, no_old_pin, no_pin}
+use Rattle.tbl_registry.proofs.Places.{within_places, position-seen, any-seen, any_is_found, map-through, AtEachPlace-map}
+use Rattle.tbl_kinds.proofs.PositionLaws.{position-None}
+use Rattle.tbl_registry.proofs.Pins.{PinsOf, pins_of, leads_on, tables_with, handle_other, handles_stay, pins_last, of_row, no_old_pin, no_pin, pins_here}
 use Rattle.tbl_registry.proofs.Changes.{changed_sound, same_buffer}
 
 -- the handles after it
@@ -48,9 +49,8 @@ module _ (rows : List (Option Table)) (handles : List (Option HandleView)) (buff
     by true is = rw is refl
     by false is = rw is refl
 
-  old_after_place : (place : Option HandleView) → has (pins_old row) (option_map (after_new_image row) place) ≡ has (pins row) place
-  old_after_place None = refl
-  old_after_place (Some h) = old_after h
+  found_after : position (has (pins_old row)) (map (option_map (after_new_image row)) handles) ≡ position (has (pins row)) handles
+  found_after = position-seen (has (pins_old row)) (has (pins row)) (after_new_image row) handles refl (λ n h at. old_after h)
 
   and_not_old : (a p old : Bool) → ((a && p) && old) ≡ false → (a && (p && not old)) ≡ (a && p)
   and_not_old true true true isnt = absurd (cc isnt)
@@ -78,25 +78,17 @@ module _ (rows : List (Option Table)) (handles : List (Option HandleView)) (buff
     by true double =
         any-seen (image_pins row t.count) (has (pins row)) (handle_of rows) handles refl (pins_it true double)
         ∙ any_is_found (has (pins row)) handles
-        ∙ ap (λ (found : Option ℕ). is_some found) (sym (position-map (has (pins_old row)) (has (pins row)) (option_map (after_new_image row)) old_after_place handles))
+        ∙ ap (λ (found : Option ℕ). is_some found) (sym found_after)
     by false single = any-seen (image_pins row t.count) (λ place. false) (handle_of rows) handles refl (pins_it false single) ∙ never handles
 
   -- ---- how the handles are seen
-
-  both_are : (a b : Bool) → (a && b) ≡ true → (a ≡ true) × (b ≡ true)
-  both_are true true _ = (refl, refl)
-  both_are true false is = absurd (cc is)
-  both_are false b is = absurd (cc is)
 
   third_is : (ab c : Bool) → ab ≡ true → (ab && c) ≡ false → c ≡ false
   third_is true c _ isnt = isnt
   third_is false c is _ = absurd (cc is)
 
-  pins_here : (h : HandleView) → h.pinned ≡ true → h.row ≡ Some row → pins row h ≡ true
-  pins_here h is of = let here : (row == row) ≡ true = search rules in rw (of, is, here) refl
-
   apart_from : (h : HandleView) → pins row h ≡ false → h.pinned ≡ true → (k : ℕ) → h.row ≡ Some k → k ≢ row
-  apart_from h isnt is k of same = cc (pins_here h is (of ∙ ap (λ (j : ℕ). Some j) same), isnt)
+  apart_from h isnt is k of same = cc (pins_here row h is (of ∙ ap (λ (j : ℕ). Some j) same), isnt)
 
   module _ (image : List ℕ) (b : Bool) where
     abbrev rows' : List (Option Table)
@@ -112,7 +104,7 @@ module _ (rows : List (Option Table)) (handles : List (Option HandleView)) (buff
     seen_moved double h no_old = by (pins row h) refl where
       by : (c : Bool) → pins row h ≡ c → handle_of rows' (cond c (record h { old = true }) h) ≡ handle_of rows h
       by true is =
-          let two = both_are (is_of row h) h.pinned is in
+          let two = and_parts (is_of row h) h.pinned is in
           ap (λ (pin : Option ℕ). let seen : Handle = record { app = h.app; row = h.row; told = h.told; pin = pin } in seen)
           (pin_moved h (of_row row h.row two.0) two.1 (third_is (pins row h) h.old is no_old))
       by false isnt = handle_other rows row (Some (with_next t image b)) h (apart_from h isnt)
@@ -132,7 +124,7 @@ module _ (rows : List (Option Table)) (handles : List (Option HandleView)) (buff
 
   stays_where : is_double t ≡ true → (n : ℕ) (h : HandleView) → slice_index_or handles n None ≡ Some h → pins row h ≡ true → stays t row handles ≡ true
   stays_where double n h at is =
-      rw (double, position-map (has (pins_old row)) (has (pins row)) (option_map (after_new_image row)) old_after_place handles) (by (position (has (pins row)) handles) refl)
+      rw (double, found_after) (by (position (has (pins row)) handles) refl)
     where
       by : (found : Option ℕ) → position (has (pins row)) handles ≡ found → is_some found ≡ true
       by None none = absurd (cc (rw at at (position-None (has (pins row)) handles n None none refl), is))
@@ -145,8 +137,8 @@ module _ (rows : List (Option Table)) (handles : List (Option HandleView)) (buff
     closed = λ old. absurd (never_old (is_double t) refl old);
   } where
     never_old : (double : Bool) → is_double t ≡ double → h.old ≡ true → ⊥
-    never_old true double old = let isnt = no_old_pin rows row t there handles pinned free double n h at in cc (rw (pins_here h is of, old) at isnt)
-    never_old false single old = let isnt = no_pin rows row t there handles pinned free single n h at in cc (rw (pins_here h is of) at isnt)
+    never_old true double old = let isnt = no_old_pin rows row t there handles pinned free double n h at in cc (rw (pins_here row h is of, old) at isnt)
+    never_old false single old = let isnt = no_pin rows row t there handles pinned free single n h at in cc (rw (pins_here row h is of) at isnt)
 
   put_leads : (image : List ℕ) → IsTable t → t.load ≡ None → AtEachPlace (Leads (slice_set rows row (Some (with_next t image (stays t row handles))))) (moved (is_double t) row handles)
   put_leads image table closed = by (is_double t) refl where
@@ -168,7 +160,7 @@ module _ (rows : List (Option Table)) (handles : List (Option HandleView)) (buff
       each true is = record {
         table = (leads n h at).table;
         pins = λ is_pinned k of v there_v.
-            let two = both_are (is_of row h) h.pinned is in
+            let two = and_parts (is_of row h) h.pinned is in
             let here : row ≡ k = same_Some row k (sym (of_row row h.row two.0) ∙ of) in
             let same : with_next t image (stays t row handles) ≡ v = same_Some _ v (sym (new_there image (stays t row handles)) ∙ rw (← here) at there_v) in
             subst (λ (w : Table). Pins w true) same record {

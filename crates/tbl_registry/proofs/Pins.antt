@@ -1,5 +1,5 @@
 -- Where a row changes: how handles lead on, how they are seen, and which of them pin an image of the row.
-use Rattle.std.proofs.Common.{◌≡◌, ◌≢◌, ◌==◌, ◌+◌, ◌-◌, ◌<◌, ◌≤◌, position, ℕ, zero, suc, List, [], ◌∷◌, map, length, slice_index_or, slice_set, Bool, true, false, not, ◌&&◌, is_some, IsSome, Option, Some, None, refl, ap, sym, ◌∙◌, subst, inl, inr, arith, cond}
+use Rattle.std.proofs.Common.{◌≡◌, ◌≢◌, ◌==◌, ◌-◌, ◌<◌, position, ℕ, List, map, length, slice_index_or, slice_set, Bool, true, false, not, ◌&&◌, is_some, Option, Some, None, refl, ap, sym, ◌∙◌, subst, inl, inr, arith, cond, rules}
 use Rattle.std.specs.Option.{option_map, option_map_or}
 use Rattle.std.specs.List.{list_any}
 use Rattle.std.proofs.lemmas.Bool.{cases_eq, cases_Bool}
@@ -88,10 +88,8 @@ pub of_row : (row : ℕ) (of : Option ℕ) → option_map_or (λ r. r == row) of
 of_row row None is = absurd (cc is)
 of_row row (Some r) is = let same : r ≡ row = grind (arith, nat_tests) in ap (λ (x : ℕ). Some x) same
 
-both : (a b : Bool) → (a && b) ≡ true → (a ≡ true) × (b ≡ true)
-both true true is = (refl, refl)
-both true false is = absurd (cc is)
-both false b is = absurd (cc is)
+pub pins_here : (row : ℕ) (h : HandleView) → h.pinned ≡ true → h.row ≡ Some row → pins row h ≡ true
+pins_here row h is of = let here : (row == row) ≡ true = search rules in rw (of, is, here) refl
 
 -- a pin as the number of an image, of a table that has had so many
 abbrev pub number_of : ℕ → Bool → Bool → Option ℕ
@@ -143,10 +141,6 @@ module _ (rows : List (Option Table)) (row : ℕ) (t : Table) (there : slice_ind
             rw (that_is row h.row, is, pin_here h of, pin_is_last t.count h.pinned h.old (some of)) refl
         | inr other ↦ rw (that_is row h.row, other) refl
       ]
-
-  regrouped : (a b c : Bool) → (a && (b && c)) ≡ ((a && b) && c)
-  regrouped true b c = refl
-  regrouped false b c = refl
 
   pins_before : (h : HandleView) → (h.row ≡ Some row → h.pinned ≡ true → 0 < t.count) → image_pins row (t.count - 1) (Some (handle_of rows h)) ≡ pins_old row h
   pins_before h some =

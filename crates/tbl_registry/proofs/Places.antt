@@ -7,8 +7,7 @@ use Rattle.std.proofs.lemmas.Option.{same_Some}
 use Rattle.std.proofs.lemmas.Bool.Decides.{nat_tests}
 use Rattle.std.proofs.lemmas.List.{length-map, length-take-le, get_or_past}
 use Rattle.std.proofs.lemmas.List.Sums.{fails_before_first, sum_by-set, sum_by-cons, count_by_more_yes, count_by_more_no, count_by-le-length}
-use Rattle.std.proofs.lemmas.List.Quantifiers.{position-Some}
-use Rattle.tbl_kinds.specs.Free.{least_free}
+use Rattle.tbl_kinds.proofs.PositionLaws.{position-None}
 use Rattle.access_desc.specs.Steps.{at_place, changed_at}
 use Rattle.tbl_registry.specs.Pins.{AtEachPlace}
 use Rattle.tbl_registry.specs.Lent.{one_if}
@@ -18,12 +17,6 @@ pub get_or-replicate_None : {X : Type 0} (n k : ℕ) → slice_index_or (replica
 get_or-replicate_None zero k = refl
 get_or-replicate_None (suc n) zero = refl
 get_or-replicate_None (suc n) (suc k) = get_or-replicate_None n k
-
--- what stands at a place, seen
-pub at_place-map : {X Y : Type 0} (f : X → Y) (xs : List (Option X)) (n : ℕ) → slice_index_or (map (option_map f) xs) n None ≡ option_map f (slice_index_or xs n None)
-at_place-map f [] n = refl
-at_place-map f (x ∷ xs) zero = refl
-at_place-map f (x ∷ xs) (suc n) = at_place-map f xs n
 
 -- two changes at one place are one
 pub changed_at-twice : {X : Type 0} (f g : X → X) (xs : List (Option X)) (n : ℕ) → changed_at g (changed_at f xs n) n ≡ changed_at (λ x. g (f x)) xs n
@@ -51,26 +44,6 @@ pub map-agree : {X Y : Type 0} (f g : X → Y) (xs : List (Option X)) → AtEach
 map-agree f g [] same = refl
 map-agree f g (None ∷ xs) same = ap (λ ys. None ∷ ys) (map-agree f g xs (λ k. same (suc k)))
 map-agree f g (Some x ∷ xs) same = cc (same zero x refl, map-agree f g xs (λ k. same (suc k)))
-
--- the first place that passes, seen
-position_or_len-map : {X Y : Type 0} (p : Y → Bool) (q : X → Bool) (f : X → Y) → ((x : X) → p (f x) ≡ q x) → (xs : List X) → position_or_len p (map f xs) ≡ position_or_len q xs
-position_or_len-map p q f same [] = refl
-position_or_len-map p q f same (x ∷ xs) = rw (same x, position_or_len-map p q f same xs) refl
-
-pub position-map : {X Y : Type 0} (p : Y → Bool) (q : X → Bool) (f : X → Y) → ((x : X) → p (f x) ≡ q x) → (xs : List X) → position p (map f xs) ≡ position q xs
-position-map p q f same xs = rw (position_or_len-map p q f same xs, length-map xs f) refl
-
-past_none : (n all : ℕ) → cond (nat_lt n all) (Some n) None ≡ None → all ≤ n
-past_none n all none = grind (arith, nat_tests)
-
--- where no place is the first that passes, none passes, and none past the end
-pub position-None : {X : Type 0} (p : X → Bool) (xs : List X) (k : ℕ) (d : X) → position p xs ≡ None → p d ≡ false → p (slice_index_or xs k d) ≡ false
-position-None p xs k d none fails =
-    let past : length xs ≤ position_or_len p xs = past_none (position_or_len p xs) (length xs) none in
-    elim (cases_lt k (length xs)) [
-      | inl within ↦ fails_before_first p xs k d (omega arith)
-      | inr beyond ↦ rw (get_or_past xs k d beyond) fails
-    ]
 
 -- what is read at a place where something stands
 pub at_place-read : {X : Type 0} (xs : List (Option X)) (n : ℕ) (o : Option X) (x : X) → o ≡ slice_index_or xs n o → o ≡ Some x → IsSome (slice_index_or xs n None) → slice_index_or xs n None ≡ Some x
@@ -157,24 +130,3 @@ AtEachPlace-map P f [] all n y at = absurd (cc at)
 AtEachPlace-map P f (None ∷ xs) all zero y at = absurd (cc at)
 AtEachPlace-map P f (Some x ∷ xs) all zero y at = subst P (same_Some (f x) y at) (all zero x refl)
 AtEachPlace-map P f (x ∷ xs) all (suc n) y at = AtEachPlace-map P f xs (λ k. all (suc k)) n y at
-
--- ---- free places
-
-none_there : {X : Type 0} (place : Option X) → is_none place ≡ true → place ≡ None
-none_there None free = refl
-none_there (Some x) free = absurd (cc free)
-
--- nothing stands at the least free one
-pub least_free-None : {X : Type 0} (places : List (Option X)) (n : ℕ) → least_free places ≡ Some n → slice_index_or places n None ≡ None
-least_free-None places n free = none_there _ (position-Some is_none places n None free).1
-
-pub least_free-within : {X : Type 0} (places : List (Option X)) (n : ℕ) → least_free places ≡ Some n → n < length places
-least_free-within places n free = (position-Some is_none places n None free).0
-
-free_is : {X Y : Type 0} (f : X → Y) (place : Option X) → is_none (option_map f place) ≡ is_none place
-free_is f None = refl
-free_is f (Some x) = refl
-
--- it is the least free one of what is seen
-pub least_free-map : {X Y : Type 0} (f : X → Y) (places : List (Option X)) → least_free (map (option_map f) places) ≡ least_free places
-least_free-map f places = position-map is_none is_none (option_map f) (free_is f) places

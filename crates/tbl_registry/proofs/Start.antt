@@ -1,5 +1,5 @@
 -- The registry without tables.
-use Rattle.std.proofs.Common.{◌≡◌, ℕ, List, replicate, Option, None, refl}
+use Rattle.std.proofs.Common.{◌≡◌, List, replicate, Option, None, refl}
 use Rattle.tbl_model.specs.State.{Table, no_tables}
 use Rattle.access_desc.specs.declared.handle_view.HandleView.{HandleView}
 use Rattle.working_buffers.specs.Places.{Held}

@@ -1,5 +1,5 @@
 -- The steps of a handle that leads to a table.
-use Rattle.std.proofs.Common.{◌≡◌, ◌==◌, ◌+◌, ◌-◌, ◌<◌, ◌≤◌, nat_lt, ℕ, List, length, map, position, take, drop, [], unwrap_or, cond, slice_index_or, slice_set, Bool, true, false, is_some, IsSome, Option, Some, None, Ok, refl, ap, sym, ◌∙◌, arith, rules, subst}
+use Rattle.std.proofs.Common.{◌≡◌, ◌==◌, ◌+◌, ◌-◌, ◌<◌, ◌≤◌, nat_lt, ℕ, List, length, position, take, drop, [], unwrap_or, cond, slice_index_or, slice_set, Bool, true, false, ◌&&◌, is_some, IsSome, Option, Some, None, Ok, refl, ap, sym, ◌∙◌, arith, rules, subst}
 use Rattle.std.specs.Option.{option_map}
 use Rattle.std.specs.List.{list_any}
 use Rattle.std.proofs.lemmas.Option.{same_Some}
@@ -7,13 +7,14 @@ use Rattle.std.proofs.lemmas.Bool.Decides.{nat_tests}
 use Rattle.tbl_model.specs.State.{Table, Handle, Tables}
 use Rattle.tbl_model.specs.TableSteps.{access_of, with_handle, with_table, get_address, release, read, let_go, pins as image_pins}
 use Rattle.access_desc.specs.declared.handle_view.HandleView.{HandleView}
-use Rattle.access_desc.specs.Steps.{at_place, changed_at, has, is_of, pins, pins_old, with_no_pin}
+use Rattle.access_desc.specs.Steps.{at_place, changed_at, has, pins_old, with_no_pin}
 use Rattle.working_buffers.specs.Places.{Held}
-use Rattle.tbl_registry.specs.Pins.{AtEachPlace, Pins, Leads}
+use Rattle.std.proofs.Math.ListN.{get_or-map}
+use Rattle.tbl_registry.specs.Pins.{Pins, Leads}
 use Rattle.tbl_registry.specs.Sound.{IsSound}
 use Rattle.tbl_registry.specs.Seen.{tables_of, handle_of, with_last, let_go_unless}
-use Rattle.tbl_registry.proofs.Places.{AtEachPlace-set, at_place-map, map-changed_at, none_passes}
-use Rattle.tbl_registry.proofs.Pins.{PinsOf, pins_of, before_is_pinned}
+use Rattle.tbl_registry.proofs.Places.{AtEachPlace-set, map-changed_at, none_passes}
+use Rattle.tbl_registry.proofs.Pins.{PinsOf, pins_of, pins_here, before_is_pinned}
 use Rattle.tbl_registry.proofs.Changes.{row_sound, row_seen}
 
 not_zero : (n : ℕ) → (n ≡ 0 → ⊥) → (n == 0) ≡ false
@@ -31,7 +32,7 @@ pub record Leading (rows : List (Option Table)) (handles : List (Option HandleVi
 
 module _ (rows : List (Option Table)) (handles : List (Option HandleView)) (buffers : List (Option Held)) (n : ℕ) (h : HandleView) (row : ℕ) (t : Table) (l : Leading rows handles n h row t) (sound : IsSound rows handles buffers) where
   access_is : access_of (tables_of rows handles) n ≡ Some (record { handle = handle_of rows h; row = row; table = t })
-  access_is = rw (at_place-map (handle_of rows) handles n, l.place, l.row_is, l.table) refl
+  access_is = rw (get_or-map (option_map (handle_of rows)) handles n None, l.place, l.row_is, l.table) refl
 
   -- ---- the handle changes
 
@@ -78,9 +79,6 @@ module _ (rows : List (Option Table)) (handles : List (Option HandleView)) (buff
   abbrev stays : Bool
   stays = is_some (position (has (pins_old row)) free)
 
-  pins_here : (g : HandleView) → g.row ≡ Some row → g.pinned ≡ true → g.old ≡ true → pins_old row g ≡ true
-  pins_here g of is old = let here : (row == row) ≡ true = search rules in rw (of, is, old, here) refl
-
   free_pins : PinsOf row (let_go_unless stays t) free
   free_pins k g at of is = by (position (has (pins_old row)) free) refl where
     p : Pins t g.old
@@ -90,7 +88,7 @@ module _ (rows : List (Option Table)) (handles : List (Option HandleView)) (buff
     by (Some m) _ = record { loaded = p.loaded; kept = p.kept; closed = p.closed }
     by None none = record {
       loaded = p.loaded;
-      kept = λ old. absurd (cc (none_passes free (has (pins_old row)) refl none k g at, pins_here g of is old));
+      kept = λ old. absurd (cc (none_passes free (has (pins_old row)) refl none k g at, ap (λ (b : Bool). b && g.old) (pins_here row g is of) ∙ old));
       closed = p.closed;
     }
 

@@ -1,5 +1,5 @@
 -- What a registry row shows, and what holds of it.
-use Rattle.std.specs.Prelude.{◌≡◌, ℕ, ◌<◌, ◌≤◌, ◌==◌, length, Bool, false, not, Option, None, is_some, IfSome}
+use Rattle.std.specs.Prelude.{◌≡◌, ◌<◌, ◌≤◌, ◌==◌, length, false, not, None, is_some, IfSome}
 use Rattle.tbl_kinds.specs.Limits.{table_limit}
 use Rattle.tbl_model.specs.State.{Table, quiet}
 use Rattle.tbl_model.specs.Tables.{option_bits, is_double}

@@ -1,8 +1,8 @@
-use Rattle.std.proofs.Common.{◌≡◌, ◌∙◌, sym, refl, Some, rules}
+use Rattle.std.proofs.Common.{◌≡◌, ◌∙◌, sym, Some, rules}
 use Rattle.std.proofs.lemmas.Option.{same_Some}
 use Rattle.tbl_kinds.specs.Free.{least_free}
-use Rattle.tbl_registry.proofs.Places.{least_free-map}
-use Rattle.tbl_registry.proofs.Add.{add_sound, add_seen, not_full}
+use Rattle.tbl_kinds.proofs.FreeLaws.{least_free-map}
+use Rattle.tbl_registry.proofs.Add.{add_sound, add_seen}
 use Rattle.tbl_registry.proofs.tables.Tables.add.Goals as goal
 
 pub returns-in_default-add-clause-no_handle : goal.returns-in_default-add-clause-no_handle

@@ -1,4 +1,4 @@
-use Rattle.std.proofs.Common.{◌≡◌, ◌∙◌, ◌==◌, ap, sym, ℕ}
+use Rattle.std.proofs.Common.{◌∙◌, ◌==◌, ap, sym, ℕ}
 use Rattle.tbl_registry.proofs.InUse.{rows_count}
 use Rattle.tbl_registry.proofs.Lent.{few_use}
 use Rattle.tbl_registry.proofs.tables.Tables.all_buffers_used.Goals as goal

@@ -1,5 +1,5 @@
 use Rattle.std.proofs.Common.{sym}
-use Rattle.tbl_registry.proofs.Places.{least_free-None, least_free-within}
+use Rattle.tbl_kinds.proofs.FreeLaws.{least_free-None, least_free-within}
 use Rattle.tbl_registry.proofs.Lent.{none_given, taken_is_given}
 use Rattle.tbl_registry.proofs.tables.images.give_buffer.Goals as goal
 
