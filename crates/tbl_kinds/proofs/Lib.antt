@@ -1,5 +1,7 @@
 pub mod Names
 pub mod NameFields
+pub mod PositionLaws
+pub mod FreeLaws
 pub mod RecordLaws
 pub mod TranscriptLaws
 pub mod Positions

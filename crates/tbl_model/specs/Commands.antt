@@ -1,40 +1,52 @@
 -- What each ground command does.
-use Rattle.std.specs.Prelude.{ℕ, List, Bool, true, false, Result, Ok, Err}
+use Rattle.std.specs.Prelude.{ℕ, List, Bool, true, false, Option, Some, None, Result, Ok, Err}
 use Rattle.tbl_model.specs.State.{State}
-use Rattle.tbl_model.specs.Effects.{Effect, answered, housekeeping as housekeeping_packet}
+use Rattle.tbl_model.specs.Effects.{Effect, answered}
 use Rattle.tbl_model.specs.GroundLoads.{load_effect}
+use Rattle.tbl_model.specs.declared.deeds.Shown.TheVariants.{Housekeeping}
 use Rattle.tbl_kinds.specs.GroundCommands.{GroundCommand, housekeeping, noop, reset_counters, load, validate, code_of, command_in}
 use Rattle.tbl_kinds.specs.declared.entry.Answer.{Answer}
+use Rattle.tbl_kinds.specs.declared.request.Request.{Request}
+use Rattle.tbl_kinds.specs.declared.request.Request.TheVariants as ask
 use Rattle.tbl_kinds.specs.declared.status.TheConstants.Status.{SUCCESS, ERR_BAD_CODE}
 
 -- ---- what a packet asks for
 
-abbrev pub asks_housekeeping : Result GroundCommand Answer → Bool
-asks_housekeeping (Ok housekeeping) = true
+-- what the packet of a command reads as, none of a request that is no command
+abbrev pub Asked : Type 0
+Asked = Option (Result GroundCommand Answer)
+
+abbrev pub asked_in : Request → Asked
+asked_in (ask.Command bytes) = Some (command_in bytes.list)
+asked_in _ = None
+
+abbrev pub asks_housekeeping : Asked → Bool
+asks_housekeeping (Some (Ok housekeeping)) = true
 asks_housekeeping _ = false
 
-abbrev pub asks_reset_counters : Result GroundCommand Answer → Bool
-asks_reset_counters (Ok reset_counters) = true
+abbrev pub asks_reset_counters : Asked → Bool
+asks_reset_counters (Some (Ok reset_counters)) = true
 asks_reset_counters _ = false
 
-abbrev pub asks_load : Result GroundCommand Answer → Bool
-asks_load (Ok (load file)) = true
-asks_load _ = false
-
-abbrev pub asks_validate : Result GroundCommand Answer → Bool
-asks_validate (Ok (validate select table)) = true
+abbrev pub asks_validate : Asked → Bool
+asks_validate (Some (Ok (validate select table))) = true
 asks_validate _ = false
 
+-- the file that a LOAD names
+abbrev pub asked_file : Asked → Option (List ℕ)
+asked_file (Some (Ok (load file))) = Some file
+asked_file _ = None
+
 -- the function code that event 1 tells
-abbrev pub asked_code : Result GroundCommand Answer → ℕ
-asked_code (Ok command) = code_of command
-asked_code (Err answer) = 0
+abbrev pub asked_code : Asked → ℕ
+asked_code (Some (Ok command)) = code_of command
+asked_code _ = 0
 
 -- ---- what it gets
 
 -- the state goes into a packet, and stays
 abbrev pub housekeeping_effect : State → Effect
-housekeeping_effect s = record (answered s SUCCESS 0) { shown = housekeeping_packet }
+housekeeping_effect s = record (answered s SUCCESS 0) { shown = Housekeeping }
 
 -- a command of the right form that isn't built is refused with its code
 abbrev pub effect_by : State → Result GroundCommand Answer → Effect

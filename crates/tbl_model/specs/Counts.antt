@@ -1,18 +1,18 @@
 -- What telemetry counts over the history, and from which entry each of its "last" fields is read.
-use Rattle.std.specs.Prelude.{ℕ, ◌==◌, ◌%◌, List, [], length, Bool, true, false, not, ◌&&◌, ◌||◌, if◌then◌else◌, count_by, sum_by, Option, Some, None, unwrap_or, is_some, Result, Ok}
+use Rattle.std.specs.Prelude.{ℕ, ◌==◌, ◌%◌, List, [], length, Bool, true, false, not, ◌&&◌, ◌||◌, if◌then◌else◌, count_by, sum_by, Option, Some, None, unwrap_or, is_some}
 use Rattle.std.specs.List.{after_last, fold}
 use Rattle.std.specs.Option.{option_map, option_or}
 use Rattle.std.proofs.Common.{ℤ, pos}
-use Rattle.tbl_model.specs.State.{State, Table}
-use Rattle.tbl_model.specs.Tables.{table_at}
+use Rattle.tbl_model.specs.State.{State}
 use Rattle.tbl_kinds.specs.Statuses.{is_success}
-use Rattle.tbl_kinds.specs.Check.{check16}
-use Rattle.tbl_model.specs.Deeds.{Deed, finished, activated, dumped}
-use Rattle.tbl_model.specs.Effects.{Effect, Shown, housekeeping}
-use Rattle.tbl_kinds.specs.GroundCommands.{GroundCommand, load, command_in}
-use Rattle.tbl_model.specs.Commands.{asks_housekeeping, asks_reset_counters, asks_load, asks_validate}
+use Rattle.tbl_model.specs.Effects.{Effect}
+use Rattle.tbl_model.specs.Commands.{Asked, asked_in, asks_housekeeping, asks_reset_counters, asks_validate, asked_file}
 use Rattle.tbl_model.specs.Events.{events_of, is_good}
-use Rattle.tbl_kinds.specs.declared.entry.Answer.{Answer}
+use Rattle.tbl_model.specs.declared.deeds.Deed.{Deed}
+use Rattle.tbl_model.specs.declared.deeds.Deed.TheVariants.{Finished, Activated, Dumped}
+use Rattle.tbl_model.specs.declared.deeds.Named.{Named}
+use Rattle.tbl_model.specs.declared.deeds.Shown.{Shown}
+use Rattle.tbl_model.specs.declared.deeds.Shown.TheVariants.{Housekeeping}
 use Rattle.tbl_kinds.specs.declared.request.Actor.{Actor}
 use Rattle.tbl_kinds.specs.declared.request.Request.{Request}
 use Rattle.tbl_kinds.specs.declared.request.Request.TheVariants as ask
@@ -28,18 +28,15 @@ pub record Told : Type 0 where
 -- ---- commands
 
 -- an accepted command counts, but for a housekeeping request and RESET_COUNTERS
-abbrev pub adds_accepted : Request → Effect → Bool
-adds_accepted (ask.Command bytes) effect = is_success effect.status && not (asks_housekeeping (command_in bytes.list)) && not (asks_reset_counters (command_in bytes.list))
-adds_accepted _ effect = false
+abbrev pub adds_accepted : Asked → Effect → Bool
+adds_accepted asked effect = is_some asked && is_success effect.status && not (asks_housekeeping asked) && not (asks_reset_counters asked)
 
-abbrev pub adds_refused : Request → Effect → Bool
-adds_refused (ask.Command bytes) effect = not (is_success effect.status)
-adds_refused _ effect = false
+abbrev pub adds_refused : Asked → Effect → Bool
+adds_refused asked effect = is_some asked && not (is_success effect.status)
 
 -- an accepted VALIDATE
-abbrev pub adds_request : Request → Effect → Bool
-adds_request (ask.Command bytes) effect = is_success effect.status && asks_validate (command_in bytes.list)
-adds_request _ effect = false
+abbrev pub adds_request : Asked → Effect → Bool
+adds_request asked effect = is_success effect.status && asks_validate asked
 
 -- ---- what clears
 
@@ -47,30 +44,33 @@ abbrev pub is_reset : Request → Bool
 is_reset (ask.Reset kind) = true
 is_reset _ = false
 
--- the service began anew: a reset, or a stop inside the request
+-- a stop inside the request
+abbrev pub is_stopped : Effect → Bool
+is_stopped effect = effect.status.0 == INFO_STOPPED.0
+
+-- the service began anew: a reset, or a stop
 abbrev pub restarts : Told → Bool
-restarts t = is_reset t.request || (t.effect.status.0 == INFO_STOPPED.0)
+restarts t = is_reset t.request || is_stopped t.effect
 
 -- an accepted RESET_COUNTERS
-abbrev pub resets_counters : Request → Effect → Bool
-resets_counters (ask.Command bytes) effect = is_success effect.status && asks_reset_counters (command_in bytes.list)
-resets_counters _ effect = false
+abbrev pub resets_counters : Asked → Effect → Bool
+resets_counters asked effect = is_success effect.status && asks_reset_counters asked
 
 abbrev pub clears_counters : Told → Bool
-clears_counters t = restarts t || resets_counters t.request t.effect
+clears_counters t = restarts t || resets_counters (asked_in t.request) t.effect
 
 -- ---- deeds
 
 abbrev pub is_finished : Deed → Bool
-is_finished (finished row active image verdict) = true
+is_finished (Finished row active check verdict name) = true
 is_finished _ = false
 
 abbrev pub is_finished_well : Deed → Bool
-is_finished_well (finished row active image verdict) = is_good verdict
+is_finished_well (Finished row active check verdict name) = is_good verdict
 is_finished_well _ = false
 
 abbrev pub is_finished_badly : Deed → Bool
-is_finished_badly (finished row active image verdict) = not (is_good verdict)
+is_finished_badly (Finished row active check verdict name) = not (is_good verdict)
 is_finished_badly _ = false
 
 -- so many deeds of the entry pass
@@ -83,9 +83,6 @@ deeds_by test t = count_by test t.effect.deeds
 abbrev pub latest : {X Y : Type 0} → (X → Option Y) → List X → Option Y
 latest pick xs = fold (λ known x. option_or (pick x) known) None xs
 
-abbrev pub name_at : State → ℕ → List ℕ
-name_at s row = unwrap_or (option_map (λ (t : Table). t.name) (table_at s.tables row)) []
-
 -- a finished validation: the image's check word, the verdict, whether of the active image, the table's name
 pub record Validation : Type 0 where
   pub check : ℕ
@@ -96,12 +93,12 @@ pub record Validation : Type 0 where
 abbrev pub no_validation : Validation
 no_validation = record { check = 0; verdict = pos 0; active = 0; name = [] }
 
-abbrev pub validation_of : State → Deed → Option Validation
-validation_of s (finished row active image verdict) = Some (record { check = check16 image; verdict = verdict; active = if active then 1 else 0; name = name_at s row })
-validation_of s _ = None
+abbrev pub validation_of : Deed → Option Validation
+validation_of (Finished row active check verdict name) = Some (record { check = check; verdict = verdict; active = if active then 1 else 0; name = name })
+validation_of _ = None
 
 abbrev pub validation_in : Told → Option Validation
-validation_in t = latest (validation_of t.before) t.effect.deeds
+validation_in t = latest validation_of t.effect.deeds
 
 -- an image that went active: when, and the table's name
 pub record Update : Type 0 where
@@ -112,51 +109,45 @@ pub record Update : Type 0 where
 abbrev pub no_update : Update
 no_update = record { seconds = 0; sub = 0; name = [] }
 
-abbrev pub update_of : State → Deed → Option Update
-update_of s (activated row number image) = Some (record { seconds = s.seconds; sub = s.sub; name = name_at s row })
-update_of s _ = None
+-- the name of the table whose image went active
+abbrev pub updated_name : Deed → Option (List ℕ)
+updated_name (Activated row count name) = Some name
+updated_name _ = None
 
+-- at the service's time
 abbrev pub update_in : Told → Option Update
-update_in t = latest (update_of t.before) t.effect.deeds
+update_in t = option_map (λ name. record { seconds = t.before.seconds; sub = t.before.sub; name = name }) (latest updated_name t.effect.deeds)
 
 abbrev pub dump_of : Deed → Option (List ℕ)
-dump_of (dumped row file len) = Some file
+dump_of (Dumped row file len) = Some file
 dump_of _ = None
 
 abbrev pub dump_in : Told → Option (List ℕ)
 dump_in t = latest dump_of t.effect.deeds
 
--- the name of the table that an accepted LOAD, LoadImage or LoadFile filled
-abbrev pub loaded_name : State → Bool → Option ℕ → Option (List ℕ)
-loaded_name s accepted row = if accepted then option_map (name_at s) row else None
+-- LOAD, LoadImage and LoadFile fill a load, or a table through it
+abbrev pub asks_load : Request → Asked → Bool
+asks_load (ask.LoadImage handle image) asked = true
+asks_load (ask.LoadFile handle name) asked = true
+asks_load _ asked = is_some (asked_file asked)
 
-abbrev pub loaded_by : State → Request → Effect → Option (List ℕ)
-loaded_by s (ask.Command bytes) effect = loaded_name s (is_success effect.status && asks_load (command_in bytes.list)) effect.row
-loaded_by s (ask.LoadImage handle image) effect = loaded_name s (is_success effect.status) effect.row
-loaded_by s (ask.LoadFile handle name) effect = loaded_name s (is_success effect.status) effect.row
-loaded_by s _ effect = None
-
+-- the name of the table that an accepted one filled
 abbrev pub loaded_in : Told → Option (List ℕ)
-loaded_in t = loaded_by t.before t.request t.effect
+loaded_in t = if is_success t.effect.status && asks_load t.request (asked_in t.request) then option_map (λ (table : Named). table.name) t.effect.table else None
 
--- the file that a LOAD names
-abbrev pub asked_file : Result GroundCommand Answer → Option (List ℕ)
-asked_file (Ok (load file)) = Some file
-asked_file _ = None
+-- the file that LOAD or LoadFile names
+abbrev pub load_file_of : Request → Asked → Option (List ℕ)
+load_file_of (ask.LoadFile handle name) asked = Some name
+load_file_of _ asked = asked_file asked
 
 -- the file of an accepted load from a file
-abbrev pub loaded_file_by : Request → Effect → Option (List ℕ)
-loaded_file_by (ask.Command bytes) effect = if is_success effect.status then asked_file (command_in bytes.list) else None
-loaded_file_by (ask.LoadFile handle name) effect = if is_success effect.status then Some name else None
-loaded_file_by _ effect = None
-
 abbrev pub loaded_file_in : Told → Option (List ℕ)
-loaded_file_in t = loaded_file_by t.request t.effect
+loaded_file_in t = if is_success t.effect.status then load_file_of t.request (asked_in t.request) else None
 
 -- ---- the packets that an entry sends
 
 abbrev pub is_housekeeping : Shown → Bool
-is_housekeeping housekeeping = true
+is_housekeeping Housekeeping = true
 is_housekeeping _ = false
 
 abbrev pub events_in : Told → ℕ
@@ -186,12 +177,12 @@ counts_of past =
     let counted = after_last clears_counters past in
     let sent = after_last restarts past in
     record {
-      accepted = count_by (λ t. adds_accepted t.request t.effect) counted % 256;
-      refused = count_by (λ t. adds_refused t.request t.effect) counted % 256;
+      accepted = count_by (λ t. adds_accepted (asked_in t.request) t.effect) counted % 256;
+      refused = count_by (λ t. adds_refused (asked_in t.request) t.effect) counted % 256;
       finished = sum_by (deeds_by is_finished) counted % 65536;
       good = sum_by (deeds_by is_finished_well) counted % 256;
       bad = sum_by (deeds_by is_finished_badly) counted % 256;
-      requests = count_by (λ t. adds_request t.request t.effect) counted % 256;
+      requests = count_by (λ t. adds_request (asked_in t.request) t.effect) counted % 256;
       events = sum_by events_in sent % 16384;
       housekeepings = count_by (λ t. is_housekeeping t.effect.shown) sent % 16384;
       notices = count_by (λ t. is_some t.effect.notice) sent % 16384;

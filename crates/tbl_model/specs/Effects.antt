@@ -1,21 +1,21 @@
 -- The effect of a request: its answer, its deeds, and the state that it leaves.
 use Rattle.std.specs.Prelude.{ℕ, List, [], Option, None}
+use Rattle.std.specs.Option.{option_map}
 use Rattle.tbl_model.specs.State.{State, Notice}
-use Rattle.tbl_model.specs.Deeds.{Deed}
+use Rattle.tbl_model.specs.declared.deeds.Deed.{Deed}
+use Rattle.tbl_model.specs.declared.deeds.Named.{Named}
+use Rattle.tbl_model.specs.declared.deeds.Shown.{Shown}
+use Rattle.tbl_model.specs.declared.deeds.Shown.TheVariants.{Nothing}
 use Rattle.tbl_kinds.specs.declared.status.Status.{Status}
-
--- the packet that follows the events
-pub data Shown : Type 0 where
-  nothing : Shown
-  housekeeping : Shown
 
 pub record Effect : Type 0 where
   pub status : Status
   pub detail : ℕ
   pub bytes : List ℕ  -- the reply's bytes
-  pub row : Option ℕ  -- the table that a command names or a load fills
-  pub deeds : List Deed
-  pub shown : Shown
+  pub table : Option Named  -- the table that a command names or a load fills
+  pub deeds : List Deed  -- what is done that telemetry tells of, in order
+  pub images : List (Option (List ℕ))  -- the image that each deed is about, none where it is about no image
+  pub shown : Shown  -- the packet behind the events
   pub notice : Option Notice
   pub next : State
 
@@ -25,9 +25,14 @@ answered s status detail = record {
   status = status;
   detail = detail;
   bytes = [];
-  row = None;
+  table = None;
   deeds = [];
-  shown = nothing;
+  images = [];
+  shown = Nothing;
   notice = None;
   next = s;
 }
+
+-- the table of this full name, in the row where it was found
+abbrev pub named : List ℕ → Option ℕ → Option Named
+named name row = option_map (λ row. record { row = row; name = name }) row

@@ -1,15 +1,17 @@
 -- Legal histories: what the sequential service may have answered.
-use Rattle.std.specs.Prelude.{◌≡◌, ℕ, ◌==◌, List, [], ◌∷◌, ◌++◌, false, filter, None}
+use Rattle.std.specs.Prelude.{◌≡◌, ℕ, ◌==◌, List, [], ◌∷◌, ◌++◌, false, filter, Option, Some, None}
 use Rattle.std.specs.List.{fold}
 use Rattle.tbl_model.specs.State.{State}
 use Rattle.tbl_kinds.specs.Requests.{Fits}
 use Rattle.tbl_kinds.specs.Records.{Pair, IsBuilt, actor_number}
+use Rattle.tbl_model.specs.Effects.{Effect}
+use Rattle.tbl_model.specs.Given.{Given, MayBeGiven}
 use Rattle.tbl_model.specs.Dispatch.{effect_of}
 use Rattle.tbl_model.specs.Counts.{Told}
 use Rattle.tbl_model.specs.Replies.{packets_of}
 use Rattle.tbl_kinds.specs.declared.entry.Entry.{Entry}
-use Rattle.tbl_kinds.specs.declared.note.BankNote.{BankNote}
-use Rattle.tbl_kinds.specs.declared.note.Outcome.TheVariants.{Untouched}
+use Rattle.tbl_kinds.specs.declared.request.Actor.{Actor}
+use Rattle.tbl_kinds.specs.declared.request.Request.{Request}
 
 -- a history so far: the state that stands, and what was told
 pub record Run : Type 0 where
@@ -19,36 +21,39 @@ pub record Run : Type 0 where
 abbrev pub begins_at : State → Run
 begins_at opening = record { state = opening; past = [] }
 
--- an entry, as the sequential service plays its request
-abbrev pub told_of : Run → Entry → Told
-told_of r e = record {
-  actor = e.actor;
-  request = e.request;
-  before = r.state;
-  effect = effect_of r.state e.actor e.request (record { note = e.note; verdicts = e.verdicts });
-}
+-- a request that had this effect, as it is told from this state
+abbrev pub told : State → Actor → Request → Effect → Told
+told s actor request effect = record { actor = actor; request = request; before = s; effect = effect }
+
+abbrev pub given_in : Entry → Given
+given_in e = record { note = e.note; verdicts = e.verdicts }
+
+-- what the sequential service does in an entry's request
+abbrev pub effect_in : Run → Entry → Option Effect
+effect_in r e = effect_of r.state e.actor e.request (given_in e)
+
+abbrev pub onward_by : Run → Entry → Option Effect → Run
+onward_by r e None = r
+onward_by r e (Some effect) = record { state = effect.next; past = r.past ++ told r.state e.actor e.request effect ∷ [] }
 
 abbrev pub onward : Run → Entry → Run
-onward r e = let t = told_of r e in record { state = t.effect.next; past = r.past ++ t ∷ [] }
+onward r e = onward_by r e (effect_in r e)
 
 abbrev pub run_from : Run → List Entry → Run
 run_from r entries = fold onward r entries
-
--- no call of the store was made
-abbrev pub untouched : BankNote
-untouched = record { outcome = Untouched; done = 0; gate = false; old = false; ended = false; restored = None; found = [] }
 
 -- the entry is answered as the sequential service answers: status, detail, bytes and packets
 pub record IsAnswered (r : Run) (e : Entry) : Type 0 where
   pub live : r.state.ended ≡ false
   pub built : IsBuilt e.request
   pub fits : Fits e.actor e.request
-  pub status : e.reply.status ≡ (told_of r e).effect.status
-  pub detail : e.reply.detail ≡ (told_of r e).effect.detail
-  pub bytes : e.reply.bytes.list ≡ (told_of r e).effect.bytes
-  pub packets : e.reply.packets.list ≡ packets_of r.past (told_of r e)
-  pub note : e.note ≡ untouched
-  pub verdicts : e.verdicts ≡ None ∷ None ∷ []
+  pub given : MayBeGiven r.state e.actor e.request (given_in e)
+  pub effect : Effect
+  pub effect_is : effect_in r e ≡ Some effect
+  pub status : e.reply.status ≡ effect.status
+  pub detail : e.reply.detail ≡ effect.detail
+  pub bytes : e.reply.bytes.list ≡ effect.bytes
+  pub packets : e.reply.packets.list ≡ packets_of r.past (told r.state e.actor e.request effect)
 
 abbrev pub AreAnswered : Run → List Entry → Type 0
 AreAnswered r [] = Unit {0}

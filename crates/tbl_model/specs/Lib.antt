@@ -3,10 +3,12 @@ pub mod Tables
 pub mod Deeds
 pub mod Effects
 pub mod TableSteps
+pub mod Refusals
 pub mod Applications
 pub mod Uplinks
 pub mod GroundLoads
 pub mod Commands
+pub mod Given
 pub mod Dispatch
 pub mod Events
 pub mod Counts

@@ -1,33 +1,33 @@
 -- The packets of a reply, counted over the history.
-use Rattle.std.specs.Prelude.{ℕ, ◌+◌, ◌==◌, ◌%◌, List, [], ◌∷◌, ◌++◌, if◌then◌else◌, Option, Some, None}
+use Rattle.std.specs.Prelude.{ℕ, ◌+◌, ◌%◌, List, [], ◌∷◌, ◌++◌, if◌then◌else◌, Option, Some, None}
 use Rattle.tbl_kinds.specs.Numbers.{four}
-use Rattle.tbl_model.specs.State.{State, Notice}
+use Rattle.tbl_model.specs.State.{State, Tables, Notice}
 use Rattle.tbl_model.specs.Tables.{table_count, load_count, free_buffers}
 use Rattle.tbl_kinds.specs.Packets.{housekeeping_id, event_id, telemetry_packet, command_packet}
 use Rattle.tbl_kinds.specs.Telemetry.{event_body, housekeeping_body}
-use Rattle.tbl_model.specs.Effects.{Shown, nothing, housekeeping}
 use Rattle.tbl_model.specs.Events.{events_of}
-use Rattle.tbl_model.specs.Counts.{Told, Counts, counts_of}
+use Rattle.tbl_model.specs.Counts.{Told, Counts, counts_of, is_stopped}
+use Rattle.tbl_model.specs.declared.deeds.Shown.{Shown}
+use Rattle.tbl_model.specs.declared.deeds.Shown.TheVariants.{Nothing, Housekeeping}
 use Rattle.tbl_kinds.specs.declared.telemetry.Event.{Event}
-use Rattle.tbl_kinds.specs.declared.telemetry.Housekeeping.{Housekeeping}
+use Rattle.tbl_kinds.specs.declared.telemetry.Housekeeping.{Housekeeping as Body}
 use Rattle.tbl_kinds.specs.declared.telemetry.TlmHead.{TlmHead}
-use Rattle.tbl_kinds.specs.declared.status.TheConstants.Status.{INFO_STOPPED}
 
--- a packet carries how many of its kind were sent before, and the service's time
-abbrev pub head_at : State → ℕ → TlmHead
-head_at s count = record { count = count % 16384; seconds = s.seconds; sub = s.sub }
+-- a packet carries the service's time, and how many of its kind were sent before
+abbrev pub head_at : ℕ → ℕ → ℕ → TlmHead
+head_at seconds sub sent = record { count = sent % 16384; seconds = seconds; sub = sub }
 
-abbrev pub event_packets : State → ℕ → List Event → List ℕ
-event_packets s sent [] = []
-event_packets s sent (e ∷ es) = telemetry_packet event_id (head_at s sent) (event_body e) ++ event_packets s (sent + 1) es
+abbrev pub event_packets : ℕ → ℕ → ℕ → List Event → List ℕ
+event_packets seconds sub sent [] = []
+event_packets seconds sub sent (e ∷ es) = telemetry_packet event_id (head_at seconds sub sent) (event_body e) ++ event_packets seconds sub (sent + 1) es
 
--- the housekeeping body: what is counted, and what the state has
-abbrev pub housekeeping_of : Counts → State → Housekeeping
-housekeeping_of c s = record {
+-- the housekeeping body: what is counted, and what the tables have
+abbrev pub housekeeping_of : Counts → Tables → Body
+housekeeping_of c tables = record {
   accepted = c.accepted;
   refused = c.refused;
-  tables = table_count s.tables;
-  loads = load_count s.tables;
+  tables = table_count tables;
+  loads = load_count tables;
   finished = c.finished;
   check = c.validation.check;
   verdict = c.validation.verdict;
@@ -35,7 +35,7 @@ housekeeping_of c s = record {
   good = c.good;
   bad = c.bad;
   requests = c.requests;
-  free = free_buffers s.tables;
+  free = free_buffers tables;
   seconds = c.update.seconds;
   sub = c.update.sub;
   validated = c.validation.name;
@@ -45,21 +45,24 @@ housekeeping_of c s = record {
   loaded = c.loaded;
 }
 
--- the packet behind the events
-abbrev pub shown_packet : State → Counts → Counts → Told → Shown → List ℕ
-shown_packet s before after t nothing = []
-shown_packet s before after t housekeeping = telemetry_packet housekeeping_id (head_at s before.housekeepings) (housekeeping_body (housekeeping_of after t.effect.next))
+-- the packet behind the events, over the tables that the request leaves
+abbrev pub shown_packet : TlmHead → Counts → Tables → Shown → List ℕ
+shown_packet head after tables Nothing = []
+shown_packet head after tables Housekeeping = telemetry_packet housekeeping_id head (housekeeping_body (housekeeping_of after tables))
 
 abbrev pub notice_packet : Counts → Option Notice → List ℕ
 notice_packet c None = []
 notice_packet c (Some n) = command_packet n.msg (c.notices % 16384) n.code (four n.parameter)
 
--- a reply's packets: the events, then a housekeeping or registry packet, then a notice; a stopped request sends none
-unfoldable pub packets_of : List Told → Told → List ℕ
-packets_of past t =
-    let before = counts_of past in
-    let after = counts_of (past ++ t ∷ []) in
-    if t.effect.status.0 == INFO_STOPPED.0 then []
-    else (event_packets t.before before.events (events_of t.request t.effect)
-    ++ shown_packet t.before before after t t.effect.shown
+-- over what was counted before the request, and after it: the events, then a housekeeping or registry packet, then a
+-- notice; a stopped request sends none
+abbrev pub packets_by : Counts → Counts → Told → List ℕ
+packets_by before after t =
+    if is_stopped t.effect then []
+    else (event_packets t.before.seconds t.before.sub before.events (events_of t.request t.effect)
+    ++ shown_packet (head_at t.before.seconds t.before.sub before.housekeepings) after t.effect.next.tables t.effect.shown
     ++ notice_packet before t.effect.notice)
+
+-- a reply's packets
+unfoldable pub packets_of : List Told → Told → List ℕ
+packets_of past t = packets_by (counts_of past) (counts_of (past ++ t ∷ [])) t

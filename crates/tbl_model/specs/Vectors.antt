@@ -12,10 +12,11 @@ use Rattle.tbl_kinds.specs.declared.request.Actor.TheVariants.{Ground}
 use Rattle.tbl_kinds.specs.declared.status.TheConstants.Status.{SUCCESS, ERR_BAD_PACKET, ERR_BAD_MESSAGE_ID, ERR_BAD_CODE, ERR_BAD_LENGTH}
 use Rattle.tbl_model.specs.State.{State, first_state}
 use Rattle.tbl_model.specs.Effects.{answered}
-use Rattle.tbl_model.specs.Commands.{command_effect}
+use Rattle.tbl_model.specs.Commands.{command_effect, housekeeping_effect}
 use Rattle.tbl_model.specs.Counts.{Told, counts_of}
 use Rattle.tbl_model.specs.Replies.{head_at, packets_of}
-use Rattle.tbl_model.specs.History.{Run, begins_at, onward, run_from, IsAnswered, IsLegal, untouched, told_of}
+use Rattle.tbl_model.specs.Given.{untouched}
+use Rattle.tbl_model.specs.History.{Run, begins_at, onward, run_from, IsAnswered, IsLegal, told}
 
 -- ---- a session of the two commands
 
@@ -52,21 +53,28 @@ second_entry = entry ask_housekeeping housekeeping_after_noop
 abbrev pub second_run : Run
 second_run = onward (begins_at start) first_entry
 
-pub noop_is_told : packets_of [] (told_of (begins_at start) first_entry) ≡ noop_event
+-- both leave the state
+abbrev pub noop_told : Told
+noop_told = told start Ground (command noop) (answered start SUCCESS 0)
+
+abbrev pub housekeeping_told : Told
+housekeeping_told = told start Ground (command ask_housekeeping) (housekeeping_effect start)
+
+pub noop_is_told : packets_of [] noop_told ≡ noop_event
 unfolding packets_of counts_of command_in telemetry_packet primary_header event_body
 noop_is_told = refl
 
-pub housekeeping_is_told : packets_of second_run.past (told_of second_run second_entry) ≡ housekeeping_after_noop
+pub housekeeping_is_told : packets_of (noop_told ∷ []) housekeeping_told ≡ housekeeping_after_noop
 unfolding packets_of counts_of command_in telemetry_packet primary_header housekeeping_body commands_and_loads last_validation validations_and_buffers last_update
 housekeeping_is_told = refl
 
 pub first_is_answered : IsAnswered (begins_at start) first_entry
 unfolding command_in
-first_is_answered = record { live = refl; built = tt; fits = tt; status = refl; detail = refl; bytes = refl; packets = sym noop_is_told; note = refl; verdicts = refl }
+first_is_answered = record { live = refl; built = tt; fits = tt; given = refl; effect = noop_told.effect; effect_is = refl; status = refl; detail = refl; bytes = refl; packets = sym noop_is_told }
 
 pub second_is_answered : IsAnswered second_run second_entry
 unfolding command_in
-second_is_answered = record { live = refl; built = tt; fits = tt; status = refl; detail = refl; bytes = refl; packets = sym housekeeping_is_told; note = refl; verdicts = refl }
+second_is_answered = record { live = refl; built = tt; fits = tt; given = refl; effect = housekeeping_told.effect; effect_is = refl; status = refl; detail = refl; bytes = refl; packets = sym housekeeping_is_told }
 
 -- the two entries are a legal history, which leaves the state
 pub session_is_legal : IsLegal start (first_entry ∷ second_entry ∷ []) start
@@ -138,9 +146,6 @@ none_is_accepted = refl
 
 -- ---- counts
 
-abbrev pub noop_told : Told
-noop_told = told_of (begins_at start) first_entry
-
 pub counter_at_its_end : (counts_of (replicate 255 noop_told)).accepted ≡ 255
 unfolding counts_of command_in
 counter_at_its_end = refl
@@ -149,5 +154,5 @@ pub counter_begins_again : (counts_of (replicate 256 noop_told)).accepted ≡ 0
 unfolding counts_of command_in
 counter_begins_again = refl
 
-pub sequence_count_begins_again : head_at start 16384 ≡ record { count = 0; seconds = 0; sub = 0 }
+pub sequence_count_begins_again : head_at 0 0 16384 ≡ record { count = 0; seconds = 0; sub = 0 }
 sequence_count_begins_again = refl

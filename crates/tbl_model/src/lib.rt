@@ -1,3 +1,7 @@
 //! In specs/ the sequential service as definitions: its state, what each request does to it, what telemetry tells of it, and the
 //! histories that are legal and whole; the layers above cite them in their contracts.
 #![tactic(auto)]
+
+mod deeds;
+
+pub use deeds::{Deed, Named, Shown};
