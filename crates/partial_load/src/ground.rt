@@ -1,7 +1,8 @@
 //! Loads that the ground commands.
 
-ghost use Rattle.std.specs.Prelude.{◌≡◌, ◌+◌, ◌≤◌, ◌<◌, ◌||◌, ◌&&◌, ◌==◌, not, is_some, nat_lt, ℕ, List, length, Some, None, IsSome, IfSome, IfNone, if◌then◌else◌};
+ghost use Rattle.std.specs.Prelude.{◌≡◌, ◌+◌, ◌≤◌, ◌<◌, ◌||◌, ◌&&◌, ◌==◌, not, is_some, nat_lt, false, ℕ, List, length, Some, None, IsSome, IfSome, IfNone, if◌then◌else◌};
 ghost use Rattle.std.specs.Option.{ForSome};
+ghost use Rattle.tbl_kinds.specs.Statuses.{is_success};
 ghost use Rattle.tbl_model.specs.State.{State, Table};
 ghost use Rattle.tbl_model.specs.Tables.{table_at, in_use};
 ghost use Rattle.tbl_model.specs.TableSteps.{find, patch, set_file};
@@ -89,6 +90,7 @@ fn fill(tables: &mut Tables, row: u8, name: &Name64, offset: u32, image: &[u8])
 pub fn ground_load(tables: &mut Tables, file: &Name64, parsed: &TableFile, image: &[u8]) -> Answer
     requires { length image.now ≡ parsed.now.count }
     ensures effect { (s : State) → s.tables ≡ tables.old → load_file_effect s file.now (with_image parsed.now image.now) ≡ load_answered s (named parsed.now.name (find parsed.now.name tables.old)) result tables.new }
+    ensures kept { is_success result.status ≡ false → tables.new ≡ tables.old }
 {
     let Some(row) = tables.find(parsed.name.bytes()) else {
         return Answer::plain(Status::ERR_NO_SUCH_TABLE);

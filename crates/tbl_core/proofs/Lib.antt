@@ -1,11 +1,10 @@
 pub mod Buffers
+pub mod Cases
 pub mod CommandAnswers
-pub mod Ordinary
-pub mod Steps
-pub mod Packets
-pub mod CommandLemmas
-pub mod Quiet
+pub mod Fair
 pub mod Images
-pub mod GroundLoads
-pub mod WholeLaws
+pub mod Ordinary
+pub mod Pins
 pub mod Places
+pub mod Steps
+pub mod WholeLaws
