@@ -19,3 +19,6 @@ mod service;
 mod telemetry;
 
 pub use service::{Core, StepFault};
+
+#[cfg(test)]
+mod tests;
