@@ -114,7 +114,7 @@ impl Handles {
     }
 
     /// Gives an application a handle on the table of a row: the least free number. It pins nothing and was told of no image.
-    #[tactic(auto, using(crate::proofs::Full::none_at_256))]
+    #[tactic(auto, using(tbl_kinds::proofs::FreeLaws::none_at))]
     pub fn add(&mut self, app: u8, row: u8) -> Option<u16>
         ensures least_free { result ≡ position is_none self.old }
         ensures none_where_full { IsNone result ↔ (count_by is_some self.old ≡ 256) }

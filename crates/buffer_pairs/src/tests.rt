@@ -1,35 +1,31 @@
-ghost use Rattle.std.specs.Prelude.{◌≡◌, IsTrue, length};
-ghost use Rattle.buffer_pairs.specs.Pair.{Pair};
-
-use super::Buffers;
+use super::{Buffers, Image};
 use std::test::Fail;
-
-/// What a caller can prove of a write through the lent buffer.
-fn overwrite(buffers: &mut Buffers, image: &[u8])
-    requires double { IsTrue buffers.old.double }
-    requires size { length image.now ≡ length buffers.old.inactive }
-    ensures { buffers.new ≡ record buffers.old { inactive = image.now } }
-{
-    buffers.inactive_mut().copy_from_slice(image);
-}
+use std::thread;
 
 #[test]
-fn single(rt: HostRuntime) -> Result<(), Fail> {
-    let mut buffers = Buffers::make(rt.alloc(), 4, false)?;
-    assert_eq!(rt; buffers.active(), [0, 0, 0, 0].as_slice());
-    buffers.copy_in(&[1, 2, 3, 4]);
-    assert_eq!(rt; buffers.active(), [1, 2, 3, 4].as_slice());
+fn images(rt: HostRuntime) -> Result<(), Fail> {
+    let mut first = Image::of(rt.alloc(), &[1, 2, 3, 4])?;
+    let second = Image::patched(rt.alloc(), first.bytes(), 1, &[8, 9])?;
+    assert_eq!(rt; second.bytes(), [1, 8, 9, 4].as_slice());
+    let shared = first.share()?;
+    assert!(rt; !first.write(0, &[7]));
+    assert_eq!(rt; first.bytes(), [1, 2, 3, 4].as_slice());
+    let (read, _) = thread::join(&rt, move || shared.bytes().len(), || ());
+    assert_eq!(rt; read, 4);
+    assert!(rt; first.write(0, &[7]));
+    assert_eq!(rt; first.bytes(), [7, 2, 3, 4].as_slice());
     Ok(())
 }
 
 #[test]
-fn double(rt: HostRuntime) -> Result<(), Fail> {
-    let mut buffers = Buffers::make(rt.alloc(), 2, true)?;
-    assert_eq!(rt; buffers.inactive(), [0, 0].as_slice());
-    overwrite(&mut buffers, &[7, 8]);
-    assert_eq!(rt; buffers.active(), [0, 0].as_slice());
-    buffers.swap();
-    assert_eq!(rt; buffers.active(), [7, 8].as_slice());
-    assert_eq!(rt; buffers.inactive(), [0, 0].as_slice());
+fn buffers(rt: HostRuntime) -> Result<(), Fail> {
+    let mut buffers = Buffers::make(None, true);
+    assert!(rt; buffers.active().is_none());
+    buffers.put(Image::of(rt.alloc(), &[1])?);
+    buffers.put(Image::of(rt.alloc(), &[2])?);
+    let before = buffers.before().ok_or("no image before")?;
+    assert_eq!(rt; before.bytes(), [1].as_slice());
+    buffers.let_go();
+    assert!(rt; buffers.before().is_none());
     Ok(())
 }

@@ -1,79 +1,73 @@
--- What a load from a file does to a table of today's kind.
-use Rattle.std.proofs.Common.{◌≡◌, ◌+◌, ◌<◌, ◌≤◌, ◌==◌, ℕ, List, [], ◌∷◌, length, slice_index_or, inl, inr, Bool, true, false, not, ◌&&◌, nat_lt, cond, Option, Some, None, is_some, IsSome, refl, ap, sym, ◌∙◌, arith}
-use Rattle.std.specs.Option.{option_or}
-use Rattle.tbl_model.specs.State.{State, Table, Tables}
-use Rattle.tbl_model.specs.Tables.{table_at, in_use}
-use Rattle.tbl_model.specs.TableSteps.{find, patched, base, unchecked, patch, set_file, open_load}
+-- What a load does to a table that takes it, and what it is answered.
+use Rattle.std.proofs.Common.{◌≡◌, ◌==◌, ◌&&◌, ◌+◌, ◌≤◌, ℕ, List, [], ◌++◌, length, take, drop, Bool, true, false, cond, Option, Some, None, IsSome, refl, ap, sym, ◌∙◌, arith}
+use Rattle.std.specs.Prelude.{replicate, IfSome}
+use Rattle.std.proofs.lemmas.Bool.Decides.{nat_tests}
+use Rattle.std.proofs.lemmas.List.{append-nil, length-replicate}
+use Rattle.std.proofs.Math.Seq.{drop-length}
+use Rattle.tbl_kinds.specs.Numbers.{patched}
+use Rattle.tbl_kinds.specs.Statuses.{is_success}
 use Rattle.tbl_kinds.specs.TableFiles.{TableFile}
-use Rattle.tbl_model.specs.GroundLoads.{loaded_effect, load_into, load_file_effect}
+use Rattle.tbl_model.specs.State.{State, Table, Tables}
+use Rattle.tbl_model.specs.Tables.{table_at}
+use Rattle.tbl_model.specs.TableSteps.{find, base, put, patch, set_load, set_file}
+use Rattle.tbl_model.specs.Refusals.{refusal, image_refusal, load_refusal, by_refusal}
 use Rattle.tbl_model.specs.Effects.{Effect, answered, named}
-use Rattle.std.proofs.lemmas.Bool.{cases_lt}
-use Rattle.std.proofs.lemmas.List.{get_or_past, get_or-set_same, set-set}
-use Rattle.tbl_registry.specs.Seen.{padded}
-use Rattle.tbl_registry.specs.Sound.{IsPlain}
-use Rattle.partial_load.specs.Answers.{load_answered}
-use Rattle.partial_load.specs.Refusals.{refusal_of, by_refusal}
+use Rattle.tbl_model.specs.Applications.{activate_effect, load_image_of}
+use Rattle.tbl_model.specs.GroundLoads.{loaded_effect, load_into, load_file_effect}
+use Rattle.tbl_model.proofs.RefusalLaws.{load_taken}
+use Rattle.partial_load.specs.Answers.{load_answered, image_answered}
 use Rattle.tbl_kinds.specs.declared.entry.Answer.{Answer}
 use Rattle.tbl_kinds.specs.declared.status.Status.{Status}
-use Rattle.tbl_kinds.specs.declared.status.TheConstants.Status.{SUCCESS, ERR_NO_SUCH_TABLE, ERR_PARTIAL_LOAD, ERR_ZERO_LOAD, ERR_PAST_END, ERR_NO_BUFFER_AVAIL}
+use Rattle.tbl_kinds.specs.declared.status.TheConstants.Status.{SUCCESS, ERR_NO_SUCH_TABLE}
 
 pub some_is : {X : Type 0} (place : Option X) → IsSome place → (x : X) × (place ≡ Some x)
 some_is None there = absurd (cc there)
 some_is (Some x) there = (x, refl)
 
--- ---- opening
+-- ---- images
 
-table_is : (tables : Tables) (row : ℕ) (t : Table) → table_at tables row ≡ Some t → row < length tables.rows
-table_is tables row t there =
-    elim (cases_lt row (length tables.rows)) [
-      | inl within ↦ within
-      | inr past ↦ absurd (cc (there, get_or_past tables.rows row None past))
-    ]
+both : (a b : Bool) → (a && b) ≡ true → (a ≡ true) × (b ≡ true)
+both true true _ = (refl, refl)
+both true false is = absurd (cc is)
+both false b is = absurd (cc is)
 
-module _ (tables : Tables) (row : ℕ) (t : Table) (there : table_at tables row ≡ Some t) where
-  -- the table with its load open
-  pub opened : table_at (open_load row tables) row ≡ Some (record t { load = unchecked (base t) })
-  opened = rw (there, get_or-set_same tables.rows row (Some (record t { load = unchecked (base t) })) None (table_is tables row t there)) refl
+-- a table that was never loaded takes bytes for all of it
+module _ (tables : Tables) (row : ℕ) (t : Table) (offset : ℕ) (bytes : List ℕ) (taken : load_refusal tables row t offset (length bytes) ≡ None) (never : t.count ≡ 0) where
+  all_of_it : (offset == 0 && length bytes == t.size) ≡ true
+  all_of_it = (load_taken tables row t offset (length bytes) taken).whole (rw never refl)
 
-  -- what goes into a load that was opened just now goes into it as into one that is open
-  pub patch_opened : (offset : ℕ) (bytes : List ℕ) → patch row offset bytes (open_load row tables) ≡ patch row offset bytes tables
-  patch_opened offset bytes =
-      let w = table_is tables row t there in
-      let here = get_or-set_same tables.rows row (Some (record t { load = unchecked (base t) })) None w in
-      let twice = set-set tables.rows row (Some (record t { load = unchecked (base t) })) (Some (record t { load = unchecked (patched (base t) offset bytes) })) in
-      rw (there, here, twice) refl
+  pub begins : offset ≡ 0
+  begins = let is = (both (offset == 0) (length bytes == t.size) all_of_it).0 in grind (arith, nat_tests)
 
--- ---- what is answered
+  pub ends : length bytes ≡ t.size
+  ends = let is = (both (offset == 0) (length bytes == t.size) all_of_it).1 in grind (arith, nat_tests)
+
+  -- they are then the image
+  pub zeros_patched : base t ≡ replicate t.size 0 → bytes ≡ patched (base t) offset bytes
+  zeros_patched zeros =
+      let zeros' : List ℕ = replicate t.size 0 in
+      let none : drop (0 + length bytes) zeros' ≡ [] = let size : length zeros' ≡ t.size = length-replicate t.size 0 in let all = ends in let e : 0 + length bytes ≡ length zeros' = omega (arith, all, size) in rw e (drop-length zeros') in
+      rw (zeros, begins, none) (sym (append-nil bytes))
+
+-- a load that has the patched image is patched
+pub set_is_patch : (tables : Tables) (row offset : ℕ) (bytes image : List ℕ) (t : Table) → table_at tables row ≡ Some t → image ≡ patched (base t) offset bytes → set_load row image tables ≡ patch row offset bytes tables
+set_is_patch tables row offset bytes image t there is = rw (there, is) refl
+
+-- ---- answers
 
 pub answer_is : (answer : Answer) (status : Status) → answer.status ≡ status → answer.detail ≡ 0 → answer ≡ record { status = status; detail = 0 }
 answer_is answer status p q = λ i. record { status = p i; detail = q i }
 
-module _ (s : State) (name : List ℕ) (file : TableFile) (row : ℕ) where
-  -- the tests in their order, whatever they answer
-  ladder : (e : Effect) (zero past part load full : Bool) →
-      cond zero (answered s ERR_ZERO_LOAD 0) (cond past (answered s ERR_PAST_END 0) (cond part (answered s ERR_PARTIAL_LOAD 0) (cond load e (cond full (record (answered s ERR_NO_BUFFER_AVAIL 0) { bytes = in_use s.tables }) e))))
-      ≡ by_refusal s (option_or (cond zero (Some ERR_ZERO_LOAD) (cond past (Some ERR_PAST_END) (cond part (Some ERR_PARTIAL_LOAD) None))) (cond (not load && full) (Some ERR_NO_BUFFER_AVAIL) None)) e
-  ladder e true past part load full = refl
-  ladder e false true part load full = refl
-  ladder e false false true load full = refl
-  ladder e false false false true full = refl
-  ladder e false false false false true = refl
-  ladder e false false false false false = refl
-
-  pub into_plain : (t : Table) → IsPlain t → load_into s name file row (Some t) ≡ by_refusal s (refusal_of t (length (in_use s.tables)) file.offset (length file.image)) (loaded_effect s name file row)
-  into_plain t plain = rw (plain.options, plain.activation) (ladder (loaded_effect s name file row) (length file.image == 0) (nat_lt t.size (file.offset + length file.image)) ((t.count == 0) && not (file.offset == 0 && length file.image == t.size)) (is_some t.load) (length (in_use s.tables) == 4))
-
-  pub not_found : find file.name s.tables ≡ None → load_file_effect s name file ≡ load_answered s None (record { status = ERR_NO_SUCH_TABLE; detail = 0 }) s.tables
+module _ (s : State) (name : List ℕ) (file : TableFile) where
+  pub not_found : find file.name s.tables ≡ None → load_file_effect s name file ≡ load_answered s (named file.name None) (record { status = ERR_NO_SUCH_TABLE; detail = 0 }) s.tables
   unfolding load_file_effect
   not_found none = rw none refl
 
-  module _ (t : Table) (found : find file.name s.tables ≡ Some row) (there : table_at s.tables row ≡ Some t) (plain : IsPlain t) where
-    pub refused : (status : Status) → Some status ≡ refusal_of t (length (in_use s.tables)) file.offset (length file.image) → load_file_effect s name file ≡ load_answered s (named file.name (Some row)) (record { status = status; detail = 0 }) s.tables
+  module _ (row : ℕ) (t : Table) (found : find file.name s.tables ≡ Some row) (there : table_at s.tables row ≡ Some t) where
+    pub load_turned_away : (answer : Answer) → Some answer ≡ load_refusal s.tables row t file.offset (length file.image) → load_file_effect s name file ≡ load_answered s (named file.name (Some row)) answer s.tables
     unfolding load_file_effect
-    refused status first = rw (found, there, into_plain t plain, ← first) refl
+    load_turned_away answer first = rw (found, there, ← first) refl
 
-    pub filled : None ≡ refusal_of t (length (in_use s.tables)) file.offset (length file.image) → load_file_effect s name file ≡ load_answered s (named file.name (Some row)) (record { status = SUCCESS; detail = 0 }) (set_file row name (patch row file.offset file.image s.tables))
+    pub load_taken_up : None ≡ load_refusal s.tables row t file.offset (length file.image) → load_file_effect s name file ≡ load_answered s (named file.name (Some row)) (record { status = SUCCESS; detail = 0 }) (set_file row name (patch row file.offset file.image s.tables))
     unfolding load_file_effect
-    filled first =
-        let e : load_into s name file row (table_at s.tables row) ≡ loaded_effect s name file row = ap (load_into s name file row) there ∙ into_plain t plain ∙ sym (ap (λ (r : Option Status). by_refusal s r (loaded_effect s name file row)) first) in
-        rw (found, e) refl
+    load_taken_up first = rw (found, there, ← first, there) refl

@@ -1,103 +1,103 @@
 //! Loads that the ground commands.
 
-ghost use Rattle.std.specs.Prelude.{◌≡◌, ◌+◌, ◌≤◌, ◌<◌, ◌||◌, ◌&&◌, ◌==◌, not, is_some, nat_lt, false, ℕ, List, length, Some, None, IsSome, IfSome, IfNone, if◌then◌else◌};
+ghost use Rattle.std.specs.Prelude.{◌≡◌, ◌+◌, ◌≤◌, false, length, replicate, Some, None, IsSome, IfSome, IfNone, IfOk, OnOk, OnErr};
 ghost use Rattle.std.specs.Option.{ForSome};
+ghost use Rattle.tbl_kinds.specs.Numbers.{patched};
 ghost use Rattle.tbl_kinds.specs.Statuses.{is_success};
-ghost use Rattle.tbl_model.specs.State.{State, Table};
-ghost use Rattle.tbl_model.specs.Tables.{table_at, in_use};
-ghost use Rattle.tbl_model.specs.TableSteps.{find, patch, set_file};
-ghost use Rattle.tbl_model.specs.GroundLoads.{load_file_effect, load_into};
-ghost use Rattle.tbl_model.specs.Effects.{answered, named};
+ghost use Rattle.tbl_model.specs.State.{State};
+ghost use Rattle.tbl_model.specs.Tables.{table_at};
+ghost use Rattle.tbl_model.specs.TableSteps.{find, base, patch};
+ghost use Rattle.tbl_model.specs.Refusals.{load_refusal};
+ghost use Rattle.tbl_model.specs.Effects.{named};
+ghost use Rattle.tbl_model.specs.GroundLoads.{load_file_effect};
 ghost use Rattle.table_files.specs.Files.{with_image};
 ghost use Rattle.partial_load.specs.Answers.{load_answered};
-ghost use Rattle.partial_load.specs.Refusals.{misfit_of, refusal_of};
-ghost use Rattle.tbl_registry.specs.Sound.{IsPlain};
 
+use crate::refusals::load_refusal;
+use buffer_pairs::Image;
+use std::alloc::Global;
 use table_files::TableFile;
-use tbl_kinds::{Answer, Name64, Status};
-use tbl_registry::{RowView, Tables};
+use tbl_kinds::{Answer, Memory, Name64, Status};
+use tbl_registry::Tables;
 
-/// Why the bytes of a file don't go into a table, if they don't: it has none; they go past the table's end; or the table
-/// was never loaded and they aren't the whole image.
-fn misfit(table: &RowView, file: &TableFile) -> Option<Status>
-    ensures { result ≡ misfit_of table.now.size table.now.count file.now.offset file.now.count }
-{
-    if file.count == 0 {
-        return Some(Status::ERR_ZERO_LOAD);
-    }
-    let end = u64::from(file.offset) + u64::from(file.count);
-    if end > u64::from(table.size) {
-        return Some(Status::ERR_PAST_END);
-    }
-    if table.count == 0 && (file.offset != 0 || file.count != table.size) {
-        return Some(Status::ERR_PARTIAL_LOAD);
-    }
-    None
-}
-
-/// Why a load isn't taken, if it isn't.
-fn refusal(tables: &Tables, row: u8, file: &TableFile) -> Option<Status>
+/// What a load of the table of a row begins with: the image of its open load, or its last one. None stands for zeros.
+fn base(tables: &Tables, row: u8) -> Option<&[u8]>
     requires { IsSome (table_at tables.now row) }
-    ensures first { ForSome (table_at tables.now row) (λ t. result ≡ refusal_of t (length (in_use tables.now)) file.now.offset file.now.count) }
-    ensures plain { ForSome (table_at tables.now row) IsPlain }
-    ensures within { IfNone result (ForSome (table_at tables.now row) (λ t. file.now.offset + file.now.count ≤ t.size)) }
-    ensures buffer { IfNone result (ForSome (table_at tables.now row) (λ t. t.load ≡ None → length (in_use tables.now) < 4)) }
+    ensures image { IfSome result (λ image. ForSome (table_at tables.now row) (λ t. image.now ≡ base t)) }
+    ensures size { IfSome result (λ image. ForSome (table_at tables.now row) (λ t. length image.now ≡ t.size)) }
+    ensures zeros { IfNone result (ForSome (table_at tables.now row) (λ t. base t ≡ replicate t.size 0)) }
+    ensures none { IfNone result (ForSome (table_at tables.now row) (λ t. t.count ≡ 0)) }
 {
-    let Some(table) = tables.row(row) else {
-        unreachable!();
-    };
-    if let Some(status) = misfit(&table, file) {
-        return Some(status);
+    match tables.load(row) {
+        Some(image) => Some(image),
+        None => tables.last(row),
     }
-    if !table.load && tables.all_buffers_used() {
-        return Some(Status::ERR_NO_BUFFER_AVAIL);
-    }
-    None
 }
 
-/// Opens a load of a table where none is open. What is written into the load then is the same.
-fn open_load(tables: &mut Tables, row: u8)
-    requires table { IsSome (table_at tables.old row) }
-    requires buffer { ForSome (table_at tables.old row) (λ t. t.load ≡ None → length (in_use tables.old) < 4) }
-    ensures patched { (offset : ℕ) (bytes : List ℕ) → patch row offset bytes tables.new ≡ patch row offset bytes tables.old }
-    ensures table { IsSome (table_at tables.new row) }
-    ensures load { ForSome (table_at tables.new row) (λ t. IsSome t.load) }
-    ensures size { ForSome (table_at tables.old row) (λ t. ForSome (table_at tables.new row) (λ u. u.size ≡ t.size)) }
+/// What a load of a table begins with, with bytes over some of it. A table that was never loaded takes only bytes for all
+/// of it, unless a load is open.
+fn new_image(
+    alloc: Global,
+    tables: &Tables,
+    row: u8,
+    offset: u32,
+    bytes: &[u8],
+) -> Result<Image, Memory>
+    requires table { IsSome (table_at tables.now row) }
+    requires taken { ForSome (table_at tables.now row) (λ t. load_refusal tables.now row t offset (length bytes.now) ≡ None) }
+    ensures image { IfOk result (λ image. ForSome (table_at tables.now row) (λ t. image ≡ patched (base t) offset bytes.now)) }
+    ensures size { IfOk result (λ image. ForSome (table_at tables.now row) (λ t. length image ≡ t.size)) }
 {
-    if tables.load(row).is_some() {
-        return;
+    match base(tables, row) {
+        Some(base) => Image::patched(alloc, base, offset, bytes),
+        None => Image::of(alloc, bytes),
     }
-    tables.open_load(row);
 }
 
-/// Writes the bytes of a file into the load of a table, which is opened where none is open.
-fn fill(tables: &mut Tables, row: u8, name: &Name64, offset: u32, image: &[u8])
+/// Writes bytes into the load of a table, which is opened where none is open. In place, where nobody else has the image.
+fn fill(
+    alloc: Global,
+    tables: &mut Tables,
+    row: u8,
+    offset: u32,
+    bytes: &[u8],
+) -> Result<(), Memory>
     requires table { IsSome (table_at tables.old row) }
-    requires buffer { ForSome (table_at tables.old row) (λ t. t.load ≡ None → length (in_use tables.old) < 4) }
-    requires within { ForSome (table_at tables.old row) (λ t. offset + length image.now ≤ t.size) }
-    ensures { tables.new ≡ set_file row name.now (patch row offset image.now tables.old) }
+    requires taken { ForSome (table_at tables.old row) (λ t. load_refusal tables.old row t offset (length bytes.now) ≡ None) }
+    ensures ok { OnOk result (tables.new ≡ patch row offset bytes.now tables.old) }
+    ensures err { OnErr result (tables.new ≡ tables.old) }
 {
-    open_load(tables, row);
-    tables.patch(row, offset, image);
-    tables.set_file(row, name);
+    if tables.load(row).is_some() && tables.write_load(row, offset, bytes) {
+        return Ok(());
+    }
+    let image = new_image(alloc, tables, row, offset, bytes)?;
+    tables.set_load(row, image);
+    Ok(())
 }
 
 /// Loads a file that the ground uplinked (cFE's `CFE_TBL_LOAD_CC`; cFE User's Guide, Table Services, "Loading tables"):
 /// its bytes go into the open load of its table, which opens with the last image, or with zeros, where none is open. The
 /// load isn't validated any more. `image` are the bytes of the file, `file` the name under which it was uplinked.
-/// It takes no memory. Where no shared buffer is free, `Tables::in_use` tells which rows have them.
-#[tactic(auto, unfolding(tbl_model::specs::GroundLoads::load_file_effect))]
-pub fn ground_load(tables: &mut Tables, file: &Name64, parsed: &TableFile, image: &[u8]) -> Answer
+/// `ERR_NO_BUFFER_AVAIL`: `Tables::in_use` tells which rows have the shared buffers. Out of memory: nothing was changed.
+pub fn ground_load(
+    alloc: Global,
+    tables: &mut Tables,
+    file: &Name64,
+    parsed: &TableFile,
+    image: &[u8],
+) -> Result<Answer, Memory>
     requires { length image.now ≡ parsed.now.count }
-    ensures effect { (s : State) → s.tables ≡ tables.old → load_file_effect s file.now (with_image parsed.now image.now) ≡ load_answered s (named parsed.now.name (find parsed.now.name tables.old)) result tables.new }
-    ensures kept { is_success result.status ≡ false → tables.new ≡ tables.old }
+    ensures effect { IfOk result (λ answer. (s : State) → s.tables ≡ tables.old → load_file_effect s file.now (with_image parsed.now image.now) ≡ load_answered s (named parsed.now.name (find parsed.now.name tables.old)) answer tables.new) }
+    ensures refused { IfOk result (λ answer. is_success answer.status ≡ false → tables.new ≡ tables.old) }
+    ensures err { OnErr result (tables.new ≡ tables.old) }
 {
     let Some(row) = tables.find(parsed.name.bytes()) else {
-        return Answer::plain(Status::ERR_NO_SUCH_TABLE);
+        return Ok(Answer::plain(Status::ERR_NO_SUCH_TABLE));
     };
-    if let Some(status) = refusal(tables, row, parsed) {
-        return Answer::plain(status);
+    if let Some(answer) = load_refusal(tables, row, parsed.offset, parsed.count) {
+        return Ok(answer);
     }
-    fill(tables, row, file, parsed.offset, image);
-    Answer::plain(Status::SUCCESS)
+    fill(alloc, tables, row, parsed.offset, image)?;
+    tables.set_file(row, file);
+    Ok(Answer::plain(Status::SUCCESS))
 }

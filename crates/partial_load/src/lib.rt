@@ -1,10 +1,13 @@
-//! Loads of a part of a table: the layer above may rely on it that a load from a file changes exactly the stated bytes of
-//! the open load, and is refused for the first reason in the order of the table services.
+//! Loads into tables: the layer above may rely on it that a load changes exactly the stated bytes of an image, and is refused
+//! for the first reason in the order of the table services.
 #![tactic(auto)]
 
 mod ground;
+mod images;
+mod refusals;
 
 pub use ground::ground_load;
+pub use images::image_load;
 
 #[cfg(test)]
 mod tests;

@@ -4,8 +4,9 @@ ghost use Rattle.tbl_model.specs.Tables.{option_bits, table_at};
 ghost use Rattle.tbl_kinds.specs.Free.{least_free};
 ghost use Rattle.tbl_model.specs.TableSteps.{find};
 ghost use Rattle.tbl_kinds.specs.Limits.{table_limit};
-ghost use Rattle.tbl_model.specs.Applications.{are_options, duplicate_effect, add_effect, by_name_effect, register_effect};
-ghost use Rattle.sharing.specs.Registering.{answered_with, fault_of};
+ghost use Rattle.tbl_model.specs.Applications.{duplicate_effect, add_effect, by_name_effect, register_effect};
+ghost use Rattle.tbl_model.specs.Refusals.{refusal, plan_refusal};
+ghost use Rattle.sharing.specs.Registering.{answered_with};
 
 use crate::apps::{Apps, plan_name};
 use bitflags::Flags;
@@ -15,21 +16,35 @@ use tbl_registry::{AddFault, NewTable, RowView, Tables};
 /// The largest table (`CFE_PLATFORM_TBL_MAX_SNGL_TABLE_SIZE`), in bytes.
 const TABLE_LIMIT: u32 = 16_384;
 
-/// The first thing that can't be asked for: the name, the size, the options, the validation function.
-fn fault_of(short: &Name16, size: u32, flags: u16, validator: Option<u8>) -> Option<Status>
-    ensures { result ≡ fault_of short.now size flags validator }
+/// A refusal that names nothing.
+fn refusal(status: Status) -> Option<Answer>
+    ensures { result ≡ refusal status }
+{
+    Some(Answer { status, detail: 0 })
+}
+
+/// The first thing that can't be asked for: the name, the size, the options, the validation function, of which none stands
+/// in the kit.
+fn plan_refusal(
+    app: u8,
+    short: &Name16,
+    size: u32,
+    flags: u16,
+    validator: Option<u8>,
+) -> Option<Answer>
+    ensures { result ≡ plan_refusal [] app short.now size flags validator }
 {
     if !short.is_name() {
-        return Some(Status::ERR_INVALID_NAME);
+        return refusal(Status::ERR_INVALID_NAME);
     }
     if size == 0 || size > TABLE_LIMIT {
-        return Some(Status::ERR_INVALID_SIZE);
+        return refusal(Status::ERR_INVALID_SIZE);
     }
     if flags != 0 {
-        return Some(Status::ERR_INVALID_OPTIONS);
+        return refusal(Status::ERR_INVALID_OPTIONS);
     }
     if validator.is_some() {
-        return Some(Status::ERR_NO_VALIDATOR);
+        return refusal(Status::ERR_NO_VALIDATOR);
     }
     None
 }
@@ -111,8 +126,8 @@ pub fn register(
     let Some(name) = plan_name(apps, app, short) else {
         return Ok(Answer::plain(Status::ERR_BAD_APP));
     };
-    if let Some(fault) = fault_of(short, size, flags, validator) {
-        return Ok(Answer::plain(fault));
+    if let Some(answer) = plan_refusal(app, short, size, flags, validator) {
+        return Ok(answer);
     }
     by_name(tables, app, name, size)
 }

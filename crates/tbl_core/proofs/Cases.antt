@@ -11,17 +11,19 @@ use Rattle.tbl_kinds.specs.Names.{is_name}
 use Rattle.tbl_kinds.specs.Numbers.{piece}
 use Rattle.tbl_kinds.specs.TableFiles.{TableFile, FileFlaw, no_std_header, bad_content, bad_subtype, no_table_header, incomplete, too_big, file_flaw, file_status, table_file_in}
 use Rattle.tbl_model.specs.State.{State, Table, Handle, Tables}
-use Rattle.tbl_model.specs.Tables.{table_at, is_double, in_use}
+use Rattle.tbl_model.specs.Tables.{table_at}
 use Rattle.tbl_model.specs.TableSteps.{handle_at, access_of, Access, find, is_that, locker, image_of, check_row, check_handle, stays, pin_last, get_address_of, release_of, read_of}
 use Rattle.tbl_model.specs.Effects.{Effect, answered, named}
-use Rattle.tbl_model.specs.Applications.{name_of, has_dot, full_name, start_effect, by_app, by_check, if_handle, stepped, duplicate_effect, add_effect, by_name_effect, register_effect, activate_effect, if_free, load_image_of, load_image_effect, get_effect, release_effect, read_answer, read_effect}
-use Rattle.tbl_model.specs.GroundLoads.{loaded_effect, if_open, load_into, load_found, load_file_effect, load_by, load_from, load_effect}
+use Rattle.tbl_model.specs.Applications.{name_of, has_dot, full_name, start_effect, by_app, by_check, if_handle, stepped, duplicate_effect, add_effect, by_name_effect, register_effect, activate_effect, load_image_of, load_image_effect, get_effect, release_effect, read_answer, read_effect}
+use Rattle.tbl_model.specs.Refusals.{by_answer, by_refusal, plan_refusal, image_refusal, load_refusal}
+use Rattle.tbl_model.specs.GroundLoads.{loaded_effect, load_into, load_found, load_file_effect, load_by, load_from, load_effect}
 use Rattle.tbl_model.specs.Uplinks.{file_effect}
 use Rattle.tbl_model.specs.Commands.{housekeeping_effect, effect_by, command_effect}
 use Rattle.tbl_kinds.specs.declared.entry.Answer.{Answer}
 use Rattle.tbl_kinds.specs.declared.status.Status.{Status}
 use Rattle.tbl_kinds.specs.declared.status.TheConstants.Status.{SUCCESS, INFO_TABLE_LOCKED, WARN_DUPLICATE, ERR_BAD_APP, ERR_INVALID_HANDLE, ERR_NO_ACCESS, ERR_UNREGISTERED, ERR_INVALID_NAME, ERR_INVALID_SIZE, ERR_INVALID_OPTIONS, ERR_NO_VALIDATOR, ERR_DUPLICATE_NOT_OWNED, ERR_DUPLICATE_DIFF_SIZE, ERR_REGISTRY_FULL, ERR_HANDLES_FULL, ERR_DUMP_ONLY, ERR_LOAD_IN_PROGRESS, ERR_ALREADY_PINNED, ERR_NEVER_LOADED, ERR_NOT_PINNED, ERR_OUT_OF_RANGE, ERR_APP_RUNNING, ERR_BAD_CODE, ERR_IMAGE_SIZE, ERR_BAD_NAME, ERR_FILE_TOO_LARGE, ERR_DRAWER_FULL, ERR_FILE_NOT_FOUND, ERR_NO_SUCH_TABLE, ERR_UPDATE_PENDING, ERR_ZERO_LOAD, ERR_PAST_END, ERR_PARTIAL_LOAD}
-use Rattle.tbl_core.proofs.CommandAnswers.{is_refusal, Refuses, command_refuses}
+use Rattle.tbl_model.proofs.RefusalLaws.{is_refusal, Refuses, plan_refused, image_refused, image_taken, load_refused}
+use Rattle.tbl_core.proofs.CommandAnswers.{CommandRefuses, command_refuses}
 
 -- this holds of the effect, if the request has one
 abbrev pub OfEffect : (Effect → Type 0) → Option Effect → Type 0
@@ -56,6 +58,10 @@ module _ (s : State) (P : Effect → Type 0) (refusal : (e : Effect) → e.next 
   unless : (b : Bool) (status : Status) (detail : ℕ) (rest : Effect) → is_refusal status ≡ true → P rest → P (cond b (answered s status detail) rest)
   unless true status detail rest is p = no status detail is
   unless false status detail rest is p = p
+
+  by_plan : (r : Option Answer) (effect : Effect) → Refuses r → P effect → P (by_answer s r effect)
+  by_plan None effect refuses done = done
+  by_plan (Some answer) effect refuses done = no answer.status answer.detail refuses
 
   -- ---- a running application, and its handle
 
@@ -141,24 +147,21 @@ module _ (s : State) (P : Effect → Type 0) (refusal : (e : Effect) → e.next 
 
     pub by_register : P (register_effect s app short size flags validator)
     unfolding register_effect
-    by_register = by_name (name_of s app) _ (λ name.
-        unless _ ERR_INVALID_NAME 0 _ refl (unless _ ERR_INVALID_SIZE 0 _ refl (unless _ ERR_INVALID_OPTIONS 0 _ refl (unless _ ERR_NO_VALIDATOR 0 _ refl
-        (by_full_name (full_name name short) (find (full_name name short) s.tables))))))
+    by_register = by_name (name_of s app) _ (λ name. by_plan (plan_refusal s.kit app short size flags validator) _ (plan_refused s.kit app short size flags validator)
+        (by_full_name (full_name name short) (find (full_name name short) s.tables)))
 
   -- ---- loads
 
-  -- a load opens only where its table isn't locked and a buffer is free for it
-  by_free : (t : Table) (lock : Option ℕ) (effect : Effect) → (lock ≡ None → P effect) → P (if_free s t lock effect)
-  by_free t (Some handle) effect done = no INFO_TABLE_LOCKED handle refl
-  by_free t None effect done = cond_both (not (is_double t) && eqb (length (in_use s.tables)) 4) _ _ P (λ _. refusal _ refl refl) (λ _. done refl)
+  by_ladder : (r : Option Answer) (effect : Effect) → Refuses r → (r ≡ None → P effect) → P (by_refusal s r effect)
+  by_ladder None effect refuses done = done refl
+  by_ladder (Some answer) effect refuses done = refusal _ refl refuses
 
   module _ (app m : ℕ) (image : List ℕ) (done : (row : ℕ) (t : Table) → table_at s.tables row ≡ Some t → length image ≡ t.size → locker s.tables row t ≡ None → P (activate_effect s row t image)) where
     by_image : (row : ℕ) (found : Option Table) → table_at s.tables row ≡ found → P (load_image_of s row found image)
     by_image row None there = no ERR_UNREGISTERED 0 refl
-    by_image row (Some t) there =
-        unless _ ERR_DUMP_ONLY 0 _ refl (unless _ ERR_LOAD_IN_PROGRESS 0 _ refl
-        (cond_both (not (eqb (length image) t.size)) _ _ P (λ _. no ERR_IMAGE_SIZE 0 refl)
-        (λ sized. by_free t (locker s.tables row t) _ (λ free. done row t there (eqb-true (length image) t.size (not-false _ sized)) free))))
+    by_image row (Some t) there = by_ladder (image_refusal s.tables row t (length image)) _ (image_refused s.tables row t (length image)) (λ none.
+        let takes = image_taken s.tables row t (length image) none in
+        done row t there takes.size takes.unlocked)
 
     pub by_load_image : P (load_image_effect s app m image)
     unfolding load_image_effect
@@ -166,10 +169,7 @@ module _ (s : State) (P : Effect → Type 0) (refusal : (e : Effect) → e.next 
 
   by_into : (name : List ℕ) (file : TableFile) (row : ℕ) (found : Option Table) → P (loaded_effect s name file row) → P (load_into s name file row found)
   by_into name file row None done = no ERR_NO_SUCH_TABLE 0 refl
-  by_into name file row (Some t) done =
-      unless _ ERR_DUMP_ONLY 0 _ refl (unless _ ERR_UPDATE_PENDING 0 _ refl (unless _ ERR_ZERO_LOAD 0 _ refl
-      (unless _ ERR_PAST_END 0 _ refl (unless _ ERR_PARTIAL_LOAD 0 _ refl
-      (cond_both (is_some t.load) _ _ P (λ _. done) (λ _. by_free t (cond (is_double t) (locker s.tables row t) None) _ (λ _. done)))))))
+  by_into name file row (Some t) done = by_ladder (load_refusal s.tables row t file.offset (length file.image)) _ (load_refused s.tables row t file.offset (length file.image)) (λ none. done)
 
   -- ---- files of the ground
 
@@ -206,7 +206,7 @@ module _ (s : State) (P : Effect → Type 0) (refusal : (e : Effect) → e.next 
     by_load = by_drawer (contents_of s.drawer name)
 
   module _ (accepted : (e : Effect) → e.next ≡ s → e.status ≡ SUCCESS → P e) (loaded : (name : List ℕ) (file : TableFile) (row : ℕ) → P (record (loaded_effect s name file row) { table = named file.name (Some row) })) where
-    by_asked : (asked : Result GroundCommand Answer) → Refuses asked → P (effect_by s asked)
+    by_asked : (asked : Result GroundCommand Answer) → CommandRefuses asked → P (effect_by s asked)
     by_asked (Err answer) refuses = refusal _ refl refuses
     by_asked (Ok housekeeping) refuses = accepted _ refl refl
     by_asked (Ok noop) refuses = accepted _ refl refl

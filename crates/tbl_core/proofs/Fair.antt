@@ -20,7 +20,7 @@ use Rattle.tbl_kinds.specs.declared.request.Request.{Request}
 use Rattle.tbl_kinds.specs.declared.request.Request.TheVariants as ask
 use Rattle.tbl_kinds.specs.declared.status.Status.{Status}
 use Rattle.tbl_kinds.specs.declared.status.TheConstants.Status.{SUCCESS, INFO_UPDATED, INFO_STOPPED}
-use Rattle.tbl_core.proofs.CommandAnswers.{is_refusal}
+use Rattle.tbl_model.proofs.RefusalLaws.{is_refusal}
 use Rattle.tbl_core.proofs.Cases.{OfEffect, Leads, access_is, by_get, by_release, by_read, by_start, by_register, by_load_image, by_file, by_command}
 use Rattle.tbl_core.proofs.Pins.{none_there, at_set, AreLoaded, Remains, Keeps, stays_goes_on, stays_keeps, unpinned_set, release_keeps, add_keeps, put_keeps, file_keeps}
 

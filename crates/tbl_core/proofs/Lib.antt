@@ -2,7 +2,6 @@ pub mod Buffers
 pub mod Cases
 pub mod CommandAnswers
 pub mod Fair
-pub mod Images
 pub mod Ordinary
 pub mod Pins
 pub mod Places

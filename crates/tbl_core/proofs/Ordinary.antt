@@ -3,9 +3,10 @@ use Rattle.std.proofs.Common.{◌≡◌, ℕ, suc, Bool, true, false, List, Opti
 use Rattle.std.specs.Option.{option_map}
 use Rattle.std.specs.Prelude.{option_and_then}
 use Rattle.std.proofs.lemmas.Option.{same_Some}
+use Rattle.tbl_kinds.specs.Numbers.{patched}
 use Rattle.tbl_model.specs.State.{State, Table, Handle, Tables, no_tables}
 use Rattle.tbl_model.specs.Tables.{table_at}
-use Rattle.tbl_model.specs.TableSteps.{base, unchecked, patched, changed, changed_in, patch, set_file, Access, with_table, with_handle, with_image, put, put_in, set_time, set_time_in, let_go, new_table, new_handle}
+use Rattle.tbl_model.specs.TableSteps.{base, unchecked, changed, changed_in, patch, set_file, Access, with_table, with_handle, with_image, put, put_in, set_time, set_time_in, let_go, new_table, new_handle}
 use Rattle.tbl_model.specs.Effects.{Effect}
 use Rattle.tbl_model.specs.Given.{Given}
 use Rattle.tbl_model.specs.Dispatch.{effect_of}
@@ -15,7 +16,7 @@ use Rattle.tbl_kinds.specs.declared.request.Request.{Request}
 use Rattle.tbl_kinds.specs.declared.request.Request.TheVariants as ask
 use Rattle.tbl_registry.proofs.Places.{AtEachPlace-set, get_or-replicate_None}
 use Rattle.tbl_core.specs.Service.{HasFewImages}
-use Rattle.tbl_core.proofs.CommandAnswers.{is_refusal}
+use Rattle.tbl_model.proofs.RefusalLaws.{is_refusal}
 use Rattle.tbl_core.proofs.Cases.{OfEffect, Leads, by_get, by_release, by_read, by_start, by_register, by_load_image, by_file, by_command}
 
 -- ---- how many images tables have had

@@ -7,9 +7,10 @@ use Rattle.std.proofs.lemmas.List.{get_or-set_same, get_or-set_other, get_or_pas
 use Rattle.std.proofs.lemmas.List.Folds.{list_any_at}
 use Rattle.std.proofs.lemmas.List.Sums.{fails_before_first}
 use Rattle.std.proofs.lemmas.Option.{same_Some}
+use Rattle.tbl_kinds.specs.Numbers.{patched}
 use Rattle.tbl_model.specs.State.{Table, Handle, Tables}
 use Rattle.tbl_model.specs.Tables.{table_at, is_double}
-use Rattle.tbl_model.specs.TableSteps.{handle_at, pins, is_in_way, locker, image_of, let_go, with_table, with_handle, with_image, put, set_time, base, unchecked, patched, changed, changed_in, patch, set_file, new_handle}
+use Rattle.tbl_model.specs.TableSteps.{handle_at, pins, is_in_way, locker, image_of, let_go, with_table, with_handle, with_image, put, set_time, base, unchecked, changed, changed_in, patch, set_file, new_handle}
 
 -- ---- places
 

@@ -12,6 +12,7 @@ use crate::effect::Effect;
 use crate::ground_loads::load;
 use cmd_packets::{CmdFault, Ground};
 use file_drawer::Drawer;
+use std::alloc::Global;
 use tbl_kinds::{Answer, Bytes, Memory, Status};
 use tbl_model::Shown;
 use tbl_registry::Tables;
@@ -29,6 +30,7 @@ fn not_built(code: u8) -> Answer
 
 /// Plays a command, by what its packet was read as.
 pub(crate) fn command(
+    alloc: Global,
     tables: &mut Tables,
     drawer: &Drawer,
     asked: &Result<Ground, CmdFault>,
@@ -49,7 +51,7 @@ pub(crate) fn command(
         }),
         Ok(Ground::Noop) => Ok(Effect::of(Answer::plain(Status::SUCCESS), empty)),
         Ok(Ground::ResetCounters) => Ok(Effect::of(Answer::plain(Status::SUCCESS), empty)),
-        Ok(Ground::Load { file }) => load(tables, drawer, file, empty),
+        Ok(Ground::Load { file }) => load(alloc, tables, drawer, file, empty),
         Ok(command) => Ok(Effect::of(not_built(code_of(command)), empty)),
     }
 }

@@ -48,7 +48,7 @@ impl Parts {
         let apps = &mut self.apps;
         let effect = match (actor, request) {
             (Actor::Ground, Request::Command { .. }) => match asked {
-                Some(asked) => command(tables, &self.drawer, asked, empty)?,
+                Some(asked) => command(self.alloc, tables, &self.drawer, asked, empty)?,
                 None => unreachable!(),
             },
             (Actor::Ground, Request::File { name, bytes }) => {
@@ -65,7 +65,16 @@ impl Parts {
                 },
             ) => register(tables, apps, app, name, *size, *flags, *validator, empty)?,
             (Actor::App(app), Request::LoadImage { handle, image }) => {
-                load_image(tables, apps, self.clock, app, *handle, image.bytes(), empty)?
+                load_image(
+                    self.alloc,
+                    tables,
+                    apps,
+                    self.clock,
+                    app,
+                    *handle,
+                    image.bytes(),
+                    empty,
+                )?
             }
             (Actor::App(app), Request::Get { handle }) => get(tables, apps, app, *handle, empty),
             (

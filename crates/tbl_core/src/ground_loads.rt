@@ -12,6 +12,7 @@ use crate::checks::{BUFFERS, answered_load};
 use crate::effect::Effect;
 use file_drawer::Drawer;
 use partial_load::ground_load;
+use std::alloc::Global;
 use table_files::{TableFile, read_table_file};
 use tbl_kinds::{Answer, Bytes, Memory, Name64, Status};
 use tbl_model::Named;
@@ -33,30 +34,33 @@ fn table_of(tables: &Tables, parsed: &TableFile) -> Option<Named>
 
 /// Fills the load of the table that a file names, or answers why not.
 fn load_parsed(
+    alloc: Global,
     tables: &mut Tables,
     file: &Name64,
     parsed: &TableFile,
     image: &[u8],
     empty: Bytes,
-) -> Effect
+) -> Result<Effect, Memory>
     requires count { length image.now ≡ parsed.now.count }
     requires empty { empty.list ≡ [] }
     requires room { 4 ≤ empty.spare }
-    ensures effect { (s : State) → s.tables ≡ tables.old → IsEffect result (record s { tables = tables.new }) (load_file_effect s file.now (with_image parsed.now image.now)) }
-    ensures quiet { IsQuiet result }
-    ensures len { length result.bytes.list ≤ 4 }
+    ensures effect { IfOk result (λ done. (s : State) → s.tables ≡ tables.old → IsEffect done (record s { tables = tables.new }) (load_file_effect s file.now (with_image parsed.now image.now))) }
+    ensures quiet { IfOk result IsQuiet }
+    ensures bytes { IfOk result (λ done. length done.bytes.list ≤ 4) }
+    ensures err { OnErr result (tables.new ≡ tables.old) }
 {
     let table = table_of(tables, parsed);
-    let answer = ground_load(tables, file, parsed, image);
-    Effect {
+    let answer = ground_load(alloc, tables, file, parsed, image)?;
+    Ok(Effect {
         table,
         ..answered_load(tables, answer, empty)
-    }
+    })
 }
 
 /// Fills the load of a table from a file in the drawer, or answers why not.
 #[tactic(auto, unfolding(tbl_model::specs::GroundLoads::load_effect))]
 pub(crate) fn load(
+    alloc: Global,
     tables: &mut Tables,
     drawer: &Drawer,
     file: &Name64,
@@ -75,7 +79,7 @@ pub(crate) fn load(
     match read_table_file(contents) {
         Ok(parsed) => {
             let (_, image) = contents.split_at(IMAGE_PLACE);
-            Ok(load_parsed(tables, file, &parsed, image, empty))
+            load_parsed(alloc, tables, file, &parsed, image, empty)
         }
         Err(fault) => Ok(Effect::of(Answer::plain(fault.status()), empty)),
     }

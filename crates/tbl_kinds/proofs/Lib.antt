@@ -1,4 +1,5 @@
 pub mod Names
 pub mod NameFields
+pub mod FreeLaws
 pub mod RecordLaws
 pub mod TranscriptLaws

@@ -1,2 +1,3 @@
+pub mod RefusalLaws
 pub mod CountsLaws
 pub mod HistoryLaws

@@ -1,16 +1,16 @@
 -- What each request of an application does.
-use Rattle.std.specs.Prelude.{ℕ, ◌+◌, ◌-◌, ◌==◌, List, [], ◌∷◌, ◌++◌, length, Bool, true, false, not, ◌&&◌, ◌||◌, nat_lt, if◌then◌else◌, Option, Some, None, is_some, option_and_then, slice_get, slice_set, Result, Ok, Err}
+use Rattle.std.specs.Prelude.{ℕ, ◌-◌, ◌+◌, ◌==◌, List, [], ◌∷◌, ◌++◌, length, Bool, true, false, not, ◌||◌, if◌then◌else◌, Option, Some, None, is_some, option_and_then, slice_get, slice_set, Result, Ok, Err}
 use Rattle.std.specs.List.{list_any}
 use Rattle.tbl_kinds.specs.Names.{is_name}
-use Rattle.tbl_kinds.specs.Limits.{table_limit}
 use Rattle.tbl_model.specs.State.{State, Table}
-use Rattle.tbl_model.specs.Tables.{table_at, is_double, is_dump_only, in_use}
+use Rattle.tbl_model.specs.Tables.{table_at}
 use Rattle.tbl_kinds.specs.Free.{least_free}
-use Rattle.tbl_model.specs.TableSteps.{is_that, find, locker, check, put, set_time, with_table, with_handle, Step, get_address, release, read, new_table, new_handle}
+use Rattle.tbl_model.specs.TableSteps.{find, check, put, set_time, with_table, with_handle, Step, get_address, release, read, new_table, new_handle}
 use Rattle.tbl_model.specs.Deeds.{activated}
 use Rattle.tbl_model.specs.Effects.{Effect, answered, named}
+use Rattle.tbl_model.specs.Refusals.{by_answer, by_refusal, plan_refusal, image_refusal}
 use Rattle.tbl_kinds.specs.declared.status.Status.{Status}
-use Rattle.tbl_kinds.specs.declared.status.TheConstants.Status.{SUCCESS, INFO_TABLE_LOCKED, WARN_DUPLICATE, ERR_BAD_APP, ERR_UNREGISTERED, ERR_INVALID_NAME, ERR_INVALID_SIZE, ERR_INVALID_OPTIONS, ERR_NO_VALIDATOR, ERR_DUPLICATE_NOT_OWNED, ERR_DUPLICATE_DIFF_SIZE, ERR_REGISTRY_FULL, ERR_HANDLES_FULL, ERR_DUMP_ONLY, ERR_LOAD_IN_PROGRESS, ERR_IMAGE_SIZE, ERR_NO_BUFFER_AVAIL, ERR_APP_RUNNING}
+use Rattle.tbl_kinds.specs.declared.status.TheConstants.Status.{SUCCESS, WARN_DUPLICATE, ERR_BAD_APP, ERR_UNREGISTERED, ERR_INVALID_NAME, ERR_DUPLICATE_NOT_OWNED, ERR_DUPLICATE_DIFF_SIZE, ERR_REGISTRY_FULL, ERR_HANDLES_FULL, ERR_APP_RUNNING}
 
 -- ---- applications
 
@@ -53,15 +53,6 @@ stepped s step = record (answered s step.status 0) { next = record s { tables = 
 
 -- ---- registration
 
--- the options that can be asked for today
-abbrev pub are_options : ℕ → Bool
-are_options flags = flags == 0
-
--- whether the application may use this validation function
-abbrev pub may_use : State → ℕ → Option ℕ → Bool
-may_use s app None = true
-may_use s app (Some number) = is_that app (option_and_then (λ found. found) (slice_get s.kit number))
-
 abbrev pub duplicate_effect : State → ℕ → ℕ → Option Table → Effect
 duplicate_effect s app size None = answered s ERR_REGISTRY_FULL 0
 duplicate_effect s app size (Some t) =
@@ -83,11 +74,7 @@ by_name_effect s app name size options validator None = add_effect s app name si
 
 unfoldable pub register_effect : State → ℕ → List ℕ → ℕ → ℕ → Option ℕ → Effect
 register_effect s app short size flags validator = if_running s app (λ app_name.
-    if not (is_name short) then answered s ERR_INVALID_NAME 0
-    else (if size == 0 || nat_lt table_limit size then answered s ERR_INVALID_SIZE 0
-    else (if not (are_options flags) then answered s ERR_INVALID_OPTIONS 0
-    else (if not (may_use s app validator) then answered s ERR_NO_VALIDATOR 0
-    else by_name_effect s app (full_name app_name short) size flags validator (find (full_name app_name short) s.tables)))))
+    by_answer s (plan_refusal s.kit app short size flags validator) (by_name_effect s app (full_name app_name short) size flags validator (find (full_name app_name short) s.tables)))
 
 -- ---- loads
 
@@ -100,24 +87,9 @@ activate_effect s row t image = record (answered s SUCCESS 0) {
   next = record s { tables = set_time row s.seconds s.sub (put row image s.tables) };
 }
 
--- no shared buffer is free for a single-buffered table
-abbrev pub if_buffer : State → Table → Effect → Effect
-if_buffer s t effect =
-    if not (is_double t) && length (in_use s.tables) == 4 then record (answered s ERR_NO_BUFFER_AVAIL 0) { bytes = in_use s.tables }
-    else effect
-
--- the table is locked, or no shared buffer is free for it
-abbrev pub if_free : State → Table → Option ℕ → Effect → Effect
-if_free s t (Some handle) effect = answered s INFO_TABLE_LOCKED handle
-if_free s t None effect = if_buffer s t effect
-
 abbrev pub load_image_of : State → ℕ → Option Table → List ℕ → Effect
 load_image_of s row None image = answered s ERR_UNREGISTERED 0
-load_image_of s row (Some t) image =
-    if is_dump_only t then answered s ERR_DUMP_ONLY 0
-    else (if is_some t.load then answered s ERR_LOAD_IN_PROGRESS 0
-    else (if not (length image == t.size) then answered s ERR_IMAGE_SIZE 0
-    else if_free s t (locker s.tables row t) (activate_effect s row t image)))
+load_image_of s row (Some t) image = by_refusal s (image_refusal s.tables row t (length image)) (activate_effect s row t image)
 
 unfoldable pub load_image_effect : State → ℕ → ℕ → List ℕ → Effect
 load_image_effect s app handle image = if_handle s app handle true (λ row. load_image_of s row (table_at s.tables row) image)

@@ -3,6 +3,7 @@ pub mod Tables
 pub mod Deeds
 pub mod Effects
 pub mod TableSteps
+pub mod Refusals
 pub mod Applications
 pub mod Uplinks
 pub mod GroundLoads

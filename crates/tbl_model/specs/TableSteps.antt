@@ -1,9 +1,9 @@
 -- What is asked of the tables, and how they change: one function for each question and each change.
-use Rattle.std.specs.Prelude.{ℕ, ◌+◌, ◌-◌, ◌==◌, List, [], ◌++◌, take, drop, length, replicate, Bool, false, not, ◌&&◌, nat_lt, if◌then◌else◌, position, Option, Some, None, is_some, unwrap_or, option_and_then, slice_index_or, slice_set, Result, Ok, Err}
+use Rattle.std.specs.Prelude.{ℕ, ◌+◌, ◌-◌, ◌==◌, List, [], length, replicate, Bool, false, not, ◌&&◌, nat_lt, if◌then◌else◌, position, Option, Some, None, is_some, unwrap_or, option_and_then, slice_index_or, slice_set, Result, Ok, Err}
 use Rattle.std.specs.List.{list_any}
 use Rattle.std.specs.Option.{option_map, option_map_or}
 use Rattle.std.specs.Str.{bytes_eq}
-use Rattle.tbl_kinds.specs.Numbers.{piece}
+use Rattle.tbl_kinds.specs.Numbers.{piece, patched}
 use Rattle.tbl_model.specs.State.{Load, Table, Handle, Tables, quiet}
 use Rattle.tbl_model.specs.Tables.{table_at, is_double}
 use Rattle.tbl_kinds.specs.declared.status.Status.{Status}
@@ -161,10 +161,6 @@ read number offset len tables =
 
 -- ---- loads
 
--- other bytes over some of an image
-abbrev pub patched : List ℕ → ℕ → List ℕ → List ℕ
-patched image offset bytes = take offset image ++ bytes ++ drop (offset + length bytes) image
-
 -- what a load begins with: the image of the open load, else the last image, else zeros
 abbrev pub base : Table → List ℕ
 base t = option_map_or (λ (load : Load). load.image) t.load (unwrap_or t.last (replicate t.size 0))
@@ -180,9 +176,9 @@ changed_in tables row change (Some t) = with_table row (change t) tables
 abbrev pub changed : ℕ → (Table → Table) → Tables → Tables
 changed row change tables = changed_in tables row change (table_at tables row)
 
--- the load opens
-abbrev pub open_load : ℕ → Tables → Tables
-open_load row tables = changed row (λ t. record t { load = unchecked (base t) }) tables
+-- the load has this image, and is opened where none is open
+abbrev pub set_load : ℕ → List ℕ → Tables → Tables
+set_load row image tables = changed row (λ t. record t { load = unchecked image }) tables
 
 -- bytes go into the load
 abbrev pub patch : ℕ → ℕ → List ℕ → Tables → Tables

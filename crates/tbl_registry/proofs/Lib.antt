@@ -1,12 +1,10 @@
 pub mod Add
-pub mod Changes
-pub mod Full
-pub mod Loads
-pub mod Named
-pub mod Places
-pub mod Rows
 pub mod Start
+pub mod Changes
 pub mod InUse
 pub mod Lent
+pub mod Named
+pub mod NewImages
+pub mod Pins
+pub mod Places
 pub mod Steps
-pub mod Viewed

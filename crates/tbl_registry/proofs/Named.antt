@@ -1,11 +1,12 @@
 -- The names of tables.
-use Rattle.std.proofs.Common.{◌≡◌, ◌≢◌, ◌<◌, ℕ, List, length, position, slice_index_or, slice_set, Bool, true, false, cond, nat_lt, Option, Some, None, refl, ap, sym, ◌∙◌, inl, inr, arith}
+use Rattle.std.proofs.Common.{◌≡◌, ◌≢◌, ◌<◌, ℕ, List, length, position, slice_index_or, slice_set, Bool, true, false, cond, nat_lt, Option, Some, None, IsSome, refl, ap, sym, ◌∙◌, inl, inr, arith}
 use Rattle.std.specs.List.{position_or_len}
 use Rattle.std.specs.Str.{bytes_eq}
 use Rattle.std.proofs.lemmas.Bool.{cases_eq, cases_lt, cases_Bool}
 use Rattle.std.proofs.lemmas.Bool.Decides.{nat_tests}
 use Rattle.std.proofs.lemmas.List.{length-set, get_or-set_same, get_or-set_other, get_or_past}
 use Rattle.std.proofs.lemmas.List.Folds.{position_or_len-set}
+use Rattle.std.proofs.lemmas.List.Quantifiers.{position-Some}
 use Rattle.std.proofs.lemmas.List.Sums.{position_or_len_is}
 use Rattle.std.proofs.lemmas.Option.{same_Some}
 use Rattle.std.proofs.lemmas.Slice.Eq.{bytes_eq-Decides}
@@ -68,3 +69,11 @@ named_added rows row t free within new named k x is =
           let differ : bytes_eq x.name t.name ≡ false = rw at at (position-None (has_name t.name) rows k None new refl) in
           position-set (has_name x.name) rows row (Some t) None (rw free (other_name x.name t.name differ)) ∙ named k x at
     ]
+
+named_there : (name : List ℕ) (row : Option Table) → has_name name row ≡ true → IsSome row
+named_there name None is = absurd (cc is)
+named_there name (Some t) is = refl
+
+-- a table stands in the row that is found
+pub named_row : (name : List ℕ) (rows : List (Option Table)) (row : ℕ) → position (has_name name) rows ≡ Some row → IsSome (slice_index_or rows row None)
+named_row name rows row found = named_there name _ (position-Some (has_name name) rows row None found).1

@@ -1,13 +1,17 @@
 -- Lists of places, seen by index.
-use Rattle.std.proofs.Common.{◌≡◌, ℕ, ◌≤◌, zero, suc, List, [], ◌∷◌, length, map, replicate, position, slice_index_or, slice_set, Bool, false, cond, nat_lt, Option, Some, None, refl, ap, sym, ◌∙◌, IsSome, inl, inr, arith}
-use Rattle.std.specs.List.{position_or_len}
+use Rattle.std.proofs.Common.{◌≡◌, ℕ, ◌+◌, ◌<◌, ◌≤◌, zero, suc, List, [], ◌∷◌, length, map, take, replicate, count_by, position, slice_index_or, slice_set, Bool, true, false, not, ◌||◌, cond, nat_lt, is_some, is_none, Option, Some, None, refl, ap, sym, ◌∙◌, subst, IsSome, inl, inr, arith}
+use Rattle.std.specs.List.{position_or_len, list_any}
 use Rattle.std.specs.Option.{option_map, ForSome}
 use Rattle.std.proofs.lemmas.Bool.{cases_lt}
+use Rattle.std.proofs.lemmas.Option.{same_Some}
 use Rattle.std.proofs.lemmas.Bool.Decides.{nat_tests}
-use Rattle.std.proofs.lemmas.List.{length-map, get_or_past}
-use Rattle.std.proofs.lemmas.List.Sums.{fails_before_first}
+use Rattle.std.proofs.lemmas.List.{length-map, length-take-le, get_or_past}
+use Rattle.std.proofs.lemmas.List.Sums.{fails_before_first, sum_by-set, sum_by-cons, count_by_more_yes, count_by_more_no, count_by-le-length}
+use Rattle.std.proofs.lemmas.List.Quantifiers.{position-Some}
+use Rattle.tbl_kinds.specs.Free.{least_free}
 use Rattle.access_desc.specs.Steps.{at_place, changed_at}
-use Rattle.tbl_registry.specs.Sound.{AtEachPlace}
+use Rattle.tbl_registry.specs.Pins.{AtEachPlace}
+use Rattle.tbl_registry.specs.Lent.{one_if}
 
 -- nothing stands at a free place
 pub get_or-replicate_None : {X : Type 0} (n k : ℕ) → slice_index_or (replicate {A = Option X} n None) k None ≡ None
@@ -73,3 +77,104 @@ pub at_place-read : {X : Type 0} (xs : List (Option X)) (n : ℕ) (o : Option X)
 at_place-read [] n o x read is there = absurd (cc there)
 at_place-read (y ∷ ys) zero o x read is there = sym read ∙ is
 at_place-read (y ∷ ys) (suc n) o x read is there = at_place-read ys n o x read is there
+
+pub within_places : {X : Type 0} (xs : List (Option X)) (n : ℕ) (x : X) → slice_index_or xs n None ≡ Some x → n < length xs
+within_places xs n x there =
+    elim (cases_lt n (length xs)) [
+      | inl within ↦ within
+      | inr past ↦ absurd (cc (there, get_or_past xs n None past))
+    ]
+
+-- a count after one place is set
+pub count_set : {X : Type 0} (p : X → Bool) (xs : List X) (n : ℕ) (v d : X) → n < length xs → count_by p (slice_set xs n v) + one_if (p (slice_index_or xs n d)) ≡ count_by p xs + one_if (p v)
+count_set p xs n v d within = sum_by-set (λ x. one_if (p x)) xs n v d within
+
+-- a count of a list that is seen otherwise
+pub count_map : {X Y : Type 0} (p : Y → Bool) (q : X → Bool) (f : X → Y) → ((x : X) → p (f x) ≡ q x) → (xs : List X) → count_by p (map f xs) ≡ count_by q xs
+count_map p q f same [] = refl
+count_map p q f same (x ∷ xs) =
+    let a : count_by p (map f (x ∷ xs)) ≡ cond (p (f x)) 1 0 + count_by p (map f xs) = sum_by-cons (λ y. cond (p y) 1 0) (f x) (map f xs) in
+    let b : count_by q (x ∷ xs) ≡ cond (q x) 1 0 + count_by q xs = sum_by-cons (λ y. cond (q y) 1 0) x xs in
+    let e : cond (p (f x)) 1 0 ≡ cond {A = ℕ} (q x) 1 0 = rw (same x) refl in
+    let i : count_by p (map f xs) ≡ count_by q xs = count_map p q f same xs in
+    omega (arith, a, b, e, i)
+
+-- and after one element more
+pub counted_more : {X : Type 0} (p : X → Bool) (xs : List X) (n count : ℕ) (d : X) (b : Bool) → n < length xs → count ≡ count_by p (take n xs) → b ≡ p (slice_index_or xs n d) → cond b (count + 1) count ≡ count_by p (take (n + 1) xs)
+counted_more p xs n count d true within is here = rw is (sym (count_by_more_yes p xs n d within (sym here)))
+counted_more p xs n count d false within is here = rw is (sym (count_by_more_no p xs n d within (sym here)))
+
+pub count_within : {X : Type 0} (p : X → Bool) (xs : List X) (n count : ℕ) → n < length xs → length xs ≤ 256 → count ≡ count_by p (take n xs) → count < 256
+count_within p xs n count within all is =
+    let a = count_by-le-length p (take n xs) in
+    let b : length (take n xs) ≡ n = length-take-le n xs (omega (arith, within)) in
+    omega (arith, a, b, is, within, all)
+
+-- ---- tests of what is seen
+
+-- the first place that passes, where the tests agree at each
+pub position-seen : {X Y : Type 0} (p : Option Y → Bool) (q : Option X → Bool) (f : X → Y) (xs : List (Option X)) → p None ≡ q None → AtEachPlace (λ x. p (Some (f x)) ≡ q (Some x)) xs → position p (map (option_map f) xs) ≡ position q xs
+position-seen {X} p q f xs none same = rw (first xs same, length-map xs (option_map f)) refl where
+  first : (xs : List (Option X)) → AtEachPlace (λ x. p (Some (f x)) ≡ q (Some x)) xs → position_or_len p (map (option_map f) xs) ≡ position_or_len q xs
+  first [] same = refl
+  first (None ∷ xs) same = rw (none, first xs (λ k. same (suc k))) refl
+  first (Some x ∷ xs) same = rw (same zero x refl, first xs (λ k. same (suc k))) refl
+
+-- whether one passes
+pub any-seen : {X Y : Type 0} (p : Option Y → Bool) (q : Option X → Bool) (f : X → Y) (xs : List (Option X)) → p None ≡ q None → AtEachPlace (λ x. p (Some (f x)) ≡ q (Some x)) xs → list_any p (map (option_map f) xs) ≡ list_any q xs
+any-seen p q f [] none same = refl
+any-seen p q f (None ∷ xs) none same = rw (none, any-seen p q f xs none (λ k. same (suc k))) refl
+any-seen p q f (Some x ∷ xs) none same = rw (same zero x refl, any-seen p q f xs none (λ k. same (suc k))) refl
+
+found_at : (n all : ℕ) → is_some (cond (nat_lt n all) (Some n) None) ≡ nat_lt n all
+found_at n all = by (nat_lt n all) where
+  by : (b : Bool) → is_some (cond b (Some n) None) ≡ b
+  by true = refl
+  by false = refl
+
+-- and that is whether there is a first
+pub any_is_found : {X : Type 0} (q : X → Bool) (xs : List X) → list_any q xs ≡ is_some (position q xs)
+any_is_found {X} q xs = rw (found_at (position_or_len q xs) (length xs)) (by xs) where
+  by : (xs : List X) → list_any q xs ≡ nat_lt (position_or_len q xs) (length xs)
+  by [] = refl
+  by (x ∷ xs) = rw (by xs) (step (q x) (position_or_len q xs) (length xs)) where
+    step : (b : Bool) (n all : ℕ) → (b || nat_lt n all) ≡ nat_lt (cond (not b) (1 + n) 0) (suc all)
+    step true n all = grind (arith, nat_tests)
+    step false n all = grind (arith, nat_tests)
+
+pub none_passes : {X : Type 0} (xs : List (Option X)) (test : Option X → Bool) → test None ≡ false → position test xs ≡ None → AtEachPlace (λ x. test (Some x) ≡ false) xs
+none_passes xs test none free n x at = rw at at (position-None test xs n None free none)
+
+-- ---- each place changed
+
+pub map-through : {X Y : Type 0} (f : X → Y) (g : X → X) (h : X → Y) (xs : List (Option X)) → AtEachPlace (λ x. f (g x) ≡ h x) xs → map (option_map f) (map (option_map g) xs) ≡ map (option_map h) xs
+map-through f g h [] same = refl
+map-through f g h (None ∷ xs) same = ap (λ ys. None ∷ ys) (map-through f g h xs (λ k. same (suc k)))
+map-through f g h (Some x ∷ xs) same = cc (same zero x refl, map-through f g h xs (λ k. same (suc k)))
+
+pub AtEachPlace-map : {X Y : Type 0} (P : Y → Type 0) (f : X → Y) (xs : List (Option X)) → AtEachPlace (λ x. P (f x)) xs → AtEachPlace P (map (option_map f) xs)
+AtEachPlace-map P f [] all n y at = absurd (cc at)
+AtEachPlace-map P f (None ∷ xs) all zero y at = absurd (cc at)
+AtEachPlace-map P f (Some x ∷ xs) all zero y at = subst P (same_Some (f x) y at) (all zero x refl)
+AtEachPlace-map P f (x ∷ xs) all (suc n) y at = AtEachPlace-map P f xs (λ k. all (suc k)) n y at
+
+-- ---- free places
+
+none_there : {X : Type 0} (place : Option X) → is_none place ≡ true → place ≡ None
+none_there None free = refl
+none_there (Some x) free = absurd (cc free)
+
+-- nothing stands at the least free one
+pub least_free-None : {X : Type 0} (places : List (Option X)) (n : ℕ) → least_free places ≡ Some n → slice_index_or places n None ≡ None
+least_free-None places n free = none_there _ (position-Some is_none places n None free).1
+
+pub least_free-within : {X : Type 0} (places : List (Option X)) (n : ℕ) → least_free places ≡ Some n → n < length places
+least_free-within places n free = (position-Some is_none places n None free).0
+
+free_is : {X Y : Type 0} (f : X → Y) (place : Option X) → is_none (option_map f place) ≡ is_none place
+free_is f None = refl
+free_is f (Some x) = refl
+
+-- it is the least free one of what is seen
+pub least_free-map : {X Y : Type 0} (f : X → Y) (places : List (Option X)) → least_free (map (option_map f) places) ≡ least_free places
+least_free-map f places = position-map is_none is_none (option_map f) (free_is f) places

@@ -1,19 +1,27 @@
 -- The steps of a handle that leads to a table.
-use Rattle.std.proofs.Common.{◌≡◌, ◌==◌, ◌+◌, ◌-◌, ◌<◌, ◌≤◌, nat_lt, ℕ, List, length, take, drop, cond, slice_index_or, slice_set, Bool, true, false, not, is_some, IsSome, Option, Some, None, Ok, refl, ap, sym, ◌∙◌, arith, rules, subst}
+use Rattle.std.proofs.Common.{◌≡◌, ◌==◌, ◌+◌, ◌-◌, ◌<◌, ◌≤◌, nat_lt, ℕ, List, length, map, position, take, drop, [], unwrap_or, cond, slice_index_or, slice_set, Bool, true, false, is_some, IsSome, Option, Some, None, Ok, refl, ap, sym, ◌∙◌, arith, rules, subst}
+use Rattle.std.specs.Option.{option_map}
 use Rattle.std.specs.List.{list_any}
-use Rattle.std.proofs.lemmas.List.{set-get_or, length-set}
 use Rattle.std.proofs.lemmas.Option.{same_Some}
 use Rattle.std.proofs.lemmas.Bool.Decides.{nat_tests}
 use Rattle.tbl_model.specs.State.{Table, Handle, Tables}
-use Rattle.tbl_model.specs.TableSteps.{access_of, with_handle, get_address, release, read, let_go, pins}
+use Rattle.tbl_model.specs.TableSteps.{access_of, with_handle, with_table, get_address, release, read, let_go, pins as image_pins}
 use Rattle.access_desc.specs.declared.handle_view.HandleView.{HandleView}
-use Rattle.access_desc.specs.Steps.{at_place, changed_at, with_no_pin}
-use Rattle.tbl_registry.specs.Sound.{IsSound, Leads}
-use Rattle.tbl_registry.specs.Seen.{tables_of, handle_of, with_last}
-use Rattle.tbl_registry.proofs.Places.{AtEachPlace-set, at_place-map, map-changed_at}
+use Rattle.access_desc.specs.Steps.{at_place, changed_at, has, is_of, pins, pins_old, with_no_pin}
+use Rattle.working_buffers.specs.Places.{Held}
+use Rattle.tbl_registry.specs.Pins.{AtEachPlace, Pins, Leads}
+use Rattle.tbl_registry.specs.Sound.{IsSound}
+use Rattle.tbl_registry.specs.Seen.{tables_of, handle_of, with_last, let_go_unless}
+use Rattle.tbl_registry.proofs.Places.{AtEachPlace-set, at_place-map, map-changed_at, none_passes}
+use Rattle.tbl_registry.proofs.Pins.{PinsOf, pins_of, before_is_pinned}
+use Rattle.tbl_registry.proofs.Changes.{row_sound, row_seen}
 
 not_zero : (n : ℕ) → (n ≡ 0 → ⊥) → (n == 0) ≡ false
 not_zero n some = grind (arith, nat_tests)
+
+-- a handle that leads to a table isn't one that leads to none
+pub leads_nowhere : (tables other : Tables) (n : ℕ) → tables ≡ other → access_of tables n ≡ None → IsSome (access_of other n) → ⊥
+leads_nowhere tables other n same none some = cc (rw (← same, none) at some)
 
 -- a handle, its row and its table, as the registry keeps them
 pub record Leading (rows : List (Option Table)) (handles : List (Option HandleView)) (n : ℕ) (h : HandleView) (row : ℕ) (t : Table) : Type 0 where
@@ -21,85 +29,104 @@ pub record Leading (rows : List (Option Table)) (handles : List (Option HandleVi
   pub row_is : h.row ≡ Some row
   pub table : slice_index_or rows row None ≡ Some t
 
-pub access_is : (rows : List (Option Table)) (handles : List (Option HandleView)) (n : ℕ) (h : HandleView) (row : ℕ) (t : Table) → Leading rows handles n h row t
-    → access_of (tables_of rows handles) n ≡ Some (record { handle = handle_of rows h; row = row; table = t })
-access_is rows handles n h row t l =
-    rw (at_place-map (handle_of rows) handles n, l.place, l.row_is, l.table) refl
+module _ (rows : List (Option Table)) (handles : List (Option HandleView)) (buffers : List (Option Held)) (n : ℕ) (h : HandleView) (row : ℕ) (t : Table) (l : Leading rows handles n h row t) (sound : IsSound rows handles buffers) where
+  access_is : access_of (tables_of rows handles) n ≡ Some (record { handle = handle_of rows h; row = row; table = t })
+  access_is = rw (at_place-map (handle_of rows) handles n, l.place, l.row_is, l.table) refl
 
--- one handle changes
-changed_seen : (rows : List (Option Table)) (f : HandleView → HandleView) (handles : List (Option HandleView)) (n : ℕ) (h : HandleView) → at_place handles n ≡ Some h
-    → tables_of rows (changed_at f handles n) ≡ with_handle n (handle_of rows (f h)) (tables_of rows handles)
-changed_seen rows f handles n h place =
-    ap (λ (hs : List (Option Handle)). let ts : Tables = record { rows = rows; handles = hs } in ts) (map-changed_at (handle_of rows) f handles n h place)
+  -- ---- the handle changes
 
-changed_sound : (rows : List (Option Table)) (f : HandleView → HandleView) (handles : List (Option HandleView)) (n : ℕ) (h : HandleView) → at_place handles n ≡ Some h
-    → IsSound rows handles → Leads rows (f h) → IsSound rows (changed_at f handles n)
-changed_sound rows f handles n h place sound leads = rw place record {
-  all_rows = sound.all_rows;
-  all_handles = simp length-set sound.all_handles;
-  tables = sound.tables;
-  named = sound.named;
-  leads = AtEachPlace-set (Leads rows) handles n (Some (f h)) sound.leads (λ g is. subst (Leads rows) (same_Some (f h) g is) leads);
-}
+  handle_seen : (f : HandleView → HandleView) → tables_of rows (changed_at f handles n) ≡ with_handle n (handle_of rows (f h)) (tables_of rows handles)
+  handle_seen f = ap (λ (hs : List (Option Handle)). let ts : Tables = record { rows = rows; handles = hs } in ts) (map-changed_at (handle_of rows) f handles n h l.place)
 
-pub sound_after_pin : (rows : List (Option Table)) (handles : List (Option HandleView)) (n : ℕ) (h : HandleView) (row : ℕ) (t : Table) (count : ℕ) → Leading rows handles n h row t
-    → IsSound rows handles → count ≡ t.count → (count ≡ 0 → ⊥) → IsSound rows (changed_at (with_last count) handles n)
-sound_after_pin rows handles n h row t count l sound all loaded = changed_sound rows (with_last count) handles n h l.place sound record {
-  table = (sound.leads n h l.place).table;
-  pins_last = λ pinned. refl;
-  pins_image = λ pinned. rw (l.row_is, l.table, ← all) (omega arith);
-}
+  handle_sound : (f : HandleView → HandleView) → Leads rows (f h) → IsSound rows (changed_at f handles n) buffers
+  handle_sound f leads = rw l.place record {
+    all_rows = sound.all_rows;
+    named = sound.named;
+    leads = AtEachPlace-set (Leads rows) handles n (Some (f h)) sound.leads (λ g is. subst (Leads rows) (same_Some (f h) g is) leads);
+    lent = sound.lent;
+  }
 
-pub sound_after_release : (rows : List (Option Table)) (handles : List (Option HandleView)) (n : ℕ) (h : HandleView) (row : ℕ) (t : Table) → Leading rows handles n h row t
-    → IsSound rows handles → IsSound rows (changed_at with_no_pin handles n)
-sound_after_release rows handles n h row t l sound = changed_sound rows with_no_pin handles n h l.place sound record {
-  table = (sound.leads n h l.place).table;
-  pins_last = λ pinned. refl;
-  pins_image = λ pinned. absurd (cc pinned);
-}
+  -- ---- it pins the last image
 
-pub get_address_pins : (rows : List (Option Table)) (handles : List (Option HandleView)) (n : ℕ) (h : HandleView) (row : ℕ) (t : Table) (count : ℕ) → Leading rows handles n h row t
-    → h.pinned ≡ false → count ≡ t.count → (count ≡ 0 → ⊥) → tables_of rows (changed_at (with_last count) handles n) ≡ (get_address n (tables_of rows handles)).tables
-get_address_pins rows handles n h row t count l free all loaded =
-    let some : (t.count == 0) ≡ false = not_zero t.count (λ none. loaded (all ∙ none)) in
-    rw (access_is rows handles n h row t l, free, some, all, changed_seen rows (with_last t.count) handles n h l.place, l.row_is, l.table) refl
+  pub pinned_sound : (count : ℕ) → count ≡ t.count → (count ≡ 0 → ⊥) → IsSound rows (changed_at (with_last count) handles n) buffers
+  pinned_sound count all loaded = handle_sound (with_last count) record {
+    table = (sound.leads n h l.place).table;
+    pins = λ _ k of u there.
+        let here : row ≡ k = same_Some row k (sym l.row_is ∙ of) in
+        let same : t ≡ u = same_Some t u (sym l.table ∙ rw (← here) at there) in
+        subst (λ (v : Table). Pins v false) same record {
+          loaded = omega arith;
+          kept = λ old. absurd (cc old);
+          closed = λ old. absurd (cc old);
+        };
+  }
 
--- nothing is let go where nothing was kept
-let_go_nothing : (b : Bool) (t : Table) → t.before ≡ None → record t { before = cond b t.before None } ≡ t
-let_go_nothing true t none = refl
-let_go_nothing false t none = ap (λ (image : Option (List ℕ)). record t { before = image }) (sym none)
+  pub pinned_seen : (count : ℕ) → h.pinned ≡ false → count ≡ t.count → (count ≡ 0 → ⊥) → tables_of rows (changed_at (with_last count) handles n) ≡ (get_address n (tables_of rows handles)).tables
+  pinned_seen count free all loaded =
+      let some : (t.count == 0) ≡ false = not_zero t.count (λ none. loaded (all ∙ none)) in
+      rw (access_is, free, some, all, handle_seen (with_last t.count), l.row_is, l.table) refl
 
-kept : (rows : List (Option Table)) (row : ℕ) (t u : Table) → slice_index_or rows row None ≡ Some t → u ≡ t → slice_set rows row (Some u) ≡ rows
-kept rows row t u there same = rw (same, ← there) (set-get_or rows row None)
+  -- ---- its pin ends
 
-pub release_unpins : (rows : List (Option Table)) (handles : List (Option HandleView)) (n : ℕ) (h : HandleView) (row : ℕ) (t : Table) → Leading rows handles n h row t
-    → IsSound rows handles → h.pinned ≡ true → tables_of rows (changed_at with_no_pin handles n) ≡ (release n (tables_of rows handles)).tables
-release_unpins rows handles n h row t l sound pinned =
-    let none : t.before ≡ None = (sound.tables row t l.table).before in
-    rw (access_is rows handles n h row t l, pinned, changed_seen rows with_no_pin handles n h l.place)
-    (let after : Tables = with_handle n (handle_of rows (with_no_pin h)) (tables_of rows handles) in
-    ap (λ (rs : List (Option Table)). record after { rows = rs })
-    (sym (kept rows row t (let_go after.handles row t) l.table (let_go_nothing (list_any (pins row (t.count - 1)) after.handles) t none))))
+  abbrev free : List (Option HandleView)
+  free = changed_at with_no_pin handles n
 
--- the table of a handle that pins has an image
-pub pins_nothing : (rows : List (Option Table)) (handles : List (Option HandleView)) (n : ℕ) (h : HandleView) (row : ℕ) (t : Table) → Leading rows handles n h row t
-    → IsSound rows handles → h.pinned ≡ true → t.last ≡ None → ⊥
-pins_nothing rows handles n h row t l sound pinned none =
-    let loaded : is_some t.last ≡ not (t.count == 0) = (sound.tables row t l.table).loaded in
-    let some : 0 < t.count = rw (l.row_is, l.table) at (sound.leads n h l.place).pins_image pinned in
-    let zero : not (t.count == 0) ≡ false = sym (rw none at loaded) in
-    grind (arith, nat_tests)
+  free_sound : IsSound rows free buffers
+  free_sound = handle_sound with_no_pin record { table = (sound.leads n h l.place).table; pins = λ pinned. absurd (cc pinned) }
 
-pub read_lends : (rows : List (Option Table)) (handles : List (Option HandleView)) (n offset len : ℕ) (h : HandleView) (row : ℕ) (t : Table) (image : List ℕ) → Leading rows handles n h row t
-    → IsSound rows handles → h.pinned ≡ true → t.last ≡ Some image → length image ≡ t.size → offset + len ≤ length image
-    → read n offset len (tables_of rows handles) ≡ Ok (take (offset + len - offset) (drop offset image))
-read_lends rows handles n offset len h row t image l sound pinned last size within =
-    let new : h.old ≡ false = (sound.leads n h l.place).pins_last pinned in
-    let same : (t.count == t.count) ≡ true = search rules in
-    let room : nat_lt t.size (offset + len) ≡ false = grind (arith, nat_tests) in
-    let stated : offset + len - offset ≡ len = omega arith in
-    rw (access_is rows handles n h row t l, pinned, new, l.row_is, l.table, same, last, room, stated) refl
+  -- the image before stays where a handle pins it
+  abbrev stays : Bool
+  stays = is_some (position (has (pins_old row)) free)
 
--- a handle that leads to a table isn't one that leads to none
-pub leads_nowhere : (tables other : Tables) (n : ℕ) → tables ≡ other → access_of tables n ≡ None → IsSome (access_of other n) → ⊥
-leads_nowhere tables other n same none some = cc (rw (← same, none) at some)
+  pins_here : (g : HandleView) → g.row ≡ Some row → g.pinned ≡ true → g.old ≡ true → pins_old row g ≡ true
+  pins_here g of is old = let here : (row == row) ≡ true = search rules in rw (of, is, old, here) refl
+
+  free_pins : PinsOf row (let_go_unless stays t) free
+  free_pins k g at of is = by (position (has (pins_old row)) free) refl where
+    p : Pins t g.old
+    p = pins_of rows free row t l.table free_sound.leads k g at of is
+
+    by : (found : Option ℕ) → position (has (pins_old row)) free ≡ found → Pins (let_go_unless (is_some found) t) g.old
+    by (Some m) _ = record { loaded = p.loaded; kept = p.kept; closed = p.closed }
+    by None none = record {
+      loaded = p.loaded;
+      kept = λ old. absurd (cc (none_passes free (has (pins_old row)) refl none k g at, pins_here g of is old));
+      closed = p.closed;
+    }
+
+  pub released_sound : IsSound (slice_set rows row (Some (let_go_unless stays t))) free buffers
+  released_sound = row_sound rows free buffers row t l.table free_sound (let_go_unless stays t) refl free_pins refl
+
+  stays_is : list_any (image_pins row (t.count - 1)) (tables_of rows free).handles ≡ stays
+  stays_is = before_is_pinned rows row t l.table free (pins_of rows free row t l.table free_sound.leads)
+
+  pub released_seen : h.pinned ≡ true → tables_of (slice_set rows row (Some (let_go_unless stays t))) free ≡ (release n (tables_of rows handles)).tables
+  released_seen pinned =
+      let after : Tables → Tables = λ ts. with_table row (let_go ts.handles row t) ts in
+      let kept : tables_of (slice_set rows row (Some (let_go_unless stays t))) free ≡ after (tables_of rows free) =
+      row_seen rows free buffers row t l.table free_sound (let_go_unless stays t) refl ∙ ap (λ (b : Bool). with_table row (let_go_unless b t) (tables_of rows free)) (sym stays_is) in
+      kept ∙ ap after (handle_seen with_no_pin) ∙ rw (access_is, pinned) refl
+
+  -- ---- it reads the image that it pins
+
+  here_pins : h.pinned ≡ true → Pins t h.old
+  here_pins pinned = (sound.leads n h l.place).pins pinned row l.row_is t l.table
+
+  -- which is there
+  pub image_there : h.pinned ≡ true → (0 < t.count → IsSome t.last) → cond h.old t.before t.last ≡ None → ⊥
+  image_there pinned loaded = by h.old (here_pins pinned) where
+    by : (old : Bool) → Pins t old → cond old t.before t.last ≡ None → ⊥
+    by true p none = let some = p.kept refl in cc (rw none at some)
+    by false p none = let some = loaded p.loaded in cc (rw none at some)
+
+  pub read_lends : (offset len : ℕ) (image : List ℕ) → h.pinned ≡ true → cond h.old t.before t.last ≡ Some image → length image ≡ t.size → offset + len ≤ length image
+      → read n offset len (tables_of rows handles) ≡ Ok (take (offset + len - offset) (drop offset image))
+  read_lends offset len image pinned is size within =
+      let room : nat_lt t.size (offset + len) ≡ false = grind (arith, nat_tests) in
+      let stated : offset + len - offset ≡ len = omega arith in
+      let the_image : unwrap_or (cond (cond h.old (t.count - 1) t.count == t.count) t.last t.before) [] ≡ image = by h.old (here_pins pinned) is in
+      rw (access_is, pinned, l.row_is, l.table, room, stated, the_image) refl
+    where
+      by : (old : Bool) → Pins t old → cond old t.before t.last ≡ Some image → unwrap_or (cond (cond old (t.count - 1) t.count == t.count) t.last t.before) [] ≡ image
+      by true p last = let some = p.loaded in let other : (t.count - 1 == t.count) ≡ false = grind (arith, nat_tests) in rw (other, last) refl
+      by false p last = let same : (t.count == t.count) ≡ true = search rules in rw (same, last) refl

@@ -1,26 +1,29 @@
 -- Which rows have the shared working buffers.
-use Rattle.std.specs.Prelude.{◌≡◌, ℕ, List, length, slice_index_or, count_by, is_some, Option, Some, None, option_and_then}
-use Rattle.std.specs.Option.{option_map, ForSome}
+use Rattle.std.specs.Prelude.{◌≡◌, ℕ, ◌+◌, ◌==◌, ◌&&◌, List, length, Bool, false, not, if◌then◌else◌, slice_index_or, count_by, is_some, Option, None}
+use Rattle.std.specs.Option.{option_map_or}
+use Rattle.tbl_model.specs.State.{Table}
+use Rattle.tbl_model.specs.Tables.{is_double, uses_buffer}
 use Rattle.working_buffers.specs.Places.{Held}
-use Rattle.tbl_registry.specs.declared.row.OpenLoad.{OpenLoad}
-use Rattle.tbl_registry.specs.Rows.{Kept, has_open}
-use Rattle.tbl_registry.specs.Sound.{AtEachPlace}
 
--- the row that has a buffer
-abbrev pub row_of : List (Option Held) → ℕ → Option ℕ
-row_of buffers buffer = option_map (λ (held : Held). held.row) (slice_index_or buffers buffer None)
+abbrev pub one_if : Bool → ℕ
+one_if b = if b then 1 else 0
 
-abbrev pub buffer_of : Kept → Option ℕ
-buffer_of kept = option_map (λ (load : OpenLoad). load.buffer) kept.load
+-- the row has the buffer
+abbrev pub is_out_to : ℕ → Option Held → Bool
+is_out_to row place = option_map_or (λ (held : Held). held.row == row) place false
 
--- the buffer that a row has
-abbrev pub buffer_at : List (Option Kept) → ℕ → Option ℕ
-buffer_at rows row = option_and_then buffer_of (slice_index_or rows row None)
-
--- the buffers that are out are those of the rows with an open load, one each
-pub record AreLent (buffers : List (Option Held)) (rows : List (Option Kept)) : Type 0 where
+-- each row has as many of the four buffers as it uses, one or none, and no others are out
+pub record AreLent (buffers : List (Option Held)) (rows : List (Option Table)) : Type 0 where
   pub four : length buffers ≡ 4
-  pub wide : AtEachPlace (λ held. length held.bytes ≡ 16384) buffers
-  pub out : (row : ℕ) → ForSome (buffer_at rows row) (λ buffer. row_of buffers buffer ≡ Some row)
-  pub back : (buffer : ℕ) → ForSome (row_of buffers buffer) (λ row. buffer_at rows row ≡ Some buffer)
-  pub as_many : count_by is_some buffers ≡ count_by has_open rows
+  pub each : (row : ℕ) → count_by (is_out_to row) buffers ≡ one_if (uses_buffer (slice_index_or rows row None))
+  pub as_many : count_by is_some buffers ≡ count_by uses_buffer rows
+
+-- a row was given a buffer, if it wanted one
+pub record IsGiven (old new : List (Option Held)) (row : ℕ) (wants : Bool) : Type 0 where
+  pub length : length new ≡ length old
+  pub each : (k : ℕ) → count_by (is_out_to k) new ≡ count_by (is_out_to k) old + one_if (wants && row == k)
+  pub as_many : count_by is_some new ≡ count_by is_some old + one_if wants
+
+-- a load of the table wants a buffer when it opens
+abbrev pub wants_buffer : Table → Bool
+wants_buffer t = not (is_double t) && not (is_some t.load)

@@ -1,4 +1,5 @@
 pub mod Rows
+pub mod Pins
 pub mod Lent
 pub mod Seen
 pub mod Sound

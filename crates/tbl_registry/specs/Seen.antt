@@ -1,5 +1,5 @@
 -- How what the registry keeps is seen.
-use Rattle.std.specs.Prelude.{ℕ, ◌-◌, List, ◌++◌, length, replicate, map, if◌then◌else◌, slice_index_or, Option, Some, None}
+use Rattle.std.specs.Prelude.{ℕ, ◌-◌, List, ◌++◌, length, replicate, map, Bool, if◌then◌else◌, slice_index_or, Option, Some, None}
 use Rattle.std.specs.Option.{option_map, option_map_or}
 use Rattle.tbl_model.specs.State.{Table, Handle, Tables}
 use Rattle.access_desc.specs.Steps.{with_pin, with_told}
@@ -23,6 +23,10 @@ tables_of rows handles = record { rows = rows; handles = map (option_map (handle
 -- it pins the last of so many images, and was told of all
 abbrev pub with_last : ℕ → HandleView → HandleView
 with_last count h = with_told count (with_pin h)
+
+-- the image before the last stays only while it is pinned
+abbrev pub let_go_unless : Bool → Table → Table
+let_go_unless pinned t = record t { before = if pinned then t.before else None }
 
 -- the rows that use the four shared buffers, and none for each that is free
 abbrev pub padded : List ℕ → List (Option ℕ)

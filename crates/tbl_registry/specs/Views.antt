@@ -14,4 +14,5 @@ row_view t = record {
   count = t.count;
   load = is_some t.load;
   checked = option_map_or (λ (load : Load). load.checked) t.load false;
+  asked = t.activation;
 }

@@ -1,8 +1,8 @@
 //! The table registry: the layer above may rely on it that each call is one step of the registered tables and their handles.
 #![tactic(auto)]
 
-mod buffer;
 mod row;
+mod rows;
 mod tables;
 
 pub use row::{NewTable, RowView};

@@ -1,12 +1,15 @@
-ghost use Rattle.std.specs.Prelude.{◌≡◌, ◌<◌, ◌+◌, ◌-◌, ◌^◌, ℕ, List, [], false, None, Some, IsSome, IfSome, length};
+ghost use Rattle.std.specs.Prelude.{◌≡◌, ◌<◌, ◌+◌, ◌-◌, ◌≤◌, ◌^◌, ℕ, List, [], false, None, Some, IsSome, IfSome, length, if◌then◌else◌};
 ghost use Rattle.std.specs.Option.{option_map};
 ghost use Rattle.std.specs.Borrow.{Bor};
-ghost use Rattle.buffer_pairs.specs.Pair.{zeroed};
-ghost use Rattle.tbl_model.specs.Tables.{option_bits};
-ghost use Rattle.tbl_model.specs.TableSteps.{new_table};
 ghost use Rattle.std.specs.Str.{bytes_eq};
+ghost use Rattle.tbl_kinds.specs.Limits.{table_limit};
+ghost use Rattle.tbl_kinds.specs.Numbers.{patched};
+ghost use Rattle.tbl_model.specs.State.{Load};
+ghost use Rattle.tbl_model.specs.Tables.{option_bits, is_double, uses_buffer};
+ghost use Rattle.tbl_model.specs.TableSteps.{new_table, unchecked, base};
 
-use buffer_pairs::Buffers;
+use bitflags::Flags;
+use buffer_pairs::{Buffers, Image};
 use std::marker::Model;
 use tbl_kinds::{Name40, Name64, Options};
 
@@ -40,15 +43,24 @@ pub struct RowView {
     pub load: bool,
     /// Whether the open load was validated since its last change.
     pub checked: bool,
+    /// Whether the activation of the open load was asked.
+    pub asked: bool,
 }
 
-/// An open load.
-#[derive(Clone, Copy, Debug)]
-pub(crate) struct OpenLoad {
-    /// The shared working buffer that has its image.
-    pub buffer: u8,
+/// An open load: the image that is being put together.
+#[derive(Debug, Drop)]
+struct OpenLoad {
+    image: Image,
     /// Whether it was validated since its last change.
-    pub checked: bool,
+    checked: bool,
+}
+
+impl Model for OpenLoad {
+    ghost use Rattle.tbl_model.specs.State.{Load};
+
+    ghost Value = { Load };
+
+    ghost view = { λ load. record { image = load.image; checked = load.checked } };
 }
 
 /// A registered table.
@@ -62,35 +74,34 @@ pub(crate) struct Row {
     validator: Option<u8>,
     count: u32,
     buffers: Buffers,
+    load: Option<OpenLoad>,
+    asked: bool,
     seconds: u32,
     sub: u16,
     file: Name64,
-    load: Option<OpenLoad>,
 }
 
 impl Model for Row {
-    ghost use Rattle.tbl_registry.specs.Rows.{Kept};
+    ghost use Rattle.tbl_model.specs.State.{Table};
 
-    ghost Value = { Kept };
+    ghost Value = { Table };
 
-    ghost use Rattle.tbl_registry.specs.Rows.{kept_of, IsSingle};
+    ghost use Rattle.tbl_registry.specs.Rows.{table_of, IsRow};
 
-    ghost view = { kept_of };
+    ghost view = { table_of };
 
-    ghost invariant = { IsSingle };
+    ghost invariant = { IsRow };
 }
 
 impl Row {
     ghost use Rattle.tbl_registry.specs.Views.{row_view};
-    ghost use Rattle.tbl_registry.specs.Rows.{table_in};
-    ghost use Rattle.std.specs.Prelude.{Option};
-    ghost use Rattle.working_buffers.specs.Places.{Held};
+    ghost use Rattle.tbl_registry.specs.Rows.{IsTable};
 
-    /// A table as its registration makes it, over a buffer of its size.
-    pub(crate) fn make(app: u8, handle: u16, plan: NewTable, buffers: Buffers) -> Row
-        requires buffer { buffers ≡ zeroed plan.size false }
-        requires no_option { option_bits plan.flags ≡ 0 }
-        ensures { result ≡ record { table = new_table plan.name app plan.size (option_bits plan.flags) plan.validator handle; load = None } }
+    /// A table as its registration makes it.
+    pub(crate) fn make(app: u8, handle: u16, plan: NewTable) -> Row
+        requires some_bytes { 0 < plan.size }
+        requires within { plan.size ≤ table_limit }
+        ensures { result ≡ new_table plan.name app plan.size (option_bits plan.flags) plan.validator handle }
     {
         Row {
             name: plan.name,
@@ -100,31 +111,33 @@ impl Row {
             flags: plan.flags,
             validator: plan.validator,
             count: 0,
-            buffers,
+            buffers: Buffers::make(None, plan.flags.contains(Options::DOUBLE)),
+            load: None,
+            asked: false,
             seconds: 0,
             sub: 0,
             file: Name64::of(&[]),
-            load: None,
         }
     }
 
     /// Whether it has this full name.
     pub(crate) fn has_name(&self, name: &[u8]) -> bool
-        ensures { result ≡ bytes_eq self.now.table.name name.now }
+        ensures { result ≡ bytes_eq self.now.name name.now }
     {
         self.name.bytes() == name
     }
 
     /// Its full name.
     pub(crate) fn name(&self) -> &Name40
-        ensures { result.now ≡ self.now.table.name }
+        ensures { result.now ≡ self.now.name }
     {
         &self.name
     }
 
     /// What can be seen of it.
     pub(crate) fn view(&self) -> RowView
-        ensures { (buffers : List (Option Held)) → result ≡ row_view (table_in buffers self.now) }
+        ensures view { result ≡ row_view self.now }
+        ensures table { IsTable self.now }
     {
         RowView {
             owner: self.owner,
@@ -134,42 +147,68 @@ impl Row {
             validator: self.validator,
             count: self.count,
             load: self.load.is_some(),
-            checked: self.load.is_some_and(|load| load.checked),
+            checked: self.is_checked(),
+            asked: self.asked,
         }
     }
 
     /// How many images it has had.
     pub(crate) fn count(&self) -> u32
-        ensures { result ≡ self.now.table.count }
+        ensures { result ≡ self.now.count }
     {
         self.count
     }
 
-    /// Its last image.
-    pub(crate) fn last(&self) -> Option<&[u8]>
-        ensures image { option_map (λ (image : Bor (List ℕ)). image.now) result ≡ self.now.table.last }
-        ensures size { IfSome result (λ image. length image.now ≡ self.now.table.size) }
+    /// Whether it has two buffers.
+    pub(crate) fn is_double(&self) -> bool
+        ensures { result ≡ is_double self.now }
     {
-        if self.count == 0 {
-            None
+        self.flags.contains(Options::DOUBLE)
+    }
+
+    /// Whether it uses a shared working buffer.
+    pub(crate) fn uses_buffer(&self) -> bool
+        ensures { result ≡ uses_buffer (Some self.now) }
+    {
+        !self.is_double() && self.load.is_some()
+    }
+
+    /// Its last image, or the one before it.
+    pub(crate) fn image(&self, before: bool) -> Option<&[u8]>
+        ensures image { option_map (λ (image : Bor (List ℕ)). image.now) result ≡ (if before then self.now.before else self.now.last) }
+        ensures size { IfSome result (λ image. length image.now ≡ self.now.size) }
+        ensures within { self.now.size ≤ table_limit }
+        ensures loaded { 0 < self.now.count → IsSome self.now.last }
+    {
+        let image = if before {
+            self.buffers.before()
         } else {
-            Some(self.buffers.active())
-        }
+            self.buffers.active()
+        };
+        Some(image?.bytes())
     }
 
     /// Takes an image as its last one.
-    pub(crate) fn put(&mut self, image: &[u8])
-        requires size { length image.now ≡ self.old.table.size }
-        requires count { self.old.table.count < 2 ^ 32 - 1 }
-        ensures { self.new ≡ record self.old { table = record self.old.table { count = self.old.table.count + 1; last = Some image.now } } }
+    pub(crate) fn put(&mut self, image: Image)
+        requires size { length image ≡ self.old.size }
+        requires count { self.old.count < 2 ^ 32 - 1 }
+        ensures table { IsTable self.old }
+        ensures put { self.new ≡ record self.old { count = self.old.count + 1; last = Some image; before = if is_double self.old then self.old.last else None } }
     {
-        self.buffers.copy_in(image);
+        self.buffers.put(image);
         self.count += 1;
+    }
+
+    /// Drops the image before the last.
+    pub(crate) fn let_go(&mut self)
+        ensures { self.new ≡ record self.old { before = None } }
+    {
+        self.buffers.let_go();
     }
 
     /// Sets the time of its last update.
     pub(crate) fn set_time(&mut self, seconds: u32, sub: u16)
-        ensures { self.new ≡ record self.old { table = record self.old.table { seconds = seconds; sub = sub } } }
+        ensures { self.new ≡ record self.old { seconds = seconds; sub = sub } }
     {
         self.seconds = seconds;
         self.sub = sub;
@@ -177,29 +216,76 @@ impl Row {
 
     /// Sets the file of its last load from a file.
     pub(crate) fn set_file(&mut self, file: &Name64)
-        ensures { self.new ≡ record self.old { table = record self.old.table { file = file.now } } }
+        ensures { self.new ≡ record self.old { file = file.now } }
     {
         self.file = file.copy();
     }
 
-    /// Its open load.
-    pub(crate) fn load(&self) -> Option<OpenLoad>
-        ensures { result ≡ self.now.load }
+    /// Whether its open load was validated since its last change.
+    fn is_checked(&self) -> bool
+        ensures { result ≡ (row_view self.now).checked }
     {
-        self.load
+        match &self.load {
+            Some(load) => load.checked,
+            None => false,
+        }
     }
 
-    /// How many bytes an image of it has.
-    pub(crate) fn size(&self) -> u32
-        ensures { result ≡ self.now.table.size }
+    /// The image of its open load.
+    pub(crate) fn load(&self) -> Option<&[u8]>
+        ensures image { option_map (λ (image : Bor (List ℕ)). image.now) result ≡ option_map (λ (load : Load). load.image) self.now.load }
+        ensures size { IfSome result (λ image. length image.now ≡ self.now.size) }
     {
-        self.size
+        match &self.load {
+            Some(load) => Some(load.image.bytes()),
+            None => None,
+        }
     }
 
-    /// Sets the open load.
-    pub(crate) fn set_load(&mut self, load: OpenLoad)
-        ensures { self.new ≡ record self.old { load = Some load } }
+    /// Opens a load with this image, or puts it in the place of the open load's.
+    pub(crate) fn set_load(&mut self, image: Image)
+        requires { length image ≡ self.old.size }
+        ensures table { IsTable self.old }
+        ensures load { self.new ≡ record self.old { load = unchecked image } }
     {
-        self.load = Some(load);
+        self.load = Some(OpenLoad {
+            image,
+            checked: false,
+        });
     }
+
+    /// Writes bytes into its open load in place, where nobody else has the load's image. Whether it did.
+    pub(crate) fn write_load(&mut self, offset: u32, bytes: &[u8]) -> bool
+        requires load { IsSome self.old.load }
+        requires within { offset + length bytes.now ≤ self.old.size }
+        ensures { self.new ≡ (if result then record self.old { load = unchecked (patched (base self.old) offset bytes.now) } else self.old) }
+    {
+        let Some(load) = &mut self.load else {
+            unreachable!();
+        };
+        write_load(load, offset, bytes)
+    }
+
+    /// Marks its open load as validated since its last change, or takes the mark away.
+    pub(crate) fn set_checked(&mut self, checked: bool)
+        requires { IsSome self.old.load }
+        ensures { self.new ≡ record self.old { load = option_map (λ (load : Load). record load { checked = checked }) self.old.load } }
+    {
+        let Some(load) = &mut self.load else {
+            unreachable!();
+        };
+        load.checked = checked;
+    }
+}
+
+/// Writes bytes into the load in place, where nobody else has its image. Whether it did.
+fn write_load(load: &mut OpenLoad, offset: u32, bytes: &[u8]) -> bool
+    requires { offset + length bytes.now ≤ length load.old.image }
+    ensures { load.new ≡ (if result then record { image = patched load.old.image offset bytes.now; checked = false } else load.old) }
+{
+    let written = load.image.write(offset, bytes);
+    if written {
+        load.checked = false;
+    }
+    written
 }

@@ -5,14 +5,14 @@ use Rattle.std.specs.List.{refill}
 use Rattle.working_buffers.specs.Places.{Held}
 
 -- the row that has it, and its bytes, free or not
-pub record Kept : Type 0 where
+pub record BufferState : Type 0 where
   pub row : Option ℕ
   pub bytes : List ℕ
 
 -- the place that it is
-abbrev pub place_of : Kept → Option Held
-place_of kept = option_map (λ row. record { row = row; bytes = kept.bytes }) kept.row
+abbrev pub place_of : BufferState → Option Held
+place_of buffer = option_map (λ row. record { row = row; bytes = buffer.bytes }) buffer.row
 
 -- it is written over, from its first byte on
-abbrev pub refilled : Kept → List ℕ → Kept
-refilled kept bytes = record kept { bytes = refill (length kept.bytes) kept.bytes bytes }
+abbrev pub refilled : BufferState → List ℕ → BufferState
+refilled buffer bytes = record buffer { bytes = refill (length buffer.bytes) buffer.bytes bytes }

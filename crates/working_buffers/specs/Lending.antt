@@ -2,12 +2,12 @@
 use Rattle.std.specs.Prelude.{ℕ, List, Option}
 use Rattle.std.specs.Borrow.{Lends, MutBor, Fml, u8, Array}
 use Rattle.working_buffers.specs.Places.{Held, written}
-use Rattle.working_buffers.specs.Buffers.{Kept, refilled}
+use Rattle.working_buffers.specs.Buffers.{BufferState, refilled}
 use Rattle.working_buffers.specs.contracts.buffer.Buffer.{the_row as buffer_row}
 use Rattle.working_buffers.specs.contracts.working.Working.{the_row as working_row}
 
 -- the buffer ends as it was left behind the result
-abbrev pub LendsBytes : MutBor Kept → MutBor (List ℕ) → Fml
+abbrev pub LendsBytes : MutBor BufferState → MutBor (List ℕ) → Fml
 LendsBytes buffer bytes = Lends buffer_row (Array u8 0) buffer bytes (refilled buffer.now)
 
 -- buffer n ends as it was left behind the result, and the others as they were

@@ -15,9 +15,9 @@ pub(crate) struct Buffer {
 
 impl Model for Buffer {
     ghost use Rattle.std.specs.Prelude.{◌≡◌, length};
-    ghost use Rattle.working_buffers.specs.Buffers.{Kept};
+    ghost use Rattle.working_buffers.specs.Buffers.{BufferState};
 
-    ghost Value = { Kept };
+    ghost Value = { BufferState };
 
     ghost view = { λ b. record { row = b.row; bytes = b.bytes.items } };
 

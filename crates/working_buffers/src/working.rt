@@ -29,7 +29,7 @@ impl Model for Working {
 
 /// The least free buffer.
 fn first_free(buffers: &[Buffer]) -> Option<usize>
-    ensures least { result ≡ position (λ kept. is_none kept.row) buffers.now }
+    ensures least { result ≡ position (λ buffer. is_none buffer.row) buffers.now }
     ensures within { IfSome result (λ n. n < length buffers.now) }
 {
     buffers.iter().position(|buffer| buffer.row().is_none())

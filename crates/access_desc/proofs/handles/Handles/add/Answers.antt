@@ -1,7 +1,6 @@
 use Rattle.std.proofs.Common.{Some, rules}
-use Rattle.access_desc.proofs.Full.{none_at_256}
+use Rattle.tbl_kinds.proofs.FreeLaws.{none_at}
 use Rattle.access_desc.proofs.handles.Handles.add.Goals as goal
 
 pub returns-clause-none_where_full : goal.returns-clause-none_where_full
-returns-clause-none_where_full c =
-    none_at_256 c.args.self.now (Some c.in_ok-free.free) (search rules) (search rules)
+returns-clause-none_where_full c = none_at c.args.self.now (Some c.in_ok-free.free) 256 (search rules) (search rules)

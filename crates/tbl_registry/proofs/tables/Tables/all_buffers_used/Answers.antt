@@ -1,7 +1,10 @@
-use Rattle.std.proofs.Common.{ap, ◌∙◌, ℕ, List, Option, None, is_some, slice_index_or}
-use Rattle.tbl_model.specs.Tables.{in_use}
-use Rattle.tbl_registry.proofs.InUse.{fourth}
+use Rattle.std.proofs.Common.{◌≡◌, ◌∙◌, ◌==◌, ap, sym, ℕ}
+use Rattle.tbl_registry.proofs.InUse.{rows_count}
+use Rattle.tbl_registry.proofs.Lent.{few_use}
 use Rattle.tbl_registry.proofs.tables.Tables.all_buffers_used.Goals as goal
 
 pub returns-clause-all : goal.returns-clause-all
-returns-clause-all c = c.is_some.ensures ∙ ap (λ (rows : List (Option ℕ)). is_some (slice_index_or rows 3 None)) c.in_use.ensures.rows ∙ fourth (in_use c.args.self.now) c.in_use.ensures.within
+returns-clause-all c = rw (← c.self.view_is) (ap (λ (n : ℕ). n == 4) (c.buffers_out.ensures ∙ c.self.invariant.lent.as_many ∙ sym (rows_count c.self.inside.rows.items 0)))
+
+pub returns-clause-few : goal.returns-clause-few
+returns-clause-few c = rw (← c.self.view_is, rows_count c.self.inside.rows.items 0) (few_use c.self.inside.working c.self.inside.rows.items c.self.invariant.lent)

@@ -1,23 +1,20 @@
-use Rattle.std.proofs.Common.{rules}
-use Rattle.tbl_registry.specs.Rows.{table_in, tables_in}
+use Rattle.std.proofs.Common.{◌≡◌, Some, None, refl, rules, slice_index_or}
 use Rattle.tbl_registry.specs.Seen.{tables_of}
-use Rattle.tbl_registry.proofs.Steps.{leads_nowhere, release_unpins, sound_after_release}
-use Rattle.tbl_registry.proofs.Viewed.{viewed_at}
+use Rattle.tbl_registry.proofs.Places.{at_place-read}
+use Rattle.tbl_registry.proofs.Steps.{leads_nowhere, released_sound, released_seen}
 use Rattle.tbl_registry.proofs.tables.Tables.release.Goals as goal
 
 pub returns-clause-tables : goal.returns-clause-tables
-returns-clause-tables c = rw (← c.self.view_is, c.unpin.ensures)
-    (release_unpins (tables_in c.self.inside.working c.self.inside.rows.items) c.self.inside.handles c.args.handle c.in-Some.view c.in-Some.field-0-1 (table_in c.self.inside.working c.in-Some.table.now)
-    record { place = c.in-Some.ensures.handle; row_is = c.in-Some.ensures.row; table = viewed_at c.self.inside.working c.self.inside.rows.items c.in-Some.field-0-1 c.in-Some.table.now (rw (← c.deref.ensures.value) c.in-Some.ensures.table) }
-    c.self.invariant.0 (search rules))
+returns-clause-tables c =
+    let first : slice_index_or c.self.inside.rows.items c.in-Some.row None ≡ Some c.in-Some.table.now = rw (← c.deref.ensures.value) c.in-Some.ensures.table in
+    let there : slice_index_or c.self.inside.rows.items c.in-Some.row None ≡ Some c.in-Some-index_mut.table = at_place-read c.self.inside.rows.items c.in-Some.row c.index_mut.result.now c.in-Some-index_mut.table c.index_mut.ensures.value c.in-Some-index_mut.is (rw first refl) in
+    rw (← c.self.view_is, c.unpin.ensures.table, c.unpin.ensures.handles) (released_seen c.self.inside.rows.items c.self.inside.handles c.self.inside.working c.args.handle c.in-Some.view c.in-Some.row c.in-Some-index_mut.table record { place = c.in-Some.ensures.handle; row_is = c.in-Some.ensures.row; table = there } c.self.invariant (search rules))
 
 pub invariant_of-self : goal.invariant_of-self
-invariant_of-self c = rw c.unpin.ensures (
-  sound_after_release (tables_in c.self.inside.working c.self.inside.rows.items) c.self.inside.handles c.args.handle c.in-Some.view c.in-Some.field-0-1 (table_in c.self.inside.working c.in-Some.table.now)
-      record { place = c.in-Some.ensures.handle; row_is = c.in-Some.ensures.row; table = viewed_at c.self.inside.working c.self.inside.rows.items c.in-Some.field-0-1 c.in-Some.table.now (rw (← c.deref.ensures.value) c.in-Some.ensures.table) }
-      c.self.invariant.0,
-  c.self.invariant.1,
-)
+invariant_of-self c =
+    let first : slice_index_or c.self.inside.rows.items c.in-Some.row None ≡ Some c.in-Some.table.now = rw (← c.deref.ensures.value) c.in-Some.ensures.table in
+    let there : slice_index_or c.self.inside.rows.items c.in-Some.row None ≡ Some c.in-Some-index_mut.table = at_place-read c.self.inside.rows.items c.in-Some.row c.index_mut.result.now c.in-Some-index_mut.table c.index_mut.ensures.value c.in-Some-index_mut.is (rw first refl) in
+    rw (c.unpin.ensures.table, c.unpin.ensures.handles) (released_sound c.self.inside.rows.items c.self.inside.handles c.self.inside.working c.args.handle c.in-Some.view c.in-Some.row c.in-Some-index_mut.table record { place = c.in-Some.ensures.handle; row_is = c.in-Some.ensures.row; table = there } c.self.invariant)
 
 pub unreachable-requires : goal.unreachable-requires
-unreachable-requires c = leads_nowhere (tables_of (tables_in c.self.inside.working c.deref.result.now) c.self.inside.handles) _ c.args.handle (rw c.deref.ensures.value c.self.view_is) (c.in_default.ensures.none c.self.inside.working) c.requires
+unreachable-requires c = leads_nowhere (tables_of c.deref.result.now c.self.inside.handles) _ c.args.handle (rw c.deref.ensures.value c.self.view_is) c.in_default.ensures.none c.requires

@@ -1,0 +1,99 @@
+ghost use Rattle.std.specs.Prelude.{◌≡◌, ◌+◌, ◌≤◌, length, IfOk, if◌then◌else◌};
+ghost use Rattle.std.specs.Arc.{arc_value};
+ghost use Rattle.tbl_kinds.specs.Numbers.{patched};
+
+use std::alloc::{AllocError, Global};
+use std::marker::Model;
+use std::sync::Arc;
+use tbl_kinds::Memory;
+
+/// An image of a table: bytes with one owner or several, in any threads. Once it has a second owner, nobody can change it.
+#[derive(Debug, Drop)]
+pub struct Image {
+    bytes: Arc<Vec<u8>, Global>,
+}
+
+impl Model for Image {
+    ghost use Rattle.std.specs.Prelude.{ℕ, List};
+    ghost use Rattle.std.specs.Arc.{arc_value};
+
+    ghost Value = { List ℕ };
+
+    ghost view = { λ image. (arc_value image.bytes).items };
+}
+
+/// Writes bytes over some of the image.
+fn write_over(image: &mut [u8], offset: usize, bytes: &[u8])
+    requires { offset + length bytes.now ≤ length image.old }
+    ensures { image.new ≡ patched image.old offset bytes.now }
+{
+    image[offset..offset + bytes.len()].copy_from_slice(bytes);
+}
+
+/// The base, with other bytes over some of it, each byte moved once.
+fn joined(alloc: Global, base: &[u8], offset: usize, bytes: &[u8]) -> Result<Vec<u8>, AllocError>
+    requires { offset + length bytes.now ≤ length base.now }
+    ensures { IfOk result (λ image. image.items ≡ patched base.now offset bytes.now) }
+{
+    let mut image = Vec::with_capacity(alloc, base.len())?;
+    image.extend_from_slice(&base[..offset])?;
+    image.extend_from_slice(bytes)?;
+    image.extend_from_slice(&base[offset + bytes.len()..])?;
+    Ok(image)
+}
+
+impl Image {
+    /// An image of these bytes.
+    pub fn of(alloc: Global, bytes: &[u8]) -> Result<Image, Memory>
+        ensures { IfOk result (λ image. image ≡ bytes.now) }
+    {
+        let bytes = Vec::from_slice(alloc, bytes)?;
+        Ok(Image {
+            bytes: Arc::new(alloc, bytes)?,
+        })
+    }
+
+    /// A new image of the base's bytes, with other bytes over them from an offset on.
+    pub fn patched(alloc: Global, base: &[u8], offset: u32, bytes: &[u8]) -> Result<Image, Memory>
+        requires { offset + length bytes.now ≤ length base.now }
+        ensures image { IfOk result (λ image. image ≡ patched base.now offset bytes.now) }
+        ensures size { IfOk result (λ image. length image ≡ length base.now) }
+    {
+        let bytes = joined(alloc, base, offset as usize, bytes)?;
+        Ok(Image {
+            bytes: Arc::new(alloc, bytes)?,
+        })
+    }
+
+    /// Its bytes.
+    pub fn bytes(&self) -> &[u8]
+        ensures { result.now ≡ self.now }
+    {
+        self.bytes.as_slice()
+    }
+
+    /// A further owner of the same bytes. It copies none and takes no memory, and fails only where there are as many
+    /// owners as can be counted.
+    pub fn share(&self) -> Result<Image, Memory>
+        ensures { IfOk result (λ image. image ≡ self.now) }
+    {
+        Ok(Image {
+            bytes: Arc::try_clone(&self.bytes)?,
+        })
+    }
+
+    /// Writes bytes over the image in place, from an offset on. Where it has another owner, it is left as it is and the
+    /// answer is false.
+    pub fn write(&mut self, offset: u32, bytes: &[u8]) -> bool
+        requires { offset + length bytes.now ≤ length self.old }
+        ensures { self.new ≡ (if result then patched self.old offset bytes.now else self.old) }
+    {
+        match Arc::get_mut(&mut self.bytes) {
+            Some(image) => {
+                write_over(image, offset as usize, bytes);
+                true
+            }
+            None => false,
+        }
+    }
+}

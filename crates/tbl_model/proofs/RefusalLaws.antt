@@ -1,0 +1,166 @@
+-- What holds of a request that isn't refused, and of one that is.
+use Rattle.std.proofs.Common.{◌≡◌, ℕ, ◌+◌, ◌<◌, ◌≤◌, ◌==◌, List, [], Bool, true, false, not, ◌&&◌, ◌||◌, cond, nat_lt, length, Option, Some, None, is_some, refl, arith}
+use Rattle.std.specs.Option.{option_or}
+use Rattle.std.proofs.lemmas.Bool.Decides.{nat_tests}
+use Rattle.tbl_kinds.specs.Names.{is_name}
+use Rattle.tbl_kinds.specs.Limits.{table_limit}
+use Rattle.tbl_model.specs.State.{Table, Tables}
+use Rattle.tbl_model.specs.Tables.{is_double, is_dump_only, in_use}
+use Rattle.tbl_model.specs.TableSteps.{locker}
+use Rattle.tbl_model.specs.Refusals.{are_options, may_use, plan_refusal, lock_refusal, buffer_refusal, open_refusal, image_refusal, load_refusal}
+use Rattle.tbl_model.specs.Whole.{is_done}
+use Rattle.tbl_kinds.specs.declared.entry.Answer.{Answer}
+use Rattle.tbl_kinds.specs.declared.status.Status.{Status}
+use Rattle.tbl_kinds.specs.declared.status.TheConstants.Status.{INFO_STOPPED}
+
+-- a test whose refusal there isn't
+passed : (b : Bool) (a : Answer) (rest : Option Answer) → cond b (Some a) rest ≡ None → (b ≡ false) × (rest ≡ None)
+passed true a rest none = absurd (cc none)
+passed false a rest none = (refl, none)
+
+neither : (a b : Option Answer) → option_or a b ≡ None → (a ≡ None) × (b ≡ None)
+neither None b none = (refl, none)
+neither (Some x) b none = absurd (cc none)
+
+unlocked : (lock : Option ℕ) → lock_refusal lock ≡ None → lock ≡ None
+unlocked None none = refl
+unlocked (Some handle) none = absurd (cc none)
+
+not_false : (b : Bool) → not b ≡ false → b ≡ true
+not_false true is = refl
+not_false false is = absurd (cc is)
+
+none_open : {X : Type 0} (load : Option X) → is_some load ≡ false → load ≡ None
+none_open None is = refl
+none_open (Some x) is = absurd (cc is)
+
+-- an image that is taken as the next one of its table
+pub record TakesImage (tables : Tables) (row : ℕ) (t : Table) (len : ℕ) : Type 0 where
+  pub dump_only : is_dump_only t ≡ false
+  pub no_load : t.load ≡ None
+  pub size : len ≡ t.size
+  pub unlocked : locker tables row t ≡ None
+
+pub image_taken : (tables : Tables) (row : ℕ) (t : Table) (len : ℕ) → image_refusal tables row t len ≡ None → TakesImage tables row t len
+image_taken tables row t len none =
+    let a = passed (is_dump_only t) _ _ none in
+    let b = passed (is_some t.load) _ _ a.1 in
+    let c = passed (not (len == t.size)) _ _ b.1 in
+    let d = neither (lock_refusal (locker tables row t)) (buffer_refusal tables t) c.1 in
+    let same : (len == t.size) ≡ true = not_false _ c.0 in record {
+      dump_only = a.0;
+      no_load = none_open t.load b.0;
+      size = grind (arith, nat_tests);
+      unlocked = unlocked _ d.0;
+    }
+
+-- a load that may open
+pub record MayOpen (tables : Tables) (row : ℕ) (t : Table) : Type 0 where
+  pub unlocked : is_double t ≡ true → locker tables row t ≡ None
+  pub buffer : is_double t ≡ false → (length (in_use tables) == 4) ≡ false
+
+pub may_open : (tables : Tables) (row : ℕ) (t : Table) → open_refusal tables row t ≡ None → MayOpen tables row t
+may_open tables row t none =
+    let d = neither (lock_refusal (cond (is_double t) (locker tables row t) None)) (buffer_refusal tables t) none in
+    let lock = unlocked _ d.0 in
+    let full = passed (not (is_double t) && length (in_use tables) == 4) _ _ d.1 in record {
+      unlocked = λ double. rw double at lock;
+      buffer = λ single. rw single at full.0;
+    }
+
+-- bytes that go into the load of their table
+pub record TakesLoad (tables : Tables) (row : ℕ) (t : Table) (offset len : ℕ) : Type 0 where
+  pub dump_only : is_dump_only t ≡ false
+  pub within : offset + len ≤ t.size
+  pub whole : (t.count == 0) ≡ true → (offset == 0 && len == t.size) ≡ true
+  pub opens : t.load ≡ None → open_refusal tables row t ≡ None
+
+pub load_taken : (tables : Tables) (row : ℕ) (t : Table) (offset len : ℕ) → load_refusal tables row t offset len ≡ None → TakesLoad tables row t offset len
+load_taken tables row t offset len none =
+    let a = passed (is_dump_only t) _ _ none in
+    let b = passed t.activation _ _ a.1 in
+    let c = passed (len == 0) _ _ b.1 in
+    let d = passed (nat_lt t.size (offset + len)) _ _ c.1 in
+    let e = passed ((t.count == 0) && not (offset == 0 && len == t.size)) _ _ d.1 in record {
+      dump_only = a.0;
+      within = let past = d.0 in grind (arith, nat_tests);
+      whole = λ never. not_false _ (rw never at e.0);
+      opens = λ closed. rw closed at e.1;
+    }
+
+-- a registration that may look at the registered tables, while no validation function stands in the kit
+pub record TakesPlan (size flags : ℕ) (validator : Option ℕ) : Type 0 where
+  pub some_bytes : 0 < size
+  pub within : size ≤ table_limit
+  pub no_flag : flags ≡ 0
+  pub no_validator : validator ≡ None
+
+pub plan_taken : (app : ℕ) (short : List ℕ) (size flags : ℕ) (validator : Option ℕ) → plan_refusal [] app short size flags validator ≡ None → TakesPlan size flags validator
+plan_taken app short size flags validator none =
+    let a = passed (not (is_name short)) _ _ none in
+    let b = passed (size == 0 || nat_lt table_limit size) _ _ a.1 in
+    let c = passed (not (are_options flags)) _ _ b.1 in
+    let d = passed (not (may_use [] app validator)) _ _ c.1 in
+    let sized = b.0 in
+    let plain = not_false _ c.0 in record {
+      some_bytes = grind (arith, nat_tests);
+      within = grind (arith, nat_tests);
+      no_flag = grind (arith, nat_tests);
+      no_validator = by validator d.0;
+    }
+  where
+    by : (v : Option ℕ) → not (may_use [] app v) ≡ false → v ≡ None
+    by None _ = refl
+    by (Some number) may = absurd (cc may)
+
+-- ---- what a refusal is
+
+-- a status that refuses: nothing was done, and nothing begins anew
+abbrev pub is_refusal : Status → Bool
+is_refusal status = not (is_done status || (status.0 == INFO_STOPPED.0))
+
+-- so does the answer, if there is one
+abbrev pub Refuses : Option Answer → Type 0
+Refuses None = Unit {0}
+Refuses (Some answer) = is_refusal answer.status ≡ true
+
+here : (b : Bool) (r rest : Option Answer) → Refuses r → Refuses rest → Refuses (cond b r rest)
+here true r rest first later = first
+here false r rest first later = later
+
+first_of : (a b : Option Answer) → Refuses a → Refuses b → Refuses (option_or a b)
+first_of None b first later = later
+first_of (Some x) b first later = first
+
+by_lock : (lock : Option ℕ) → Refuses (lock_refusal lock)
+by_lock None = tt
+by_lock (Some handle) = refl
+
+by_buffers : (tables : Tables) (t : Table) → Refuses (buffer_refusal tables t)
+by_buffers tables t = here (not (is_double t) && length (in_use tables) == 4) _ None refl tt
+
+pub plan_refused : (kit : List (Option ℕ)) (app : ℕ) (short : List ℕ) (size flags : ℕ) (validator : Option ℕ) → Refuses (plan_refusal kit app short size flags validator)
+plan_refused kit app short size flags validator =
+    here (not (is_name short)) _ _ refl
+    (here (size == 0 || nat_lt table_limit size) _ _ refl
+    (here (not (are_options flags)) _ _ refl
+    (here (not (may_use kit app validator)) _ None refl tt)))
+
+pub image_refused : (tables : Tables) (row : ℕ) (t : Table) (len : ℕ) → Refuses (image_refusal tables row t len)
+image_refused tables row t len =
+    here (is_dump_only t) _ _ refl
+    (here (is_some t.load) _ _ refl
+    (here (not (len == t.size)) _ _ refl
+    (first_of (lock_refusal (locker tables row t)) (buffer_refusal tables t) (by_lock (locker tables row t)) (by_buffers tables t))))
+
+open_refused : (tables : Tables) (row : ℕ) (t : Table) → Refuses (open_refusal tables row t)
+open_refused tables row t = first_of (lock_refusal (cond (is_double t) (locker tables row t) None)) (buffer_refusal tables t) (by_lock (cond (is_double t) (locker tables row t) None)) (by_buffers tables t)
+
+pub load_refused : (tables : Tables) (row : ℕ) (t : Table) (offset len : ℕ) → Refuses (load_refusal tables row t offset len)
+load_refused tables row t offset len =
+    here (is_dump_only t) _ _ refl
+    (here t.activation _ _ refl
+    (here (len == 0) _ _ refl
+    (here (nat_lt t.size (offset + len)) _ _ refl
+    (here ((t.count == 0) && not (offset == 0 && len == t.size)) _ _ refl
+    (here (is_some t.load) None _ tt (open_refused tables row t))))))

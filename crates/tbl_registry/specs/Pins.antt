@@ -1,0 +1,24 @@
+-- What handles and their pins hold to.
+use Rattle.std.specs.Prelude.{◌≡◌, ℕ, ◌<◌, List, Bool, true, slice_index_or, Option, None, IsSome}
+use Rattle.std.specs.Option.{ForSome}
+use Rattle.tbl_model.specs.State.{Load, Table}
+use Rattle.access_desc.specs.declared.handle_view.HandleView.{HandleView}
+
+-- P of what stands at each place
+abbrev pub AtEachPlace : {X : Type 0} → (X → Type 0) → List (Option X) → Type 0
+AtEachPlace P places = (n : ℕ) → ForSome (slice_index_or places n None) P
+
+-- a table with so many images, this image before the last and this load has an image for a pin of the last one, or of
+-- the old one before it. Beside a pin of the old one no load is open
+pub record IsPinned (count : ℕ) (before : Option (List ℕ)) (load : Option Load) (old : Bool) : Type 0 where
+  pub loaded : 0 < count
+  pub kept : old ≡ true → IsSome before
+  pub closed : old ≡ true → load ≡ None
+
+abbrev pub Pins : Table → Bool → Type 0
+Pins t old = IsPinned t.count t.before t.load old
+
+-- a handle's row has a table, which has the image that the handle pins
+pub record Leads (rows : List (Option Table)) (h : HandleView) : Type 0 where
+  pub table : ForSome h.row (λ row. IsSome (slice_index_or rows row None))
+  pub pins : h.pinned ≡ true → ForSome h.row (λ row. ForSome (slice_index_or rows row None) (λ t. Pins t h.old))

@@ -1,0 +1,154 @@
+//! The 128 rows, each with a table or none.
+
+ghost use Rattle.std.specs.Prelude.{◌≡◌, ◌<◌, ◌≤◌, ◌↔◌, ◌+◌, None, Some, IsTrue, IsSome, IsNone, IfOk, IfSome, if◌then◌else◌, length, position, replicate, count_by, is_some, is_none, slice_index_or, slice_set};
+ghost use Rattle.std.specs.Option.{option_copied};
+ghost use Rattle.tbl_kinds.specs.Free.{least_free};
+ghost use Rattle.tbl_model.specs.Tables.{has_load, uses_buffer, rows_from};
+ghost use Rattle.tbl_model.specs.TableSteps.{has_name};
+ghost use Rattle.tbl_registry.specs.Seen.{padded};
+
+use crate::row::Row;
+use std::alloc::{AllocError, Global};
+
+/// How many tables there can be (`CFE_PLATFORM_TBL_MAX_NUM_TABLES`).
+const ROWS: usize = 128;
+
+pub(crate) fn free_rows(alloc: Global) -> Result<Vec<Option<Row>>, AllocError>
+    ensures { IfOk result (λ rows. rows.items ≡ replicate 128 None) }
+{
+    let mut rows = Vec::with_capacity(alloc, ROWS)?;
+    for _ in 0..ROWS {
+        rows.push(None)?;
+    }
+    Ok(rows)
+}
+
+/// Whether the row has a table of this full name.
+fn has_name(row: &Option<Row>, name: &[u8]) -> bool
+    ensures { result ≡ has_name name.now row.now }
+{
+    match row {
+        Some(table) => table.has_name(name),
+        None => false,
+    }
+}
+
+/// The row with the table of this full name.
+pub(crate) fn row_of_name(rows: &[Option<Row>], name: &[u8]) -> Option<usize>
+    ensures row { result ≡ position (has_name name.now) rows.now }
+    ensures within { IfSome result (λ n. n < length rows.now) }
+{
+    rows.iter().position(|row| has_name(row, name))
+}
+
+fn first_free(rows: &[Option<Row>]) -> Option<usize>
+    ensures row { result ≡ position is_none rows.now }
+    ensures within { IfSome result (λ n. n < length rows.now) }
+{
+    rows.iter().position(|row| row.is_none())
+}
+
+/// The least row without a table.
+pub(crate) fn free_row(rows: &[Option<Row>]) -> Option<u8>
+    requires { length rows.now ≤ 256 }
+    ensures row { result ≡ least_free rows.now }
+    ensures full { IsNone result ↔ (count_by is_some rows.now ≡ length rows.now) }
+    ensures within { IfSome result (λ row. row < length rows.now) }
+{
+    match first_free(rows) {
+        Some(row) => Some(row as u8),
+        None => None,
+    }
+}
+
+/// The table of a row.
+pub(crate) fn table_in(rows: &[Option<Row>], row: u8) -> Option<&Row>
+    ensures { option_copied result ≡ slice_index_or rows.now row None }
+{
+    match rows.get(row as usize) {
+        Some(Some(table)) => Some(table),
+        _ => None,
+    }
+}
+
+/// One more, where this one counts.
+fn counted(count: u16, counts: bool) -> u16
+    requires { count < 256 }
+    ensures { result ≡ (if counts then count + 1 else count) }
+{
+    if counts { count + 1 } else { count }
+}
+
+/// How many tables there are.
+pub(crate) fn tables_in(rows: &[Option<Row>]) -> u16
+    requires { length rows.now ≤ 256 }
+    ensures tables { result ≡ count_by is_some rows.now }
+    ensures within { result ≤ length rows.now }
+{
+    let mut count = 0;
+    for row in rows {
+        count = counted(count, row.is_some());
+    }
+    count
+}
+
+/// Whether the row has a table with an open load.
+fn has_load(row: &Option<Row>) -> bool
+    ensures { result ≡ has_load row.now }
+{
+    match row {
+        Some(table) => table.load().is_some(),
+        None => false,
+    }
+}
+
+/// How many loads are open.
+pub(crate) fn loads_in(rows: &[Option<Row>]) -> u16
+    requires { length rows.now ≤ 256 }
+    ensures loads { result ≡ count_by has_load rows.now }
+    ensures within { result ≤ length rows.now }
+{
+    let mut count = 0;
+    for row in rows {
+        count = counted(count, has_load(row));
+    }
+    count
+}
+
+/// Whether the row has a table that uses a shared working buffer.
+fn uses_buffer(row: &Option<Row>) -> bool
+    ensures { result ≡ uses_buffer row.now }
+{
+    match row {
+        Some(table) => table.uses_buffer(),
+        None => false,
+    }
+}
+
+/// Puts the row behind those that were found, where it uses a buffer. How many were found.
+fn collect(found: &mut [Option<u8>; 4], count: usize, row: u8, uses: bool) -> usize
+    requires { IsTrue uses → count < 4 }
+    ensures found { found.new ≡ (if uses then slice_set found.old count (Some row) else found.old) }
+    ensures count { result ≡ (if uses then count + 1 else count) }
+{
+    if uses {
+        found[count] = Some(row);
+        count + 1
+    } else {
+        count
+    }
+}
+
+/// The rows that use the shared working buffers, ascending, and then None.
+pub(crate) fn rows_with_buffer(rows: &[Option<Row>]) -> [Option<u8>; 4]
+    requires rows { length rows.now ≤ 256 }
+    requires few { count_by uses_buffer rows.now ≤ 4 }
+    ensures { result ≡ padded (rows_from 0 rows.now) }
+{
+    let mut found = [None; 4];
+    let mut count = 0;
+    for (row, table) in rows.iter().enumerate() {
+        count = collect(&mut found, count, row as u8, uses_buffer(table));
+    }
+    found
+}

@@ -1,0 +1,184 @@
+//! What applications do with handles on tables, and with the images that they pin.
+
+ghost use Rattle.std.specs.Prelude.{◌≡◌, ◌≤◌, ◌+◌, ◌^◌, None, Some, Ok, Err, IsSome, IfOk, OnOk, IfErr, IfSome, IfNone, is_some, if◌then◌else◌, nat_lt, length, map, position, slice_index_or, option_and_then};
+ghost use Rattle.std.specs.Option.{option_map};
+ghost use Rattle.tbl_kinds.specs.Limits.{table_limit};
+ghost use Rattle.tbl_model.specs.State.{Table};
+ghost use Rattle.tbl_model.specs.Tables.{table_at};
+ghost use Rattle.tbl_model.specs.TableSteps.{check, handle_at, access_of, get_address, release, read, locker};
+ghost use Rattle.access_desc.specs.Steps.{at_place, changed_at, has, pins_old, with_no_pin};
+ghost use Rattle.tbl_registry.specs.Seen.{handle_of, tables_of, with_last, let_go_unless};
+
+use super::Tables;
+use crate::row::Row;
+use crate::rows::table_in;
+use access_desc::{HandleView, Handles};
+use tbl_kinds::{Answer, Status};
+
+/// What a handle stands for, with its table's row and its table.
+fn access<'a>(
+    rows: &'a [Option<Row>],
+    handles: &Handles,
+    handle: u16,
+) -> Option<(HandleView, u8, &'a Row)>
+    ensures handle { IfSome result (λ found. at_place handles.now handle ≡ Some found.0) }
+    ensures row { IfSome result (λ found. found.0.row ≡ Some found.1) }
+    ensures table { IfSome result (λ found. slice_index_or rows.now found.1 None ≡ Some found.2.now) }
+    ensures none { IfNone result (access_of (tables_of rows.now handles.now) handle ≡ None) }
+{
+    let view = handles.view(handle)?;
+    let row = view.row?;
+    let table = table_in(rows, row)?;
+    Some((view, row, table))
+}
+
+/// The handle pins the last image of its table, which has had so many, and is told of it.
+fn pin_last(handles: &mut Handles, handle: u16, count: u32)
+    requires { IsSome (at_place handles.old handle) }
+    ensures { handles.new ≡ changed_at (with_last count) handles.old handle }
+{
+    handles.pin(handle);
+    handles.tell(handle, count);
+}
+
+/// Drops the image before the last, unless it is pinned.
+pub(super) fn let_go_unless(table: &mut Row, pinned: bool)
+    ensures { table.new ≡ let_go_unless pinned table.old }
+{
+    if !pinned {
+        table.let_go();
+    }
+}
+
+/// The handle of this row's table pins nothing any more. The image before the last goes with the last pin of it.
+fn unpin(table: &mut Row, handles: &mut Handles, handle: u16, row: u8)
+    requires { IsSome (at_place handles.old handle) }
+    ensures handles { handles.new ≡ changed_at with_no_pin handles.old handle }
+    ensures table { table.new ≡ let_go_unless (is_some (position (has (pins_old row)) handles.new)) table.old }
+{
+    handles.unpin(handle);
+    let_go_unless(table, handles.pinned_old(row).is_some());
+}
+
+/// Whether there is an image that was not told of yet.
+fn news(told: u32, count: u32) -> Status
+    ensures { result ≡ (if nat_lt told count then Status.INFO_UPDATED else Status.SUCCESS) }
+{
+    if told < count {
+        Status::INFO_UPDATED
+    } else {
+        Status::SUCCESS
+    }
+}
+
+impl Tables {
+    /// Whether the application may use the handle, and the row of its table.
+    pub fn check(&self, app: u8, handle: u16, owner: bool) -> Result<u8, Status>
+        ensures answer { result ≡ check self.now app handle owner }
+        ensures table { IfOk result (λ row. IsSome (table_at self.now row)) }
+        ensures access { OnOk result (IsSome (access_of self.now handle)) }
+    {
+        let view = self.handles.view(handle).ok_or(Status::ERR_INVALID_HANDLE)?;
+        if view.app != app {
+            return Err(Status::ERR_NO_ACCESS);
+        }
+        let row = view.row.ok_or(Status::ERR_UNREGISTERED)?;
+        if owner && self.owner(row) != Some(app) {
+            return Err(Status::ERR_NO_ACCESS);
+        }
+        Ok(row)
+    }
+
+    /// Who owns the table of a row.
+    fn owner(&self, row: u8) -> Option<u8>
+        ensures { result ≡ option_map (λ (t : Table). t.owner) (table_at self.now row) }
+    {
+        Some(table_in(&self.rows, row)?.view().owner)
+    }
+
+    /// What a handle stands for, None where no such handle is given.
+    pub fn handle(&self, handle: u16) -> Option<HandleView>
+        ensures { handle_at self.now handle ≡ option_map (handle_of self.now.rows) result }
+    {
+        self.handles.view(handle)
+    }
+
+    /// The handle pins the last image of its table and is told of it.
+    pub fn get_address(&mut self, handle: u16) -> Answer
+        requires { IsSome (access_of self.old handle) }
+        ensures status { result.status ≡ (get_address handle self.old).status }
+        ensures detail { result.detail ≡ 0 }
+        ensures tables { self.new ≡ (get_address handle self.old).tables }
+    {
+        let Some((view, _, table)) = access(&self.rows, &self.handles, handle) else {
+            unreachable!();
+        };
+        let count = table.count();
+        if view.pinned {
+            return Answer::plain(Status::ERR_ALREADY_PINNED);
+        }
+        if count == 0 {
+            return Answer::plain(Status::ERR_NEVER_LOADED);
+        }
+        pin_last(&mut self.handles, handle, count);
+        Answer::plain(news(view.told, count))
+    }
+
+    /// The pin of the handle ends.
+    pub fn release(&mut self, handle: u16) -> Answer
+        requires { IsSome (access_of self.old handle) }
+        ensures status { result.status ≡ (release handle self.old).status }
+        ensures detail { result.detail ≡ 0 }
+        ensures tables { self.new ≡ (release handle self.old).tables }
+    {
+        let Some((view, row, table)) = access(&self.rows, &self.handles, handle) else {
+            unreachable!();
+        };
+        let count = table.count();
+        if !view.pinned {
+            return Answer::plain(Status::ERR_NOT_PINNED);
+        }
+        let Some(table) = &mut self.rows[row as usize] else {
+            unreachable!();
+        };
+        unpin(table, &mut self.handles, handle, row);
+        Answer::plain(news(view.told, count))
+    }
+
+    /// The stated bytes of the image that the handle pins.
+    pub fn read(&self, handle: u16, offset: u32, len: u32) -> Result<&[u8], Status>
+        requires { IsSome (access_of self.now handle) }
+        ensures ok { IfOk result (λ bytes. read handle offset len self.now ≡ Ok bytes.now) }
+        ensures err { IfErr result (λ status. read handle offset len self.now ≡ Err status) }
+        ensures length { IfOk result (λ bytes. length bytes.now ≡ len) }
+        ensures within { OnOk result (len ≤ table_limit) }
+    {
+        let Some((view, _, table)) = access(&self.rows, &self.handles, handle) else {
+            unreachable!();
+        };
+        if !view.pinned {
+            return Err(Status::ERR_NOT_PINNED);
+        }
+        let Some(image) = table.image(view.old) else {
+            unreachable!();
+        };
+        let from = offset as usize;
+        let to = from + len as usize;
+        if to > image.len() {
+            return Err(Status::ERR_OUT_OF_RANGE);
+        }
+        Ok(&image[from..to])
+    }
+
+    /// The least handle in the way of a new image of the table of a row (cFE User's Guide, Table Services, "Locking").
+    pub fn locker(&self, row: u8) -> Option<u16>
+        ensures least { result ≡ option_and_then (λ (t : Table). locker self.now row t) (table_at self.now row) }
+    {
+        let table = table_in(&self.rows, row)?;
+        if table.is_double() {
+            self.handles.pinned_old(row)
+        } else {
+            self.handles.pinned_any(row)
+        }
+    }
+}

@@ -1,0 +1,150 @@
+//! How the images of tables and of their open loads change.
+
+ghost use Rattle.std.specs.Prelude.{◌≡◌, ◌<◌, ◌≤◌, ◌+◌, ◌-◌, ◌^◌, ◌&&◌, false, None, Some, IsTrue, IsSome, is_some, if◌then◌else◌, length, map, position, count_by};
+ghost use Rattle.std.specs.Option.{option_map, ForSome};
+ghost use Rattle.tbl_model.specs.State.{Table};
+ghost use Rattle.tbl_model.specs.Tables.{table_at, is_double, is_dump_only};
+ghost use Rattle.tbl_model.specs.TableSteps.{locker, put, set_time, set_file, set_load, patch, set_checked, unchecked};
+ghost use Rattle.tbl_model.specs.Refusals.{open_refusal};
+ghost use Rattle.access_desc.specs.Steps.{has, pins_old, after_new_image};
+ghost use Rattle.tbl_registry.specs.Lent.{IsGiven, wants_buffer};
+ghost use Rattle.tbl_registry.specs.Rows.{IsTable};
+ghost use Rattle.tbl_registry.specs.Seen.{let_go_unless};
+
+use super::Tables;
+use super::handles::let_go_unless;
+use crate::row::Row;
+use access_desc::Handles;
+use buffer_pairs::Image;
+use tbl_kinds::Name64;
+use working_buffers::Working;
+
+/// The pins of a table with two buffers are of the image before its new one, which goes where there are none.
+fn move_pins(table: &mut Row, handles: &mut Handles, row: u8)
+    ensures handles { handles.new ≡ map (option_map (after_new_image row)) handles.old }
+    ensures table { table.new ≡ let_go_unless (is_some (position (has (pins_old row)) handles.new)) table.old }
+{
+    handles.moved(row);
+    let_go_unless(table, handles.pinned_old(row).is_some());
+}
+
+/// The table takes an image as its last one. Of a table with a single buffer nobody may pin an image.
+fn take_image(table: &mut Row, handles: &mut Handles, row: u8, image: Image)
+    requires size { length image ≡ table.old.size }
+    requires count { table.old.count < 2 ^ 32 - 1 }
+    ensures well { IsTable table.old }
+    ensures handles { handles.new ≡ (if is_double table.old then map (option_map (after_new_image row)) handles.old else handles.old) }
+    ensures table { table.new ≡ record table.old { count = table.old.count + 1; last = Some image; before = if is_double table.old && is_some (position (has (pins_old row)) handles.new) then table.old.last else None } }
+{
+    table.put(image);
+    if table.is_double() {
+        move_pins(table, handles, row);
+    }
+}
+
+/// Gives the row a shared working buffer, if it wants one.
+fn give_buffer(working: &mut Working, row: u8, wants: bool)
+    requires { IsTrue wants → count_by is_some working.old < 4 }
+    ensures { IsGiven working.old working.new row wants }
+{
+    if !wants {
+        return;
+    }
+    let Some(_) = working.take(row) else {
+        unreachable!();
+    };
+}
+
+/// Opens a load with this image, or puts it in the place of the open load's. A load that opens takes a buffer.
+fn take_load(table: &mut Row, working: &mut Working, row: u8, image: Image)
+    requires size { length image ≡ table.old.size }
+    requires room { IsTrue (wants_buffer table.old) → count_by is_some working.old < 4 }
+    ensures table { table.new ≡ record table.old { load = unchecked image } }
+    ensures well { IsTable table.old }
+    ensures buffers { IsGiven working.old working.new row (wants_buffer table.old) }
+{
+    let wants = !table.is_double() && table.load().is_none();
+    give_buffer(working, row, wants);
+    table.set_load(image);
+}
+
+impl Tables {
+    /// An image becomes the last one of the table of a row.
+    pub fn put(&mut self, row: u8, image: Image)
+        requires table { IsSome (table_at self.old row) }
+        requires unlocked { ForSome (table_at self.old row) (λ t. locker self.old row t ≡ None) }
+        requires no_load { ForSome (table_at self.old row) (λ t. t.load ≡ None) }
+        requires size { ForSome (table_at self.old row) (λ t. length image ≡ t.size) }
+        requires count { ForSome (table_at self.old row) (λ t. t.count < 2 ^ 32 - 1) }
+        ensures tables { self.new ≡ put row image self.old }
+        ensures table { IsSome (table_at self.new row) }
+    {
+        let Some(table) = &mut self.rows[row as usize] else {
+            unreachable!();
+        };
+        take_image(table, &mut self.handles, row, image);
+    }
+
+    /// Opens a load of the table of a row with this image, or puts it in the place of the open load's. It isn't validated
+    /// any more.
+    pub fn set_load(&mut self, row: u8, image: Image)
+        requires table { IsSome (table_at self.old row) }
+        requires size { ForSome (table_at self.old row) (λ t. length image ≡ t.size) }
+        requires loadable { ForSome (table_at self.old row) (λ t. is_dump_only t ≡ false) }
+        requires free { ForSome (table_at self.old row) (λ t. t.load ≡ None → open_refusal self.old row t ≡ None) }
+        ensures { self.new ≡ set_load row image self.old }
+    {
+        let Some(table) = &mut self.rows[row as usize] else {
+            unreachable!();
+        };
+        take_load(table, &mut self.working, row, image);
+    }
+
+    /// Writes bytes into the open load of the table of a row, in place, where nobody else has the load's image. Whether it
+    /// did: the load isn't validated any more then, and else nothing was changed.
+    pub fn write_load(&mut self, row: u8, offset: u32, bytes: &[u8]) -> bool
+        requires table { IsSome (table_at self.old row) }
+        requires load { ForSome (table_at self.old row) (λ t. IsSome t.load) }
+        requires within { ForSome (table_at self.old row) (λ t. offset + length bytes.now ≤ t.size) }
+        ensures { self.new ≡ (if result then patch row offset bytes.now self.old else self.old) }
+    {
+        let Some(table) = &mut self.rows[row as usize] else {
+            unreachable!();
+        };
+        table.write_load(offset, bytes)
+    }
+
+    /// Marks the open load of the table of a row as validated since its last change, or takes the mark away.
+    pub fn set_checked(&mut self, row: u8, checked: bool)
+        requires table { IsSome (table_at self.old row) }
+        requires load { ForSome (table_at self.old row) (λ t. IsSome t.load) }
+        ensures { self.new ≡ set_checked row checked self.old }
+    {
+        let Some(table) = &mut self.rows[row as usize] else {
+            unreachable!();
+        };
+        table.set_checked(checked);
+    }
+
+    /// The time of the last update of the table of a row.
+    pub fn set_time(&mut self, row: u8, seconds: u32, sub: u16)
+        requires { IsSome (table_at self.old row) }
+        ensures { self.new ≡ set_time row seconds sub self.old }
+    {
+        let Some(table) = &mut self.rows[row as usize] else {
+            unreachable!();
+        };
+        table.set_time(seconds, sub);
+    }
+
+    /// Sets the file of the last load from a file of the table of a row.
+    pub fn set_file(&mut self, row: u8, file: &Name64)
+        requires { IsSome (table_at self.old row) }
+        ensures { self.new ≡ set_file row file.now self.old }
+    {
+        let Some(table) = &mut self.rows[row as usize] else {
+            unreachable!();
+        };
+        table.set_file(file);
+    }
+}
