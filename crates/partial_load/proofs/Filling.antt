@@ -59,15 +59,17 @@ pub answer_is : (answer : Answer) (status : Status) → answer.status ≡ status
 answer_is answer status p q = λ i. record { status = p i; detail = q i }
 
 module _ (s : State) (name : List ℕ) (file : TableFile) where
+  module _ (row : ℕ) (t : Table) (there : table_at s.tables row ≡ Some t) where
+    pub load_turned_away : (answer : Answer) → Some answer ≡ load_refusal s.tables row t file.offset (length file.image) → load_into s name file row (table_at s.tables row) ≡ load_answered s None answer s.tables
+    load_turned_away answer first = rw (there, ← first) refl
+
+    pub load_taken_up : None ≡ load_refusal s.tables row t file.offset (length file.image) → load_into s name file row (table_at s.tables row) ≡ load_answered s None (record { status = SUCCESS; detail = 0 }) (set_file row name (patch row file.offset file.image s.tables))
+    load_taken_up first = rw (there, ← first, there) refl
+
   pub not_found : find file.name s.tables ≡ None → load_file_effect s name file ≡ load_answered s (named file.name None) (record { status = ERR_NO_SUCH_TABLE; detail = 0 }) s.tables
   unfolding load_file_effect
   not_found none = rw none refl
 
-  module _ (row : ℕ) (t : Table) (found : find file.name s.tables ≡ Some row) (there : table_at s.tables row ≡ Some t) where
-    pub load_turned_away : (answer : Answer) → Some answer ≡ load_refusal s.tables row t file.offset (length file.image) → load_file_effect s name file ≡ load_answered s (named file.name (Some row)) answer s.tables
-    unfolding load_file_effect
-    load_turned_away answer first = rw (found, there, ← first) refl
-
-    pub load_taken_up : None ≡ load_refusal s.tables row t file.offset (length file.image) → load_file_effect s name file ≡ load_answered s (named file.name (Some row)) (record { status = SUCCESS; detail = 0 }) (set_file row name (patch row file.offset file.image s.tables))
-    unfolding load_file_effect
-    load_taken_up first = rw (found, there, ← first, there) refl
+  pub found_in : (row : ℕ) (answer : Answer) (tables : Tables) → find file.name s.tables ≡ Some row → load_into s name file row (table_at s.tables row) ≡ load_answered s None answer tables → load_file_effect s name file ≡ load_answered s (named file.name (Some row)) answer tables
+  unfolding load_file_effect
+  found_in row answer tables found into = rw (found, into) refl

@@ -9,7 +9,7 @@ ghost use Rattle.tbl_model.specs.Tables.{table_at};
 ghost use Rattle.tbl_model.specs.TableSteps.{find, base, patch};
 ghost use Rattle.tbl_model.specs.Refusals.{load_refusal};
 ghost use Rattle.tbl_model.specs.Effects.{named};
-ghost use Rattle.tbl_model.specs.GroundLoads.{load_file_effect};
+ghost use Rattle.tbl_model.specs.GroundLoads.{load_into, load_file_effect};
 ghost use Rattle.table_files.specs.Files.{with_image};
 ghost use Rattle.partial_load.specs.Answers.{load_answered};
 
@@ -75,6 +75,29 @@ fn fill(
     Ok(())
 }
 
+/// Loads a file that the ground uplinked into the table of a row: that of its name.
+pub fn load_into(
+    alloc: Global,
+    tables: &mut Tables,
+    row: u8,
+    file: &Name64,
+    parsed: &TableFile,
+    image: &[u8],
+) -> Result<Answer, Memory>
+    requires table { IsSome (table_at tables.old row) }
+    requires count { length image.now ≡ parsed.now.count }
+    ensures effect { IfOk result (λ answer. (s : State) → s.tables ≡ tables.old → load_into s file.now (with_image parsed.now image.now) row (table_at s.tables row) ≡ load_answered s None answer tables.new) }
+    ensures refused { IfOk result (λ answer. is_success answer.status ≡ false → tables.new ≡ tables.old) }
+    ensures err { OnErr result (tables.new ≡ tables.old) }
+{
+    if let Some(answer) = load_refusal(tables, row, parsed.offset, parsed.count) {
+        return Ok(answer);
+    }
+    fill(alloc, tables, row, parsed.offset, image)?;
+    tables.set_file(row, file);
+    Ok(Answer::plain(Status::SUCCESS))
+}
+
 /// Loads a file that the ground uplinked (cFE's `CFE_TBL_LOAD_CC`; cFE User's Guide, Table Services, "Loading tables"):
 /// its bytes go into the open load of its table, which opens with the last image, or with zeros, where none is open. The
 /// load isn't validated any more. `image` are the bytes of the file, `file` the name under which it was uplinked.
@@ -94,10 +117,6 @@ pub fn ground_load(
     let Some(row) = tables.find(parsed.name.bytes()) else {
         return Ok(Answer::plain(Status::ERR_NO_SUCH_TABLE));
     };
-    if let Some(answer) = load_refusal(tables, row, parsed.offset, parsed.count) {
-        return Ok(answer);
-    }
-    fill(alloc, tables, row, parsed.offset, image)?;
-    tables.set_file(row, file);
-    Ok(Answer::plain(Status::SUCCESS))
+    let answer = load_into(alloc, tables, row, file, parsed, image)?;
+    Ok(answer)
 }

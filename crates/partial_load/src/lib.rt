@@ -6,7 +6,7 @@ mod ground;
 mod images;
 mod refusals;
 
-pub use ground::ground_load;
+pub use ground::{ground_load, load_into};
 pub use images::image_load;
 
 #[cfg(test)]
