@@ -1,11 +1,9 @@
 pub mod Buffers
+pub mod Cases
 pub mod CommandAnswers
+pub mod Fair
 pub mod Ordinary
-pub mod Steps
-pub mod Packets
-pub mod CommandLemmas
-pub mod Quiet
-pub mod Images
-pub mod GroundLoads
-pub mod WholeLaws
+pub mod Pins
 pub mod Places
+pub mod Steps
+pub mod WholeLaws

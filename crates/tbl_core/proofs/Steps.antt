@@ -1,92 +1,174 @@
 -- From what a step did to the core to the legal history.
-use Rattle.std.proofs.Common.{◌≡◌, suc, false, List, [], ◌∷◌, ◌++◌, length, None, Result, Ok, Err, refl, sym, ap, subst, ◌∙◌, length-append, arith}
+use Rattle.std.proofs.Common.{◌≡◌, ℕ, suc, false, List, [], ◌∷◌, ◌++◌, length, Option, Some, None, Result, Ok, Err, refl, sym, ap, subst, ◌∙◌, length-append, arith}
 use Rattle.std.specs.Prelude.{OnOk}
-use Rattle.tbl_model.specs.State.{State}
+use Rattle.std.proofs.lemmas.List.{append-nil}
+use Rattle.tbl_model.specs.State.{State, Tables, first_state}
 use Rattle.tbl_kinds.specs.Requests.{Fits}
 use Rattle.tbl_kinds.specs.Records.{IsBuilt}
-use Rattle.tbl_model.specs.Effects.{Effect}
-use Rattle.tbl_model.specs.Dispatch.{Given, effect_of}
-use Rattle.tbl_model.specs.Counts.{Told, counts_of}
+use Rattle.tbl_model.specs.Effects as model
+use Rattle.tbl_model.specs.Given.{nothing_given}
+use Rattle.tbl_model.specs.Dispatch.{effect_of}
+use Rattle.tbl_model.specs.Counts.{Told, Counts, counts_of}
 use Rattle.tbl_model.specs.CountsAfter.{tally_of, counts_after}
-use Rattle.tbl_model.specs.Replies.{packets_of}
-use Rattle.tbl_model.specs.History.{Run, begins_at, onward, run_from, untouched, IsAnswered, AreAnswered}
+use Rattle.tbl_model.specs.Replies.{packets_by, packets_of}
+use Rattle.tbl_model.specs.History.{Run, begins_at, onward, onward_by, run_from, told, effect_in, IsAnswered, AreAnswered}
 use Rattle.tbl_model.proofs.CountsLaws.{counts_push}
 use Rattle.tbl_model.proofs.HistoryLaws.{run_push, answered_push}
-use Rattle.tbl_core.specs.Log.{entry_of}
-use Rattle.tbl_core.specs.Service.{Kept, Shows, StandsFor, Plays, HasFewImages, told}
+use Rattle.tbl_core.specs.Log.{Logged, entry_of}
+use Rattle.tbl_core.specs.Effects.{IsEffect, given_of, without_images, seen_at, told_at}
+use Rattle.tbl_core.specs.Service.{Held, Kept, Stands, Shows, StandsFor, Leaves, Finishes, Plays, HasFewImages}
+use Rattle.tbl_core.proofs.Cases.{OfEffect}
 use Rattle.tbl_core.proofs.Ordinary.{IsOrdinary, ordinary}
+use Rattle.tbl_core.specs.declared.effect.Effect.{Effect}
+use Rattle.tbl_core.specs.declared.parts.Clock.{Clock}
 use Rattle.tbl_kinds.specs.declared.request.Actor.{Actor}
 use Rattle.tbl_kinds.specs.declared.request.Request.{Request}
 use Rattle.tbl_kinds.specs.declared.entry.Entry.{Entry}
-use Rattle.tbl_kinds.specs.declared.entry.Reply.{Reply}
 
--- nothing came from the outside
-abbrev pub none_given : Given
-none_given = record { note = untouched; verdicts = None ∷ None ∷ [] }
+-- ---- one effect
 
--- what a step did, over the state and the counts that the core kept
-pub record Did (old new : Kept) (actor : Actor) (request : Request) (reply : Reply) (effect : Effect) : Type 0 where
-  pub built : IsBuilt request
+-- but for its images it is what the code has of it
+same_but_images : (done : Effect) (e : model.Effect) → IsEffect done e.next e → e ≡ record (without_images done e.next) { images = e.images }
+same_but_images done e is = λ i. record {
+  status = is.status i;
+  detail = is.detail i;
+  bytes = is.bytes i;
+  table = is.table i;
+  deeds = is.deeds i;
+  images = e.images;
+  shown = is.shown i;
+  notice = is.notice i;
+  next = e.next;
+}
+
+-- telemetry doesn't tell images, nor more of the state than the time and the tables
+module _ (done : Effect) (clock : Clock) (actor : Actor) (request : Request) (s : State) (e : model.Effect) (is : IsEffect done e.next e) (seconds : s.seconds ≡ clock.seconds) (sub : s.sub ≡ clock.sub) where
+  tally_same : (tables : Tables) → tally_of (told s actor request e) ≡ tally_of (told_at clock.seconds clock.sub tables request done)
+  tally_same tables = rw (same_but_images done e is, ← seconds, ← sub) refl
+
+  packets_same : (tables : Tables) (before after : Counts) → e.next.tables ≡ tables → packets_by before after (told s actor request e) ≡ packets_by before after (told_at clock.seconds clock.sub tables request done)
+  packets_same tables before after same = rw (same_but_images done e is, ← seconds, ← sub, ← same) refl
+
+-- ---- one request
+
+-- a state for which the parts stand
+abbrev state_in : Held → State
+state_in held = record {
+  tables = held.tables;
+  pending = held.pending;
+  store = [];
+  drawer = held.drawer;
+  apps = held.apps;
+  kit = held.kit;
+  seconds = held.seconds;
+  sub = held.sub;
+  ended = held.ended;
+}
+
+stands_in : (held : Held) → Stands held (state_in held)
+stands_in held = record { tables = refl; pending = refl; store = refl; drawer = refl; apps = refl; kit = refl; seconds = refl; sub = refl; ended = refl }
+
+-- the effect that the parts stand behind
+effect_left : (done : Effect) (held : Held) (found : Option model.Effect) → Leaves done held found → (e : model.Effect) × (found ≡ Some e) × (IsEffect done e.next e) × (Stands held e.next)
+effect_left done held None leaves = absurd leaves
+effect_left done held (Some e) leaves = (e, refl, leaves.0, leaves.1)
+
+-- what a request did
+pub record Did (old new : Kept) (actor : Actor) (request : Request) (clock : Clock) (done : Effect) : Type 0 where
   pub fits : Fits actor request
+  pub built : IsBuilt request
   pub live : old.state.ended ≡ false
   pub few : HasFewImages old.state.tables (length old.entries)
-  pub effect_is : effect_of old.state actor request none_given ≡ effect
-  pub status : reply.status ≡ effect.status
-  pub detail : reply.detail ≡ effect.detail
-  pub bytes : reply.bytes.list ≡ effect.bytes
-  pub packets : (past : List Told) → counts_of past ≡ old.counts → reply.packets.list ≡ packets_of past (told old.state actor request effect)
-  pub entries : new.entries ≡ old.entries ++ entry_of actor request reply ∷ []
-  pub next : new.state ≡ effect.next
-  pub counts : new.counts ≡ counts_after old.counts (tally_of (told old.state actor request effect))
+  pub seconds : old.state.seconds ≡ clock.seconds
+  pub sub : old.state.sub ≡ clock.sub
+  pub given : given_of done ≡ nothing_given
+  pub effect : (s : State) → Stands old.state s → Leaves done new.state (effect_of s actor request (given_of done))
+  pub before : Logged
+  pub after : Logged
+  pub entries : before.entries ≡ old.entries
+  pub counts : before.counts ≡ old.counts
+  pub entered : new.entries ≡ after.entries
+  pub counted : new.counts ≡ after.counts
+  pub finishes : Finishes before after clock new.state.tables actor request done
 
-module _ (old new : Kept) (actor : Actor) (request : Request) (reply : Reply) (effect : Effect) (did : Did old new actor request reply effect) where
-  goes_on : IsOrdinary (length old.entries) effect
-  goes_on = subst (λ (e : Effect). IsOrdinary (length old.entries) e) did.effect_is (ordinary old.state (length old.entries) did.live did.few actor request none_given)
+module _ (old new : Kept) (actor : Actor) (request : Request) (clock : Clock) (done : Effect) (did : Did old new actor request clock done) where
+  entry : Entry
+  entry = entry_of actor request did.finishes.reply (given_of done)
+
+  added : new.entries ≡ old.entries ++ entry ∷ []
+  unfolding entry
+  added = did.entered ∙ did.finishes.entries ∙ ap (λ es. es ++ entry ∷ []) did.entries
+
+  left : (r : Run) → Shows old r → (e : model.Effect) × (effect_of r.state actor request (given_of done) ≡ Some e) × (IsEffect done e.next e) × (Stands new.state e.next)
+  left r shown = effect_left done new.state _ (did.effect r.state shown.state)
+
+  counted_on : (r : Run) (shown : Shows old r) → counts_of (r.past ++ told r.state actor request (left r shown).0 ∷ []) ≡ new.counts
+  counted_on r shown =
+      let e = left r shown in
+      counts_push r.past (told r.state actor request e.0)
+      ∙ ap (counts_after (counts_of r.past)) (tally_same done clock actor request r.state e.0 e.2 (shown.state.seconds ∙ did.seconds) (shown.state.sub ∙ did.sub) new.state.tables)
+      ∙ ap (λ c. counts_after c (tally_of (told_at clock.seconds clock.sub new.state.tables request done))) (shown.counts ∙ sym did.counts)
+      ∙ sym did.finishes.counts ∙ sym did.counted
+
+  answered : (r : Run) → Shows old r → IsAnswered r entry
+  unfolding entry packets_of
+  answered r shown =
+      let e = left r shown in
+      let done_by = did.finishes in record {
+        live = shown.state.ended ∙ did.live;
+        built = did.built;
+        fits = did.fits;
+        given = did.given;
+        effect = e.0;
+        effect_is = e.1;
+        status = done_by.status ∙ sym e.2.status;
+        detail = done_by.detail ∙ sym e.2.detail;
+        bytes = done_by.bytes ∙ sym e.2.bytes;
+        packets = done_by.packets
+            ∙ sym (packets_same done clock actor request r.state e.0 e.2 (shown.state.seconds ∙ did.seconds) (shown.state.sub ∙ did.sub) new.state.tables did.before.counts did.after.counts e.3.tables)
+            ∙ ap (λ c. packets_by c did.after.counts (told r.state actor request e.0)) (did.counts ∙ sym shown.counts)
+            ∙ ap (λ c. packets_by (counts_of r.past) c (told r.state actor request e.0)) (sym did.counted ∙ sym (counted_on r shown));
+      }
+
+  shows : (r : Run) → Shows old r → Shows new (onward r entry)
+  unfolding entry
+  shows r shown =
+      let e = left r shown in
+      subst (λ found. Shows new (onward_by r entry found)) (sym e.1) (record { state = e.3; counts = counted_on r shown })
+
+  ordinary_left : (e : model.Effect) × (IsOrdinary (length old.entries) e) × (Stands new.state e.next)
+  ordinary_left =
+      let s = state_in old.state in
+      let e = effect_left done new.state _ (did.effect s (stands_in old.state)) in
+      (e.0, subst (OfEffect (IsOrdinary (length old.entries))) e.1 (ordinary s (length old.entries) did.live did.few actor request (given_of done)), e.3)
 
   one_more : length new.entries ≡ suc (length old.entries)
-  one_more = ap length did.entries ∙ omega (arith, length-append old.entries (entry_of actor request reply ∷ []))
-
-  answered_here : (past : List Told) → counts_of past ≡ old.counts → IsAnswered (record { state = old.state; past = past }) (entry_of actor request reply)
-  answered_here past counted =
-      let P : Effect → Type 0 = λ e. (reply.status ≡ e.status) × (reply.detail ≡ e.detail) × (reply.bytes.list ≡ e.bytes) × (reply.packets.list ≡ packets_of past (told old.state actor request e)) in
-      let p : P (effect_of old.state actor request none_given) = subst P (sym did.effect_is) (did.status, did.detail, did.bytes, did.packets past counted) in
-      record { live = did.live; built = did.built; fits = did.fits; status = p.0; detail = p.1; bytes = p.2; packets = p.3; note = refl; verdicts = refl }
-
-  shows_here : (past : List Told) → counts_of past ≡ old.counts → Shows new (onward (record { state = old.state; past = past }) (entry_of actor request reply))
-  shows_here past counted =
-      let P : Effect → Type 0 = λ e. (e.next ≡ new.state) × (counts_of (past ++ told old.state actor request e ∷ []) ≡ new.counts) in
-      let c : counts_of (past ++ told old.state actor request effect ∷ []) ≡ new.counts =
-      counts_push past (told old.state actor request effect) ∙ ap (λ c. counts_after c (tally_of (told old.state actor request effect))) counted ∙ sym did.counts in
-      let p : P (effect_of old.state actor request none_given) = subst P (sym did.effect_is) (sym did.next, c) in
-      record { state = p.0; counts = p.1 }
+  one_more = ap length added ∙ omega (arith, length-append old.entries (entry ∷ []))
 
   pub did_play : Plays old new actor request
+  unfolding entry
   did_play = record {
-    entry = entry_of actor request reply;
+    entry = entry;
     actor_is = refl;
     request_is = refl;
-    added = did.entries;
-    answered = λ r shown. subst (λ (s : State). IsAnswered (record { state = s; past = r.past }) (entry_of actor request reply)) (sym shown.state) (answered_here r.past shown.counts);
-    live = ap (λ (s : State). s.ended) did.next ∙ goes_on.live;
-    few = rw (did.next, one_more) goes_on.few;
-    shows = λ r shown. subst (λ (s : State). Shows new (onward (record { state = s; past = r.past }) (entry_of actor request reply))) (sym shown.state) (shows_here r.past shown.counts);
+    added = added;
+    answered = answered;
+    shows = shows;
+    live = sym ordinary_left.2.ended ∙ ordinary_left.1.live;
+    few = rw (one_more, ← ordinary_left.2.tables) ordinary_left.1.few;
   }
+
+-- ---- the history
 
 -- a step that played a request leads from each opening that the core stood for to one that it stands for
 pub plays_on : (old new : Kept) (actor : Actor) (request : Request) → Plays old new actor request → (opening : State) → StandsFor opening old → StandsFor opening new
 plays_on old new actor request p opening stood =
     let run = run_from (begins_at opening) old.entries in
-    let one : IsAnswered run p.entry = p.answered run stood.shows in
-    let shown : Shows new (onward run p.entry) = p.shows run stood.shows in
-    let all : AreAnswered (begins_at opening) (old.entries ++ p.entry ∷ []) = answered_push (begins_at opening) old.entries p.entry stood.legal.answered one in
-    let shown_all : Shows new (run_from (begins_at opening) (old.entries ++ p.entry ∷ [])) = subst (λ (r : Run). Shows new r) (sym (run_push (begins_at opening) old.entries p.entry)) shown in
+    let all : AreAnswered (begins_at opening) (old.entries ++ p.entry ∷ []) = answered_push (begins_at opening) old.entries p.entry stood.legal.answered (p.answered run stood.shows) in
+    let shown : Shows new (run_from (begins_at opening) (old.entries ++ p.entry ∷ [])) = subst (λ (r : Run). Shows new r) (sym (run_push (begins_at opening) old.entries p.entry)) (p.shows run stood.shows) in
     let here : AreAnswered (begins_at opening) new.entries × Shows new (run_from (begins_at opening) new.entries) =
-    subst (λ (es : List Entry). AreAnswered (begins_at opening) es × Shows new (run_from (begins_at opening) es)) (sym p.added) (all, shown_all) in
-    record { legal = record { answered = here.0; leads = here.1.state }; shows = here.1 }
-
-pub adds_one : (old new : Kept) (actor : Actor) (request : Request) → Plays old new actor request
-    → (e : Entry) × (new.entries ≡ old.entries ++ e ∷ []) × (e.actor ≡ actor) × (e.request ≡ request)
-adds_one old new actor request p = (p.entry, p.added, p.actor_is, p.request_is)
+    subst (λ (es : List Entry). AreAnswered (begins_at opening) es × Shows new (run_from (begins_at opening) es)) (sym p.added) (all, shown) in
+    record { legal = record { answered = here.0; leads = refl }; shows = here.1 }
 
 -- what follows from a call that went well
 pub on_ok : {A E P Q : Type 0} (r : Result A E) → (P → Q) → OnOk r P → OnOk r Q

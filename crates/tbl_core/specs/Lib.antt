@@ -1,5 +1,7 @@
+pub mod Asked
 pub mod Counters
-pub mod Loads
+pub mod Effects
+pub mod Finish
 pub mod Log
+pub mod Rows
 pub mod Service
-pub mod Settling

@@ -1,7 +1,7 @@
 -- What the history shows.
-use Rattle.std.specs.Prelude.{ℕ, ◌≤◌, List, [], ◌∷◌, length, None}
+use Rattle.std.specs.Prelude.{ℕ, ◌≤◌, List, length}
 use Rattle.tbl_model.specs.Counts.{Counts}
-use Rattle.tbl_model.specs.History.{untouched}
+use Rattle.tbl_model.specs.Given.{Given}
 use Rattle.tbl_kinds.specs.declared.request.Actor.{Actor}
 use Rattle.tbl_kinds.specs.declared.request.Request.{Request}
 use Rattle.tbl_kinds.specs.declared.entry.Entry.{Entry}
@@ -24,6 +24,6 @@ pub record IsSmallReply (reply : Reply) : Type 0 where
 abbrev pub IsSmall : Entry → Type 0
 IsSmall e = IsSmallReply e.reply
 
--- an entry that touched no store and asked no validation function
-abbrev pub entry_of : Actor → Request → Reply → Entry
-entry_of actor request reply = record { actor = actor; request = request; reply = reply; note = untouched; verdicts = None ∷ None ∷ [] }
+-- an entry in which this came from the outside
+abbrev pub entry_of : Actor → Request → Reply → Given → Entry
+entry_of actor request reply given = record { actor = actor; request = request; reply = reply; note = given.note; verdicts = given.verdicts }

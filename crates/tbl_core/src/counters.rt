@@ -4,10 +4,11 @@ ghost use Rattle.std.specs.Prelude.{◌≡◌, ◌+◌, ◌%◌, ◌<◌, [], un
 ghost use Rattle.tbl_model.specs.CountsAfter.{bit, counts_after};
 ghost use Rattle.tbl_model.specs.Counts.{no_counts};
 
+use std::marker::Model;
 use tbl_kinds::{Name, Name40, Name64};
 
 /// Sequence counts have 14 bits (CCSDS 133.0-B, "Packet Sequence Count").
-const SEQUENCE_COUNTS: u16 = 16_384;
+pub(crate) const SEQUENCE_COUNTS: u16 = 16_384;
 
 /// An image that went active: when, and of which table.
 #[derive(Debug, Drop)]
@@ -17,13 +18,38 @@ pub(crate) struct Update {
     pub name: Name40,
 }
 
-impl Update {
-    ghost use Rattle.std.specs.Option.{option_map};
-    ghost use Rattle.tbl_core.specs.Counters.{update_view};
+/// A validation that came to its end.
+#[derive(Debug, Drop)]
+pub(crate) struct Validation {
+    /// The check word of its image.
+    pub check: u16,
+    pub verdict: i32,
+    /// 1 for the last image, 0 for that of the open load.
+    pub active: u8,
+    /// The full name of its table.
+    pub name: Name40,
+}
 
+impl Model for Update {
+    ghost use Rattle.tbl_model.specs.Counts.{Update as Told};
+
+    ghost Value = { Told };
+
+    ghost view = { λ u. record { seconds = u.seconds; sub = u.sub; name = u.name } };
+}
+
+impl Model for Validation {
+    ghost use Rattle.tbl_model.specs.Counts.{Validation as Told};
+
+    ghost Value = { Told };
+
+    ghost view = { λ v. record { check = v.check; verdict = v.verdict; active = v.active; name = v.name } };
+}
+
+impl Update {
     /// The latest update, after a newer one if there is one.
     fn renew(&mut self, newer: Option<Update>)
-        ensures { update_view self.new ≡ unwrap_or (option_map update_view newer) (update_view self.old) }
+        ensures { self.new ≡ unwrap_or newer self.old }
     {
         if let Some(update) = newer {
             *self = update;
@@ -31,57 +57,75 @@ impl Update {
     }
 }
 
+impl Validation {
+    /// The latest validation, after a newer one if there is one.
+    fn renew(&mut self, newer: Option<Validation>)
+        ensures { self.new ≡ unwrap_or newer self.old }
+    {
+        if let Some(validation) = newer {
+            *self = validation;
+        }
+    }
+}
+
 /// What an entry adds to the running numbers.
 #[derive(Debug, Drop)]
 pub(crate) struct Tally {
+    /// The service began anew.
+    pub restarted: bool,
     /// The counters of commands and of validations were cleared.
     pub cleared: bool,
     /// A command was accepted that counts.
     pub accepted: bool,
     /// A command was refused.
     pub refused: bool,
+    /// So many validations came to their end, so many of them with verdict 0, and so many with another.
+    pub finished: u8,
+    pub good: u8,
+    pub bad: u8,
+    /// A VALIDATE was accepted.
+    pub request: bool,
     /// So many event packets were sent.
     pub events: u8,
     /// A housekeeping packet was sent.
     pub housekeeping: bool,
-    /// An image went active.
+    /// The latest validation that came to its end.
+    pub validation: Option<Validation>,
+    /// The latest image that went active.
     pub update: Option<Update>,
     /// A table was loaded, by its name.
     pub loaded: Option<Name40>,
     /// The file that it was loaded from.
     pub loaded_file: Option<Name64>,
+    /// The latest dump file that was written.
+    pub dumped_file: Option<Name64>,
 }
 
-impl Tally {
-    ghost use Rattle.tbl_core.specs.Counters.{tally_view};
-    ghost use Rattle.tbl_model.specs.CountsAfter.{no_tally};
-
-    /// Nothing is added.
-    pub(crate) fn none() -> Tally
-        ensures { tally_view result ≡ no_tally }
-    {
-        Tally {
-            cleared: false,
-            accepted: false,
-            refused: false,
-            events: 0,
-            housekeeping: false,
-            update: None,
-            loaded: None,
-            loaded_file: None,
-        }
-    }
+/// A counter of one byte: 0 where it was cleared, else so many more.
+fn counted(known: u8, cleared: bool, more: u8) -> u8
+    ensures { result ≡ (if cleared then 0 else (known + more) % 256) }
+{
+    if cleared { 0 } else { known.wrapping_add(more) }
 }
 
-/// A counter of one byte: 0 where it was cleared, else one more where one is counted.
-fn counted(known: u8, cleared: bool, more: bool) -> u8
-    ensures { result ≡ (if cleared then 0 else (known + bit more) % 256) }
+/// A counter of two bytes.
+fn counted_wide(known: u16, cleared: bool, more: u8) -> u16
+    ensures { result ≡ (if cleared then 0 else (known + more) % 65536) }
 {
     if cleared {
         0
     } else {
-        known.wrapping_add(u8::from(more))
+        known.wrapping_add(u16::from(more))
     }
+}
+
+/// A sequence count after so many packets more.
+fn sequence(known: u16, more: u8) -> u16
+    requires { known < 16384 }
+    ensures after { result ≡ (known + more) % 16384 }
+    ensures within { result < 16384 }
+{
+    (known + u16::from(more)) % SEQUENCE_COUNTS
 }
 
 /// The latest name, after a newer one if there is one.
@@ -93,23 +137,29 @@ fn renew_name<const N: usize>(known: &mut Name<N>, newer: Option<Name<N>>)
     }
 }
 
-/// How many commands were accepted and refused since the counters were cleared, how many packets of each kind were
-/// sent since the service began, and what was updated and loaded last.
+/// How many commands were accepted and refused, and how many validations asked and finished, since the counters were
+/// cleared; how many packets of each kind were sent since the service began, and what was the latest of each kind.
 #[derive(Debug, Drop)]
 pub(crate) struct Counters {
     pub accepted: u8,
     pub refused: u8,
+    pub finished: u16,
+    pub good: u8,
+    pub bad: u8,
+    pub requests: u8,
     pub events: u16,
     pub housekeepings: u16,
+    pub validation: Validation,
     pub update: Update,
     pub loaded: Name40,
     pub loaded_file: Name64,
+    pub dumped_file: Name64,
     ghost events_fit: { events < 16384 },
     ghost housekeepings_fit: { housekeepings < 16384 },
 }
 
 impl Counters {
-    ghost use Rattle.tbl_core.specs.Counters.{counts_view, tally_view};
+    ghost use Rattle.tbl_core.specs.Counters.{counts_view, tally_view, restarted};
 
     /// Nothing was counted yet.
     pub(crate) fn make() -> Counters
@@ -118,8 +168,18 @@ impl Counters {
         Counters {
             accepted: 0,
             refused: 0,
+            finished: 0,
+            good: 0,
+            bad: 0,
+            requests: 0,
             events: 0,
             housekeepings: 0,
+            validation: Validation {
+                check: 0,
+                verdict: 0,
+                active: 0,
+                name: Name40::of(&[]),
+            },
             update: Update {
                 seconds: 0,
                 sub: 0,
@@ -127,19 +187,44 @@ impl Counters {
             },
             loaded: Name40::of(&[]),
             loaded_file: Name64::of(&[]),
+            dumped_file: Name64::of(&[]),
         }
+    }
+
+    /// No packet was sent, and nothing is the latest.
+    fn restart(&mut self)
+        ensures { counts_view self.new ≡ restarted (counts_view self.old) }
+    {
+        let none = Counters::make();
+        self.events = none.events;
+        self.housekeepings = none.housekeepings;
+        self.validation = none.validation;
+        self.update = none.update;
+        self.loaded = none.loaded;
+        self.loaded_file = none.loaded_file;
+        self.dumped_file = none.dumped_file;
     }
 
     /// Counts an entry.
     pub(crate) fn add(&mut self, tally: Tally)
         ensures { counts_view self.new ≡ counts_after (counts_view self.old) (tally_view tally) }
     {
-        self.accepted = counted(self.accepted, tally.cleared, tally.accepted);
-        self.refused = counted(self.refused, tally.cleared, tally.refused);
-        self.events = (self.events + u16::from(tally.events)) % SEQUENCE_COUNTS;
-        self.housekeepings = (self.housekeepings + u16::from(tally.housekeeping)) % SEQUENCE_COUNTS;
+        self.accepted = counted(self.accepted, tally.cleared, u8::from(tally.accepted));
+        self.refused = counted(self.refused, tally.cleared, u8::from(tally.refused));
+        self.finished = counted_wide(self.finished, tally.cleared, tally.finished);
+        self.good = counted(self.good, tally.cleared, tally.good);
+        self.bad = counted(self.bad, tally.cleared, tally.bad);
+        self.requests = counted(self.requests, tally.cleared, u8::from(tally.request));
+        if tally.restarted {
+            self.restart();
+            return;
+        }
+        self.events = sequence(self.events, tally.events);
+        self.housekeepings = sequence(self.housekeepings, u8::from(tally.housekeeping));
+        self.validation.renew(tally.validation);
         self.update.renew(tally.update);
         renew_name(&mut self.loaded, tally.loaded);
         renew_name(&mut self.loaded_file, tally.loaded_file);
+        renew_name(&mut self.dumped_file, tally.dumped_file);
     }
 }

@@ -3,15 +3,20 @@
 
 mod addresses;
 mod applications;
+mod asked;
+mod checks;
 mod commands;
 mod counters;
+mod dispatch;
+mod effect;
 mod files;
+mod finish;
 mod ground_loads;
 mod loads;
 mod log;
 mod parts;
-mod replies;
 mod service;
+mod telemetry;
 
 pub use service::{Core, StepFault};
 

@@ -3,12 +3,12 @@
 ghost use Rattle.std.specs.Prelude.{◌≡◌, ◌<◌, ◌∷◌, [], ◌++◌, OnOk, All};
 ghost use Rattle.tbl_model.specs.Counts.{no_counts};
 ghost use Rattle.tbl_model.specs.CountsAfter.{counts_after};
-ghost use Rattle.tbl_core.specs.Log.{IsSmall, IsSmallReply, entry_of};
+ghost use Rattle.tbl_core.specs.Log.{IsSmall};
 
 use crate::counters::{Counters, Tally};
 use std::alloc::Global;
 use std::marker::Model;
-use tbl_kinds::{Actor, BankNote, Entry, Memory, Outcome, Reply, Request, Slots};
+use tbl_kinds::{Entry, Memory};
 
 /// The entries in their order, the running numbers of telemetry, and reserved room for further entries.
 #[derive(Debug, Drop)]
@@ -70,29 +70,22 @@ impl Log {
         Ok(())
     }
 
-    /// Adds an entry that touched no store and asked no validation function, and counts it.
-    pub(crate) fn enter(&mut self, actor: Actor, request: Request, reply: Reply, tally: Tally)
-        requires room { 0 < self.old.spare }
-        requires small { IsSmallReply reply }
-        ensures entries { self.new.entries ≡ self.old.entries ++ entry_of actor request reply ∷ [] }
+    /// Counts what an entry adds.
+    pub(crate) fn count(&mut self, tally: Tally)
+        ensures entries { self.new.entries ≡ self.old.entries }
+        ensures room { self.new.spare ≡ self.old.spare }
         ensures counts { self.new.counts ≡ counts_after self.old.counts (tally_view tally) }
     {
-        let note = BankNote {
-            outcome: Outcome::Untouched,
-            done: 0,
-            gate: false,
-            old: false,
-            ended: false,
-            restored: None,
-            found: Slots::make(),
-        };
-        self.entries.push_reserved(Entry {
-            actor,
-            request,
-            reply,
-            note,
-            verdicts: [None, None],
-        });
         self.counters.add(tally);
+    }
+
+    /// Adds an entry, which was counted.
+    pub(crate) fn enter(&mut self, entry: Entry)
+        requires room { 0 < self.old.spare }
+        requires small { IsSmall entry }
+        ensures entries { self.new.entries ≡ self.old.entries ++ entry ∷ [] }
+        ensures counts { self.new.counts ≡ self.old.counts }
+    {
+        self.entries.push_reserved(entry);
     }
 }

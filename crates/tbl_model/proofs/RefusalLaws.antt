@@ -1,16 +1,16 @@
 -- What holds of a request that isn't refused, and of one that is.
 use Rattle.std.proofs.Common.{◌≡◌, ℕ, ◌+◌, ◌<◌, ◌≤◌, ◌==◌, List, [], Bool, true, false, not, ◌&&◌, ◌||◌, cond, nat_lt, length, Option, Some, None, is_some, refl, arith}
-use Rattle.std.specs.Prelude.{IfSome}
 use Rattle.std.specs.Option.{option_or}
 use Rattle.std.proofs.lemmas.Bool.Decides.{nat_tests}
 use Rattle.tbl_kinds.specs.Names.{is_name}
 use Rattle.tbl_kinds.specs.Limits.{table_limit}
-use Rattle.tbl_kinds.specs.Statuses.{is_success}
 use Rattle.tbl_model.specs.State.{Table, Tables}
 use Rattle.tbl_model.specs.Tables.{is_double, is_dump_only, in_use}
 use Rattle.tbl_model.specs.TableSteps.{locker}
 use Rattle.tbl_model.specs.Refusals.{are_options, may_use, plan_refusal, lock_refusal, buffer_refusal, open_refusal, image_refusal, load_refusal}
+use Rattle.tbl_model.specs.Whole.{is_done}
 use Rattle.tbl_kinds.specs.declared.entry.Answer.{Answer}
+use Rattle.tbl_kinds.specs.declared.status.Status.{Status}
 use Rattle.tbl_kinds.specs.declared.status.TheConstants.Status.{INFO_STOPPED}
 
 -- a test whose refusal there isn't
@@ -115,51 +115,52 @@ plan_taken app short size flags validator none =
 
 -- ---- what a refusal is
 
--- an answer that refuses, and of a service that goes on
-pub record IsRefusal (answer : Answer) : Type 0 where
-  pub refuses : is_success answer.status ≡ false
-  pub goes_on : (answer.status.0 == INFO_STOPPED.0) ≡ false
+-- a status that refuses: nothing was done, and nothing begins anew
+abbrev pub is_refusal : Status → Bool
+is_refusal status = not (is_done status || (status.0 == INFO_STOPPED.0))
 
-abbrev AreRefusals : Option Answer → Type 0
-AreRefusals r = IfSome r IsRefusal
+-- so does the answer, if there is one
+abbrev pub Refuses : Option Answer → Type 0
+Refuses None = Unit {0}
+Refuses (Some answer) = is_refusal answer.status ≡ true
 
-here : (b : Bool) (r rest : Option Answer) → AreRefusals r → AreRefusals rest → AreRefusals (cond b r rest)
+here : (b : Bool) (r rest : Option Answer) → Refuses r → Refuses rest → Refuses (cond b r rest)
 here true r rest first later = first
 here false r rest first later = later
 
-first_of : (a b : Option Answer) → AreRefusals a → AreRefusals b → AreRefusals (option_or a b)
+first_of : (a b : Option Answer) → Refuses a → Refuses b → Refuses (option_or a b)
 first_of None b first later = later
 first_of (Some x) b first later = first
 
-by_lock : (lock : Option ℕ) → AreRefusals (lock_refusal lock)
+by_lock : (lock : Option ℕ) → Refuses (lock_refusal lock)
 by_lock None = tt
-by_lock (Some handle) = record { refuses = refl; goes_on = refl }
+by_lock (Some handle) = refl
 
-by_buffers : (tables : Tables) (t : Table) → AreRefusals (buffer_refusal tables t)
-by_buffers tables t = here (not (is_double t) && length (in_use tables) == 4) _ None record { refuses = refl; goes_on = refl } tt
+by_buffers : (tables : Tables) (t : Table) → Refuses (buffer_refusal tables t)
+by_buffers tables t = here (not (is_double t) && length (in_use tables) == 4) _ None refl tt
 
-pub plan_refused : (kit : List (Option ℕ)) (app : ℕ) (short : List ℕ) (size flags : ℕ) (validator : Option ℕ) → IfSome (plan_refusal kit app short size flags validator) IsRefusal
+pub plan_refused : (kit : List (Option ℕ)) (app : ℕ) (short : List ℕ) (size flags : ℕ) (validator : Option ℕ) → Refuses (plan_refusal kit app short size flags validator)
 plan_refused kit app short size flags validator =
-    here (not (is_name short)) _ _ record { refuses = refl; goes_on = refl }
-    (here (size == 0 || nat_lt table_limit size) _ _ record { refuses = refl; goes_on = refl }
-    (here (not (are_options flags)) _ _ record { refuses = refl; goes_on = refl }
-    (here (not (may_use kit app validator)) _ None record { refuses = refl; goes_on = refl } tt)))
+    here (not (is_name short)) _ _ refl
+    (here (size == 0 || nat_lt table_limit size) _ _ refl
+    (here (not (are_options flags)) _ _ refl
+    (here (not (may_use kit app validator)) _ None refl tt)))
 
-pub image_refused : (tables : Tables) (row : ℕ) (t : Table) (len : ℕ) → IfSome (image_refusal tables row t len) IsRefusal
+pub image_refused : (tables : Tables) (row : ℕ) (t : Table) (len : ℕ) → Refuses (image_refusal tables row t len)
 image_refused tables row t len =
-    here (is_dump_only t) _ _ record { refuses = refl; goes_on = refl }
-    (here (is_some t.load) _ _ record { refuses = refl; goes_on = refl }
-    (here (not (len == t.size)) _ _ record { refuses = refl; goes_on = refl }
+    here (is_dump_only t) _ _ refl
+    (here (is_some t.load) _ _ refl
+    (here (not (len == t.size)) _ _ refl
     (first_of (lock_refusal (locker tables row t)) (buffer_refusal tables t) (by_lock (locker tables row t)) (by_buffers tables t))))
 
-open_refused : (tables : Tables) (row : ℕ) (t : Table) → IfSome (open_refusal tables row t) IsRefusal
+open_refused : (tables : Tables) (row : ℕ) (t : Table) → Refuses (open_refusal tables row t)
 open_refused tables row t = first_of (lock_refusal (cond (is_double t) (locker tables row t) None)) (buffer_refusal tables t) (by_lock (cond (is_double t) (locker tables row t) None)) (by_buffers tables t)
 
-pub load_refused : (tables : Tables) (row : ℕ) (t : Table) (offset len : ℕ) → IfSome (load_refusal tables row t offset len) IsRefusal
+pub load_refused : (tables : Tables) (row : ℕ) (t : Table) (offset len : ℕ) → Refuses (load_refusal tables row t offset len)
 load_refused tables row t offset len =
-    here (is_dump_only t) _ _ record { refuses = refl; goes_on = refl }
-    (here t.activation _ _ record { refuses = refl; goes_on = refl }
-    (here (len == 0) _ _ record { refuses = refl; goes_on = refl }
-    (here (nat_lt t.size (offset + len)) _ _ record { refuses = refl; goes_on = refl }
-    (here ((t.count == 0) && not (offset == 0 && len == t.size)) _ _ record { refuses = refl; goes_on = refl }
+    here (is_dump_only t) _ _ refl
+    (here t.activation _ _ refl
+    (here (len == 0) _ _ refl
+    (here (nat_lt t.size (offset + len)) _ _ refl
+    (here ((t.count == 0) && not (offset == 0 && len == t.size)) _ _ refl
     (here (is_some t.load) None _ tt (open_refused tables row t))))))

@@ -9,6 +9,7 @@ use Rattle.std.proofs.lemmas.Bool.Decides.{nat_tests}
 use Rattle.tbl_kinds.specs.Heads.{IsShort, IsBad, is_short, is_bad, EndsBefore}
 use Rattle.tbl_kinds.proofs.RecordLaws.{are_records}
 use Rattle.tbl_kinds.specs.Transcript.{pair_of, pairs_of, entries_bytes, end_bytes, offset_of, transcript}
+use Rattle.tbl_model.specs.History.{begins_at, run_from}
 use Rattle.tbl_core.specs.Service.{StandsFor}
 use Rattle.tbl_core.proofs.WholeLaws.{whole}
 use Rattle.tbl_outside.specs.Streams.{TakesFront}
@@ -206,10 +207,10 @@ module _ (opening : State) (p : Playing) (read : List ℕ) (failed : Bool) (at_e
   made known ends_as_is told = record {
     known = known;
     entries = p.core.entries;
-    state = p.core.state;
+    state = (run_from (begins_at opening) p.core.entries).state;
     rest = ends.feeds.behind;
     legal = stands.legal;
-    whole = whole opening p.core.entries p.core.state at_first stands.legal;
+    whole = whole opening p.core.entries _ at_first stands.legal;
     each = session.each;
     few = session.few;
     parts = ends.feeds.parts;

@@ -1,0 +1,80 @@
+-- The effect of a request as the code has it, and what it stands for.
+use Rattle.std.specs.Prelude.{◌≡◌, ℕ, ◌≤◌, List, [], ◌∷◌, ◌++◌, length, map, Bool, false, Option, None, Some}
+use Rattle.tbl_model.specs.State.{State, Tables, first_state}
+use Rattle.tbl_model.specs.Effects as model
+use Rattle.tbl_model.specs.Given.{Given, nothing_given}
+use Rattle.tbl_model.specs.Commands.{Asked}
+use Rattle.tbl_model.specs.Events.{deed_event, command_events}
+use Rattle.tbl_model.specs.Counts.{Told}
+use Rattle.tbl_model.specs.History.{told}
+use Rattle.tbl_model.specs.declared.deeds.Shown.{Shown}
+use Rattle.tbl_model.specs.declared.deeds.Shown.TheVariants.{Nothing}
+use Rattle.tbl_kinds.specs.declared.telemetry.Event.{Event}
+use Rattle.tbl_kinds.specs.declared.request.Actor.TheVariants.{Ground}
+use Rattle.tbl_kinds.specs.declared.request.Request.{Request}
+use Rattle.tbl_core.specs.declared.effect.Effect.{Effect}
+
+-- ---- what it stands for
+
+-- it is this effect, which leaves this state
+pub record IsEffect (done : Effect) (after : State) (e : model.Effect) : Type 0 where
+  pub status : e.status ≡ done.answer.status
+  pub detail : e.detail ≡ done.answer.detail
+  pub bytes : e.bytes ≡ done.bytes.list
+  pub table : e.table ≡ done.table
+  pub deeds : e.deeds ≡ done.deeds.items
+  pub shown : e.shown ≡ done.shown
+  pub notice : e.notice ≡ None
+  pub next : e.next ≡ after
+
+-- what came from the outside in it
+abbrev pub given_of : Effect → Given
+given_of done = record { note = done.note; verdicts = done.verdicts }
+
+-- ---- what is told of it
+
+-- the same without images, which telemetry doesn't tell
+abbrev pub without_images : Effect → State → model.Effect
+without_images done next = record {
+  status = done.answer.status;
+  detail = done.answer.detail;
+  bytes = done.bytes.list;
+  table = done.table;
+  deeds = done.deeds.items;
+  images = [];
+  shown = done.shown;
+  notice = None;
+  next = next;
+}
+
+-- a state of which telemetry tells the same: it has the time and the tables
+abbrev pub seen_at : ℕ → ℕ → Tables → State
+seen_at seconds sub tables = record (first_state [] []) { tables = tables; seconds = seconds; sub = sub }
+
+-- what telemetry tells of a request with this effect, at this time, behind which these tables stand
+abbrev pub told_at : ℕ → ℕ → Tables → Request → Effect → Told
+told_at seconds sub tables request done = told (seen_at seconds sub tables) Ground request (without_images done (seen_at seconds sub tables))
+
+abbrev pub seen : Effect → model.Effect
+seen done = without_images done (first_state [] [])
+
+-- the events of a command, or of another request, with this effect
+abbrev pub told_events : Asked → Effect → List Event
+told_events asked done = command_events asked (seen done) ++ map deed_event done.deeds.items
+
+abbrev pub listed : Option Event → List Event
+listed None = []
+listed (Some event) = event ∷ []
+
+-- ---- how much it tells
+
+-- it has so many deeds at most, and shows a packet only where this is true
+pub record IsWithin (most : ℕ) (shows : Bool) (done : Effect) : Type 0 where
+  pub deeds : length done.deeds.items ≤ most
+  pub shown : shows ≡ false → done.shown ≡ Nothing
+
+-- it answers, and no more is told of it
+pub record IsQuiet (done : Effect) : Type 0 where
+  pub deeds : done.deeds.items ≡ []
+  pub shown : done.shown ≡ Nothing
+  pub given : given_of done ≡ nothing_given

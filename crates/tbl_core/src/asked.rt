@@ -1,0 +1,128 @@
+//! What a request asks, as far as telemetry looks at it.
+
+ghost use Rattle.std.specs.Prelude.{◌≡◌};
+ghost use Rattle.std.specs.Option.{option_copied};
+ghost use Rattle.tbl_kinds.specs.GroundCommands.{code_of, command_in};
+ghost use Rattle.tbl_model.specs.Commands.{asked_in, asks_housekeeping, asks_reset_counters, asks_validate, asked_file, asked_code};
+ghost use Rattle.tbl_model.specs.Counts.{is_reset, asks_load, load_file_of};
+ghost use Rattle.cmd_packets.specs.Views.{command_of};
+ghost use Rattle.tbl_core.specs.Asked.{read_of, asked_of, most_deeds};
+
+use cmd_packets::{CmdFault, Ground, read_command};
+use tbl_kinds::{Name64, Request};
+
+/// What the packet of a command was read as; none of a request that is no command.
+pub(crate) type Asked = Option<Result<Ground, CmdFault>>;
+
+/// Reads the packet of a command.
+fn read(bytes: &[u8]) -> Result<Ground, CmdFault>
+    ensures { read_of result ≡ command_in bytes.now }
+{
+    match read_command(bytes) {
+        Ok(command) => Ok(command),
+        Err(fault) => Err(fault),
+    }
+}
+
+/// What a request asks.
+pub(crate) fn asked_in(request: &Request) -> Asked
+    ensures { asked_of result ≡ asked_in request.now }
+{
+    match request {
+        Request::Command { bytes } => Some(read(bytes.bytes())),
+        _ => None,
+    }
+}
+
+/// The function code of a command; 0 of a housekeeping request.
+pub(crate) fn code_of(command: &Ground) -> u8
+    ensures { result ≡ code_of (command_of command.now) }
+{
+    match command {
+        Ground::Housekeeping | Ground::Noop => 0,
+        Ground::ResetCounters => 1,
+        Ground::Load { .. } => 2,
+        Ground::Dump { .. } => 3,
+        Ground::Validate { .. } => 4,
+        Ground::Activate { .. } => 5,
+        Ground::DumpRegistry { .. } => 6,
+        Ground::SendRegistry { .. } => 7,
+        Ground::DeleteCds { .. } => 8,
+        Ground::Abort { .. } => 9,
+    }
+}
+
+/// The function code that event 1 tells.
+pub(crate) fn asked_code(asked: &Asked) -> u8
+    ensures { result ≡ asked_code (asked_of asked.now) }
+{
+    match asked {
+        Some(Ok(command)) => code_of(command),
+        _ => 0,
+    }
+}
+
+pub(crate) fn asks_housekeeping(asked: &Asked) -> bool
+    ensures { result ≡ asks_housekeeping (asked_of asked.now) }
+{
+    matches!(asked, Some(Ok(Ground::Housekeeping)))
+}
+
+pub(crate) fn asks_reset_counters(asked: &Asked) -> bool
+    ensures { result ≡ asks_reset_counters (asked_of asked.now) }
+{
+    matches!(asked, Some(Ok(Ground::ResetCounters)))
+}
+
+pub(crate) fn asks_validate(asked: &Asked) -> bool
+    ensures { result ≡ asks_validate (asked_of asked.now) }
+{
+    matches!(asked, Some(Ok(Ground::Validate { .. })))
+}
+
+/// The file that a LOAD names.
+fn asked_file(asked: &Asked) -> Option<&Name64>
+    ensures { option_copied result ≡ asked_file (asked_of asked.now) }
+{
+    match asked {
+        Some(Ok(Ground::Load { file })) => Some(file),
+        _ => None,
+    }
+}
+
+/// Whether it is a LOAD, or the call of an application that loads an image.
+pub(crate) fn asks_load(request: &Request, asked: &Asked) -> bool
+    ensures { result ≡ asks_load request.now (asked_of asked.now) }
+{
+    match request {
+        Request::LoadImage { .. } | Request::LoadFile { .. } => true,
+        _ => asked_file(asked).is_some(),
+    }
+}
+
+/// The file that a load names.
+pub(crate) fn load_file_of(request: &Request, asked: &Asked) -> Option<Name64>
+    ensures { result ≡ load_file_of request.now (asked_of asked.now) }
+{
+    match request {
+        Request::LoadFile { name, .. } => Some(name.copy()),
+        _ => Some(asked_file(asked)?.copy()),
+    }
+}
+
+/// Whether it is a reset of the processor.
+pub(crate) fn is_reset(request: &Request) -> bool
+    ensures { result ≡ is_reset request.now }
+{
+    matches!(request, Request::Reset { .. })
+}
+
+/// The most deeds of a request.
+pub(crate) fn most_deeds(request: &Request) -> usize
+    ensures { result ≡ most_deeds request.now }
+{
+    match request {
+        Request::LoadImage { .. } => 1,
+        _ => 0,
+    }
+}

@@ -1,0 +1,95 @@
+//! Which request is played by what.
+
+ghost use Rattle.std.specs.Prelude.{◌≡◌, ◌≤◌, length, IfOk, OnErr};
+ghost use Rattle.tbl_kinds.specs.Requests.{Fits};
+ghost use Rattle.tbl_kinds.specs.Records.{IsBuilt, record_limit};
+ghost use Rattle.tbl_model.specs.State.{State};
+ghost use Rattle.tbl_model.specs.Commands.{asked_in, asks_housekeeping};
+ghost use Rattle.tbl_model.specs.Given.{nothing_given};
+ghost use Rattle.tbl_model.specs.Dispatch.{effect_of};
+ghost use Rattle.tbl_core.specs.Asked.{asked_of, most_deeds};
+ghost use Rattle.tbl_core.specs.Effects.{IsWithin, given_of};
+ghost use Rattle.tbl_core.specs.Log.{reply_limit};
+ghost use Rattle.tbl_core.specs.Service.{HasFewImages, Stands, Leaves, held_of};
+
+use crate::addresses::{get, read, release};
+use crate::applications::{register, start};
+use crate::asked::Asked;
+use crate::commands::command;
+use crate::effect::Effect;
+use crate::files::file;
+use crate::loads::load_image;
+use crate::parts::Parts;
+use crate::service::StepFault;
+use tbl_kinds::{Actor, Bytes, Request};
+
+impl Parts {
+    /// Does what a request asks. If memory runs out, nothing is changed.
+    pub(crate) fn effect(
+        &mut self,
+        actor: Actor,
+        request: &Request,
+        asked: &Asked,
+    ) -> Result<Effect, StepFault>
+        requires fits { Fits actor request.now }
+        requires built { IsBuilt request.now }
+        requires asked { asked_of asked.now ≡ asked_in request.now }
+        requires few { HasFewImages self.old.tables record_limit }
+        ensures effect { IfOk result (λ done. (s : State) → Stands (held_of self.old) s → Leaves done (held_of self.new) (effect_of s actor request.now (given_of done))) }
+        ensures given { IfOk result (λ done. given_of done ≡ nothing_given) }
+        ensures within { IfOk result (IsWithin (most_deeds request.now) (asks_housekeeping (asked_of asked.now))) }
+        ensures bytes { IfOk result (λ done. length done.bytes.list ≤ reply_limit) }
+        ensures log { self.new.log ≡ self.old.log }
+        ensures clock { self.new.clock ≡ self.old.clock }
+        ensures err { OnErr result (held_of self.new ≡ held_of self.old) }
+    {
+        let empty = Bytes::make(self.alloc, 0)?;
+        let tables = &mut self.tables;
+        let apps = &mut self.apps;
+        let effect = match (actor, request) {
+            (Actor::Ground, Request::Command { .. }) => match asked {
+                Some(asked) => command(self.alloc, tables, &self.drawer, asked, empty)?,
+                None => unreachable!(),
+            },
+            (Actor::Ground, Request::File { name, bytes }) => {
+                file(&mut self.drawer, name, bytes, empty)?
+            }
+            (Actor::App(app), Request::Start { name }) => start(apps, app, name, empty),
+            (
+                Actor::App(app),
+                Request::Register {
+                    name,
+                    size,
+                    flags,
+                    validator,
+                },
+            ) => register(tables, apps, app, name, *size, *flags, *validator, empty)?,
+            (Actor::App(app), Request::LoadImage { handle, image }) => {
+                load_image(
+                    self.alloc,
+                    tables,
+                    apps,
+                    self.clock,
+                    app,
+                    *handle,
+                    image.bytes(),
+                    empty,
+                )?
+            }
+            (Actor::App(app), Request::Get { handle }) => get(tables, apps, app, *handle, empty),
+            (
+                Actor::App(app),
+                Request::Read {
+                    handle,
+                    offset,
+                    len,
+                },
+            ) => read(tables, apps, app, *handle, *offset, *len, empty)?,
+            (Actor::App(app), Request::Release { handle }) => {
+                release(tables, apps, app, *handle, empty)
+            }
+            _ => unreachable!(),
+        };
+        Ok(effect)
+    }
+}

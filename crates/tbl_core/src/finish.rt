@@ -1,0 +1,92 @@
+//! The end of each request: what it did is told and counted, and entered into the history.
+
+ghost use Rattle.std.specs.Prelude.{◌≡◌, ◌+◌, ◌*◌, ◌<◌, ◌≤◌, [], length, is_some, if◌then◌else◌};
+ghost use Rattle.tbl_model.specs.Commands.{asked_in, asks_housekeeping};
+ghost use Rattle.tbl_core.specs.Asked.{asked_of, most_deeds};
+ghost use Rattle.tbl_core.specs.Effects.{IsWithin};
+ghost use Rattle.tbl_core.specs.Finish.{packets_room, Reports};
+ghost use Rattle.tbl_core.specs.Log.{reply_limit};
+ghost use Rattle.tbl_core.specs.Service.{Finishes, held_of};
+
+use crate::asked::{Asked, asks_housekeeping, most_deeds};
+use crate::effect::Effect;
+use crate::parts::Parts;
+use crate::telemetry::{EVENT_LENGTH, HOUSEKEEPING_LENGTH, head_at, put_events, put_shown, tally};
+use tbl_kinds::{Actor, Bytes, Entry, Reply, Request, Status};
+
+/// How many bytes of packets a request can send.
+pub(crate) fn packets_room(request: &Request, asked: &Asked) -> usize
+    ensures { result ≡ packets_room request.now (asked_of asked.now) }
+{
+    let own = if asked.is_some() { EVENT_LENGTH } else { 0 };
+    let shown = if asks_housekeeping(asked) {
+        HOUSEKEEPING_LENGTH
+    } else {
+        0
+    };
+    own + EVENT_LENGTH * most_deeds(request) + shown
+}
+
+impl Parts {
+    /// Appends the packets of a request, and counts it.
+    fn tell(&mut self, request: &Request, asked: &Asked, effect: &Effect, packets: &mut Bytes)
+        requires asked { asked_of asked.now ≡ asked_in request.now }
+        requires within { IsWithin (most_deeds request.now) (asks_housekeeping (asked_of asked.now)) effect.now }
+        requires no_packets { packets.old.list ≡ [] }
+        requires packets { packets_room request.now (asked_of asked.now) ≤ packets.old.spare }
+        ensures reports { Reports self.old.log self.new.log self.old.clock self.old.tables request.now effect.now packets.new.list }
+        ensures len { length packets.new.list ≤ reply_limit }
+        ensures stays { held_of self.new ≡ held_of self.old }
+    {
+        let tally = tally(self.clock, request, asked, effect);
+        if effect.answer.status == Status::INFO_STOPPED {
+            self.log.count(tally);
+            return;
+        }
+        let counters = self.log.counters();
+        let head = head_at(self.clock, u32::from(counters.housekeepings));
+        put_events(packets, self.clock, counters.events, asked, effect);
+        self.log.count(tally);
+        put_shown(
+            packets,
+            head,
+            self.log.counters(),
+            &self.tables,
+            effect.shown,
+        );
+    }
+
+    /// Tells what a request did, counts it, and enters it into the history, for which room was reserved.
+    pub(crate) fn finish(
+        &mut self,
+        actor: Actor,
+        request: Request,
+        asked: &Asked,
+        effect: Effect,
+        mut packets: Bytes,
+    )
+        requires asked { asked_of asked.now ≡ asked_in request }
+        requires within { IsWithin (most_deeds request) (asks_housekeeping (asked_of asked.now)) effect }
+        requires small { length effect.bytes.list ≤ reply_limit }
+        requires room { 0 < self.old.log.spare }
+        requires no_packets { packets.list ≡ [] }
+        requires packets { packets_room request (asked_of asked.now) ≤ packets.spare }
+        ensures finishes { Finishes self.old.log self.new.log self.old.clock self.old.tables actor request effect }
+        ensures stays { held_of self.new ≡ held_of self.old }
+    {
+        self.tell(&request, asked, &effect, &mut packets);
+        let reply = Reply {
+            status: effect.answer.status,
+            detail: effect.answer.detail,
+            bytes: effect.bytes,
+            packets,
+        };
+        self.log.enter(Entry {
+            actor,
+            request,
+            reply,
+            note: effect.note,
+            verdicts: effect.verdicts,
+        });
+    }
+}
