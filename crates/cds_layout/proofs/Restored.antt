@@ -5,7 +5,7 @@ use Rattle.std.specs.Int.{w16, w32, from_be_bytes}
 use Rattle.tbl_kinds.specs.Numbers.{piece, two_at, four_at}
 use Rattle.tbl_kinds.specs.Check.{check16}
 use Rattle.tbl_kinds.specs.declared.block.Block.{Block}
-use Rattle.cds_layout.specs.Images.{data_in, kept_length, kept_check, held_in}
+use Rattle.cds_layout.specs.Images.{data_in, kept_length, kept_word, held_in}
 use Rattle.cds_layout.specs.Restores.{TellsTorn, compared}
 use Rattle.cds_layout.specs.declared.blocks.RestoreFault.{RestoreFault}
 use Rattle.cds_layout.specs.declared.blocks.RestoreFault.TheVariants.{Torn}
@@ -13,8 +13,8 @@ use Rattle.cds_layout.specs.declared.blocks.RestoreFault.TheVariants.{Torn}
 length-read : (bytes head : List ℕ) (b : Block) → head ≡ piece b.offset 8 bytes → four_at 0 head ≡ kept_length bytes b
 length-read bytes head b e = ap (four_at 0) e ∙ ap (from_be_bytes w32) (take-take 4 8 (drop b.offset bytes) (omega arith))
 
-check-read : (bytes head : List ℕ) (b : Block) → head ≡ piece b.offset 8 bytes → two_at 4 head ≡ kept_check bytes b
-check-read bytes head b e =
+word-read : (bytes head : List ℕ) (b : Block) → head ≡ piece b.offset 8 bytes → two_at 4 head ≡ kept_word bytes b
+word-read bytes head b e =
     ap (two_at 4) e
     ∙ ap (from_be_bytes w16) (ap (take 2) (drop-take 4 4 (drop b.offset bytes)) ∙ take-take 2 4 (drop 4 (drop b.offset bytes)) (omega arith) ∙ ap (take 2) (drop-drop 4 b.offset bytes))
 
@@ -27,7 +27,7 @@ held-read : (bytes : List ℕ) (b : Block) (head into : List ℕ) → WasRead by
 unfolding held_in
 held-read bytes b head into read =
     let length-is : four_at 0 head ≡ kept_length bytes b = length-read bytes head b read.head_is in
-    let check-is : two_at 4 head ≡ kept_check bytes b = check-read bytes head b read.head_is in
+    let check-is : two_at 4 head ≡ kept_word bytes b = word-read bytes head b read.head_is in
     sym (λ i. cond (length-is i == b.size && check-is i == check16 (read.data_is i)) (Some (read.data_is i)) None)
 
 module _ {T : Type 0} (bytes : List ℕ) (b : Block) (head into : List ℕ) (told : T → WasRead bytes b head into) where
@@ -50,6 +50,6 @@ module _ {T : Type 0} (bytes : List ℕ) (b : Block) (head into : List ℕ) (tol
       by false h = λ t. record {
         no_image = h t;
         stated = length-read bytes head b (told t).head_is;
-        check = check-read bytes head b (told t).head_is;
+        kept_is = word-read bytes head b (told t).head_is;
         computed = ap check16 (told t).data_is;
       }

@@ -9,7 +9,7 @@ use Rattle.cds_layout.specs.Directory.{directory_of}
 
 -- the head of a block: the length and the check word of its image, and two zeros
 unfoldable pub block_head : ℕ → ℕ → List ℕ
-block_head length check = four length ++ two check ++ 0 ∷ 0 ∷ []
+block_head length word = four length ++ two word ++ 0 ∷ 0 ∷ []
 
 abbrev pub head_len : ℕ
 head_len = 8
@@ -25,12 +25,12 @@ data_in bytes b = piece (data_place b) b.size bytes
 abbrev pub kept_length : List ℕ → Block → ℕ
 kept_length bytes b = four_at b.offset bytes
 
-abbrev pub kept_check : List ℕ → Block → ℕ
-kept_check bytes b = two_at (b.offset + 4) bytes
+abbrev pub kept_word : List ℕ → Block → ℕ
+kept_word bytes b = two_at (b.offset + 4) bytes
 
 -- its head has its size and the check word of its bytes. The two zeros aren't looked at
 abbrev pub is_whole : List ℕ → Block → Bool
-is_whole bytes b = (kept_length bytes b == b.size) && (kept_check bytes b == check16 (data_in bytes b))
+is_whole bytes b = (kept_length bytes b == b.size) && (kept_word bytes b == check16 (data_in bytes b))
 
 -- a block that isn't whole is torn, and holds no image
 unfoldable pub held_in : List ℕ → Block → Option (List ℕ)

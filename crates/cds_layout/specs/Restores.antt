@@ -4,7 +4,7 @@ use Rattle.tbl_kinds.specs.Numbers.{two_at, four_at}
 use Rattle.tbl_kinds.specs.Check.{check16}
 use Rattle.tbl_kinds.specs.declared.block.Block.{Block}
 use Rattle.tbl_outside.specs.Counts.{Still, RoseAlone}
-use Rattle.cds_layout.specs.Images.{data_in, kept_length, kept_check, held_in}
+use Rattle.cds_layout.specs.Images.{data_in, kept_length, kept_word, held_in}
 use Rattle.cds_layout.specs.declared.blocks.RestoreFault.{RestoreFault}
 use Rattle.cds_layout.specs.declared.blocks.RestoreFault.TheVariants.{Torn, Fault}
 
@@ -12,7 +12,7 @@ use Rattle.cds_layout.specs.declared.blocks.RestoreFault.TheVariants.{Torn, Faul
 pub record IsTorn (bytes : List ℕ) (b : Block) (length kept found : ℕ) : Type 0 where
   pub no_image : held_in bytes b ≡ None
   pub stated : length ≡ kept_length bytes b
-  pub check : kept ≡ kept_check bytes b
+  pub kept_is : kept ≡ kept_word bytes b
   pub computed : found ≡ check16 (data_in bytes b)
 
 abbrev pub TellsTorn : List ℕ → Block → RestoreFault → Type 0

@@ -8,10 +8,9 @@ ghost use Rattle.cds_layout.specs.Images.{block_head, data_place, data_in, held_
 ghost use Rattle.cds_layout.specs.Order.{restore_calls};
 ghost use Rattle.cds_layout.specs.Restores.{TellsTorn, SaysWhy, IfRead, RestoreCounted, was_read, compared};
 
-use crate::numbers::{u16_at, u32_at};
 use crate::places::HEAD_LENGTH;
 use check_word::check16;
-use tbl_kinds::Block;
+use tbl_kinds::{Block, u16_at, u32_at};
 use tbl_outside::Bank;
 use thiserror::Error;
 
@@ -35,11 +34,11 @@ pub enum RestoreFault {
 
 /// The head of a block whose image has this length and this check word: both with the high byte first, and two zeros.
 #[tactic(auto, unfolding(crate::specs::Images::block_head))]
-pub fn head_bytes(length: u32, check: u16) -> [u8; 8]
-    ensures { result ≡ block_head length check }
+pub fn head_bytes(length: u32, word: u16) -> [u8; 8]
+    ensures { result ≡ block_head length word }
 {
     let [a, b, c, d] = length.to_be_bytes();
-    let [e, f] = check.to_be_bytes();
+    let [e, f] = word.to_be_bytes();
     [a, b, c, d, e, f, 0, 0]
 }
 

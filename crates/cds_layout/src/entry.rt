@@ -7,9 +7,8 @@ ghost use Rattle.tbl_kinds.specs.Heads.{is_name_field};
 ghost use Rattle.tbl_kinds.specs.Places.{is_inside};
 ghost use Rattle.cds_layout.specs.Entries.{tail_len, kind_byte, entry_tail, is_right, kind_in, block_in};
 
-use crate::numbers::u32_at;
 use crate::places::{BANK_SIZE, BLOCKS_BEGIN, MOST_IMAGE, end_of};
-use tbl_kinds::{Block, BlockKind, Name, Name40};
+use tbl_kinds::{Block, BlockKind, Name, Name40, u32_at};
 
 /// How many bytes an entry has behind its gate.
 pub(crate) const TAIL_LENGTH: usize = 63;

@@ -7,7 +7,6 @@ mod directory;
 mod entry;
 mod laws;
 mod listing;
-mod numbers;
 mod places;
 mod text;
 

@@ -7,10 +7,10 @@ use Rattle.std.proofs.lemmas.List.{take-take, drop-take, drop-drop}
 use Rattle.std.proofs.lemmas.Nat.{from_be_bytes-to_be_bytes_2, from_be_bytes-to_be_bytes_4}
 use Rattle.tbl_kinds.specs.Check.{check16}
 use Rattle.tbl_kinds.specs.declared.block.Block.{Block}
-use Rattle.tbl_kinds.specs.Numbers.{piece, overwritten}
+use Rattle.tbl_kinds.specs.Numbers.{piece, patched}
 use Rattle.tbl_outside.specs.Bank.{Torn}
-use Rattle.tbl_outside.proofs.Pieces.{piece-overwritten, torn_done, piece_behind}
-use Rattle.cds_layout.specs.Images.{block_head, held_in, data_in, data_place, kept_length, kept_check}
+use Rattle.tbl_outside.proofs.Pieces.{piece-patched, torn_done, piece_behind}
+use Rattle.cds_layout.specs.Images.{block_head, held_in, data_in, data_place, kept_length, kept_word}
 
 -- a piece of a piece
 pub inner : (bytes inside : List ℕ) (at count from size : ℕ) → piece at count bytes ≡ inside → from + size ≤ count → piece (at + from) size bytes ≡ piece from size inside
@@ -25,8 +25,8 @@ pub front : (bytes inside : List ℕ) (at count size : ℕ) → piece at count b
 front bytes inside at count size is fits = sym (take-take size count (drop at bytes) fits) ∙ ap (take size) is
 
 -- what was written is read again
-pub read_again : (old new : List ℕ) (at count : ℕ) (others : List ℕ) → length others ≡ count → at + count ≤ length old → new ≡ overwritten old at others → piece at count new ≡ others
-read_again old new at count others size fits is = rw (is, ← size) (piece-overwritten old at others (rw size fits))
+pub read_again : (old new : List ℕ) (at count : ℕ) (others : List ℕ) → length others ≡ count → at + count ≤ length old → new ≡ patched old at others → piece at count new ≡ others
+read_again old new at count others size fits is = rw (is, ← size) (piece-patched old at others (rw size fits))
 
 zero_is_none : (size : ℕ) → 0 < size → (0 == size) ≡ false
 zero_is_none size some = grind (arith, nat_tests)
@@ -39,17 +39,17 @@ abbrev zeros : List ℕ
 zeros = 0 ∷ 0 ∷ 0 ∷ 0 ∷ 0 ∷ 0 ∷ 0 ∷ 0 ∷ []
 
 -- a block whose head is wiped holds no image
-pub wiped : (b : Block) (old new : List ℕ) → 0 < b.size → b.offset + 8 ≤ length old → new ≡ overwritten old b.offset zeros → held_in new b ≡ None
+pub wiped : (b : Block) (old new : List ℕ) → 0 < b.size → b.offset + 8 ≤ length old → new ≡ patched old b.offset zeros → held_in new b ≡ None
 wiped b old new some fits is =
     zero_length new b some (ap (from_be_bytes w32) (front new zeros b.offset 8 4 (read_again old new b.offset 8 zeros refl fits is) (omega arith)))
 
-whole : (bytes image : List ℕ) (b : Block) → kept_length bytes b ≡ b.size → kept_check bytes b ≡ check16 image → data_in bytes b ≡ image → held_in bytes b ≡ Some image
+whole : (bytes image : List ℕ) (b : Block) → kept_length bytes b ≡ b.size → kept_word bytes b ≡ check16 image → data_in bytes b ≡ image → held_in bytes b ≡ Some image
 unfolding held_in
 whole bytes image b stated check data_is = rw (stated, check, data_is, eq-eqb b.size b.size refl, eq-eqb (check16 image) (check16 image) refl) refl
 
 -- a block whose bytes and head were written holds them
 pub written : (b : Block) (old mid new image : List ℕ) → length image ≡ b.size → b.size < 2 ^ 32 → check16 image < 2 ^ 16 → b.offset + (8 + b.size) ≤ length old
-    → mid ≡ overwritten old (data_place b) image → new ≡ overwritten mid b.offset (block_head b.size (check16 image)) → length mid ≡ length old → held_in new b ≡ Some image
+    → mid ≡ patched old (data_place b) image → new ≡ patched mid b.offset (block_head b.size (check16 image)) → length mid ≡ length old → held_in new b ≡ Some image
 unfolding block_head
 written b old mid new image size small check fits data_is head_is as_long =
     let head : List ℕ = block_head b.size (check16 image) in

@@ -20,7 +20,7 @@ use Rattle.cds_layout.proofs.DirectoryLaws.{directory-right, directory-agree_bot
 use Rattle.cds_store.specs.Boots.{SameStore, IsTidy, IsCleared, Clears, BeginsAt, opened_slot, is_doubtful_slot, is_doubtful_at, is_found, found_open, found_in, found_to}
 use Rattle.cds_store.specs.Moments.{ShowsIn, BootLeaves}
 use Rattle.cds_store.specs.Sound.{slot_at, AreTogether, EntryIs, Matches, IsSound, IsKept}
-use Rattle.cds_store.specs.Standing.{Kept, StandsFor, kept, slot_of, AreHeld}
+use Rattle.cds_store.specs.Standing.{StoreParts, StandsFor, kept, slot_of, AreHeld}
 use Rattle.cds_store.specs.declared.slot.Slot.{Slot}
 use Rattle.cds_store.proofs.Changes.{Stands}
 use Rattle.cds_store.proofs.Closing.{stands_for}
@@ -316,7 +316,7 @@ if_ok_two P R (Ok x) both p q s = both x p q s
 if_ok_two P R (Err e) both p q s = tt
 
 -- whether the store was booted before doesn't matter
-pub begins_kept : {B : Type 0} (tells : Type 0) (now : B → List ℕ) (k : Kept B) (blocks : Blocks) → BeginsAt tells now k blocks → BeginsAt tells now (kept k.slots k.bank) blocks
+pub begins_kept : {B : Type 0} (tells : Type 0) (now : B → List ℕ) (k : StoreParts B) (blocks : Blocks) → BeginsAt tells now k blocks → BeginsAt tells now (kept k.slots k.bank) blocks
 begins_kept tells now k blocks (inl stands) = inl (record { slots = stands.slots; shows = stands.shows; holds = stands.holds })
 begins_kept tells now k blocks (inr own) = inr own
 

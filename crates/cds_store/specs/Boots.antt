@@ -12,7 +12,7 @@ use Rattle.cds_layout.specs.Entries.{slot_count, gate_open, gate_at}
 use Rattle.cds_layout.specs.Directory.{is_live, directory_len, directory_of}
 use Rattle.cds_layout.specs.Images.{held_in, store_of}
 use Rattle.cds_store.specs.Sound.{slot_at, EntryIs}
-use Rattle.cds_store.specs.Standing.{Kept, StandsFor}
+use Rattle.cds_store.specs.Standing.{StoreParts, StandsFor}
 use Rattle.cds_store.specs.declared.slot.Slot.{Slot}
 
 -- the first bytes of the bank, and the directory that they tell
@@ -68,7 +68,7 @@ abbrev pub found_in : List (Option Slot) → Blocks → List ℕ
 found_in slots shown = found_to slot_count (λ n. is_doubtful_at slots n && is_some (stored_at shown n))
 
 -- the blocks with which a boot begins: those that the store stands for, or those that its bank shows
-abbrev pub BeginsAt : {B : Type 0} → Type 0 → (B → List ℕ) → Kept B → Blocks → Type 0
+abbrev pub BeginsAt : {B : Type 0} → Type 0 → (B → List ℕ) → StoreParts B → Blocks → Type 0
 BeginsAt tells now kept blocks = StandsFor tells now kept blocks ⊎ (tells × (blocks ≡ store_of (now kept.bank)))
 
 -- the first byte of the live mark isn't there

@@ -5,7 +5,7 @@ use Rattle.tbl_kinds.specs.Places.{bank_size}
 use Rattle.tbl_kinds.specs.declared.block.Block.{Block}
 use Rattle.cds_layout.specs.Entries.{slot_count, gate_open, gate_at, tail_at, block_in, is_right}
 use Rattle.cds_layout.specs.Directory.{directory_len, is_live, agree}
-use Rattle.cds_store.specs.Standing.{Kept}
+use Rattle.cds_store.specs.Standing.{StoreParts}
 use Rattle.cds_store.specs.declared.slot.Slot.{Slot}
 
 abbrev pub slot_at : List (Option Slot) → ℕ → Option Slot
@@ -28,7 +28,7 @@ pub record Matches (bytes : List ℕ) (slots : List (Option Slot)) : Type 0 wher
   pub entries : (n : ℕ) → n < slot_count → EntryIs bytes n (slot_at slots n)
 
 -- what holds of a store: once it was booted, its bank matches its slots
-pub record IsSound {B : Type 0} (tells : Type 0) (size : B → ℕ) (now : B → List ℕ) (kept : Kept B) : Type 0 where
+pub record IsSound {B : Type 0} (tells : Type 0) (size : B → ℕ) (now : B → List ℕ) (kept : StoreParts B) : Type 0 where
   pub together : AreTogether kept.slots
   pub room : bank_size ≤ size kept.bank
   pub matches : kept.booted ≡ true → tells → Matches (now kept.bank) kept.slots
@@ -46,6 +46,6 @@ IsOpenOf size None = ⊥
 IsOpenOf size (Some s) = (s.doubtful ≡ false) × (s.block.size ≡ size)
 
 -- what holds of a store and of the bytes into which it reads the first ones of its bank
-pub record IsKept {B : Type 0} (tells : Type 0) (size : B → ℕ) (now : B → List ℕ) (kept : Kept B) (front : List ℕ) : Type 0 where
+pub record IsKept {B : Type 0} (tells : Type 0) (size : B → ℕ) (now : B → List ℕ) (kept : StoreParts B) (front : List ℕ) : Type 0 where
   pub sound : IsSound tells size now kept
   pub len : length front ≡ directory_len

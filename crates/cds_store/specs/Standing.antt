@@ -11,7 +11,7 @@ use Rattle.cds_layout.specs.Images.{held_in, store_of}
 use Rattle.cds_store.specs.declared.slot.Slot.{Slot}
 
 -- what a store keeps: the directory slots, its bank, and whether it was booted
-pub record Kept (B : Type 0) : Type 0 where
+pub record StoreParts (B : Type 0) : Type 0 where
   pub slots : List (Option Slot)
   pub bank : B
   pub booted : Bool
@@ -25,13 +25,13 @@ abbrev pub AreHeld : List ℕ → Blocks → Type 0
 AreHeld bytes blocks = (slot : ℕ) → ForSome (stored_at blocks slot) (λ b. MayGive b (held_in bytes b.block))
 
 -- the open and the doubtful blocks are these, and what the bank holds, where it tells, shows them
-pub record StandsFor {B : Type 0} (tells : Type 0) (now : B → List ℕ) (kept : Kept B) (blocks : Blocks) : Type 0 where
+pub record StandsFor {B : Type 0} (tells : Type 0) (now : B → List ℕ) (kept : StoreParts B) (blocks : Blocks) : Type 0 where
   pub slots : kept.slots ≡ map (option_map slot_of) blocks
   pub shows : tells → Shows blocks (store_of (now kept.bank))
   pub holds : tells → AreHeld (now kept.bank) blocks
 
 -- a store that was booted
-abbrev pub kept : {B : Type 0} → List (Option Slot) → B → Kept B
+abbrev pub kept : {B : Type 0} → List (Option Slot) → B → StoreParts B
 kept slots bank = record { slots = slots; bank = bank; booted = true }
 
 -- a slot whose gate is in doubt

@@ -45,10 +45,10 @@ pub struct Store<B: Bank> {
 }
 
 impl<B: Bank> Model for Store<B> {
-    ghost use Rattle.cds_store.specs.Standing.{Kept};
+    ghost use Rattle.cds_store.specs.Standing.{StoreParts};
     ghost use Rattle.cds_store.specs.Sound.{IsKept};
 
-    ghost Value = { Kept B };
+    ghost Value = { StoreParts B };
 
     ghost view = { λ s. record { slots = s.slots.items; bank = s.bank; booted = s.booted } };
 

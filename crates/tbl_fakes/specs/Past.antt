@@ -4,18 +4,18 @@ use Rattle.tbl_kinds.specs.Numbers.{overwritten}
 use Rattle.tbl_fakes.specs.declared.past.Span.{Span}
 
 -- the ranges written, oldest first, the bytes that stood in each before, and the room that is left
-pub record Kept : Type 0 where
+pub record PastParts : Type 0 where
   pub spans : List Span
   pub olds : List ℕ
   pub writes : ℕ
   pub room : ℕ
 
 -- as many bytes are kept as the ranges have
-abbrev pub IsWhole : List Span → List ℕ → Type 0
-IsWhole spans olds = length olds ≡ sum_by (λ span. span.length) spans
+abbrev pub OldsKept : List Span → List ℕ → Type 0
+OldsKept spans olds = length olds ≡ sum_by (λ span. span.length) spans
 
 -- there is room for one more write, and for so many bytes
-abbrev pub fits : Kept → ℕ → Bool
+abbrev pub fits : PastParts → ℕ → Bool
 fits kept count = nat_lt 0 kept.writes && nat_le count kept.room
 
 -- a write: the bytes as they stood before it, and its range

@@ -25,19 +25,19 @@ pub(crate) struct Past {
 
 impl Model for Past {
     ghost use Rattle.std.specs.Prelude.{◌+◌, ◌≤◌, vec_len, vec_capacity};
-    ghost use Rattle.tbl_fakes.specs.Past.{Kept, IsWhole};
+    ghost use Rattle.tbl_fakes.specs.Past.{PastParts, OldsKept};
 
-    ghost Value = { Kept };
+    ghost Value = { PastParts };
 
     ghost view = { λ p. record { spans = p.spans.items; olds = p.olds.list; writes = p.writes; room = p.room } };
 
     ghost invariant = { λ p. (vec_len p.spans + p.writes ≤ vec_capacity p.spans)
         × (p.room ≤ p.olds.spare)
-        × IsWhole p.spans.items p.olds.list };
+        × OldsKept p.spans.items p.olds.list };
 }
 
 impl Past {
-    ghost use Rattle.tbl_fakes.specs.Past.{IsWhole};
+    ghost use Rattle.tbl_fakes.specs.Past.{OldsKept};
 
     /// No write yet, and room for so many with so many bytes in all.
     pub(crate) fn make(alloc: Global, writes: u32, room: u32) -> Result<Past, Memory>
@@ -66,7 +66,7 @@ impl Past {
         ensures olds { self.new.olds ≡ self.old.olds ++ old.now }
         ensures writes { self.new.writes ≡ self.old.writes - 1 }
         ensures room { self.new.room ≡ self.old.room - length old.now }
-        ensures whole { IsWhole self.old.spans self.old.olds }
+        ensures whole { OldsKept self.old.spans self.old.olds }
     {
         let length = old.len() as u32;
         let _ = self.spans.push(Span { at, length });

@@ -4,7 +4,7 @@ use super::*;
 use std::alloc::Global;
 use std::test::Fail;
 use tbl_kinds::{Bytes, Memory};
-use tbl_outside::{Bank, Sink, Source, Written};
+use tbl_outside::{Bank, Sink, Source, Validator, Written};
 
 fn bytes_of(alloc: Global, list: &[u8]) -> Result<Bytes, Memory>
     ensures { IfOk result (λ b. b.list ≡ list.now) }
@@ -90,4 +90,12 @@ fn a_calm_bank(rt: HostRuntime) -> Result<(), Fail> {
     );
     assert_eq!(rt; bank.bytes(), b"ABcde".as_slice());
     Ok(())
+}
+
+#[test]
+fn the_shipped_functions_judge(rt: HostRuntime) {
+    let mut first = FirstByte::make();
+    let mut last = LastXor::make();
+    assert_eq!(rt; [first.validate(&[1, 0]), first.validate(&[0, 1])], [0, -5]);
+    assert_eq!(rt; [last.validate(&[1, 2, 3]), last.validate(&[1, 2, 4])], [0, -7]);
 }

@@ -3,7 +3,7 @@ use Rattle.tbl_outside.specs.BankCalls.{Asks}
 use Rattle.cds_layout.specs.Order.{restore_calls}
 use Rattle.cds_layout.specs.Restores.{was_read}
 use Rattle.cds_store.specs.Sound.{slot_at}
-use Rattle.cds_store.specs.Standing.{Kept}
+use Rattle.cds_store.specs.Standing.{StoreParts}
 use Rattle.cds_store.specs.declared.slot.Slot.{Slot}
 use Rattle.cds_store.proofs.store.Store.restore.Goals as goal
 
@@ -11,6 +11,6 @@ pub returns-clause-asked : goal.returns-clause-asked
 returns-clause-asked g c =
     let b = g.B.Bank in
     subst
-    (λ (k : Kept _). (s : Slot) → slot_at k.slots c.args.slot ≡ Some s → Asks b.tells_calls b.calls k.bank c.restore.new.bank (was_read c.restore.result) (restore_calls s.block))
+    (λ (k : StoreParts _). (s : Slot) → slot_at k.slots c.args.slot ≡ Some s → Asks b.tells_calls b.calls k.bank c.restore.new.bank (was_read c.restore.result) (restore_calls s.block))
     c.self.view_is
     (λ s there. c.restore.ensures.asked s (ap (λ l. slot_at l c.args.slot) c.deref.ensures.value ∙ there))
