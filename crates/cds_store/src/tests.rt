@@ -8,8 +8,6 @@ use tbl_fakes::MemBank;
 use tbl_kinds::{BlockKind, Bytes, Memory, Name, Name40, ResetKind};
 use tbl_outside::Bank;
 
-const SIZE: usize = 131_072;
-
 fn name() -> Name40 {
     Name::of(b"A.T")
 }
@@ -21,14 +19,27 @@ fn may_be_sent<B: Bank + Send>(store: &Store<B>) {
     sent(store);
 }
 
+fn zeros(alloc: Global, len: usize) -> Result<Vec<u8>, Memory>
+    ensures { IfOk result (λ v. length v.items ≡ len) }
+{
+    Ok(vec![in alloc; 0; len]?)
+}
+
+/// Zeros, as many as the bank has.
+fn no_bytes(alloc: Global) -> Result<Bytes, Memory>
+    ensures { IfOk result (λ b. length b.list ≡ 131072) }
+{
+    let zeros = zeros(alloc, 131_072)?;
+    let mut bytes = Bytes::make(alloc, 131_072)?;
+    bytes.append(&zeros);
+    Ok(bytes)
+}
+
 /// A bank of zeros.
 fn bank(alloc: Global) -> Result<MemBank, Memory>
     ensures { IfOk result (λ bank. length bank.bytes ≡ 131072) }
 {
-    let zeros = vec![in alloc; 0; SIZE]?;
-    let mut bytes = Bytes::make(alloc, SIZE)?;
-    bytes.append(&zeros);
-    MemBank::make(alloc, bytes, &[], &[], 16, 16_384)
+    MemBank::make(alloc, no_bytes(alloc)?, &[], &[], 16, 16_384)
 }
 
 fn boot(store: &mut Store<MemBank>) -> bool
@@ -48,13 +59,17 @@ fn reserve(store: &mut Store<MemBank>) -> Option<u8>
     store.reserve_block(BlockKind::Table, &name, 4).ok()
 }
 
-/// The slot of the open block, if its image has four bytes.
-fn find(store: &Store<MemBank>) -> Option<u8>
-    ensures { IfSome result (λ slot. IsOpenOf 4 (slot_at store.now.slots slot)) }
+/// The slot of the open block, if its image has this size.
+fn find(store: &Store<MemBank>, size: usize) -> Option<u8>
+    ensures { IfSome result (λ slot. IsOpenOf size (slot_at store.now.slots slot)) }
 {
     let slot = store.find(BlockKind::Table, &name())?;
     let block = store.block(slot)?;
-    if block.size == 4 { Some(slot) } else { None }
+    if block.size as usize == size {
+        Some(slot)
+    } else {
+        None
+    }
 }
 
 /// Whether an image comes back that was copied.
@@ -62,7 +77,7 @@ fn copy_and_restore(store: &mut Store<MemBank>, image: &[u8; 4], into: &mut [u8;
     requires { store.old.booted ≡ true }
     ensures { store.new.booted ≡ true }
 {
-    match find(store) {
+    match find(store, 4) {
         Some(slot) => store.copy(slot, image).is_ok() && store.restore(slot, into).is_ok(),
         None => false,
     }
@@ -78,7 +93,7 @@ fn has_room(store: &Store<MemBank>) -> bool {
 fn delete(store: &mut Store<MemBank>) -> bool
     requires { store.old.booted ≡ true }
 {
-    match find(store) {
+    match find(store, 4) {
         Some(slot) => store.delete_block(slot).is_ok(),
         None => false,
     }
