@@ -1,17 +1,16 @@
 //! Loads from files, which the ground asks for.
 
-ghost use Rattle.std.specs.Prelude.{◌≡◌, ◌≤◌, [], length, IfOk, OnErr};
+ghost use Rattle.std.specs.Prelude.{◌≡◌, ◌≤◌, [], length, IsSome, IfSome, IfOk, OnErr};
 ghost use Rattle.tbl_model.specs.State.{State};
-ghost use Rattle.tbl_model.specs.TableSteps.{find};
-ghost use Rattle.tbl_model.specs.Effects.{named};
-ghost use Rattle.tbl_model.specs.GroundLoads.{load_file_effect, load_effect};
+ghost use Rattle.tbl_model.specs.Tables.{table_at};
+ghost use Rattle.tbl_model.specs.GroundLoads.{load_found, load_file_effect, load_effect};
 ghost use Rattle.table_files.specs.Files.{with_image};
 ghost use Rattle.tbl_core.specs.Effects.{IsEffect, IsQuiet};
 
 use crate::checks::{BUFFERS, answered_load};
 use crate::effect::Effect;
 use file_drawer::Drawer;
-use partial_load::ground_load;
+use partial_load::load_into;
 use std::alloc::Global;
 use table_files::{TableFile, read_table_file};
 use tbl_kinds::{Answer, Bytes, Memory, Name64, Status};
@@ -21,18 +20,43 @@ use tbl_registry::Tables;
 /// Where the image bytes of a table file begin.
 const IMAGE_PLACE: usize = 116;
 
-/// The table of the name that a file tells.
-fn table_of(tables: &Tables, parsed: &TableFile) -> Option<Named>
-    ensures { result ≡ named parsed.now.name (find parsed.now.name tables.now) }
+/// Fills the load of the table in the row where it was found, or answers why not.
+fn load_found(
+    alloc: Global,
+    tables: &mut Tables,
+    row: Option<u8>,
+    file: &Name64,
+    parsed: &TableFile,
+    image: &[u8],
+    empty: Bytes,
+) -> Result<Effect, Memory>
+    requires found { IfSome row (λ row. IsSome (table_at tables.old row)) }
+    requires count { length image.now ≡ parsed.now.count }
+    requires empty { empty.list ≡ [] }
+    requires room { 4 ≤ empty.spare }
+    ensures effect { IfOk result (λ done. (s : State) → s.tables ≡ tables.old → IsEffect done (record s { tables = tables.new }) (load_found s file.now (with_image parsed.now image.now) row)) }
+    ensures quiet { IfOk result IsQuiet }
+    ensures bytes { IfOk result (λ done. length done.bytes.list ≤ 4) }
+    ensures err { OnErr result (tables.new ≡ tables.old) }
 {
-    let row = tables.find(parsed.name.bytes())?;
-    Some(Named {
-        row,
-        name: parsed.name.copy(),
+    let Some(row) = row else {
+        return Ok(Effect::of(
+            Answer::plain(Status::ERR_NO_SUCH_TABLE),
+            empty,
+        ));
+    };
+    let answer = load_into(alloc, tables, row, file, parsed, image)?;
+    Ok(Effect {
+        table: Some(Named {
+            row,
+            name: parsed.name.copy(),
+        }),
+        ..answered_load(tables, answer, empty)
     })
 }
 
 /// Fills the load of the table that a file names, or answers why not.
+#[tactic(auto, unfolding(tbl_model::specs::GroundLoads::load_file_effect))]
 fn load_parsed(
     alloc: Global,
     tables: &mut Tables,
@@ -49,12 +73,8 @@ fn load_parsed(
     ensures bytes { IfOk result (λ done. length done.bytes.list ≤ 4) }
     ensures err { OnErr result (tables.new ≡ tables.old) }
 {
-    let table = table_of(tables, parsed);
-    let answer = ground_load(alloc, tables, file, parsed, image)?;
-    Ok(Effect {
-        table,
-        ..answered_load(tables, answer, empty)
-    })
+    let row = tables.find(parsed.name.bytes());
+    load_found(alloc, tables, row, file, parsed, image, empty)
 }
 
 /// Fills the load of a table from a file in the drawer, or answers why not.
