@@ -16,7 +16,7 @@ use Rattle.tbl_model.proofs.CountsLaws.{counts_push}
 use Rattle.tbl_model.proofs.HistoryLaws.{run_push, answered_push}
 use Rattle.tbl_core.specs.Log.{Logged, entry_of}
 use Rattle.tbl_core.specs.Effects.{IsEffect, given_of, without_images, seen_at, told_at}
-use Rattle.tbl_core.specs.Service.{Held, Kept, Stands, Shows, StandsFor, Leaves, Finishes, Plays, HasFewImages}
+use Rattle.tbl_core.specs.Service.{Held, CoreView, Stands, Shows, StandsFor, Leaves, Finishes, Plays, HasFewImages}
 use Rattle.tbl_core.proofs.Cases.{OfEffect}
 use Rattle.tbl_core.proofs.Ordinary.{IsOrdinary, ordinary}
 use Rattle.tbl_core.specs.declared.effect.Effect.{Effect}
@@ -74,7 +74,7 @@ effect_left done held None leaves = absurd leaves
 effect_left done held (Some e) leaves = (e, refl, leaves.0, leaves.1)
 
 -- what a request did
-pub record Did (old new : Kept) (actor : Actor) (request : Request) (clock : Clock) (done : Effect) : Type 0 where
+pub record Did (old new : CoreView) (actor : Actor) (request : Request) (clock : Clock) (done : Effect) : Type 0 where
   pub fits : Fits actor request
   pub built : IsBuilt request
   pub live : old.state.ended ≡ false
@@ -91,7 +91,7 @@ pub record Did (old new : Kept) (actor : Actor) (request : Request) (clock : Clo
   pub counted : new.counts ≡ after.counts
   pub finishes : Finishes before after clock new.state.tables actor request done
 
-module _ (old new : Kept) (actor : Actor) (request : Request) (clock : Clock) (done : Effect) (did : Did old new actor request clock done) where
+module _ (old new : CoreView) (actor : Actor) (request : Request) (clock : Clock) (done : Effect) (did : Did old new actor request clock done) where
   entry : Entry
   entry = entry_of actor request did.finishes.reply (given_of done)
 
@@ -161,7 +161,7 @@ module _ (old new : Kept) (actor : Actor) (request : Request) (clock : Clock) (d
 -- ---- the history
 
 -- a step that played a request leads from each opening that the core stood for to one that it stands for
-pub plays_on : (old new : Kept) (actor : Actor) (request : Request) → Plays old new actor request → (opening : State) → StandsFor opening old → StandsFor opening new
+pub plays_on : (old new : CoreView) (actor : Actor) (request : Request) → Plays old new actor request → (opening : State) → StandsFor opening old → StandsFor opening new
 plays_on old new actor request p opening stood =
     let run = run_from (begins_at opening) old.entries in
     let all : AreAnswered (begins_at opening) (old.entries ++ p.entry ∷ []) = answered_push (begins_at opening) old.entries p.entry stood.legal.answered (p.answered run stood.shows) in

@@ -33,7 +33,7 @@ pub record Held : Type 0 where
   pub ended : Bool
 
 -- the history, the parts, and the running numbers of telemetry
-pub record Kept : Type 0 where
+pub record CoreView : Type 0 where
   pub entries : List Entry
   pub state : Held
   pub counts : Counts
@@ -51,8 +51,8 @@ held_of parts = record {
   ended = false;
 }
 
-abbrev pub kept_of : Parts → Kept
-kept_of parts = record { entries = parts.log.entries; state = held_of parts; counts = parts.log.counts }
+abbrev pub view_of : Parts → CoreView
+view_of parts = record { entries = parts.log.entries; state = held_of parts; counts = parts.log.counts }
 
 -- ---- what the parts stand for
 
@@ -69,12 +69,12 @@ pub record Stands (held : Held) (s : State) : Type 0 where
   pub ended : s.ended ≡ held.ended
 
 -- the core stands for a run: its state, and what is counted over what was told
-pub record Shows (core : Kept) (r : Run) : Type 0 where
+pub record Shows (core : CoreView) (r : Run) : Type 0 where
   pub state : Stands core.state r.state
   pub counts : counts_of r.past ≡ core.counts
 
 -- from the opening state on the core's history is legal, and the core stands for what it leads to
-pub record StandsFor (opening : State) (core : Kept) : Type 0 where
+pub record StandsFor (opening : State) (core : CoreView) : Type 0 where
   pub legal : IsLegal opening core.entries (run_from (begins_at opening) core.entries).state
   pub shows : Shows core (run_from (begins_at opening) core.entries)
 
@@ -100,7 +100,7 @@ pub record Finishes (old new : Logged) (clock : Clock) (tables : Tables) (actor 
   pub entries : new.entries ≡ old.entries ++ entry_of actor request reply (given_of done) ∷ []
 
 -- one request was played: one entry more, answered rightly whatever run the core stood for
-pub record Plays (old new : Kept) (actor : Actor) (request : Request) : Type 0 where
+pub record Plays (old new : CoreView) (actor : Actor) (request : Request) : Type 0 where
   pub entry : Entry
   pub actor_is : entry.actor ≡ actor
   pub request_is : entry.request ≡ request

@@ -5,7 +5,7 @@ ghost use Rattle.tbl_model.specs.State.{no_tables};
 ghost use Rattle.tbl_kinds.specs.Requests.{Fits};
 ghost use Rattle.tbl_kinds.specs.Records.{IsBuilt, record_limit};
 ghost use Rattle.tbl_model.specs.Counts.{no_counts};
-ghost use Rattle.tbl_core.specs.Service.{Plays, HasFewImages, held_of, kept_of};
+ghost use Rattle.tbl_core.specs.Service.{Plays, HasFewImages, held_of, view_of};
 
 use crate::asked::asked_in;
 use crate::finish::packets_room;
@@ -72,8 +72,8 @@ impl Parts {
         requires built { IsBuilt request }
         requires room { length self.old.log.entries < record_limit }
         requires few { HasFewImages self.old.tables (length self.old.log.entries) }
-        ensures plays { OnOk result (Plays (kept_of self.old) (kept_of self.new) actor request) }
-        ensures err { OnErr result (kept_of self.new ≡ kept_of self.old) }
+        ensures plays { OnOk result (Plays (view_of self.old) (view_of self.new) actor request) }
+        ensures err { OnErr result (view_of self.new ≡ view_of self.old) }
     {
         self.log.reserve()?;
         let asked = asked_in(&request);

@@ -34,14 +34,14 @@ pub struct Core {
 }
 
 impl Model for Core {
-    ghost use Rattle.tbl_core.specs.Service.{Kept};
+    ghost use Rattle.tbl_core.specs.Service.{CoreView};
 
-    ghost Value = { Kept };
+    ghost Value = { CoreView };
 
     ghost use Rattle.std.specs.Prelude.{length};
-    ghost use Rattle.tbl_core.specs.Service.{kept_of, HasFewImages};
+    ghost use Rattle.tbl_core.specs.Service.{view_of, HasFewImages};
 
-    ghost view = { λ c. kept_of c.parts };
+    ghost view = { λ c. view_of c.parts };
 
     ghost invariant = { λ c. HasFewImages c.parts.tables (length c.parts.log.entries) };
 }

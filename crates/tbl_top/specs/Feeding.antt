@@ -1,6 +1,6 @@
 -- What a piece of the input leaves.
 use Rattle.std.specs.Prelude.{◌≡◌, ℕ, ◌≤◌, List, length}
-use Rattle.tbl_core.specs.Service.{Kept}
+use Rattle.tbl_core.specs.Service.{CoreView}
 use Rattle.tbl_top.specs.Playing.{played_before}
 use Rattle.tbl_top.specs.Standing.{Leaves}
 use Rattle.tbl_top.specs.declared.playback.Standing.{Standing}
@@ -23,7 +23,7 @@ IsKept Open behind kept = kept ≡ behind
 IsKept _ behind kept = Unit {0}
 
 -- what was fed is the spellings of what was played, and behind them what this standing says
-pub record Feeds (standing : Standing) (fed : List ℕ) (most : ℕ) (core : Kept) (kept : List ℕ) : Type 0 where
+pub record Feeds (standing : Standing) (fed : List ℕ) (most : ℕ) (core : CoreView) (kept : List ℕ) : Type 0 where
   pub behind : List ℕ
   pub parts : fed ≡ played_before core behind
   pub near : length behind ≤ most

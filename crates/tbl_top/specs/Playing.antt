@@ -6,17 +6,17 @@ use Rattle.tbl_kinds.specs.Records.{IsRecord, joined, record_limit}
 use Rattle.tbl_kinds.specs.Heads.{IsShort}
 use Rattle.tbl_kinds.specs.Transcript.{pairs_of, entries_bytes}
 use Rattle.tbl_outside.specs.Streams.{TakesFront}
-use Rattle.tbl_core.specs.Service.{Kept}
+use Rattle.tbl_core.specs.Service.{CoreView}
 use Rattle.tbl_kinds.specs.declared.entry.Entry.{Entry}
 use Rattle.tbl_top.specs.declared.playback.Standing.{Standing}
 
 pub record Playing : Type 0 where
-  pub core : Kept
+  pub core : CoreView
   pub rest : List ℕ
   pub standing : Standing
 
 -- the spellings of what was played, and these bytes behind them
-abbrev pub played_before : Kept → List ℕ → List ℕ
+abbrev pub played_before : CoreView → List ℕ → List ℕ
 played_before core behind = joined (pairs_of core.entries) ++ behind
 
 -- all bytes that were fed, as long as the session is open
@@ -28,7 +28,7 @@ abbrev pub IsBeginning : ℕ → List ℕ → Type 0
 IsBeginning played rest = (rest ≡ []) ⊎ (IsShort rest × (played < record_limit))
 
 -- what was played are records, no more than a session may have, and the core goes on
-pub record IsSession (core : Kept) : Type 0 where
+pub record IsSession (core : CoreView) : Type 0 where
   pub each : AllByRecursion IsRecord (pairs_of core.entries)
   pub few : length core.entries ≤ record_limit
   pub live : core.state.ended ≡ false

@@ -58,9 +58,9 @@ pub(crate) struct Playback {
 }
 
 impl Model for Playback {
-    ghost use Rattle.tbl_core.specs.Service.{Kept};
+    ghost use Rattle.tbl_core.specs.Service.{CoreView};
 
-    ghost Value = { Kept };
+    ghost Value = { CoreView };
 
     ghost use Rattle.std.specs.Prelude.{◌≡◌, ◌≤◌, []};
     ghost use Rattle.tbl_kinds.specs.Transcript.{offset_of};
