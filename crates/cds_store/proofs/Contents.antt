@@ -9,7 +9,7 @@ use Rattle.tbl_kinds.specs.Blocks.{Stored, Store as Blocks}
 use Rattle.tbl_kinds.specs.StoreCalls.{copy as copying}
 use Rattle.tbl_kinds.specs.StoreSteps.{stored_at, MayGiveAfter, changed, with_held, with_try, copied, copy_broken, restored}
 use Rattle.tbl_kinds.specs.declared.block.Block.{Block}
-use Rattle.tbl_kinds.specs.Numbers.{overwritten}
+use Rattle.tbl_kinds.specs.Numbers.{patched}
 use Rattle.tbl_outside.specs.Bank.{Torn}
 use Rattle.tbl_outside.proofs.Pieces.{torn_same, torn_within, torn_done, torn_again}
 use Rattle.cds_layout.specs.Images.{data_place, head_len, held_in, stored_in, store_of}
@@ -33,9 +33,9 @@ copy_in_block : (b : Block) (copy bytes image : List ℕ) → length copy ≡ b.
 copy_in_block b copy bytes image size fits (inl same) = subst (Torn b.offset (8 + b.size) bytes) (sym same) (torn_same b.offset (8 + b.size) bytes)
 copy_in_block b copy bytes image size fits (inr (inl torn)) = torn_within b.offset (data_place b) b.size (8 + b.size) bytes image torn (omega arith) (omega arith)
 copy_in_block b copy bytes image size fits (inr (inr torn)) =
-    torn_again b.offset (8 + b.size) bytes (overwritten bytes (data_place b) copy) image
-    (torn_within b.offset (data_place b) (length copy) (8 + b.size) bytes (overwritten bytes (data_place b) copy) (torn_done bytes (data_place b) copy (omega (arith, size, fits))) (omega arith) (omega (arith, size)))
-    (torn_within b.offset b.offset head_len (8 + b.size) (overwritten bytes (data_place b) copy) image torn (omega arith) (omega arith))
+    torn_again b.offset (8 + b.size) bytes (patched bytes (data_place b) copy) image
+    (torn_within b.offset (data_place b) (length copy) (8 + b.size) bytes (patched bytes (data_place b) copy) (torn_done bytes (data_place b) copy (omega (arith, size, fits))) (omega arith) (omega (arith, size)))
+    (torn_within b.offset b.offset head_len (8 + b.size) (patched bytes (data_place b) copy) image torn (omega arith) (omega arith))
 
 -- the slots stay where what is known of a block changes
 same_slots : (change : Stored → Stored) (slots : List (Option Slot)) (blocks : Blocks) (n : ℕ) → ((b : Stored) → slot_of (change b) ≡ slot_of b) → slots ≡ map (option_map slot_of) blocks → slots ≡ map (option_map slot_of) (changed change n blocks)

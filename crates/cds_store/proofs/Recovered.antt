@@ -3,7 +3,7 @@ use Rattle.std.proofs.Common.{◌≡◌, inl, inr, ℕ, ◌+◌, List, [], ◌�
 use Rattle.std.specs.Option.{option_map}
 use Rattle.std.proofs.lemmas.Bool.{cases_eq, and_parts, and_from}
 use Rattle.std.proofs.lemmas.List.Quantifiers.{position-Some}
-use Rattle.tbl_kinds.proofs.Positions.{position-None}
+use Rattle.tbl_kinds.proofs.PositionLaws.{position-None}
 use Rattle.tbl_kinds.specs.Blocks.{Stored, Store as Blocks}
 use Rattle.tbl_kinds.specs.Places.{are_apart}
 use Rattle.tbl_kinds.specs.StoreSteps.{same_block, is_of, is_open_of, open_of, stored_at, MayGive, MayShow, Shows, settled_from, booted, shown}

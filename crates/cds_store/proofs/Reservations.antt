@@ -10,7 +10,7 @@ use Rattle.std.proofs.lemmas.List.Quantifiers.{position-Some}
 use Rattle.std.proofs.lemmas.List.Sums.{fails_before_first}
 use Rattle.std.proofs.lemmas.Option.{same_Some}
 use Rattle.std.proofs.lemmas.Slice.Eq.{bytes_eq-Decides}
-use Rattle.tbl_kinds.proofs.Positions.{position-map, position-None}
+use Rattle.tbl_kinds.proofs.PositionLaws.{position-map, position-None}
 use Rattle.tbl_kinds.specs.Limits.{table_limit}
 use Rattle.tbl_kinds.specs.Names.{is_name}
 use Rattle.tbl_kinds.specs.Places.{blocks_begin, bank_size, is_inside, are_apart, fits, place}

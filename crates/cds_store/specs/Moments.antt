@@ -6,7 +6,7 @@ use Rattle.tbl_kinds.specs.StoreSteps.{Shows, freed}
 use Rattle.tbl_kinds.specs.declared.block.Block.{Block}
 use Rattle.tbl_kinds.specs.declared.request.ResetKind.{ResetKind}
 use Rattle.tbl_kinds.specs.declared.request.ResetKind.TheVariants.{PowerOn}
-use Rattle.tbl_kinds.specs.Numbers.{overwritten}
+use Rattle.tbl_kinds.specs.Numbers.{patched}
 use Rattle.tbl_outside.specs.Bank.{Torn}
 use Rattle.cds_store.specs.Standing.{closing, with_new}
 use Rattle.cds_layout.specs.Images.{store_of, head_len, data_place}
@@ -32,4 +32,4 @@ MakeLeaves old slot block blocks image =
 -- any bytes as its head
 abbrev pub CopyTears : Block → List ℕ → List ℕ → List ℕ → Type 0
 CopyTears b copy bytes image =
-    (image ≡ bytes) ⊎ Torn (data_place b) b.size bytes image ⊎ Torn b.offset head_len (overwritten bytes (data_place b) copy) image
+    (image ≡ bytes) ⊎ Torn (data_place b) b.size bytes image ⊎ Torn b.offset head_len (patched bytes (data_place b) copy) image

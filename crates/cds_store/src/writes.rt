@@ -3,7 +3,7 @@
 ghost use Rattle.std.specs.Prelude.{◌≡◌, ◌+◌, ◌^◌, ◌<◌, ◌≤◌, None, Some, true, false, [], ◌∷◌, length, replicate, is_ok, OnOk, IfErr};
 ghost use Rattle.tbl_kinds.specs.Check.{check16};
 ghost use Rattle.tbl_kinds.specs.Places.{bank_size};
-ghost use Rattle.tbl_kinds.specs.Numbers.{overwritten};
+ghost use Rattle.tbl_kinds.specs.Numbers.{patched};
 ghost use Rattle.tbl_outside.specs.Bank.{Torn, LeavesOnly};
 ghost use Rattle.tbl_outside.specs.BankCalls.{Asks, write};
 ghost use Rattle.cds_layout.specs.Entries.{slot_count, gate_place, gate_at, tail_place, tail_at, entry_tail, block_in, is_right};
@@ -28,7 +28,7 @@ pub(crate) fn write<B: Bank>(
     old: bool,
 ) -> Result<(), BankFault>
     requires { at + length bytes.now ≤ B.size bank.old }
-    ensures done { OnOk result (B.tells → B.now bank.new ≡ overwritten (B.now bank.old) at bytes.now) }
+    ensures done { OnOk result (B.tells → B.now bank.new ≡ patched (B.now bank.old) at bytes.now) }
     ensures torn { B.tells → Torn at (length bytes.now) (B.now bank.old) (B.now bank.new) }
     ensures moments { B.tells_moments →
         LeavesOnly B.clock B.left_since bank.old bank.new (Torn at (length bytes.now) (B.now bank.old)) }
@@ -129,7 +129,7 @@ fn write_data<B: Bank>(bank: &mut B, block: &Block, image: &[u8]) -> Result<(), 
     requires right { is_right block.now ≡ true }
     requires size { length image.now ≡ block.now.size }
     requires room { bank_size ≤ B.size bank.old }
-    ensures done { OnOk result (B.tells → B.now bank.new ≡ overwritten (B.now bank.old) (data_place block.now) image.now) }
+    ensures done { OnOk result (B.tells → B.now bank.new ≡ patched (B.now bank.old) (data_place block.now) image.now) }
     ensures torn { B.tells → Torn (data_place block.now) block.now.size (B.now bank.old) (B.now bank.new) }
     ensures moments { B.tells_moments →
         LeavesOnly B.clock B.left_since bank.old bank.new (Torn (data_place block.now) block.now.size (B.now bank.old)) }
@@ -147,7 +147,7 @@ fn write_head<B: Bank>(bank: &mut B, block: &Block, image: &[u8]) -> Result<(), 
     requires size { length image.now ≡ block.now.size }
     requires room { bank_size ≤ B.size bank.old }
     ensures done { OnOk result (B.tells → B.now bank.new ≡
-        overwritten (B.now bank.old) block.now.offset (block_head block.now.size (check16 image.now))) }
+        patched (B.now bank.old) block.now.offset (block_head block.now.size (check16 image.now))) }
     ensures check { check16 image.now < 2 ^ 16 }
     ensures torn { B.tells → Torn block.now.offset 8 (B.now bank.old) (B.now bank.new) }
     ensures moments { B.tells_moments →

@@ -1,14 +1,13 @@
 -- Nothing else is read as a command, and a written command is one.
-use Rattle.std.proofs.Common.{◌≡◌, ℕ, zero, suc, ◌+◌, ◌^◌, ◌<◌, ◌≤◌, Bool, true, false, not, cond, ◌&&◌, List, [], ◌∷◌, ◌++◌, length, take, drop, Option, Some, None, Result, Ok, Err, refl, sym, ap, subst, ◌∙◌, ◌⊎◌, inl, inr, arith}
+use Rattle.std.proofs.Common.{◌≡◌, ℕ, zero, suc, ◌+◌, ◌^◌, ◌<◌, ◌≤◌, Bool, true, false, not, cond, ◌&&◌, List, [], ◌++◌, length, take, drop, Option, Some, None, Result, Ok, Err, refl, sym, ap, subst, ◌∙◌, ◌⊎◌, inl, inr, arith}
 use Rattle.std.specs.Prelude.{◌==◌, IsTrue, IfSome, slice_get}
 use Rattle.std.specs.List.{list_all, position_or_len}
 use Rattle.std.proofs.lemmas.Bool.{eqb-true}
 use Rattle.std.proofs.lemmas.List.{length-append, length-take, length-drop, get_or-drop, append-nil, nil_from_length}
-use Rattle.std.proofs.Math.Dec.{eqb-suc-zero}
 use Rattle.std.proofs.Math.Seq.{take-length}
 use Rattle.tbl_kinds.specs.Fields.{AreBytes, ReadsAs}
 use Rattle.tbl_kinds.specs.Numbers.{two, piece, two_at}
-use Rattle.tbl_kinds.specs.Names.{is_printable_byte, is_name, is_zero, name_in, HasNoZero}
+use Rattle.tbl_kinds.specs.Names.{is_printable_byte, is_name, is_zero, name_in}
 use Rattle.tbl_kinds.specs.Packets.{IsCommandPacket, PacketFlaw, packet_flaw, packet_id, packet_code, packet_payload, command_id, housekeeping_request_id}
 use Rattle.tbl_kinds.specs.GroundCommands.{GroundCommand, housekeeping, noop, reset_counters, load, dump, validate, activate, dump_registry, send_registry, delete_cds, abort, Form, forms, housekeeping_form, name_at, select_of, table_of, file_of, is_named, with_names, by_form, by_code, by_id, by_flaw, command_in, id_of, code_of, select_field, written_field, payload_of, command_bytes, IsGroundCommand, ReadsAsOption, SpellsCommand}
 use Rattle.tbl_kinds.specs.declared.entry.Answer.{Answer}
@@ -16,6 +15,7 @@ use Rattle.cfe_headers.proofs.Chains.{not_false}
 use Rattle.cfe_headers.proofs.Pieces.{two_below, split_two, split_piece, length-piece}
 use Rattle.cfe_headers.proofs.NameFields.{reads-name_field}
 use Rattle.cfe_headers.proofs.PacketLaws as packets
+use Rattle.tbl_kinds.proofs.Names.{printable_no_zero}
 use Rattle.cmd_packets.proofs.ReadCommands.{form_alone, form_named, form_dump, form_validate, Fields, commands_are_read}
 
 abbrev Read : Type 0
@@ -180,19 +180,6 @@ only bytes command fits e =
 and_true : (a b : Bool) → (a && b) ≡ true → (a ≡ true) × (b ≡ true)
 and_true true b e = (refl, e)
 and_true false b e = absurd cc
-
--- a byte that can be printed isn't zero
-printable_not_zero : (b : ℕ) → is_printable_byte b ≡ true → is_zero b ≡ false
-printable_not_zero zero e = absurd cc
-printable_not_zero (suc b) e = eqb-suc-zero b
-
-printable_no_zero : (name : List ℕ) → list_all is_printable_byte name ≡ true → HasNoZero name
-printable_no_zero [] e = refl
-printable_no_zero (b ∷ name) e =
-    let both = and_true (is_printable_byte b) (list_all is_printable_byte name) e in
-    let more : HasNoZero name = printable_no_zero name both.1 in
-    let next : 1 + position_or_len is_zero name ≡ suc (position_or_len is_zero name) = omega arith in
-    rw (printable_not_zero b both.0, next) (ap (λ (s : List ℕ). b ∷ s) more)
 
 written_reads : (width : ℕ) (name : Option (List ℕ)) → IfSome name (λ n. IsTrue (is_name n) × (length n ≤ width)) → ReadsAsOption width name (written_field width name)
 written_reads width None is = refl

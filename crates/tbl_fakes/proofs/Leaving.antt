@@ -1,7 +1,7 @@
 -- What a reset may leave of a bank in memory goes on with each call.
 use Rattle.std.proofs.Common.{◌≡◌, ◌⊎◌, inl, inr, ⊎_elim, ℕ, ◌+◌, ◌≤◌, List, [], ◌∷◌, ◌++◌, length, take, drop, refl, sym, ◌∙◌, ap, subst, arith, length-append}
 use Rattle.std.proofs.lemmas.List.{drop-append-le}
-use Rattle.tbl_kinds.specs.Numbers.{overwritten}
+use Rattle.tbl_kinds.specs.Numbers.{patched}
 use Rattle.tbl_outside.specs.Bank.{Torn, LeavesOnly}
 use Rattle.tbl_outside.proofs.Pieces.{torn_same, torn_front}
 use Rattle.tbl_fakes.specs.Banks.{Banking, written_over, IsFromInside, moment, MayHaveLeft, only_bytes}
@@ -55,7 +55,7 @@ module _ (old new : Banking) (write : Passed) (first : write.before ≡ old.byte
 
 -- a front of a piece was written
 pub leaves_front : (old new : Banking) (at reach : ℕ) (others : List ℕ) → at + length others ≤ length old.bytes
-    → new.bytes ≡ overwritten old.bytes at (take reach others)
+    → new.bytes ≡ patched old.bytes at (take reach others)
     → new.past ≡ old.past ++ written_over old at (length others) ∷ []
     → LeavesOnly moment MayHaveLeft old new (Torn at (length others) old.bytes)
 leaves_front old new at reach others fits bytes more =

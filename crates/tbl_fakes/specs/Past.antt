@@ -1,6 +1,6 @@
 -- What a bank in memory keeps of its writes, and the contents that it had.
 use Rattle.std.specs.Prelude.{◌≡◌, ℕ, Bool, ◌&&◌, nat_lt, nat_le, List, [], ◌∷◌, length, take, drop, sum_by}
-use Rattle.tbl_kinds.specs.Numbers.{overwritten}
+use Rattle.tbl_kinds.specs.Numbers.{patched}
 use Rattle.tbl_fakes.specs.declared.past.Span.{Span}
 
 -- the ranges written, oldest first, the bytes that stood in each before, and the room that is left
@@ -27,7 +27,7 @@ pub record Passed : Type 0 where
 abbrev pub undone : List Span → List ℕ → List ℕ → List ℕ
 undone [] olds bytes = bytes
 undone (span ∷ spans) olds bytes =
-    overwritten (undone spans (drop span.length olds) bytes) span.at (take span.length olds)
+    patched (undone spans (drop span.length olds) bytes) span.at (take span.length olds)
 
 -- each of these writes with the bytes before it
 abbrev pub passed : List Span → List ℕ → List ℕ → List Passed

@@ -1,6 +1,6 @@
 // A bank that never fails.
 ghost use Rattle.std.specs.Prelude.{◌≡◌, ◌+◌, ◌<◌, ◌≤◌, ◌^◌, ℕ, List, length, IsOk, ⊤, refl, []};
-ghost use Rattle.tbl_kinds.specs.Numbers.{piece, overwritten};
+ghost use Rattle.tbl_kinds.specs.Numbers.{piece, patched};
 
 use std::marker::Model;
 use tbl_kinds::Bytes;
@@ -95,7 +95,7 @@ impl Bank for CalmBank {
     fn write_at(&mut self, at: u32, bytes: &[u8]) -> Written
         requires { at + length bytes.now ≤ length self.old }
         ensures done { result ≡ Written.Done }
-        ensures stands { self.new ≡ overwritten self.old at bytes.now }
+        ensures stands { self.new ≡ patched self.old at bytes.now }
     {
         self.bytes.write_over(at as usize, bytes);
         Written::Done

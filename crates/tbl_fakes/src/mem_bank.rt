@@ -1,7 +1,7 @@
 // A bank in memory.
 ghost use Rattle.std.specs.Prelude.{◌≡◌, ◌+◌, ◌-◌, ◌<◌, ◌≤◌, ◌^◌, [], ◌∷◌, ◌++◌, List, ℕ, ⊤, IsTrue, IfOk, OnOk, OnErr, false, is_err, length, map, refl};
 ghost use Rattle.std.proofs.Common.{inl};
-ghost use Rattle.tbl_kinds.specs.Numbers.{piece, overwritten};
+ghost use Rattle.tbl_kinds.specs.Numbers.{piece, patched};
 ghost use Rattle.tbl_outside.specs.Bank.{Torn, LeavesOnly};
 ghost use Rattle.tbl_outside.specs.BankCalls.{read, write};
 ghost use Rattle.tbl_outside.specs.Counts.{Still, RoseAlone, Counted};
@@ -192,7 +192,7 @@ impl Bank for MemBank {
 
     fn write_at(&mut self, at: u32, bytes: &[u8]) -> Written
         requires { at + length bytes.now ≤ length self.old.bytes }
-        ensures done { result ≡ Written.Done → self.new.bytes ≡ overwritten self.old.bytes at bytes.now }
+        ensures done { result ≡ Written.Done → self.new.bytes ≡ patched self.old.bytes at bytes.now }
         ensures torn { Torn at (length bytes.now) self.old.bytes self.new.bytes }
         ensures moments { LeavesOnly moment MayHaveLeft self.old self.new (Torn at (length bytes.now) self.old.bytes) }
         ensures size { length self.new.bytes ≡ length self.old.bytes }
@@ -209,7 +209,7 @@ impl Bank for MemBank {
         // With room for it, it ends as its number says, and joins the record: each image from inside it is told.
         ensures ends { IsTrue (has_room self.old (length bytes.now)) → result ≡ how_ends (next_break self.old.trouble) }
         ensures front { IsTrue (has_room self.old (length bytes.now)) →
-            self.new.bytes ≡ overwritten self.old.bytes at (front_of (next_break self.old.trouble) bytes.now) }
+            self.new.bytes ≡ patched self.old.bytes at (front_of (next_break self.old.trouble) bytes.now) }
         ensures past { IsTrue (has_room self.old (length bytes.now)) →
             self.new.past ≡ self.old.past ++ written_over self.old at (length bytes.now) ∷ [] }
         ensures inside { IsTrue (has_room self.old (length bytes.now)) → (image : List ℕ) →

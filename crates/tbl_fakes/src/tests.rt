@@ -97,5 +97,8 @@ fn the_shipped_functions_judge(rt: HostRuntime) {
     let mut first = FirstByte::make();
     let mut last = LastXor::make();
     assert_eq!(rt; [first.validate(&[1, 0]), first.validate(&[0, 1])], [0, -5]);
-    assert_eq!(rt; [last.validate(&[1, 2, 3]), last.validate(&[1, 2, 4])], [0, -7]);
+    assert_eq!(rt;
+        [last.validate(&[1, 2, 3]), last.validate(&[1, 2, 4])],
+        [0, -7]
+    );
 }

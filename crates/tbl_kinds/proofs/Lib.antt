@@ -4,4 +4,3 @@ pub mod PositionLaws
 pub mod FreeLaws
 pub mod RecordLaws
 pub mod TranscriptLaws
-pub mod Positions

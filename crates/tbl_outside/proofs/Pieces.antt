@@ -1,18 +1,18 @@
 -- What a write leaves of the bytes, whole or broken off.
 use Rattle.std.proofs.Common.{◌≡◌, ℕ, ◌+◌, ◌-◌, ◌<◌, ◌≤◌, List, ◌++◌, length, take, drop, get_or, refl, sym, ◌∙◌, ap, arith, length-append}
 use Rattle.std.proofs.lemmas.List.{length-take, length-drop, take-take, drop-drop, drop-take, take_at, drop_at, take-append-drop, get_or-take, get_or-drop, append_assoc}
-use Rattle.tbl_kinds.specs.Numbers.{piece, overwritten}
+use Rattle.tbl_kinds.specs.Numbers.{piece, patched}
 use Rattle.tbl_outside.specs.Bank.{Torn}
 
 pub length-piece : (bytes : List ℕ) (at count : ℕ) → at + count ≤ length bytes → length (piece at count bytes) ≡ count
 length-piece bytes at count fits = simp (length-take, length-drop) (omega arith)
 
-pub length-overwritten : (bytes : List ℕ) (at : ℕ) (others : List ℕ) → at + length others ≤ length bytes → length (overwritten bytes at others) ≡ length bytes
-length-overwritten bytes at others fits = simp (length-append, length-take, length-drop) (omega arith)
+pub length-patched : (bytes : List ℕ) (at : ℕ) (others : List ℕ) → at + length others ≤ length bytes → length (patched bytes at others) ≡ length bytes
+length-patched bytes at others fits = simp (length-append, length-take, length-drop) (omega arith)
 
 -- what was written is read again
-pub piece-overwritten : (bytes : List ℕ) (at : ℕ) (others : List ℕ) → at + length others ≤ length bytes → piece at (length others) (overwritten bytes at others) ≡ others
-piece-overwritten bytes at others fits =
+pub piece-patched : (bytes : List ℕ) (at : ℕ) (others : List ℕ) → at + length others ≤ length bytes → piece at (length others) (patched bytes at others) ≡ others
+piece-patched bytes at others fits =
     let front : length (take at bytes) ≡ at = simp length-take (omega arith) in
     ap (take (length others)) (ap (drop at) (append_assoc (take at bytes) others (drop (at + length others) bytes)) ∙ drop_at (take at bytes) (others ++ drop (at + length others) bytes) at front)
     ∙ take_at others (drop (at + length others) bytes) (length others) refl
@@ -22,14 +22,14 @@ pub torn_same : (at count : ℕ) (bytes : List ℕ) → Torn at count bytes byte
 torn_same at count bytes = record { before = refl; behind = refl; same_length = refl }
 
 -- a write that was done leaves one of the images of one that broke off
-pub torn_done : (bytes : List ℕ) (at : ℕ) (others : List ℕ) → at + length others ≤ length bytes → Torn at (length others) bytes (overwritten bytes at others)
+pub torn_done : (bytes : List ℕ) (at : ℕ) (others : List ℕ) → at + length others ≤ length bytes → Torn at (length others) bytes (patched bytes at others)
 torn_done bytes at others fits =
     let front : length (take at bytes) ≡ at = simp length-take (omega arith) in
     let both : length (take at bytes ++ others) ≡ at + length others = omega (arith, front, length-append (take at bytes) others) in
     record {
       before = ap (take at) (append_assoc (take at bytes) others (drop (at + length others) bytes)) ∙ take_at (take at bytes) (others ++ drop (at + length others) bytes) at front;
       behind = drop_at (take at bytes ++ others) (drop (at + length others) bytes) (at + length others) both;
-      same_length = length-overwritten bytes at others fits;
+      same_length = length-patched bytes at others fits;
     }
 
 -- a range within a larger one
@@ -95,7 +95,7 @@ byte_behind at count old image i torn le =
     ∙ ap (λ n. get_or old n 0) there
 
 -- an image of a write that broke off is the old bytes with some written over them
-pub torn_is : (at count : ℕ) (old image : List ℕ) → Torn at count old image → at + count ≤ length old → image ≡ overwritten old at (piece at count image)
+pub torn_is : (at count : ℕ) (old image : List ℕ) → Torn at count old image → at + count ≤ length old → image ≡ patched old at (piece at count image)
 torn_is at count old image torn fits =
     let size : length (piece at count image) ≡ count = length-piece image at count (omega (arith, torn.same_length)) in
     sym (take-append-drop at image)
@@ -105,15 +105,15 @@ torn_is at count old image torn fits =
     ∙ ap (λ (l : List ℕ). take at old ++ piece at count image ++ l) (drop-drop count at image ∙ torn.behind ∙ ap (λ n. drop (at + n) old) (sym size))
 
 -- a write that broke off is undone by writing what was there
-pub undone : (at count : ℕ) (old image : List ℕ) → Torn at count old image → at + count ≤ length old → overwritten image at (piece at count old) ≡ old
+pub undone : (at count : ℕ) (old image : List ℕ) → Torn at count old image → at + count ≤ length old → patched image at (piece at count old) ≡ old
 undone at count old image torn fits =
     sym (torn_is at count image old (torn_back at count old image torn) (omega (arith, torn.same_length)))
 
 -- of a piece, a front was written
-pub torn_front : (bytes : List ℕ) (at reach : ℕ) (others : List ℕ) → at + length others ≤ length bytes → Torn at (length others) bytes (overwritten bytes at (take reach others))
+pub torn_front : (bytes : List ℕ) (at reach : ℕ) (others : List ℕ) → at + length others ≤ length bytes → Torn at (length others) bytes (patched bytes at (take reach others))
 torn_front bytes at reach others fits =
     let no_longer : length (take reach others) ≤ length others = simp length-take (omega arith) in
-    torn_within at at (length (take reach others)) (length others) bytes (overwritten bytes at (take reach others))
+    torn_within at at (length (take reach others)) (length others) bytes (patched bytes at (take reach others))
     (torn_done bytes at (take reach others) (omega (arith, no_longer)))
     (omega arith)
     (omega (arith, no_longer))

@@ -1,6 +1,6 @@
 // Preserved memory: what it holds, and what a reset at any moment may leave of it.
 ghost use Rattle.std.specs.Prelude.{◌≡◌, ◌+◌, ◌≤◌, ℕ, List, ◌∷◌, length, OnOk, OnErr};
-ghost use Rattle.tbl_kinds.specs.Numbers.{piece, overwritten};
+ghost use Rattle.tbl_kinds.specs.Numbers.{piece, patched};
 ghost use Rattle.tbl_outside.specs.Bank.{Torn, LeavesOnly};
 ghost use Rattle.tbl_outside.specs.BankCalls.{BankCall, read, write};
 ghost use Rattle.tbl_outside.specs.Counts.{Still, RoseAlone, Counted};
@@ -76,7 +76,7 @@ pub trait Bank: Drop {
     /// Writes over a piece that lies inside the bank.
     fn write_at(&mut self, at: u32, bytes: &[u8]) -> Written
         requires { at + length bytes.now ≤ size self.old }
-        ensures done { result ≡ Written.Done → tells → now self.new ≡ overwritten (now self.old) at bytes.now }
+        ensures done { result ≡ Written.Done → tells → now self.new ≡ patched (now self.old) at bytes.now }
         ensures torn { tells → Torn at (length bytes.now) (now self.old) (now self.new) }
         ensures moments { tells_moments →
             LeavesOnly clock left_since self.old self.new (Torn at (length bytes.now) (now self.old)) }

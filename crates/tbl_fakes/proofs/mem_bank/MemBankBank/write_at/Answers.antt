@@ -1,6 +1,6 @@
 -- A write that had room joins the record.
 use Rattle.std.proofs.Common.{◌≡◌, ◌+◌, ◌-◌, ◌≤◌, ◌++◌, ◌∷◌, [], ℕ, List, length, take, drop, arith, sym, ap, subst, ◌∙◌}
-use Rattle.tbl_kinds.specs.Numbers.{piece, overwritten}
+use Rattle.tbl_kinds.specs.Numbers.{piece, patched}
 use Rattle.tbl_outside.specs.Bank.{Torn}
 use Rattle.tbl_outside.proofs.Pieces.{torn_front}
 use Rattle.tbl_fakes.specs.Banks.{Banking, written_over}
@@ -10,7 +10,7 @@ use Rattle.tbl_fakes.proofs.Leaving.{leaves_front, leaves_inside}
 use Rattle.tbl_fakes.proofs.mem_bank.MemBankBank.write_at.Goals as goal
 
 -- the bytes with a front of the piece
-front : (c : goal.After-end_write) → c.write_over.new.self.list ≡ overwritten c.args.self.now.bytes c.args.at (take c.reach-reach.result c.args.bytes.now)
+front : (c : goal.After-end_write) → c.write_over.new.self.list ≡ patched c.args.self.now.bytes c.args.at (take c.reach-reach.result c.args.bytes.now)
 front c = rw (← c.self.view_is) c.write_over.ensures.bytes
 
 -- the record with one write more
