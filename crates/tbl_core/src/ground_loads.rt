@@ -40,10 +40,7 @@ fn load_found(
     ensures err { OnErr result (tables.new ≡ tables.old) }
 {
     let Some(row) = row else {
-        return Ok(Effect::of(
-            Answer::plain(Status::ERR_NO_SUCH_TABLE),
-            empty,
-        ));
+        return Ok(Effect::of(Answer::plain(Status::ERR_NO_SUCH_TABLE), empty));
     };
     let answer = load_into(alloc, tables, row, file, parsed, image)?;
     Ok(Effect {

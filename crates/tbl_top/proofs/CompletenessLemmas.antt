@@ -9,7 +9,7 @@ use Rattle.tbl_kinds.specs.Heads.{IsShort, IsBad, is_short, is_bad, EndsBefore}
 use Rattle.tbl_kinds.specs.Transcript.{pair_of, pairs_of}
 use Rattle.tbl_kinds.proofs.RecordLaws.{bad-append, no_rest}
 use Rattle.tbl_outside.specs.Counts.{Rose}
-use Rattle.tbl_top.specs.Session.{Session, IsWhole, IsStatus}
+use Rattle.tbl_top.specs.Session.{Session, IsWellFormed, IsStatus}
 
 short_is_some : (rest : List ℕ) → IsShort rest → rest ≡ [] → ⊥
 unfolding is_short
@@ -20,7 +20,7 @@ unfolding is_bad
 bad_is_some rest bad none = let h : IsBad [] = subst IsBad none bad in cc
 
 module _ (opening : State) (read input left : List ℕ) (at_end read_failed : Type 0) (result : ℕ) (before after : Option (List ℕ))
-    (s : Session opening read at_end read_failed result before after) (parts : input ≡ read ++ left) (whole : IsWhole input) where
+    (s : Session opening read at_end read_failed result before after) (parts : input ≡ read ++ left) (whole : IsWellFormed input) where
   -- where no record can follow, nothing is left at all
   nothing_left : EndsBefore (pairs_of s.entries) (s.rest ++ left) → s.rest ++ left ≡ []
   nothing_left ends = no_rest (pairs_of s.entries) whole.pairs (s.rest ++ left) s.each whole.each whole.few ends
@@ -49,7 +49,7 @@ rest_of_input (Some xs) read input e = (xs, refl, cc)
 
 module _ (opening : State) (read : List ℕ) (left_new : Option (List ℕ)) (read_failed : Type 0) (result : ℕ) (before after : Option (List ℕ)) (a b c d : ℕ)
     (s : Session opening read (IsAtEnd left_new) read_failed result before after) (source : result ≡ 3 → Rose a b) (sink : result ≡ 4 → Rose c d) where
-  by_status : (input left : List ℕ) → left_new ≡ Some left → input ≡ read ++ left → IsWhole input → ¬ Rose a b → ¬ Rose c d → IsStatus result
+  by_status : (input left : List ℕ) → left_new ≡ Some left → input ≡ read ++ left → IsWellFormed input → ¬ Rose a b → ¬ Rose c d → IsStatus result
       → ((result ≡ 0) × (left_new ≡ Some [])) ⊎ (result ≡ 1)
   by_status input left is parts whole calm_source calm_sink (inl zero) = inl (zero, is ∙ ap Some (at_end_is left_new left is (s.ends.done zero).1))
   by_status input left is parts whole calm_source calm_sink (inr (inl one)) = inr one
@@ -64,13 +64,13 @@ module _ (opening : State) (read : List ℕ) (left_new : Option (List ℕ)) (rea
       absurd (not_full opening read input left (IsAtEnd left_new) read_failed result before after s parts whole (s.ends.full six).0 (s.ends.full six).1)
 
   pub complete : (left_old : Option (List ℕ)) → left_old ≡ prepend_known read left_new
-      → IfSome left_old (λ input. IsWhole input → ¬ Rose a b → ¬ Rose c d → ((result ≡ 0) × (left_new ≡ Some [])) ⊎ (result ≡ 1))
+      → IfSome left_old (λ input. IsWellFormed input → ¬ Rose a b → ¬ Rose c d → ((result ≡ 0) × (left_new ≡ Some [])) ⊎ (result ≡ 1))
   complete None e = tt
   complete (Some input) e = λ whole calm_source calm_sink.
       let rest = rest_of_input left_new read input e in
       by_status input rest.0 rest.1 rest.2 whole calm_source calm_sink s.known
 
 -- where memory ran out before the first read
-pub starved : (left left_new : Option (List ℕ)) (a b c d : ℕ) → IfSome left (λ input. IsWhole input → ¬ Rose a b → ¬ Rose c d → ((◌≡◌ {A = ℕ} 1 0) × (left_new ≡ Some [])) ⊎ (◌≡◌ {A = ℕ} 1 1))
+pub starved : (left left_new : Option (List ℕ)) (a b c d : ℕ) → IfSome left (λ input. IsWellFormed input → ¬ Rose a b → ¬ Rose c d → ((◌≡◌ {A = ℕ} 1 0) × (left_new ≡ Some [])) ⊎ (◌≡◌ {A = ℕ} 1 1))
 starved None left_new a b c d = tt
 starved (Some input) left_new a b c d = λ whole calm_source calm_sink. inr refl

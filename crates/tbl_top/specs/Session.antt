@@ -81,7 +81,7 @@ pub record Session (opening : State) (read : List ℕ) (at_end read_failed : Typ
   pub told : Tells status entries (λ other. WouldEnd other (length entries) rest at_end read_failed) before after
 
 -- the input is the spellings of a session's records and nothing else
-pub record IsWhole (input : List ℕ) : Type 0 where
+pub record IsWellFormed (input : List ℕ) : Type 0 where
   pub pairs : List Pair
   pub each : AllByRecursion IsRecord pairs
   pub few : length pairs ≤ record_limit

@@ -6,7 +6,7 @@ ghost use Rattle.tbl_model.specs.State.{first_state};
 ghost use Rattle.tbl_core.specs.Service.{StandsFor};
 ghost use Rattle.tbl_outside.specs.Counts.{Rose};
 ghost use Rattle.tbl_top.specs.Playing.{bytes_fed, IsSession};
-ghost use Rattle.tbl_top.specs.Session.{IsPlay, IsWhole, Session};
+ghost use Rattle.tbl_top.specs.Session.{IsPlay, IsWellFormed, Session};
 ghost use Rattle.tbl_top.specs.declared.playback.Standing.TheVariants.{Open};
 
 use crate::finishing::NO_MEMORY;
@@ -62,7 +62,7 @@ pub fn run<S: Source, K: Sink>(alloc: Global, words: &[Bytes], source: &mut S, s
         × Session (first_state [] []) read (IsAtEnd (S.left source.new)) (Rose (S.faults source.old) (S.faults source.new)) result (K.taken sink.old) (K.taken sink.new) }
 
     // A session's records and nothing else are played to their end, unless something failed or memory ran out.
-    ensures complete { IsPlay words.now → IfSome (S.left source.old) (λ input. IsWhole input
+    ensures complete { IsPlay words.now → IfSome (S.left source.old) (λ input. IsWellFormed input
         → ¬ Rose (S.faults source.old) (S.faults source.new) → ¬ Rose (K.faults sink.old) (K.faults sink.new)
         → ((result ≡ 0) × (S.left source.new ≡ Some [])) ⊎ (result ≡ 1)) }
 
