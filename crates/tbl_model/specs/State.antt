@@ -13,7 +13,7 @@ pub record Load : Type 0 where
 pub data Dump : Type 0 where
   quiet : Dump
   asked : List ℕ → Dump
-  filled : List ℕ → List ℕ → Dump
+  filled : List ℕ → List ℕ → Dump  -- the file's name, and the image
 
 -- the command packet that tells the owner of pending work
 pub record Notice : Type 0 where
