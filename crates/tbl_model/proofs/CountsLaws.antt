@@ -7,7 +7,7 @@ use Rattle.std.proofs.lemmas.List.{reverse-append, length-append, drop_all, drop
 use Rattle.std.proofs.lemmas.List.Sums.{sum_by_push, suffix_len-le-length, fold_push}
 use Rattle.std.proofs.Math.Nat.{mod-add-mod, zero-mod}
 use Rattle.tbl_model.specs.Commands.{asked_in}
-use Rattle.tbl_model.specs.Counts.{Told, counts_of, restarts, clears_counters, adds_accepted, adds_refused, adds_request, deeds_by, latest, is_finished, is_finished_well, is_finished_badly, events_in, is_housekeeping, no_validation, validation_in, no_update, update_in, loaded_in, loaded_file_in, dump_in}
+use Rattle.tbl_model.specs.Counts.{Told, counts_of, restarts, clears_counters, adds_accepted, adds_refused, adds_request, deeds_by, latest, is_finished, is_finished_well, is_finished_badly, events_in, is_housekeeping, is_registry, no_validation, validation_in, no_update, update_in, loaded_in, loaded_file_in, dump_in}
 use Rattle.tbl_model.specs.CountsAfter.{bit, tally_of, counts_after}
 
 after_last_by : {X : Type 0} (xs : List X) (x : X) (b : Bool) (k : ℕ) → k ≤ length xs
@@ -59,6 +59,7 @@ counts_push past t =
     let requests = counted_push (λ t. bit (adds_request (asked_in t.request) t.effect)) clears_counters 256 past t in
     let events = counted_push events_in restarts 16384 past t in
     let housekeepings = counted_push (λ t. bit (is_housekeeping t.effect.shown)) restarts 16384 past t in
+    let registries = counted_push (λ t. bit (is_registry t.effect.shown)) restarts 16384 past t in
     let notices = counted_push (λ t. bit (is_some t.effect.notice)) restarts 16384 past t in
     let validation = latest_push validation_in no_validation restarts past t in
     let update = latest_push update_in no_update restarts past t in

@@ -6,8 +6,11 @@ use Rattle.tbl_kinds.specs.Names.{is_name}
 use Rattle.tbl_kinds.specs.Limits.{table_limit}
 use Rattle.tbl_model.specs.State.{Table, Tables}
 use Rattle.tbl_model.specs.Tables.{is_double, is_dump_only, in_use}
-use Rattle.tbl_model.specs.TableSteps.{locker}
-use Rattle.tbl_model.specs.Refusals.{are_options, may_use, plan_refusal, lock_refusal, buffer_refusal, open_refusal, image_refusal, load_refusal}
+use Rattle.tbl_model.specs.TableSteps.{locker, is_checked}
+use Rattle.tbl_model.specs.Pending.{is_pending}
+use Rattle.tbl_kinds.specs.TableFiles.{TableFile}
+use Rattle.std.specs.Str.{bytes_eq}
+use Rattle.tbl_model.specs.Refusals.{are_options, may_use, plan_refusal, lock_refusal, buffer_refusal, open_refusal, closed_refusal, busy_refusal, image_refusal, part_refusal, file_refusal, load_refusal, validation_refusal, activation_refusal, update_refusal}
 use Rattle.tbl_model.specs.Whole.{is_done}
 use Rattle.tbl_kinds.specs.declared.entry.Answer.{Answer}
 use Rattle.tbl_kinds.specs.declared.status.Status.{Status}
@@ -34,6 +37,17 @@ none_open : {X : Type 0} (load : Option X) → is_some load ≡ false → load �
 none_open None is = refl
 none_open (Some x) is = absurd (cc is)
 
+-- a table into which its owner may load
+pub may_take : (t : Table) → closed_refusal t ≡ None → (is_dump_only t ≡ false) × (t.load ≡ None)
+may_take t none =
+    let a = passed (is_dump_only t) _ _ none in
+    let b = passed (is_some t.load) _ _ a.1 in
+    (a.0, none_open t.load b.0)
+
+-- and of which a new image may go active
+pub not_busy : (tables : Tables) (row : ℕ) (t : Table) → busy_refusal tables row t ≡ None → locker tables row t ≡ None
+not_busy tables row t none = unlocked _ (neither (lock_refusal (locker tables row t)) (buffer_refusal tables t) none).0
+
 -- an image that is taken as the next one of its table
 pub record TakesImage (tables : Tables) (row : ℕ) (t : Table) (len : ℕ) : Type 0 where
   pub dump_only : is_dump_only t ≡ false
@@ -43,15 +57,14 @@ pub record TakesImage (tables : Tables) (row : ℕ) (t : Table) (len : ℕ) : Ty
 
 pub image_taken : (tables : Tables) (row : ℕ) (t : Table) (len : ℕ) → image_refusal tables row t len ≡ None → TakesImage tables row t len
 image_taken tables row t len none =
-    let a = passed (is_dump_only t) _ _ none in
-    let b = passed (is_some t.load) _ _ a.1 in
-    let c = passed (not (len == t.size)) _ _ b.1 in
-    let d = neither (lock_refusal (locker tables row t)) (buffer_refusal tables t) c.1 in
+    let parts = neither (closed_refusal t) _ none in
+    let open_to = may_take t parts.0 in
+    let c = passed (not (len == t.size)) _ _ parts.1 in
     let same : (len == t.size) ≡ true = not_false _ c.0 in record {
-      dump_only = a.0;
-      no_load = none_open t.load b.0;
+      dump_only = open_to.0;
+      no_load = open_to.1;
       size = grind (arith, nat_tests);
-      unlocked = unlocked _ d.0;
+      unlocked = not_busy tables row t c.1;
     }
 
 -- a load that may open
@@ -68,6 +81,14 @@ may_open tables row t none =
       buffer = λ single. rw single at full.0;
     }
 
+-- bytes that are a part of an image of their table
+pub part_taken : (t : Table) (offset len : ℕ) → part_refusal t offset len ≡ None → (offset + len ≤ t.size) × ((t.count == 0) ≡ true → (offset == 0 && len == t.size) ≡ true)
+part_taken t offset len none =
+    let c = passed (len == 0) _ _ none in
+    let d = passed (nat_lt t.size (offset + len)) _ _ c.1 in
+    let e = passed ((t.count == 0) && not (offset == 0 && len == t.size)) _ None d.1 in
+    (let past = d.0 in grind (arith, nat_tests), λ never. not_false _ (rw never at e.0))
+
 -- bytes that go into the load of their table
 pub record TakesLoad (tables : Tables) (row : ℕ) (t : Table) (offset len : ℕ) : Type 0 where
   pub dump_only : is_dump_only t ≡ false
@@ -79,13 +100,12 @@ pub load_taken : (tables : Tables) (row : ℕ) (t : Table) (offset len : ℕ) �
 load_taken tables row t offset len none =
     let a = passed (is_dump_only t) _ _ none in
     let b = passed t.activation _ _ a.1 in
-    let c = passed (len == 0) _ _ b.1 in
-    let d = passed (nat_lt t.size (offset + len)) _ _ c.1 in
-    let e = passed ((t.count == 0) && not (offset == 0 && len == t.size)) _ _ d.1 in record {
+    let c = neither (part_refusal t offset len) _ b.1 in
+    let part = part_taken t offset len c.0 in record {
       dump_only = a.0;
-      within = let past = d.0 in grind (arith, nat_tests);
-      whole = λ never. not_false _ (rw never at e.0);
-      opens = λ closed. rw closed at e.1;
+      within = part.0;
+      whole = part.1;
+      opens = λ closed. rw closed at c.1;
     }
 
 -- a registration that may look at the registered tables, while no validation function stands in the kit
@@ -146,12 +166,25 @@ plan_refused kit app short size flags validator =
     (here (not (are_options flags)) _ _ refl
     (here (not (may_use kit app validator)) _ None refl tt)))
 
+pub closed_refused : (t : Table) → Refuses (closed_refusal t)
+closed_refused t = here (is_dump_only t) _ _ refl (here (is_some t.load) _ None refl tt)
+
+pub busy_refused : (tables : Tables) (row : ℕ) (t : Table) → Refuses (busy_refusal tables row t)
+busy_refused tables row t = first_of (lock_refusal (locker tables row t)) (buffer_refusal tables t) (by_lock (locker tables row t)) (by_buffers tables t)
+
 pub image_refused : (tables : Tables) (row : ℕ) (t : Table) (len : ℕ) → Refuses (image_refusal tables row t len)
-image_refused tables row t len =
-    here (is_dump_only t) _ _ refl
-    (here (is_some t.load) _ _ refl
-    (here (not (len == t.size)) _ _ refl
-    (first_of (lock_refusal (locker tables row t)) (buffer_refusal tables t) (by_lock (locker tables row t)) (by_buffers tables t))))
+image_refused tables row t len = first_of (closed_refusal t) _ (closed_refused t) (here (not (len == t.size)) _ _ refl (busy_refused tables row t))
+
+part_refused : (t : Table) (offset len : ℕ) → Refuses (part_refusal t offset len)
+part_refused t offset len =
+    here (len == 0) _ _ refl
+    (here (nat_lt t.size (offset + len)) _ _ refl
+    (here ((t.count == 0) && not (offset == 0 && len == t.size)) _ None refl tt))
+
+pub file_refused : (tables : Tables) (row : ℕ) (t : Table) (file : TableFile) → Refuses (file_refusal tables row t file)
+file_refused tables row t file =
+    here (not (bytes_eq file.name t.name)) _ _ refl
+    (first_of (part_refusal t file.offset (length file.image)) _ (part_refused t file.offset (length file.image)) (busy_refused tables row t))
 
 open_refused : (tables : Tables) (row : ℕ) (t : Table) → Refuses (open_refusal tables row t)
 open_refused tables row t = first_of (lock_refusal (cond (is_double t) (locker tables row t) None)) (buffer_refusal tables t) (by_lock (cond (is_double t) (locker tables row t) None)) (by_buffers tables t)
@@ -160,7 +193,24 @@ pub load_refused : (tables : Tables) (row : ℕ) (t : Table) (offset len : ℕ) 
 load_refused tables row t offset len =
     here (is_dump_only t) _ _ refl
     (here t.activation _ _ refl
-    (here (len == 0) _ _ refl
-    (here (nat_lt t.size (offset + len)) _ _ refl
-    (here ((t.count == 0) && not (offset == 0 && len == t.size)) _ _ refl
-    (here (is_some t.load) None _ tt (open_refused tables row t))))))
+    (first_of (part_refusal t offset len) _ (part_refused t offset len) (here (is_some t.load) None _ tt (open_refused tables row t))))
+
+pub validation_refused : (pending : List (ℕ × Bool)) (row : ℕ) (t : Table) (active : Bool) → Refuses (validation_refusal pending row t active)
+validation_refused pending row t active =
+    here (active && (t.count == 0)) _ _ refl
+    (here (not active && not (is_some t.load)) _ _ refl
+    (here (not active && t.activation) _ _ refl
+    (here (not (is_some t.validator)) None _ tt
+    (here (is_pending row active pending) _ _ refl
+    (here (length pending == 10) _ None refl tt)))))
+
+pub activation_refused : (pending : List (ℕ × Bool)) (row : ℕ) (t : Table) → Refuses (activation_refusal pending row t)
+activation_refused pending row t =
+    here (is_dump_only t) _ _ refl
+    (here (not (is_some t.load)) _ _ refl
+    (here t.activation _ _ refl
+    (here (is_pending row false pending) _ _ refl
+    (here (not (is_checked t)) _ None refl tt))))
+
+pub update_refused : (tables : Tables) (row : ℕ) (t : Table) → Refuses (update_refusal tables row t)
+update_refused tables row t = here (not t.activation) _ _ refl (by_lock (locker tables row t))

@@ -7,12 +7,13 @@ use Rattle.tbl_model.specs.State.{State}
 use Rattle.tbl_kinds.specs.Statuses.{is_success}
 use Rattle.tbl_model.specs.Effects.{Effect}
 use Rattle.tbl_model.specs.Commands.{Asked, asked_in, asks_housekeeping, asks_reset_counters, asks_validate, asked_file}
-use Rattle.tbl_model.specs.Events.{events_of, is_good}
+use Rattle.tbl_model.specs.Deeds.{is_good}
+use Rattle.tbl_model.specs.Events.{events_of}
 use Rattle.tbl_model.specs.declared.deeds.Deed.{Deed}
 use Rattle.tbl_model.specs.declared.deeds.Deed.TheVariants.{Finished, Activated, Dumped}
 use Rattle.tbl_model.specs.declared.deeds.Named.{Named}
 use Rattle.tbl_model.specs.declared.deeds.Shown.{Shown}
-use Rattle.tbl_model.specs.declared.deeds.Shown.TheVariants.{Housekeeping}
+use Rattle.tbl_model.specs.declared.deeds.Shown.TheVariants.{Housekeeping, Registry}
 use Rattle.tbl_kinds.specs.declared.request.Actor.{Actor}
 use Rattle.tbl_kinds.specs.declared.request.Request.{Request}
 use Rattle.tbl_kinds.specs.declared.request.Request.TheVariants as ask
@@ -150,6 +151,10 @@ abbrev pub is_housekeeping : Shown → Bool
 is_housekeeping Housekeeping = true
 is_housekeeping _ = false
 
+abbrev pub is_registry : Shown → Bool
+is_registry (Registry row) = true
+is_registry _ = false
+
 abbrev pub events_in : Told → ℕ
 events_in t = length (events_of t.request t.effect)
 
@@ -164,6 +169,7 @@ pub record Counts : Type 0 where
   pub requests : ℕ
   pub events : ℕ  -- packets of each kind since the service began anew
   pub housekeepings : ℕ
+  pub registries : ℕ
   pub notices : ℕ
   pub validation : Validation  -- the latest since then
   pub update : Update
@@ -185,6 +191,7 @@ counts_of past =
       requests = count_by (λ t. adds_request (asked_in t.request) t.effect) counted % 256;
       events = sum_by events_in sent % 16384;
       housekeepings = count_by (λ t. is_housekeeping t.effect.shown) sent % 16384;
+      registries = count_by (λ t. is_registry t.effect.shown) sent % 16384;
       notices = count_by (λ t. is_some t.effect.notice) sent % 16384;
       validation = unwrap_or (latest validation_in sent) no_validation;
       update = unwrap_or (latest update_in sent) no_update;
@@ -203,6 +210,7 @@ no_counts = record {
   requests = 0;
   events = 0;
   housekeepings = 0;
+  registries = 0;
   notices = 0;
   validation = no_validation;
   update = no_update;

@@ -1,7 +1,7 @@
 -- One entry more: what it adds to the counts, and how each count goes on.
 use Rattle.std.specs.Prelude.{ℕ, ◌+◌, ◌%◌, List, [], Bool, false, if◌then◌else◌, Option, None, unwrap_or, is_some}
 use Rattle.tbl_model.specs.Commands.{asked_in}
-use Rattle.tbl_model.specs.Counts.{Told, Counts, restarts, clears_counters, adds_accepted, adds_refused, adds_request, deeds_by, is_finished, is_finished_well, is_finished_badly, events_in, is_housekeeping, Validation, no_validation, validation_in, Update, no_update, update_in, loaded_in, loaded_file_in, dump_in}
+use Rattle.tbl_model.specs.Counts.{Told, Counts, restarts, clears_counters, adds_accepted, adds_refused, adds_request, deeds_by, is_finished, is_finished_well, is_finished_badly, events_in, is_housekeeping, is_registry, Validation, no_validation, validation_in, Update, no_update, update_in, loaded_in, loaded_file_in, dump_in}
 
 -- what an entry adds
 pub record Tally : Type 0 where
@@ -15,6 +15,7 @@ pub record Tally : Type 0 where
   pub request : Bool
   pub events : ℕ
   pub housekeeping : Bool
+  pub registry : Bool
   pub notice : Bool
   pub validation : Option Validation
   pub update : Option Update
@@ -34,6 +35,7 @@ tally_of t = record {
   request = adds_request (asked_in t.request) t.effect;
   events = events_in t;
   housekeeping = is_housekeeping t.effect.shown;
+  registry = is_registry t.effect.shown;
   notice = is_some t.effect.notice;
   validation = validation_in t;
   update = update_in t;
@@ -56,6 +58,7 @@ counts_after c t = record {
   requests = if t.cleared then 0 else (c.requests + bit t.request) % 256;
   events = if t.restarted then 0 else (c.events + t.events) % 16384;
   housekeepings = if t.restarted then 0 else (c.housekeepings + bit t.housekeeping) % 16384;
+  registries = if t.restarted then 0 else (c.registries + bit t.registry) % 16384;
   notices = if t.restarted then 0 else (c.notices + bit t.notice) % 16384;
   validation = if t.restarted then no_validation else unwrap_or t.validation c.validation;
   update = if t.restarted then no_update else unwrap_or t.update c.update;
@@ -76,6 +79,7 @@ no_tally = record {
   request = false;
   events = 0;
   housekeeping = false;
+  registry = false;
   notice = false;
   validation = None;
   update = None;

@@ -5,7 +5,9 @@ use Rattle.tbl_model.specs.Effects.{Effect}
 use Rattle.tbl_model.specs.Given.{Given}
 use Rattle.tbl_model.specs.Commands.{command_effect}
 use Rattle.tbl_model.specs.Uplinks.{file_effect}
-use Rattle.tbl_model.specs.Applications.{start_effect, register_effect, load_image_effect, get_effect, read_effect, release_effect}
+use Rattle.tbl_model.specs.Applications.{start_effect, register_effect}
+use Rattle.tbl_model.specs.AppLoads.{load_image_effect}
+use Rattle.tbl_model.specs.Addresses.{get_effect, read_effect, release_effect}
 use Rattle.tbl_kinds.specs.declared.request.Actor.{Actor}
 use Rattle.tbl_kinds.specs.declared.request.Actor.TheVariants.{Ground, App}
 use Rattle.tbl_kinds.specs.declared.request.Request.{Request}
@@ -25,7 +27,7 @@ app_effect s app (ask.Start name) given = Some (start_effect s app name)
 app_effect s app (ask.Register name size flags validator) given = Some (register_effect s app name size flags validator)
 app_effect s app (ask.Share name) given = None
 app_effect s app (ask.Unregister handle) given = None
-app_effect s app (ask.LoadImage handle image) given = Some (load_image_effect s app handle image.list)
+app_effect s app (ask.LoadImage handle image) given = Some (load_image_effect s app handle image.list given)
 app_effect s app (ask.LoadFile handle name) given = None
 app_effect s app (ask.Update handle) given = None
 app_effect s app (ask.Validate handle) given = None

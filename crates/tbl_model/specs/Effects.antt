@@ -1,9 +1,11 @@
 -- The effect of a request: its answer, its deeds, and the state that it leaves.
 use Rattle.std.specs.Prelude.{ℕ, List, [], Option, None}
 use Rattle.std.specs.Option.{option_map}
-use Rattle.tbl_model.specs.State.{State, Notice}
+use Rattle.tbl_model.specs.State.{State}
+use Rattle.tbl_model.specs.Deeds.{Question}
 use Rattle.tbl_model.specs.declared.deeds.Deed.{Deed}
 use Rattle.tbl_model.specs.declared.deeds.Named.{Named}
+use Rattle.tbl_model.specs.declared.deeds.Notice.{Notice}
 use Rattle.tbl_model.specs.declared.deeds.Shown.{Shown}
 use Rattle.tbl_model.specs.declared.deeds.Shown.TheVariants.{Nothing}
 use Rattle.tbl_kinds.specs.declared.status.Status.{Status}
@@ -15,6 +17,7 @@ pub record Effect : Type 0 where
   pub table : Option Named  -- the table that a command names or a load fills
   pub deeds : List Deed  -- what is done that telemetry tells of, in order
   pub images : List (Option (List ℕ))  -- the image that each deed is about, none where it is about no image
+  pub asked : List Question  -- what validation functions are asked, in order
   pub shown : Shown  -- the packet behind the events
   pub notice : Option Notice
   pub next : State
@@ -28,6 +31,7 @@ answered s status detail = record {
   table = None;
   deeds = [];
   images = [];
+  asked = [];
   shown = Nothing;
   notice = None;
   next = s;

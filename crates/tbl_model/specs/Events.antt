@@ -1,9 +1,9 @@
 -- The event packets of a request.
-use Rattle.std.specs.Prelude.{ℕ, ◌==◌, List, [], ◌∷◌, ◌++◌, map, Bool, not, if◌then◌else◌, Option, unwrap_or, is_some}
+use Rattle.std.specs.Prelude.{ℕ, List, [], ◌∷◌, ◌++◌, map, not, if◌then◌else◌, Option, unwrap_or, is_some}
 use Rattle.std.specs.Option.{option_map}
-use Rattle.std.specs.Int.{w32, cast_unsigned}
 use Rattle.std.proofs.Common.{ℤ}
 use Rattle.tbl_kinds.specs.Statuses.{is_success}
+use Rattle.tbl_model.specs.Deeds.{verdict_bits, is_good}
 use Rattle.tbl_model.specs.Effects.{Effect}
 use Rattle.tbl_model.specs.Commands.{Asked, asked_in, asks_housekeeping, asked_code}
 use Rattle.tbl_model.specs.declared.deeds.Deed.{Deed}
@@ -17,13 +17,6 @@ use Rattle.tbl_kinds.specs.declared.telemetry.Event.{Event}
 -- the row field of an event: the row, or FFFF for none
 abbrev pub row_field : Option ℕ → ℕ
 row_field row = unwrap_or row 0xFFFF
-
--- a verdict as a detail
-abbrev pub verdict_bits : ℤ → ℕ
-verdict_bits verdict = cast_unsigned w32 verdict
-
-abbrev pub is_good : ℤ → Bool
-is_good verdict = verdict_bits verdict == 0
 
 abbrev pub event : ℕ → Status → ℕ → ℕ → Event
 event number status row detail = record { number = number; status = status; row = row; detail = detail }

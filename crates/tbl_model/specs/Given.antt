@@ -1,16 +1,19 @@
 -- What the outside gives in a request.
-use Rattle.std.specs.Prelude.{◌≡◌, List, [], ◌∷◌, false, Option, None}
-use Rattle.std.proofs.Common.{ℤ}
-use Rattle.tbl_model.specs.State.{State}
+use Rattle.std.specs.Prelude.{◌≡◌, ℕ, List, [], ◌∷◌, false, Option, Some, None, unwrap_or, slice_index_or}
+use Rattle.std.proofs.Common.{ℤ, pos}
+use Rattle.tbl_model.specs.Deeds.{Question}
+use Rattle.tbl_model.specs.Effects.{Effect}
 use Rattle.tbl_kinds.specs.declared.note.BankNote.{BankNote}
 use Rattle.tbl_kinds.specs.declared.note.Outcome.TheVariants.{Untouched}
-use Rattle.tbl_kinds.specs.declared.request.Actor.{Actor}
-use Rattle.tbl_kinds.specs.declared.request.Request.{Request}
 
 -- how the calls of the store went, and the verdicts of validation functions
 pub record Given : Type 0 where
   pub note : BankNote
   pub verdicts : List (Option ℤ)
+
+-- the verdict at this place
+abbrev pub verdict_at : ℕ → Given → ℤ
+verdict_at n given = unwrap_or (slice_index_or given.verdicts n None) (pos 0)
 
 -- no call of the store was made
 abbrev pub untouched : BankNote
@@ -19,6 +22,13 @@ untouched = record { outcome = Untouched; done = 0; gate = false; old = false; e
 abbrev pub nothing_given : Given
 nothing_given = record { note = untouched; verdicts = None ∷ None ∷ [] }
 
--- what it may give in this state's request: no request that is built calls the store, or asks a validation function
-abbrev pub MayBeGiven : State → Actor → Request → Given → Type 0
-MayBeGiven s actor request given = given ≡ nothing_given
+-- a verdict for each question, in order, and then none: a request asks two at most
+abbrev pub AnswersEach : List Question → List (Option ℤ) → Type 0
+AnswersEach [] verdicts = verdicts ≡ None ∷ None ∷ []
+AnswersEach (first ∷ []) verdicts = (v : ℤ) × (verdicts ≡ Some v ∷ None ∷ [])
+AnswersEach (first ∷ more) verdicts = (v w : ℤ) × (verdicts ≡ Some v ∷ Some w ∷ [])
+
+-- what it may give in a request of this effect: no request that is built calls the store
+pub record MayBeGiven (effect : Effect) (given : Given) : Type 0 where
+  pub note : given.note ≡ untouched
+  pub verdicts : AnswersEach effect.asked given.verdicts

@@ -47,9 +47,9 @@ pub record IsAnswered (r : Run) (e : Entry) : Type 0 where
   pub live : r.state.ended ≡ false
   pub built : IsBuilt e.request
   pub fits : Fits e.actor e.request
-  pub given : MayBeGiven r.state e.actor e.request (given_in e)
   pub effect : Effect
   pub effect_is : effect_in r e ≡ Some effect
+  pub given : MayBeGiven effect (given_in e)
   pub status : e.reply.status ≡ effect.status
   pub detail : e.reply.detail ≡ effect.detail
   pub bytes : e.reply.bytes.list ≡ effect.bytes

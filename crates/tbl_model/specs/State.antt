@@ -1,6 +1,7 @@
 -- The state of the service.
 use Rattle.std.specs.Prelude.{ℕ, List, [], replicate, Bool, false, Option, None}
 use Rattle.tbl_kinds.specs.Blocks.{Store}
+use Rattle.tbl_model.specs.declared.deeds.Notice.{Notice}
 
 -- ---- tables and handles
 
@@ -14,12 +15,6 @@ pub data Dump : Type 0 where
   quiet : Dump
   asked : List ℕ → Dump
   filled : List ℕ → List ℕ → Dump  -- the file's name, and the image
-
--- the command packet that tells the owner of pending work
-pub record Notice : Type 0 where
-  pub msg : ℕ
-  pub code : ℕ
-  pub parameter : ℕ
 
 pub record Table : Type 0 where
   pub name : List ℕ

@@ -1,10 +1,11 @@
 -- What is asked of the tables, and how they change: one function for each question and each change.
-use Rattle.std.specs.Prelude.{ℕ, ◌+◌, ◌-◌, ◌==◌, List, [], length, replicate, Bool, false, not, ◌&&◌, nat_lt, if◌then◌else◌, position, Option, Some, None, is_some, unwrap_or, option_and_then, slice_index_or, slice_set, Result, Ok, Err}
+use Rattle.std.specs.Prelude.{ℕ, ◌+◌, ◌-◌, ◌==◌, List, [], length, map, replicate, Bool, true, false, not, ◌&&◌, nat_lt, if◌then◌else◌, position, Option, Some, None, is_some, unwrap_or, option_and_then, slice_index_or, slice_set, Result, Ok, Err}
 use Rattle.std.specs.List.{list_any}
 use Rattle.std.specs.Option.{option_map, option_map_or}
 use Rattle.std.specs.Str.{bytes_eq}
 use Rattle.tbl_kinds.specs.Numbers.{piece, patched}
-use Rattle.tbl_model.specs.State.{Load, Table, Handle, Tables, quiet}
+use Rattle.tbl_model.specs.State.{Load, Table, Handle, Tables, Dump, quiet, asked, filled}
+use Rattle.tbl_model.specs.declared.deeds.Notice.{Notice}
 use Rattle.tbl_model.specs.Tables.{table_at, is_double}
 use Rattle.tbl_kinds.specs.declared.status.Status.{Status}
 use Rattle.tbl_kinds.specs.declared.status.TheConstants.Status.{SUCCESS, INFO_UPDATED, ERR_INVALID_HANDLE, ERR_NO_ACCESS, ERR_UNREGISTERED, ERR_ALREADY_PINNED, ERR_NEVER_LOADED, ERR_NOT_PINNED, ERR_OUT_OF_RANGE}
@@ -191,6 +192,80 @@ set_checked row checked tables = changed row (λ t. record t { load = option_map
 -- the file of the last load from a file
 abbrev pub set_file : ℕ → List ℕ → Tables → Tables
 set_file row file tables = changed row (λ t. record t { file = file }) tables
+
+-- ---- activation
+
+-- the last image
+abbrev pub last_image : Table → List ℕ
+last_image t = unwrap_or t.last []
+
+-- the image of the open load
+abbrev pub load_image : Table → List ℕ
+load_image t = option_map_or (λ (load : Load). load.image) t.load []
+
+abbrev pub is_checked : Table → Bool
+is_checked t = option_map_or (λ (load : Load). load.checked) t.load false
+
+-- the activation of the load is asked
+abbrev pub ask : ℕ → Tables → Tables
+ask row tables = changed row (λ t. record t { activation = true }) tables
+
+-- the load is dropped, and its activation isn't asked any more
+abbrev pub close_load : ℕ → Tables → Tables
+close_load row tables = changed row (λ t. record t { load = None; activation = false }) tables
+
+-- the load's image becomes the last one, and the load is closed
+abbrev pub activate : ℕ → Tables → Tables
+activate row tables = changed row (λ t. record (with_image tables.handles row (load_image t) t) { load = None; activation = false }) tables
+
+-- ---- dumps
+
+-- the dump is filled with the image, under the name that was asked
+abbrev pub filled_with : List ℕ → Dump → Dump
+filled_with image quiet = quiet
+filled_with image (asked file) = filled file image
+filled_with image (filled file earlier) = filled file image
+
+abbrev pub ask_dump : ℕ → List ℕ → Tables → Tables
+ask_dump row file tables = changed row (λ t. record t { dump = asked file }) tables
+
+abbrev pub fill_dump : ℕ → Tables → Tables
+fill_dump row tables = changed row (λ t. record t { dump = filled_with (last_image t) t.dump }) tables
+
+abbrev pub end_dump : ℕ → Tables → Tables
+end_dump row tables = changed row (λ t. record t { dump = quiet }) tables
+
+-- ---- owners
+
+-- the command packet that tells the owner of pending work
+abbrev pub set_notice : ℕ → Notice → Tables → Tables
+set_notice row notice tables = changed row (λ t. record t { notice = Some notice }) tables
+
+abbrev pub without_handle : ℕ → Tables → Tables
+without_handle number tables = record tables { handles = slice_set tables.handles number None }
+
+abbrev pub give_back_by : ℕ → Tables → Option ℕ → Tables
+give_back_by number tables None = without_handle number tables
+give_back_by number tables (Some row) =
+    let freed = without_handle number tables in
+    changed row (let_go freed.handles row) freed
+
+-- the handle is free again, and its pin ends
+abbrev pub give_back : ℕ → Tables → Tables
+give_back number tables = give_back_by number tables (option_and_then (λ (h : Handle). h.row) (handle_at tables number))
+
+-- a handle of the table in this row leads to none any more, and pins nothing
+abbrev pub orphaned : ℕ → Option Handle → Option Handle
+orphaned row None = None
+orphaned row (Some h) = Some (if is_that row h.row then record h { row = None; pin = None } else h)
+
+-- the table is gone, and its handles lead to none
+abbrev pub remove : ℕ → Tables → Tables
+remove row tables = record { rows = slice_set tables.rows row None; handles = map (orphaned row) tables.handles }
+
+-- the row of the table that this handle registered
+abbrev pub registered_by : Tables → ℕ → Option ℕ
+registered_by tables number = option_and_then (λ (a : Access). if a.table.handle == number then Some a.row else None) (access_of tables number)
 
 -- ---- registration
 

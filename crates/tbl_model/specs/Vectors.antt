@@ -70,11 +70,11 @@ housekeeping_is_told = refl
 
 pub first_is_answered : IsAnswered (begins_at start) first_entry
 unfolding command_in
-first_is_answered = record { live = refl; built = tt; fits = tt; given = refl; effect = noop_told.effect; effect_is = refl; status = refl; detail = refl; bytes = refl; packets = sym noop_is_told }
+first_is_answered = record { live = refl; built = tt; fits = tt; given = record { note = refl; verdicts = refl }; effect = noop_told.effect; effect_is = refl; status = refl; detail = refl; bytes = refl; packets = sym noop_is_told }
 
 pub second_is_answered : IsAnswered second_run second_entry
 unfolding command_in
-second_is_answered = record { live = refl; built = tt; fits = tt; given = refl; effect = housekeeping_told.effect; effect_is = refl; status = refl; detail = refl; bytes = refl; packets = sym housekeeping_is_told }
+second_is_answered = record { live = refl; built = tt; fits = tt; given = record { note = refl; verdicts = refl }; effect = housekeeping_told.effect; effect_is = refl; status = refl; detail = refl; bytes = refl; packets = sym housekeeping_is_told }
 
 -- the two entries are a legal history, which leaves the state
 pub session_is_legal : IsLegal start (first_entry ∷ second_entry ∷ []) start

@@ -9,6 +9,17 @@ pub struct Named {
     pub name: Name40,
 }
 
+/// The command packet that tells a table's owner of pending work (`CFE_TBL_NotifyByMessage`).
+#[derive(Clone, Copy, Debug, PartialEq, Eq)]
+pub struct Notice {
+    /// The packet's message id.
+    pub msg: u16,
+    /// Its function code, below 128.
+    pub code: u8,
+    /// Its payload, four bytes.
+    pub parameter: u32,
+}
+
 /// What telemetry tells of one thing that a request did: its event, and what housekeeping counts. Rows are those of the registry.
 #[derive(Debug, Drop)]
 pub enum Deed {
@@ -55,6 +66,8 @@ pub enum Shown {
     Nothing,
     /// Housekeeping.
     Housekeeping,
+    /// The registry packet of the table in this row.
+    Registry { row: u8 },
 }
 
 impl Default for Deed {

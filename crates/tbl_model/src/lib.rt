@@ -4,4 +4,4 @@
 
 mod deeds;
 
-pub use deeds::{Deed, Named, Shown};
+pub use deeds::{Deed, Named, Notice, Shown};

@@ -1,2 +1,2 @@
 pub mod Kits
-pub mod Pairs
+pub mod Asked

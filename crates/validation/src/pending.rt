@@ -1,5 +1,5 @@
 ghost use Rattle.std.specs.Prelude.{◌≡◌, ◌↔◌, ◌≤◌, ℕ, List, [], ◌∷◌, ◌++◌, length, false, true, Err, OnOk, OnErr};
-ghost use Rattle.validation.specs.Pairs.{is_pair, is_pending, without_pair};
+ghost use Rattle.tbl_model.specs.Pending.{is_pair, is_pending, without_pair};
 
 use arrayvec::ArrayVec;
 use std::marker::Model;

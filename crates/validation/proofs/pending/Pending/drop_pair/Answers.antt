@@ -1,6 +1,6 @@
 use Rattle.std.proofs.Common.{rules, not, ap, ◌∙◌}
 use Rattle.arrayvec.proofs.ArrayVecLemmas.{filter-from_retain}
-use Rattle.validation.specs.Pairs.{is_pair, without_pair}
+use Rattle.tbl_model.specs.Pending.{is_pair, without_pair}
 use Rattle.validation.proofs.pending.Pending.drop_pair.Goals as goal
 
 pub returns : goal.returns

@@ -1,4 +1,4 @@
--- Pending validations: pairs of a row and whether its active image is meant.
+-- Pending validations: pairs of a row and whether its last image is meant, or that of its open load.
 use Rattle.std.specs.Prelude.{ℕ, ◌==◌, List, filter, Bool, not, ◌&&◌, if◌then◌else◌}
 use Rattle.std.specs.List.{list_any}
 
@@ -14,3 +14,7 @@ is_pending row active pairs = list_any (is_pair row active) pairs
 
 abbrev pub without_pair : ℕ → Bool → List (ℕ × Bool) → List (ℕ × Bool)
 without_pair row active pairs = filter (λ pair. not (is_pair row active pair)) pairs
+
+-- those of the tables in other rows
+abbrev pub of_other_rows : ℕ → List (ℕ × Bool) → List (ℕ × Bool)
+of_other_rows row pairs = filter (λ pair. not (pair.0 == row)) pairs

@@ -1,0 +1,36 @@
+-- Loads go active, and are dropped: ACTIVATE, CFE_TBL_Update, ABORT_LOAD.
+use Rattle.std.specs.Prelude.{ℕ, List, [], ◌∷◌, false, if◌then◌else◌, Some, is_some}
+use Rattle.tbl_model.specs.State.{State, Table}
+use Rattle.tbl_model.specs.TableSteps.{load_image, ask, activate, close_load, set_time}
+use Rattle.tbl_model.specs.Pending.{without_pair}
+use Rattle.tbl_model.specs.Deeds.{activated}
+use Rattle.tbl_model.specs.Effects.{Effect, answered, named}
+use Rattle.tbl_model.specs.Refusals.{by_answer, activation_refusal, update_refusal}
+use Rattle.tbl_model.specs.Subjects.{if_table, if_owner}
+use Rattle.tbl_kinds.specs.declared.status.TheConstants.Status.{SUCCESS, ERR_NO_LOAD}
+
+-- the activation is asked, and the owner is told
+abbrev pub ask_effect : State → ℕ → Table → Effect
+ask_effect s row t = record (answered s SUCCESS 0) { notice = t.notice; next = record s { tables = ask row s.tables } }
+
+unfoldable pub activate_command_effect : State → List ℕ → Effect
+activate_command_effect s name = if_table s name (λ row t. by_answer s (activation_refusal s.pending row t) (ask_effect s row t))
+
+-- the load's image becomes the table's last one, at the service's time, and the load is closed
+abbrev pub updated_effect : State → ℕ → Table → Effect
+updated_effect s row t = record (answered s SUCCESS 0) {
+  table = named t.name (Some row);
+  deeds = activated row t ∷ [];
+  images = Some (load_image t) ∷ [];
+  next = record s { tables = set_time row s.seconds s.sub (activate row s.tables) };
+}
+
+unfoldable pub update_effect : State → ℕ → ℕ → Effect
+update_effect s app handle = if_owner s app handle (λ row t. by_answer s (update_refusal s.tables row t) (updated_effect s row t))
+
+-- the load is dropped, with its activation and its validation, and nothing else
+abbrev pub aborted_effect : State → ℕ → Effect
+aborted_effect s row = record (answered s SUCCESS 0) { next = record s { tables = close_load row s.tables; pending = without_pair row false s.pending } }
+
+unfoldable pub abort_effect : State → List ℕ → Effect
+abort_effect s name = if_table s name (λ row t. if is_some t.load then aborted_effect s row else answered s ERR_NO_LOAD 0)

@@ -1,0 +1,104 @@
+-- CFE_TBL_Manage: an owner has all done that is pending for its table. CFE_TBL_GetStatus: what is pending.
+use Rattle.std.specs.Prelude.{ℕ, ◌+◌, List, [], ◌∷◌, ◌++◌, length, Bool, true, false, not, ◌||◌, if◌then◌else◌, Option, Some, None, is_some}
+use Rattle.std.specs.Option.{option_map_or}
+use Rattle.tbl_model.specs.State.{State, Table, Tables, Dump, quiet, asked, filled}
+use Rattle.tbl_model.specs.Tables.{table_at, is_quiet}
+use Rattle.tbl_model.specs.TableSteps.{locker, load_image, activate, set_time, fill_dump}
+use Rattle.tbl_model.specs.Pending.{is_pending}
+use Rattle.tbl_model.specs.Deeds.{Question, activated, finished}
+use Rattle.tbl_model.specs.Effects.{Effect, answered}
+use Rattle.tbl_model.specs.Given.{Given, verdict_at}
+use Rattle.tbl_model.specs.Refusals.{update_refusal}
+use Rattle.tbl_model.specs.Validations.{judged_image, questions, judged}
+use Rattle.tbl_model.specs.Subjects.{if_its_table, if_owner}
+use Rattle.tbl_model.specs.declared.deeds.Deed.{Deed}
+use Rattle.tbl_kinds.specs.declared.entry.Answer.{Answer}
+use Rattle.tbl_kinds.specs.declared.status.Status.{Status}
+use Rattle.tbl_kinds.specs.declared.status.TheConstants.Status.{SUCCESS, INFO_UPDATED, INFO_UPDATE_PENDING, INFO_VALIDATION_PENDING, INFO_DUMP_PENDING, INFO_TABLE_LOCKED}
+
+-- ---- what is done, one thing after another
+
+-- what was done so far: the state that it left, and a bit for each of the four things that can be pending
+pub record Done : Type 0 where
+  pub state : State
+  pub deeds : List Deed
+  pub images : List (Option (List ℕ))
+  pub asked : List Question
+  pub bits : ℕ
+
+abbrev pub nothing_done : State → Done
+nothing_done s = record { state = s; deeds = []; images = []; asked = []; bits = 0 }
+
+abbrev pub with_table_of : ℕ → Done → (Table → Done) → Done
+with_table_of row d next = option_map_or next (table_at d.state.tables row) d
+
+-- the validation of the last image, or of the load's
+abbrev pub then_validate : ℕ → Bool → Given → Done → Done
+then_validate row active given d = with_table_of row d (λ t.
+    if not (is_pending row active d.state.pending) then d
+    else (let image = judged_image t active in
+    let verdict = verdict_at (length d.asked) given in
+    record {
+      state = judged d.state row active verdict;
+      deeds = d.deeds ++ finished row active t image verdict ∷ [];
+      images = d.images ++ Some image ∷ [];
+      asked = d.asked ++ questions t image;
+      bits = d.bits + (if active then 1 else 2);
+    }))
+
+-- the update, where nothing is in its way
+abbrev pub then_update : ℕ → Done → Done
+then_update row d = with_table_of row d (λ t.
+    if is_some (update_refusal d.state.tables row t) then d
+    else record d {
+      state = record d.state { tables = set_time row d.state.seconds d.state.sub (activate row d.state.tables) };
+      deeds = d.deeds ++ activated row t ∷ [];
+      images = d.images ++ Some (load_image t) ∷ [];
+      bits = d.bits + 4;
+    })
+
+abbrev pub is_asked : Dump → Bool
+is_asked quiet = false
+is_asked (asked file) = true
+is_asked (filled file image) = false
+
+-- the filling of the dump
+abbrev pub then_fill : ℕ → Done → Done
+then_fill row d = with_table_of row d (λ t.
+    if not (is_asked t.dump) then d
+    else record d { state = record d.state { tables = fill_dump row d.state.tables }; bits = d.bits + 8 })
+
+abbrev pub all_done : State → Given → ℕ → Done
+all_done s given row = then_fill row (then_update row (then_validate row false given (then_validate row true given (nothing_done s))))
+
+-- ---- what is answered
+
+-- the update was locked by this handle, it was made, or there was none
+abbrev pub manage_answer : Tables → ℕ → Table → Answer
+manage_answer tables row t =
+    if not t.activation then record { status = SUCCESS; detail = 0 }
+    else option_map_or (λ handle. record { status = INFO_TABLE_LOCKED; detail = handle }) (locker tables row t) (record { status = INFO_UPDATED; detail = 0 })
+
+abbrev pub managed_effect : State → Answer → Done → Effect
+managed_effect s answer d = record (answered s answer.status answer.detail) {
+  bytes = d.bits ∷ [];
+  deeds = d.deeds;
+  images = d.images;
+  asked = d.asked;
+  next = d.state;
+}
+
+unfoldable pub manage_effect : State → ℕ → ℕ → Given → Effect
+manage_effect s app handle given = if_owner s app handle (λ row t. managed_effect s (manage_answer s.tables row t) (all_done s given row))
+
+-- ---- what is pending
+
+abbrev pub pending_status : List (ℕ × Bool) → ℕ → Table → Status
+pending_status pending row t =
+    if is_pending row true pending || is_pending row false pending then INFO_VALIDATION_PENDING
+    else (if t.activation then INFO_UPDATE_PENDING
+    else (if not (is_quiet t.dump) then INFO_DUMP_PENDING
+    else SUCCESS))
+
+unfoldable pub get_status_effect : State → ℕ → ℕ → Effect
+get_status_effect s app handle = if_its_table s app handle false (λ row t. answered s (pending_status s.pending row t) 0)
