@@ -5,7 +5,8 @@ use Rattle.std.proofs.lemmas.Bool.Decides.{nat_tests}
 use Rattle.tbl_kinds.specs.Names.{is_name}
 use Rattle.tbl_kinds.specs.Limits.{table_limit}
 use Rattle.tbl_model.specs.State.{Table, Tables}
-use Rattle.tbl_model.specs.Tables.{is_double, is_dump_only, in_use}
+use Rattle.tbl_model.specs.Tables.{is_double, is_dump_only, is_quiet, in_use}
+use Rattle.tbl_model.specs.Dumps.{dump_refusal, edit_refusal}
 use Rattle.tbl_model.specs.TableSteps.{locker, is_checked}
 use Rattle.tbl_model.specs.Pending.{is_pending}
 use Rattle.tbl_kinds.specs.TableFiles.{TableFile}
@@ -92,6 +93,7 @@ part_taken t offset len none =
 -- bytes that go into the load of their table
 pub record TakesLoad (tables : Tables) (row : ℕ) (t : Table) (offset len : ℕ) : Type 0 where
   pub dump_only : is_dump_only t ≡ false
+  pub unasked : t.activation ≡ false
   pub within : offset + len ≤ t.size
   pub whole : (t.count == 0) ≡ true → (offset == 0 && len == t.size) ≡ true
   pub opens : t.load ≡ None → open_refusal tables row t ≡ None
@@ -103,10 +105,75 @@ load_taken tables row t offset len none =
     let c = neither (part_refusal t offset len) _ b.1 in
     let part = part_taken t offset len c.0 in record {
       dump_only = a.0;
+      unasked = b.0;
       within = part.0;
       whole = part.1;
       opens = λ closed. rw closed at c.1;
     }
+
+-- a file that its table's owner may load
+pub file_taken : (tables : Tables) (row : ℕ) (t : Table) (file : TableFile) → file_refusal tables row t file ≡ None
+    → (file.offset + length file.image ≤ t.size) × (locker tables row t ≡ None)
+file_taken tables row t file none =
+    let a = passed (not (bytes_eq file.name t.name)) _ _ none in
+    let parts = neither (part_refusal t file.offset (length file.image)) _ a.1 in
+    ((part_taken t file.offset (length file.image) parts.0).0, not_busy tables row t parts.1)
+
+-- a validation that may be asked
+pub record TakesValidation (pending : List (ℕ × Bool)) (row : ℕ) (t : Table) (active : Bool) : Type 0 where
+  pub loaded : active ≡ true → (t.count == 0) ≡ false
+  pub open_load : active ≡ false → is_some t.load ≡ true
+  pub unasked : active ≡ false → t.activation ≡ false
+  pub new : is_some t.validator ≡ true → is_pending row active pending ≡ false
+  pub room : is_some t.validator ≡ true → (length pending == 10) ≡ false
+
+pub validation_taken : (pending : List (ℕ × Bool)) (row : ℕ) (t : Table) (active : Bool) → validation_refusal pending row t active ≡ None → TakesValidation pending row t active
+validation_taken pending row t active none =
+    let a = passed (active && (t.count == 0)) _ _ none in
+    let b = passed (not active && not (is_some t.load)) _ _ a.1 in
+    let c = passed (not active && t.activation) _ _ b.1 in
+    let rest = c.1 in record {
+      loaded = λ is. rw is at a.0;
+      open_load = λ is. not_false _ (rw is at b.0);
+      unasked = λ is. rw is at c.0;
+      new = λ function. (passed (is_pending row active pending) _ _ (rw function at rest)).0;
+      room = λ function. (passed (length pending == 10) _ None (passed (is_pending row active pending) _ _ (rw function at rest)).1).0;
+    }
+
+-- an activation that may be asked
+pub record TakesActivation (pending : List (ℕ × Bool)) (row : ℕ) (t : Table) : Type 0 where
+  pub dump_only : is_dump_only t ≡ false
+  pub open_load : is_some t.load ≡ true
+  pub unasked : t.activation ≡ false
+  pub none_pending : is_pending row false pending ≡ false
+  pub checked : is_checked t ≡ true
+
+pub activation_taken : (pending : List (ℕ × Bool)) (row : ℕ) (t : Table) → activation_refusal pending row t ≡ None → TakesActivation pending row t
+activation_taken pending row t none =
+    let a = passed (is_dump_only t) _ _ none in
+    let b = passed (not (is_some t.load)) _ _ a.1 in
+    let c = passed t.activation _ _ b.1 in
+    let d = passed (is_pending row false pending) _ _ c.1 in
+    let e = passed (not (is_checked t)) _ None d.1 in record {
+      dump_only = a.0;
+      open_load = not_false _ b.0;
+      unasked = c.0;
+      none_pending = d.0;
+      checked = not_false _ e.0;
+    }
+
+-- an update that is made
+pub update_taken : (tables : Tables) (row : ℕ) (t : Table) → update_refusal tables row t ≡ None → (t.activation ≡ true) × (locker tables row t ≡ None)
+update_taken tables row t none =
+    let a = passed (not t.activation) _ _ none in
+    (not_false _ a.0, unlocked _ a.1)
+
+-- an edit that is made
+pub edit_taken : (tables : Tables) (row : ℕ) (t : Table) (offset len : ℕ) → edit_refusal tables row t offset len ≡ None → (is_dump_only t ≡ true) × (offset + len ≤ t.size) × (locker tables row t ≡ None)
+edit_taken tables row t offset len none =
+    let a = passed (not (is_dump_only t)) _ _ none in
+    let b = passed (len == 0 || nat_lt t.size (offset + len)) _ _ a.1 in
+    (not_false _ a.0, let past = b.0 in grind (arith, nat_tests), unlocked _ b.1)
 
 -- a registration that may look at the registered tables, while no validation function stands in the kit
 pub record TakesPlan (size flags : ℕ) (validator : Option ℕ) : Type 0 where
@@ -214,3 +281,12 @@ activation_refused pending row t =
 
 pub update_refused : (tables : Tables) (row : ℕ) (t : Table) → Refuses (update_refusal tables row t)
 update_refused tables row t = here (not t.activation) _ _ refl (by_lock (locker tables row t))
+
+pub dump_refused : (tables : Tables) (t : Table) → Refuses (dump_refusal tables t)
+dump_refused tables t = here (not (is_quiet t.dump)) _ _ refl (by_buffers tables t)
+
+pub edit_refused : (tables : Tables) (row : ℕ) (t : Table) (offset len : ℕ) → Refuses (edit_refusal tables row t offset len)
+edit_refused tables row t offset len =
+    here (not (is_dump_only t)) _ _ refl
+    (here (len == 0 || nat_lt t.size (offset + len)) _ _ refl
+    (by_lock (locker tables row t)))

@@ -12,7 +12,8 @@ use Rattle.tbl_kinds.specs.declared.request.Actor.TheVariants.{Ground}
 use Rattle.tbl_kinds.specs.declared.status.TheConstants.Status.{SUCCESS, ERR_BAD_PACKET, ERR_BAD_MESSAGE_ID, ERR_BAD_CODE, ERR_BAD_LENGTH}
 use Rattle.tbl_model.specs.State.{State, first_state}
 use Rattle.tbl_model.specs.Effects.{answered}
-use Rattle.tbl_model.specs.Commands.{command_effect, housekeeping_effect}
+use Rattle.tbl_model.specs.Commands.{command_effect}
+use Rattle.tbl_model.specs.Dumps.{housekeeping_effect, dumps_ended}
 use Rattle.tbl_model.specs.Counts.{Told, counts_of}
 use Rattle.tbl_model.specs.Replies.{head_at, packets_of}
 use Rattle.tbl_model.specs.Given.{untouched}
@@ -65,7 +66,7 @@ unfolding packets_of counts_of command_in telemetry_packet primary_header event_
 noop_is_told = refl
 
 pub housekeeping_is_told : packets_of (noop_told ∷ []) housekeeping_told ≡ housekeeping_after_noop
-unfolding packets_of counts_of command_in telemetry_packet primary_header housekeeping_body commands_and_loads last_validation validations_and_buffers last_update
+unfolding packets_of counts_of command_in telemetry_packet primary_header housekeeping_body commands_and_loads last_validation validations_and_buffers last_update housekeeping_effect dumps_ended
 housekeeping_is_told = refl
 
 pub first_is_answered : IsAnswered (begins_at start) first_entry
@@ -73,12 +74,12 @@ unfolding command_in
 first_is_answered = record { live = refl; built = tt; fits = tt; given = record { note = refl; verdicts = refl }; effect = noop_told.effect; effect_is = refl; status = refl; detail = refl; bytes = refl; packets = sym noop_is_told }
 
 pub second_is_answered : IsAnswered second_run second_entry
-unfolding command_in
+unfolding command_in housekeeping_effect dumps_ended
 second_is_answered = record { live = refl; built = tt; fits = tt; given = record { note = refl; verdicts = refl }; effect = housekeeping_told.effect; effect_is = refl; status = refl; detail = refl; bytes = refl; packets = sym housekeeping_is_told }
 
 -- the two entries are a legal history, which leaves the state
 pub session_is_legal : IsLegal start (first_entry ∷ second_entry ∷ []) start
-unfolding command_in
+unfolding command_in housekeeping_effect dumps_ended
 session_is_legal = record { answered = (first_is_answered, (second_is_answered, tt)); leads = refl }
 
 pub session_is_written : transcript (first_entry ∷ second_entry ∷ []) 0

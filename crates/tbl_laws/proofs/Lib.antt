@@ -1,0 +1,6 @@
+pub mod CommandAnswers
+pub mod Cases
+pub mod Rows
+pub mod Pairs
+pub mod Fits
+pub mod Ordinary

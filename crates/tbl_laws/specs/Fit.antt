@@ -1,0 +1,40 @@
+-- What holds of the service's state between two requests, table by table.
+use Rattle.std.specs.Prelude.{◌≡◌, ◌≢◌, ℕ, ◌≤◌, List, length, Bool, true, false, Option, Some, None, is_some, IfSome, slice_index_or}
+use Rattle.std.specs.Option.{ForSome}
+use Rattle.tbl_model.specs.State.{State, Table, Handle}
+use Rattle.tbl_model.specs.Tables.{table_at}
+use Rattle.tbl_model.specs.TableSteps.{is_checked}
+use Rattle.tbl_model.specs.Pending.{is_pending}
+
+-- a pending validation can be done: the table has a function, and the image is there, which of an open load isn't about to go active
+pub record CanValidate (t : Table) (active : Bool) : Type 0 where
+  pub function : is_some t.validator ≡ true
+  pub loaded : active ≡ true → t.count ≢ 0
+  pub open_load : active ≡ false → is_some t.load ≡ true
+  pub unasked : active ≡ false → t.activation ≡ false
+
+-- whose validation function stands under this number
+abbrev pub owner_at : List (Option ℕ) → ℕ → Option ℕ
+owner_at kit number = slice_index_or kit number None
+
+-- the handle that the table's registration gave is its owner's, and leads to it
+abbrev pub IsRegistered : List (Option Handle) → ℕ → Table → Type 0
+IsRegistered handles row t = ForSome (slice_index_or handles t.handle None) (λ (h : Handle). (h.app ≡ t.owner) × (h.row ≡ Some row))
+
+-- the table in this row has had so many images at most, its function stands in the kit and is its owner's, a load that is about to
+-- go active is validated, and its pending validations can be done
+pub record IsFit (most : ℕ) (kit : List (Option ℕ)) (pending : List (ℕ × Bool)) (handles : List (Option Handle)) (row : ℕ) (t : Table) : Type 0 where
+  pub few : t.count ≤ most
+  pub registered : IsRegistered handles row t
+  pub function : IfSome t.validator (λ number. owner_at kit number ≡ Some t.owner)
+  pub checked : t.activation ≡ true → is_checked t ≡ true
+  pub pends : (active : Bool) → is_pending row active pending ≡ true → CanValidate t active
+
+-- and where no table is, nothing is pending
+abbrev pub FitAt : ℕ → List (Option ℕ) → List (ℕ × Bool) → List (Option Handle) → ℕ → Option Table → Type 0
+FitAt most kit pending handles row None = (active : Bool) → is_pending row active pending ≡ false
+FitAt most kit pending handles row (Some t) = IsFit most kit pending handles row t
+
+pub record AreFit (most : ℕ) (s : State) : Type 0 where
+  pub each : (row : ℕ) → FitAt most s.kit s.pending s.tables.handles row (table_at s.tables row)
+  pub few_pending : length s.pending ≤ 10
