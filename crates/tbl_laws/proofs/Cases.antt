@@ -185,11 +185,11 @@ module _ (s : State) (P : Effect → Type 0) (refusal : (e : Effect) → e.next 
   by_start app name done = unless (is_some (name_of s app)) ERR_APP_RUNNING 0 _ refl (unless (not (is_name name) || has_dot name) ERR_INVALID_NAME 0 _ refl done)
 
   module _ (app : ℕ) (short : List ℕ) (size flags : ℕ) (validator : Option ℕ)
-      (done : (name : List ℕ) (row handle : ℕ) → plan_refusal s.kit app short size flags validator ≡ None → least_free s.tables.rows ≡ Some row → P (add_effect s app name size flags validator (Some row) (Some handle))) where
-    by_places : plan_refusal s.kit app short size flags validator ≡ None → (name : List ℕ) (row handle : Option ℕ) → least_free s.tables.rows ≡ row → P (add_effect s app name size flags validator row handle)
-    by_places plan name None handle free = no ERR_REGISTRY_FULL 0 refl
-    by_places plan name (Some row) None free = no ERR_HANDLES_FULL 0 refl
-    by_places plan name (Some row) (Some handle) free = done name row handle plan free
+      (done : (name : List ℕ) (row handle : ℕ) → plan_refusal s.kit app short size flags validator ≡ None → least_free s.tables.rows ≡ Some row → least_free s.tables.handles ≡ Some handle → P (add_effect s app name size flags validator (Some row) (Some handle))) where
+    by_places : plan_refusal s.kit app short size flags validator ≡ None → (name : List ℕ) (row handle : Option ℕ) → least_free s.tables.rows ≡ row → least_free s.tables.handles ≡ handle → P (add_effect s app name size flags validator row handle)
+    by_places plan name None handle free given = no ERR_REGISTRY_FULL 0 refl
+    by_places plan name (Some row) None free given = no ERR_HANDLES_FULL 0 refl
+    by_places plan name (Some row) (Some handle) free given = done name row handle plan free given
 
     by_duplicate : (found : Option Table) → P (duplicate_effect s app size found)
     by_duplicate None = no ERR_REGISTRY_FULL 0 refl
@@ -197,7 +197,7 @@ module _ (s : State) (P : Effect → Type 0) (refusal : (e : Effect) → e.next 
 
     by_full_name : plan_refusal s.kit app short size flags validator ≡ None → (name : List ℕ) (row : Option ℕ) → P (by_name_effect s app name size flags validator row)
     by_full_name plan name (Some row) = by_duplicate (table_at s.tables row)
-    by_full_name plan name None = by_places plan name (least_free s.tables.rows) (least_free s.tables.handles) refl
+    by_full_name plan name None = by_places plan name (least_free s.tables.rows) (least_free s.tables.handles) refl refl
 
     pub by_register : P (register_effect s app short size flags validator)
     unfolding register_effect

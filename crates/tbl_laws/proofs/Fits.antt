@@ -8,7 +8,7 @@ use Rattle.std.proofs.lemmas.List.{get_or-set_same, get_or-set_other}
 use Rattle.std.proofs.lemmas.Option.{same_Some}
 use Rattle.tbl_model.specs.State.{State, Load, Table, Handle, Tables}
 use Rattle.tbl_model.specs.Tables.{table_at}
-use Rattle.tbl_model.specs.TableSteps.{is_checked, set_checked, changed}
+use Rattle.tbl_model.specs.TableSteps.{is_checked, set_checked, changed, changed_in, put, put_in, set_time, set_time_in}
 use Rattle.tbl_model.specs.Deeds.{is_good}
 use Rattle.tbl_model.specs.Pending.{is_pair, is_pending, without_pair, of_other_rows}
 use Rattle.tbl_model.specs.Validations.{marked, judged}
@@ -30,7 +30,7 @@ same_pending n kit old new handles row (Some t) same fit = record { few = fit.fe
 
 -- and where its registration's handle stays
 same_handle : (n : ℕ) (kit : List (Option ℕ)) (pending : List (ℕ × Bool)) (old new : List (Option Handle)) (row : ℕ) (found : Option Table)
-    → ((t : Table) → found ≡ Some t → IsRegistered old row t → IsRegistered new row t) → FitAt n kit pending old row found → FitAt n kit pending new row found
+    → ((t : Table) → found ≡ Some t → IsRegistered old row t.handle t.owner → IsRegistered new row t.handle t.owner) → FitAt n kit pending old row found → FitAt n kit pending new row found
 same_handle n kit pending old new row None stays fit = fit
 same_handle n kit pending old new row (Some t) stays fit = record { few = fit.few; registered = stays t refl fit.registered; function = fit.function; checked = fit.checked; pends = fit.pends }
 
@@ -38,7 +38,7 @@ same_handle n kit pending old new row (Some t) stays fit = record { few = fit.fe
 pub record Differs (old new : State) (row : ℕ) (found : Option Table) : Type 0 where
   pub rows : OneRow old.tables new.tables row found
   pub pending : (k : ℕ) (active : Bool) → k ≢ row → is_pending k active new.pending ≡ is_pending k active old.pending
-  pub handles : (k : ℕ) (t : Table) → k ≢ row → table_at old.tables k ≡ Some t → IsRegistered old.tables.handles k t → IsRegistered new.tables.handles k t
+  pub handles : (k : ℕ) (t : Table) → k ≢ row → table_at old.tables k ≡ Some t → IsRegistered old.tables.handles k t.handle t.owner → IsRegistered new.tables.handles k t.handle t.owner
   pub kit : new.kit ≡ old.kit
   pub few_pending : length new.pending ≤ 10
 
@@ -56,7 +56,7 @@ fit_on n m old new row found low fit differs here = record {
 
 -- no table and nothing pending changes, and each table keeps its registration's handle
 pub fit_same : (n m : ℕ) (old new : State) → n ≤ m → AreFit n old → new.tables.rows ≡ old.tables.rows → new.pending ≡ old.pending → new.kit ≡ old.kit
-    → ((k : ℕ) (t : Table) → table_at old.tables k ≡ Some t → IsRegistered old.tables.handles k t → IsRegistered new.tables.handles k t) → AreFit m new
+    → ((k : ℕ) (t : Table) → table_at old.tables k ≡ Some t → IsRegistered old.tables.handles k t.handle t.owner → IsRegistered new.tables.handles k t.handle t.owner) → AreFit m new
 fit_same n m old new low fit rows pending kit handles = record {
   each = λ k. rw (rows, pending, kit) (same_handle m old.kit old.pending old.tables.handles new.tables.handles k (table_at old.tables k) (handles k)
       (more n m old.kit old.pending old.tables.handles k (table_at old.tables k) low (fit.each k)));
@@ -79,7 +79,7 @@ module _ (n : ℕ) (s : State) (fit : AreFit n s) (row : ℕ) (t : Table) (there
     pub validator : u.validator ≡ t.validator
 
   -- so this still holds
-  registered : (tables : Tables) (u : Table) → Becomes tables u → IsRegistered tables.handles row u
+  registered : (tables : Tables) (u : Table) → Becomes tables u → IsRegistered tables.handles row u.handle u.owner
   registered tables u is = rw (is.handles, is.handle, is.owner) was.registered
 
   function : (tables : Tables) (u : Table) → Becomes tables u → IfSome u.validator (λ number. owner_at s.kit number ≡ Some u.owner)
@@ -154,3 +154,23 @@ module _ (n : ℕ) (s : State) (fit : AreFit n s) (row : ℕ) (t : Table) (there
       same_some : (load : Option Load) → is_some (option_map (λ (load : Load). record load { checked = is_good verdict }) load) ≡ is_some load
       same_some None = refl
       same_some (Some load) = refl
+
+-- ---- what a change leaves of the handles
+
+pub handles_changed : (tables : Tables) (row : ℕ) (change : Table → Table) → (changed row change tables).handles ≡ tables.handles
+handles_changed tables row change = here (table_at tables row) where
+  here : (found : Option Table) → (changed_in tables row change found).handles ≡ tables.handles
+  here None = refl
+  here (Some t) = refl
+
+pub handles_put : (tables : Tables) (row : ℕ) (image : List ℕ) → (put row image tables).handles ≡ tables.handles
+handles_put tables row image = here (table_at tables row) where
+  here : (found : Option Table) → (put_in tables row image found).handles ≡ tables.handles
+  here None = refl
+  here (Some t) = refl
+
+pub handles_time : (tables : Tables) (row seconds sub : ℕ) → (set_time row seconds sub tables).handles ≡ tables.handles
+handles_time tables row seconds sub = here (table_at tables row) where
+  here : (found : Option Table) → (set_time_in tables row seconds sub found).handles ≡ tables.handles
+  here None = refl
+  here (Some t) = refl

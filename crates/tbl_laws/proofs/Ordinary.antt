@@ -1,138 +1,223 @@
 -- What each request leaves: the service goes on, and what holds of its tables and of pending validations still does.
-use Rattle.std.proofs.Common.{◌≡◌, ◌≢◌, ℕ, suc, zero, ◌≤◌, ◌+◌, ◌<◌, List, [], ◌∷◌, ◌++◌, length, map, Bool, true, false, not, ◌&&◌, ◌||◌, eqb, Option, Some, None, is_some, is_none, refl, sym, ap, ◌∙◌, subst, arith, inl, inr, ◌⊎◌, cond, if◌then◌else◌, length-append}
-use Rattle.std.proofs.Common.{ℤ}
-use Rattle.std.specs.Prelude.{slice_index_or, slice_set, IfSome}
-use Rattle.std.specs.Option.{ForSome, option_map}
-use Rattle.std.proofs.lemmas.Bool.{cases_eq, eqb-true, eq-eqb, ne_eqb, not-false, or_cases, or_from, or_parts}
+use Rattle.std.proofs.Common.{◌≡◌, ℕ, suc, ◌≤◌, ◌<◌, ◌+◌, List, [], ◌∷◌, length, Bool, true, false, eqb, Option, Some, None, is_some, is_none, refl, sym, ap, ◌∙◌, subst, arith, cond, if◌then◌else◌, replicate}
+use Rattle.std.specs.Prelude.{◌-◌, slice_index_or, slice_set, slice_get, option_and_then, IfSome}
+use Rattle.std.specs.List.{fold}
+use Rattle.std.specs.Option.{option_map_or}
+use Rattle.std.proofs.Common.{pos}
+use Rattle.std.proofs.lemmas.Bool.{eqb-true, cond_both}
+use Rattle.tbl_kinds.specs.Drawer.{is_full_for}
 use Rattle.std.proofs.lemmas.List.{get_or-set_same, get_or-set_other}
-use Rattle.std.proofs.lemmas.Option.{same_Some}
-use Rattle.tbl_model.specs.State.{State, Load, Table, Handle, Tables}
-use Rattle.tbl_model.specs.Tables.{table_at}
-use Rattle.tbl_model.specs.TableSteps.{is_checked, set_checked, changed}
-use Rattle.tbl_model.specs.Deeds.{is_good}
-use Rattle.tbl_model.specs.Pending.{is_pair, is_pending, without_pair, of_other_rows}
-use Rattle.tbl_model.specs.Validations.{marked, judged}
-use Rattle.tbl_laws.specs.Fit.{CanValidate, owner_at, IsRegistered, IsFit, FitAt, AreFit}
-use Rattle.tbl_laws.proofs.Rows.{OneRow, same_rows, set_row, changed_row, put_row, time_row, then_row}
-use Rattle.tbl_laws.proofs.Pairs.{both_images, pending_more, pending_more_other, pending_less_other, pending_gone, fewer, row_gone, row_stays}
+use Rattle.std.proofs.lemmas.List.Quantifiers.{position-Some}
+use Rattle.std.proofs.lemmas.Option.{same_Some, get_or_from_slice_get}
+use Rattle.tbl_kinds.specs.Free.{least_free}
+use Rattle.tbl_model.specs.State.{State, Table, Handle, Tables, Dump, quiet, asked, filled, no_tables}
+use Rattle.tbl_model.specs.Tables.{table_at, rows_where}
+use Rattle.tbl_model.specs.TableSteps.{is_that, end_dump, handle_at, Access, let_go, with_table, with_handle, new_table, new_handle, filled_with, last_image}
+use Rattle.tbl_model.specs.Effects.{Effect}
+use Rattle.tbl_model.specs.Given.{Given}
+use Rattle.tbl_model.specs.Pending.{is_pending}
+use Rattle.tbl_model.specs.Refusals.{may_use, plan_refusal}
+use Rattle.tbl_model.specs.Validations.{first_pending, do_validation}
+use Rattle.tbl_model.specs.Dumps.{Ended, end_by, then_end, is_filled, dumps_ended, housekeeping_effect}
+use Rattle.tbl_model.specs.Dispatch.{effect_of}
+use Rattle.tbl_model.specs.declared.deeds.Notice.{Notice}
+use Rattle.tbl_model.proofs.RefusalLaws.{is_refusal, load_taken, validation_taken, update_taken, plan_taken}
+use Rattle.tbl_laws.specs.Fit.{IsRegistered, IsFit, FitAt, AreFit}
+use Rattle.tbl_laws.proofs.Rows.{nothing_at, set_row}
+use Rattle.tbl_laws.proofs.Fits.{Differs, fit_on, fit_same, was, Becomes, unseen, mark}
+use Rattle.tbl_laws.proofs.Changes.{grown, told, imaged, imaged_from, loads, pends, asks, aborts, updates, put_alone, managed, goes_on}
+use Rattle.tbl_laws.proofs.GivingUp.{kept_with, given_up, fewer_handles, exited, still_live}
+use Rattle.tbl_laws.proofs.Cases.{OfEffect, Leads, Commands, by_command, by_file, by_start, by_register, by_share, by_unregister, by_exit, by_notify, by_info, by_load_image, by_load_file, by_app_validate, by_update, by_manage, by_get_status, by_dump_to_buffer, by_edit, by_get, by_read, by_release}
+use Rattle.tbl_kinds.specs.declared.request.Actor.{Actor}
+use Rattle.tbl_kinds.specs.declared.request.Actor.TheVariants.{Ground, App}
+use Rattle.tbl_kinds.specs.declared.request.Request.{Request}
+use Rattle.tbl_kinds.specs.declared.request.Request.TheVariants as ask
 
--- ---- states that differ little
+pub record IsOrdinary (n : ℕ) (e : Effect) : Type 0 where
+  pub fit : AreFit (suc n) e.next
+  pub live : e.next.ended ≡ false
 
--- what is fit stays so where more images may have been
-more : (n m : ℕ) (kit : List (Option ℕ)) (pending : List (ℕ × Bool)) (handles : List (Option Handle)) (row : ℕ) (found : Option Table) → n ≤ m → FitAt n kit pending handles row found → FitAt m kit pending handles row found
-more n m kit pending handles row None low fit = fit
-more n m kit pending handles row (Some t) low fit = record { few = let few = fit.few in omega arith; registered = fit.registered; function = fit.function; checked = fit.checked; pends = fit.pends }
+-- without tables all holds
+pub fit_at_first : (n : ℕ) (s : State) → s.tables ≡ no_tables → s.pending ≡ [] → AreFit n s
+fit_at_first n s tables pending = record { each = λ row. rw (tables, pending) (none row 128); few_pending = rw pending (omega arith) } where
+  none : (row count : ℕ) → FitAt n s.kit [] (replicate 256 None) row (slice_index_or (replicate {A = Option Table} count None) row None)
+  none row count = rw (nothing_at {X = Table} count row) (λ active. refl)
 
--- and where nothing else is pending for the row
-same_pending : (n : ℕ) (kit : List (Option ℕ)) (old new : List (ℕ × Bool)) (handles : List (Option Handle)) (row : ℕ) (found : Option Table) → ((active : Bool) → is_pending row active new ≡ is_pending row active old) → FitAt n kit old handles row found → FitAt n kit new handles row found
-same_pending n kit old new handles row None same fit = λ active. same active ∙ fit active
-same_pending n kit old new handles row (Some t) same fit = record { few = fit.few; registered = fit.registered; function = fit.function; checked = fit.checked; pends = λ active is. fit.pends active (sym (same active) ∙ is) }
+-- nothing stands in a free place
+free_place : {X : Type 0} (places : List (Option X)) (n : ℕ) → least_free places ≡ Some n → (n < length places) × (slice_index_or places n None ≡ None)
+free_place places n free =
+    let found = position-Some is_none places n None free in
+    (found.0, none (slice_index_or places n None) found.1)
+  where
+    none : {X : Type 0} (o : Option X) → is_none o ≡ true → o ≡ None
+    none None is = refl
+    none (Some x) is = absurd (cc is)
 
--- and where its registration's handle stays
-same_handle : (n : ℕ) (kit : List (Option ℕ)) (pending : List (ℕ × Bool)) (old new : List (Option Handle)) (row : ℕ) (found : Option Table)
-    → ((t : Table) → found ≡ Some t → IsRegistered old row t → IsRegistered new row t) → FitAt n kit pending old row found → FitAt n kit pending new row found
-same_handle n kit pending old new row None stays fit = fit
-same_handle n kit pending old new row (Some t) stays fit = record { few = fit.few; registered = stays t refl fit.registered; function = fit.function; checked = fit.checked; pends = fit.pends }
+-- the function that an application may use is its own
+usable : (kit : List (Option ℕ)) (app : ℕ) (validator : Option ℕ) → may_use kit app validator ≡ true → IfSome validator (λ number. slice_index_or kit number None ≡ Some app)
+usable kit app None may = tt
+usable kit app (Some number) may = by (slice_get kit number) refl may where
+  by : (found : Option (Option ℕ)) → slice_get kit number ≡ found → is_that app (option_and_then (λ x. x) found) ≡ true → slice_index_or kit number None ≡ Some app
+  by None at is = absurd (cc is)
+  by (Some None) at is = absurd (cc is)
+  by (Some (Some owner)) at is = get_or_from_slice_get kit number (Some owner) None at ∙ ap (λ (k : ℕ). Some k) (eqb-true owner app is)
 
--- the state differs in one row, in what is pending for it, and in handles that no other table has from its registration
-pub record Differs (old new : State) (row : ℕ) (found : Option Table) : Type 0 where
-  pub rows : OneRow old.tables new.tables row found
-  pub pending : (k : ℕ) (active : Bool) → k ≢ row → is_pending k active new.pending ≡ is_pending k active old.pending
-  pub handles : (k : ℕ) (t : Table) → k ≢ row → table_at old.tables k ≡ Some t → IsRegistered old.tables.handles k t → IsRegistered new.tables.handles k t
-  pub kit : new.kit ≡ old.kit
-  pub few_pending : length new.pending ≤ 10
+-- what is done first is pending
+pending_first : (pending : List (ℕ × Bool)) (row : ℕ) (active : Bool) → first_pending pending row ≡ Some active → is_pending row active pending ≡ true
+pending_first pending row active first = by (is_pending row true pending) (is_pending row false pending) refl refl first where
+  by : (last load : Bool) → is_pending row true pending ≡ last → is_pending row false pending ≡ load → cond last (Some true) (cond load (Some false) None) ≡ Some active → is_pending row active pending ≡ true
+  by true load is_last is_load found = rw (sym (same_Some true active found)) is_last
+  by false true is_last is_load found = rw (sym (same_Some false active found)) is_load
+  by false false is_last is_load found = absurd (cc found)
 
-pub fit_on : (n m : ℕ) (old new : State) (row : ℕ) (found : Option Table) → n ≤ m → AreFit n old → Differs old new row found → FitAt m new.kit new.pending new.tables.handles row found → AreFit m new
-fit_on n m old new row found low fit differs here = record {
-  each = λ k. elim (cases_eq k row) [
-    | inl is ↦ rw (is, differs.rows.here) here
-    | inr other ↦ rw (differs.rows.others k other, differs.kit)
-        (same_handle m old.kit new.pending old.tables.handles new.tables.handles k (table_at old.tables k) (λ t there. differs.handles k t other there)
-        (more n m old.kit new.pending old.tables.handles k (table_at old.tables k) low
-        (same_pending n old.kit old.pending new.pending old.tables.handles k (table_at old.tables k) (λ active. differs.pending k active other) (fit.each k))))
-  ];
-  few_pending = differs.few_pending;
-}
+module _ (s : State) (n : ℕ) (live : s.ended ≡ false) (fit : AreFit n s) where
+  ordinary_of : (next : State) → AreFit (suc n) next → next.ended ≡ s.ended → (e : Effect) → e.next ≡ next → IsOrdinary n e
+  ordinary_of next fits goes e is = rw is (record { fit = fits; live = goes ∙ live })
 
--- no table and nothing pending changes, and each table keeps its registration's handle
-pub fit_same : (n m : ℕ) (old new : State) → n ≤ m → AreFit n old → new.tables.rows ≡ old.tables.rows → new.pending ≡ old.pending → new.kit ≡ old.kit
-    → ((k : ℕ) (t : Table) → table_at old.tables k ≡ Some t → IsRegistered old.tables.handles k t → IsRegistered new.tables.handles k t) → AreFit m new
-fit_same n m old new low fit rows pending kit handles = record {
-  each = λ k. rw (rows, pending, kit) (same_handle m old.kit old.pending old.tables.handles new.tables.handles k (table_at old.tables k) (handles k)
-      (more n m old.kit old.pending old.tables.handles k (table_at old.tables k) low (fit.each k)));
-  few_pending = rw pending fit.few_pending;
-}
+  -- an effect that leaves the state
+  same : (e : Effect) → e.next ≡ s → IsOrdinary n e
+  same e is = rw is (record { fit = grown n s fit; live = live })
 
--- ---- a table changes
+  refused : (e : Effect) → e.next ≡ s → e.deeds ≡ [] → is_refusal e.status ≡ true → IsOrdinary n e
+  refused e is no_deeds refuses = same e is
 
-module _ (n : ℕ) (s : State) (fit : AreFit n s) (row : ℕ) (t : Table) (there : table_at s.tables row ≡ Some t) where
-  -- what held of it
-  pub was : IsFit n s.kit s.pending s.tables.handles row t
-  was = subst (FitAt n s.kit s.pending s.tables.handles row) there (fit.each row)
+  -- what changes neither tables nor what is pending, nor the kit
+  elsewhere : (next : State) → next.tables ≡ s.tables → next.pending ≡ s.pending → next.kit ≡ s.kit → AreFit (suc n) next
+  elsewhere next tables pending kit = fit_same n (suc n) s next (omega arith) fit (ap (λ (t : Tables). t.rows) tables) pending kit (λ k t there reg. rw tables reg)
 
-  -- it has become another, of the same registration
-  pub record Becomes (tables : Tables) (u : Table) : Type 0 where
-    pub changes : OneRow s.tables tables row (Some u)
-    pub handles : tables.handles ≡ s.tables.handles
-    pub handle : u.handle ≡ t.handle
-    pub owner : u.owner ≡ t.owner
-    pub validator : u.validator ≡ t.validator
+  -- a handle is put where one of the same application and row is, or none
+  with_this_handle : (m : ℕ) (h : Handle) → ((g : Handle) → handle_at s.tables m ≡ Some g → (h.app ≡ g.app) × (h.row ≡ g.row)) → AreFit n (record s { tables = with_handle m h s.tables })
+  with_this_handle m h alike = fit_same n n s (record s { tables = with_handle m h s.tables }) (omega arith) fit refl refl refl (λ k t there reg. kept_with s.tables.handles m h k t.handle t.owner alike reg)
 
-  -- so this still holds
-  registered : (tables : Tables) (u : Table) → Becomes tables u → IsRegistered tables.handles row u
-  registered tables u is = rw (is.handles, is.handle, is.owner) was.registered
+  same_handle_of : (m : ℕ) (h g : Handle) → handle_at s.tables m ≡ Some h → handle_at s.tables m ≡ Some g → (h.app ≡ g.app) × (h.row ≡ g.row)
+  same_handle_of m h g one other = let same = same_Some h g (sym one ∙ other) in (ap (λ (x : Handle). x.app) same, ap (λ (x : Handle). x.row) same)
 
-  function : (tables : Tables) (u : Table) → Becomes tables u → IfSome u.validator (λ number. owner_at s.kit number ≡ Some u.owner)
-  function tables u is = rw (is.validator, is.owner) was.function
+  -- the pin ends, and the image before the last may go
+  released : (app m : ℕ) (a : Access) → Leads s.tables app m a → AreFit (suc n) (record s { tables = with_table a.row (let_go (slice_set s.tables.handles m (Some (record a.handle { pin = None }))) a.row a.table) (with_handle m (record a.handle { pin = None }) s.tables) })
+  released app m a leads =
+      let freed : State = record s { tables = with_handle m (record a.handle { pin = None }) s.tables } in
+      let fits : AreFit n freed = with_this_handle m (record a.handle { pin = None }) (λ g at. same_handle_of m a.handle g leads.place at) in
+      let few = (was n freed fits a.row a.table leads.there).few in
+      unseen n freed fits a.row a.table leads.there (suc n) _ (let_go (slice_set s.tables.handles m (Some (record a.handle { pin = None }))) a.row a.table) (omega arith)
+      (record { changes = set_row freed.tables a.row a.table _ leads.there; handles = refl; handle = refl; owner = refl; validator = refl }) (omega arith) (omega (arith, few)) refl refl
 
-  differs : (tables : Tables) (u : Table) (pending : List (ℕ × Bool)) → Becomes tables u → ((k : ℕ) (active : Bool) → k ≢ row → is_pending k active pending ≡ is_pending k active s.pending) → length pending ≤ 10
-      → Differs s (record s { tables = tables; pending = pending }) row (Some u)
-  differs tables u pending is others few = record {
-    rows = is.changes;
-    pending = others;
-    handles = λ k other_table other at reg. rw is.handles reg;
-    kit = refl;
-    few_pending = few;
+  -- ---- housekeeping
+
+  -- what one filled dump's end leaves
+  EndsWell : Ended → Type 0
+  EndsWell e = AreFit n e.state × (e.state.ended ≡ s.ended)
+
+  over : (row : ℕ) (t : Table) (e : Ended) → table_at e.state.tables row ≡ Some t → AreFit n e.state → AreFit n (record e.state { tables = end_dump row e.state.tables })
+  over row t e there fits = told n e.state fits row t there n (λ u. record u { dump = quiet }) (omega arith) refl refl refl refl refl refl
+
+  end_dump_of : (row : ℕ) (t : Table) (e : Ended) (dump : Dump) → table_at e.state.tables row ≡ Some t → EndsWell e → EndsWell (end_by e row t.name dump)
+  unfolding EndsWell
+  end_dump_of row t e quiet there well = well
+  end_dump_of row t e (asked file) there well = well
+  end_dump_of row t e (filled file image) there well =
+      let fits = over row t e there well.0 in
+      cond_both (is_full_for e.state.drawer file) _ _ (λ (d : Ended). AreFit n d.state × (d.state.ended ≡ s.ended)) (λ _. (fits, well.1))
+      (λ _. (fit_same n n (record e.state { tables = end_dump row e.state.tables }) _ (omega arith) fits refl refl refl (λ k u at reg. reg), well.1))
+
+  end_one : (row : ℕ) (e : Ended) → EndsWell e → EndsWell (then_end e row)
+  end_one row e well = by (table_at e.state.tables row) refl where
+    by : (found : Option Table) → table_at e.state.tables row ≡ found → EndsWell (option_map_or (λ (t : Table). end_by e row t.name t.dump) found e)
+    by None there = well
+    by (Some t) there = end_dump_of row t e t.dump there well
+
+  ends : (rows : List ℕ) (e : Ended) → EndsWell e → EndsWell (fold then_end e rows)
+  ends [] e well = well
+  ends (row ∷ rows) e well = ends rows (then_end e row) (end_one row e well)
+
+  housekept : IsOrdinary n (housekeeping_effect s)
+  unfolding EndsWell housekeeping_effect dumps_ended
+  housekept = let all = ends (rows_where is_filled 0 s.tables.rows) (record { state = s; bytes = []; deeds = [] }) (fit, refl) in record { fit = grown n _ all.0; live = all.1 ∙ live }
+
+  -- ---- commands
+
+  commands : Commands s (IsOrdinary n)
+  commands = record {
+    about = λ e table p. record { fit = p.fit; live = p.live };
+    accepted = same _ refl;
+    housekeeping = housekept;
+    loaded = λ name file row t there none. record { fit = loads n s fit row t there file.offset file.image name (load_taken s.tables row t file.offset (length file.image) none).unasked; live = live };
+    pends = λ row t active there none function. record { fit = pends n s fit row t there active none function; live = live };
+    at_once = λ row t active there none no_function. record { fit = grown n _ (mark n s fit row t there active (pos 0) (validation_taken s.pending row t active none).unasked); live = live };
+    asks = λ row t there none. record { fit = asks n s fit row t there none; live = live };
+    aborted = λ row t there open_load. record { fit = grown n _ (aborts n s fit row t there); live = live };
+    shown = λ row. same _ refl;
+    written = λ row file bytes free. rw free (record { fit = elsewhere _ refl refl refl; live = live });
+    dump_asked = λ file row t there only none. rw none (record { fit = told n s fit row t there (suc n) (λ u. record u { dump = asked file }) (omega arith) refl refl refl refl refl refl; live = live });
   }
 
-  -- what is pending stays, and so does what it needs of the table: an image, a function, and a load that isn't about to go active
-  pub kept : (m : ℕ) (tables : Tables) (u : Table) → n ≤ m → Becomes tables u → t.count ≤ u.count → u.count ≤ m → (u.activation ≡ true → is_checked u ≡ true)
-      → (is_pending row false s.pending ≡ true → is_some t.load ≡ true → t.activation ≡ false → (is_some u.load ≡ true) × (u.activation ≡ false)) → AreFit m (record s { tables = tables })
-  kept m tables u low is grows few checked load = fit_on n m s (record s { tables = tables }) row (Some u) low fit (differs tables u s.pending is (λ k active other. refl) fit.few_pending) (record {
-    few = few;
-    registered = registered tables u is;
-    function = function tables u is;
-    checked = checked;
-    pends = λ active pends. let can = was.pends active pends in record {
-      function = rw is.validator can.function;
-      loaded = λ last none. can.loaded last (omega (arith, grows, none));
-      open_load = λ inactive. (load (rw inactive at pends) (can.open_load inactive) (can.unasked inactive)).0;
-      unasked = λ inactive. (load (rw inactive at pends) (can.open_load inactive) (can.unasked inactive)).1;
-    };
+  -- ---- a registration
+
+  new_row : (name : List ℕ) (row handle app size flags : ℕ) (validator : Option ℕ) → least_free s.tables.rows ≡ Some row → least_free s.tables.handles ≡ Some handle → may_use s.kit app validator ≡ true
+      → AreFit (suc n) (record s { tables = with_handle handle (new_handle app row) (with_table row (new_table name app size flags validator handle) s.tables) })
+  new_row name row handle app size flags validator free_row free_handle may =
+      let place = free_place s.tables.rows row free_row in
+      let number = free_place s.tables.handles handle free_handle in
+      let u : Table = new_table name app size flags validator handle in
+      fit_on n (suc n) s _ row (Some u) (omega arith) fit (record {
+        rows = record { here = get_or-set_same s.tables.rows row (Some u) None place.0; others = λ k other. get_or-set_other s.tables.rows row k (Some u) None other };
+        pending = λ k active other. refl;
+        handles = λ k t other there reg. kept_with s.tables.handles handle (new_handle app row) k t.handle t.owner (λ g at. absurd (cc (at, number.1))) reg;
+        kit = refl;
+        few_pending = fit.few_pending;
+      }) (record {
+        few = omega arith;
+        registered = record { handle = new_handle app row; place = get_or-set_same s.tables.handles handle (Some (new_handle app row)) None number.0; app = refl; leads = refl };
+        function = usable s.kit app validator may;
+        checked = λ asked_now. cc asked_now;
+        pends = λ active pending. absurd (cc (pending, (subst (FitAt n s.kit s.pending s.tables.handles row) place.1 (fit.each row)) active));
+      })
+
+  -- ---- all requests
+
+  pub ordinary : (actor : Actor) (request : Request) (given : Given) → OfEffect (IsOrdinary n) (effect_of s actor request given)
+  ordinary Ground (ask.Command bytes) given = by_command s (IsOrdinary n) refused commands bytes.list
+  ordinary Ground (ask.File name bytes) given = by_file s (IsOrdinary n) refused name bytes.list (record { fit = elsewhere _ refl refl refl; live = live })
+  ordinary Ground (ask.Time seconds sub) given = record { fit = elsewhere _ refl refl refl; live = live }
+  ordinary Ground request given = tt
+  ordinary (App app) (ask.Start name) given = by_start s (IsOrdinary n) refused app name (record { fit = elsewhere _ refl refl refl; live = live })
+  ordinary (App app) (ask.Register name size flags validator) given = by_register s (IsOrdinary n) refused app name size flags validator (λ full row handle plan free_row free_handle. record {
+    fit = new_row full row handle app size flags validator free_row free_handle (plan_taken s.kit app name size flags validator plan).may;
+    live = live;
   })
-
-  -- its load and what is asked of it stay
-  pub unseen : (m : ℕ) (tables : Tables) (u : Table) → n ≤ m → Becomes tables u → t.count ≤ u.count → u.count ≤ m → u.load ≡ t.load → u.activation ≡ t.activation → AreFit m (record s { tables = tables })
-  unseen m tables u low is grows few load activation = kept m tables u low is grows few (λ asked. rw load (was.checked (rw activation at asked))) (λ pends open_load unasked. (rw load open_load, rw activation unasked))
-
-  -- a validation comes to its end
-  module _ (active : Bool) (tables : Tables) (u : Table) (is : Becomes tables u) (grows : t.count ≤ u.count) (few : u.count ≤ n) (checked : u.activation ≡ true → is_checked u ≡ true) (load : is_some u.load ≡ is_some t.load) (activation : u.activation ≡ t.activation) where
-    pub less : AreFit n (record s { tables = tables; pending = without_pair row active s.pending })
-    less = fit_on n n s (record s { tables = tables; pending = without_pair row active s.pending }) row (Some u) (omega arith) fit
-        (differs tables u (without_pair row active s.pending) is (λ k a other. pending_less_other s.pending row k active a (λ same. absurd (other same)))
-        (let h = fewer (λ pair. not (is_pair row active pair)) s.pending in let k = fit.few_pending in omega arith)) (record {
-          few = few;
-          registered = registered tables u is;
-          function = function tables u is;
-          checked = checked;
-          pends = λ a pends. elim (both_images a active) [
-            | inl same ↦ absurd (cc (rw same at pends, pending_gone s.pending row active))
-            | inr other ↦
-                let can = was.pends a (sym (pending_less_other s.pending row row active a (λ _. other)) ∙ pends) in record {
-                  function = rw is.validator can.function;
-                  loaded = λ last none. can.loaded last (omega (arith, grows, none));
-                  open_load = λ inactive. rw load (can.open_load inactive);
-                  unasked = λ inactive. rw activation (can.unasked inactive);
-                }
-          ];
-        })
+  ordinary (App app) (ask.Share name) given = by_share s (IsOrdinary n) refused app name (λ row handle free. record {
+    fit = grown n _ (with_this_handle handle (new_handle app row) (λ g at. absurd (cc (at, (free_place s.tables.handles handle free).1))));
+    live = live;
+  })
+  ordinary (App app) (ask.Unregister handle) given = by_unregister s (IsOrdinary n) refused app handle (λ h place own. record { fit = grown n _ (given_up n handle s fit); live = (fewer_handles s handle).ended ∙ live })
+  ordinary (App app) (ask.LoadImage handle image) given = by_load_image s (IsOrdinary n) refused (λ row t bytes number verdict there is bad. record { fit = grown n s fit; live = live }) app handle image.list given
+      (λ row t there none plain. record { fit = imaged n s fit row t there image.list s.seconds s.sub; live = live }) (λ row t number verdict there none is good. record { fit = imaged n s fit row t there image.list s.seconds s.sub; live = live })
+  ordinary (App app) (ask.LoadFile handle name) given = by_load_file s (IsOrdinary n) refused (λ row t bytes number verdict there is bad. record { fit = grown n s fit; live = live }) app handle name given
+      (λ row t file there open_to none plain. record { fit = imaged_from n s fit row t there _ s.seconds s.sub name; live = live }) (λ row t file number verdict there open_to none is good. record { fit = imaged_from n s fit row t there _ s.seconds s.sub name; live = live })
+  ordinary (App app) (ask.Update handle) given = by_update s (IsOrdinary n) refused app handle (λ row t there none. record { fit = updates n s fit row t there s.seconds s.sub (update_taken s.tables row t none).0; live = live })
+  ordinary (App app) (ask.Validate handle) given = by_app_validate s (IsOrdinary n) refused app handle given (λ row t active there first. record {
+    fit = grown n _ (mark n s fit row t there active _ ((was n s fit row t there).pends active (pending_first s.pending row active first)).unasked);
+    live = live;
+  })
+  ordinary (App app) (ask.Manage handle) given = by_manage s (IsOrdinary n) refused app handle given (λ row t there. record { fit = managed n row given s fit; live = goes_on n row given s ∙ live })
+  ordinary (App app) (ask.DumpToBuffer handle) given = by_dump_to_buffer s (IsOrdinary n) refused app handle (λ row t there is. record {
+    fit = told n s fit row t there (suc n) (λ u. record u { dump = filled_with (last_image u) u.dump }) (omega arith) refl refl refl refl refl refl;
+    live = live;
+  })
+  ordinary (App app) (ask.Edit handle offset bytes) given = by_edit s (IsOrdinary n) refused app handle offset bytes.list (λ row t there none. record { fit = put_alone n s fit row t there _; live = live })
+  ordinary (App app) (ask.Get handle) given = by_get s (IsOrdinary n) refused app handle (λ a leads some. record {
+    fit = grown n _ (with_this_handle handle (record a.handle { pin = Some a.table.count; told = a.table.count }) (λ g at. same_handle_of handle a.handle g leads.place at));
+    live = live;
+  })
+  ordinary (App app) (ask.Read handle offset len) given = by_read s (IsOrdinary n) refused app handle offset len (λ a leads pinned inside. same _ refl)
+  ordinary (App app) (ask.Release handle) given = by_release s (IsOrdinary n) refused app handle (λ a leads pinned. rw pinned (record {
+    fit = released app handle a leads;
+    live = live;
+  }))
+  ordinary (App app) (ask.GetStatus handle) given = by_get_status s (IsOrdinary n) refused app handle (λ row t. same _ refl)
+  ordinary (App app) (ask.GetInfo name) given = by_info s (IsOrdinary n) refused app name (λ t. same _ refl)
+  ordinary (App app) (ask.Notify handle msg code parameter) given = by_notify s (IsOrdinary n) refused app handle msg code parameter (λ row t there. record {
+    fit = told n s fit row t there (suc n) (λ u. record u { notice = Some (record { msg = msg; code = code; parameter = parameter }) }) (omega arith) refl refl refl refl refl refl;
+    live = live;
+  })
+  ordinary (App app) ask.Exit given = by_exit s (IsOrdinary n) refused app (record { fit = grown n _ (exited app n s fit); live = still_live app n s fit ∙ live })
+  ordinary (App app) request given = tt

@@ -1,6 +1,5 @@
 -- What holds of the service's state between two requests, table by table.
 use Rattle.std.specs.Prelude.{◌≡◌, ◌≢◌, ℕ, ◌≤◌, List, length, Bool, true, false, Option, Some, None, is_some, IfSome, slice_index_or}
-use Rattle.std.specs.Option.{ForSome}
 use Rattle.tbl_model.specs.State.{State, Table, Handle}
 use Rattle.tbl_model.specs.Tables.{table_at}
 use Rattle.tbl_model.specs.TableSteps.{is_checked}
@@ -18,14 +17,17 @@ abbrev pub owner_at : List (Option ℕ) → ℕ → Option ℕ
 owner_at kit number = slice_index_or kit number None
 
 -- the handle that the table's registration gave is its owner's, and leads to it
-abbrev pub IsRegistered : List (Option Handle) → ℕ → Table → Type 0
-IsRegistered handles row t = ForSome (slice_index_or handles t.handle None) (λ (h : Handle). (h.app ≡ t.owner) × (h.row ≡ Some row))
+pub record IsRegistered (handles : List (Option Handle)) (row : ℕ) (number owner : ℕ) : Type 0 where
+  pub handle : Handle
+  pub place : slice_index_or handles number None ≡ Some handle
+  pub app : handle.app ≡ owner
+  pub leads : handle.row ≡ Some row
 
 -- the table in this row has had so many images at most, its function stands in the kit and is its owner's, a load that is about to
 -- go active is validated, and its pending validations can be done
 pub record IsFit (most : ℕ) (kit : List (Option ℕ)) (pending : List (ℕ × Bool)) (handles : List (Option Handle)) (row : ℕ) (t : Table) : Type 0 where
   pub few : t.count ≤ most
-  pub registered : IsRegistered handles row t
+  pub registered : IsRegistered handles row t.handle t.owner
   pub function : IfSome t.validator (λ number. owner_at kit number ≡ Some t.owner)
   pub checked : t.activation ≡ true → is_checked t ≡ true
   pub pends : (active : Bool) → is_pending row active pending ≡ true → CanValidate t active

@@ -1,6 +1,7 @@
 -- CFE_TBL_Manage: an owner has all done that is pending for its table. CFE_TBL_GetStatus: what is pending.
 use Rattle.std.specs.Prelude.{ℕ, ◌+◌, List, [], ◌∷◌, ◌++◌, length, Bool, true, false, not, ◌||◌, if◌then◌else◌, Option, Some, None, is_some}
 use Rattle.std.specs.Option.{option_map_or}
+use Rattle.std.proofs.Common.{ℤ}
 use Rattle.tbl_model.specs.State.{State, Table, Tables, Dump, quiet, asked, filled}
 use Rattle.tbl_model.specs.Tables.{table_at, is_quiet}
 use Rattle.tbl_model.specs.TableSteps.{locker, load_image, activate, set_time, fill_dump}
@@ -32,41 +33,46 @@ nothing_done s = record { state = s; deeds = []; images = []; asked = []; bits =
 abbrev pub with_table_of : ℕ → Done → (Table → Done) → Done
 with_table_of row d next = option_map_or next (table_at d.state.tables row) d
 
--- the validation of the last image, or of the load's
+-- the validation of the last image, or of the load's, came to its end with this verdict
+abbrev pub with_validation : ℕ → Bool → ℤ → Done → Table → Done
+with_validation row active verdict d t = record {
+  state = judged d.state row active verdict;
+  deeds = d.deeds ++ finished row active t (judged_image t active) verdict ∷ [];
+  images = d.images ++ Some (judged_image t active) ∷ [];
+  asked = d.asked ++ questions t (judged_image t active);
+  bits = d.bits + (if active then 1 else 2);
+}
+
 abbrev pub then_validate : ℕ → Bool → Given → Done → Done
 then_validate row active given d = with_table_of row d (λ t.
     if not (is_pending row active d.state.pending) then d
-    else (let image = judged_image t active in
-    let verdict = verdict_at (length d.asked) given in
-    record {
-      state = judged d.state row active verdict;
-      deeds = d.deeds ++ finished row active t image verdict ∷ [];
-      images = d.images ++ Some image ∷ [];
-      asked = d.asked ++ questions t image;
-      bits = d.bits + (if active then 1 else 2);
-    }))
+    else with_validation row active (verdict_at (length d.asked) given) d t)
+
+-- the load's image went active
+abbrev pub with_update : ℕ → Done → Table → Done
+with_update row d t = record d {
+  state = record d.state { tables = set_time row d.state.seconds d.state.sub (activate row d.state.tables) };
+  deeds = d.deeds ++ activated row t ∷ [];
+  images = d.images ++ Some (load_image t) ∷ [];
+  bits = d.bits + 4;
+}
 
 -- the update, where nothing is in its way
 abbrev pub then_update : ℕ → Done → Done
-then_update row d = with_table_of row d (λ t.
-    if is_some (update_refusal d.state.tables row t) then d
-    else record d {
-      state = record d.state { tables = set_time row d.state.seconds d.state.sub (activate row d.state.tables) };
-      deeds = d.deeds ++ activated row t ∷ [];
-      images = d.images ++ Some (load_image t) ∷ [];
-      bits = d.bits + 4;
-    })
+then_update row d = with_table_of row d (λ t. if is_some (update_refusal d.state.tables row t) then d else with_update row d t)
 
 abbrev pub is_asked : Dump → Bool
 is_asked quiet = false
 is_asked (asked file) = true
 is_asked (filled file image) = false
 
+-- the dump is filled
+abbrev pub with_fill : ℕ → Done → Done
+with_fill row d = record d { state = record d.state { tables = fill_dump row d.state.tables }; bits = d.bits + 8 }
+
 -- the filling of the dump
 abbrev pub then_fill : ℕ → Done → Done
-then_fill row d = with_table_of row d (λ t.
-    if not (is_asked t.dump) then d
-    else record d { state = record d.state { tables = fill_dump row d.state.tables }; bits = d.bits + 8 })
+then_fill row d = with_table_of row d (λ t. if not (is_asked t.dump) then d else with_fill row d)
 
 abbrev pub all_done : State → Given → ℕ → Done
 all_done s given row = then_fill row (then_update row (then_validate row false given (then_validate row true given (nothing_done s))))

@@ -1,5 +1,5 @@
 -- Tables are shared, given back and taken away, and told of; applications end.
-use Rattle.std.specs.Prelude.{ℕ, ◌-◌, ◌==◌, List, map, Bool, false, not, ◌&&◌, nat_le, if◌then◌else◌, Option, Some, None, slice_set}
+use Rattle.std.specs.Prelude.{ℕ, ◌-◌, ◌==◌, List, length, map, Bool, false, not, ◌&&◌, nat_le, if◌then◌else◌, Option, Some, None, slice_set}
 use Rattle.std.specs.List.{fold, range_with_len}
 use Rattle.std.specs.Option.{option_map_or}
 use Rattle.tbl_kinds.specs.Free.{least_free}
@@ -56,14 +56,14 @@ give_up_if app s number = if is_handle_of app (handle_at s.tables number) then g
 
 -- its handles are given up, one after another, and so its tables
 unfoldable pub without_handles_of : ℕ → State → State
-without_handles_of app s = fold (give_up_if app) s (range_with_len 0 256)
+without_handles_of app s = fold (give_up_if app) s (range_with_len 0 (length s.tables.handles))
 
 -- its name and its validation functions go too
+abbrev pub unless_of : ℕ → Option ℕ → Option ℕ
+unless_of app owner = if is_that app owner then None else owner
+
 abbrev pub ended_app : ℕ → State → State
-ended_app app s = record s {
-  apps = slice_set s.apps (app - 1) None;
-  kit = map (λ owner. if is_that app owner then None else owner) s.kit;
-}
+ended_app app s = record s { apps = slice_set s.apps (app - 1) None; kit = map (unless_of app) s.kit }
 
 unfoldable pub exit_effect : State → ℕ → Effect
 exit_effect s app = if_running s app (λ app_name. record (answered s SUCCESS 0) { next = ended_app app (without_handles_of app s) })
