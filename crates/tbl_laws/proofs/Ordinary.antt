@@ -14,7 +14,7 @@ use Rattle.tbl_model.specs.State.{State, Table, Handle, Tables, Dump, quiet, ask
 use Rattle.tbl_model.specs.Tables.{table_at, rows_where}
 use Rattle.tbl_model.specs.TableSteps.{is_that, end_dump, handle_at, Access, let_go, with_table, with_handle, new_table, new_handle, filled_with, last_image}
 use Rattle.tbl_model.specs.Effects.{Effect}
-use Rattle.tbl_model.specs.Given.{Given}
+use Rattle.tbl_model.specs.Given.{Given, verdict_at}
 use Rattle.tbl_model.specs.Pending.{is_pending}
 use Rattle.tbl_model.specs.Refusals.{may_use, plan_refusal}
 use Rattle.tbl_model.specs.Validations.{first_pending, do_validation}
@@ -195,7 +195,7 @@ module _ (s : State) (n : ℕ) (live : s.ended ≡ false) (fit : AreFit n s) whe
       (λ row t file there open_to none plain. record { fit = imaged_from n s fit row t there _ s.seconds s.sub name; live = live }) (λ row t file number verdict there open_to none is good. record { fit = imaged_from n s fit row t there _ s.seconds s.sub name; live = live })
   ordinary (App app) (ask.Update handle) given = by_update s (IsOrdinary n) refused app handle (λ row t there none. record { fit = updates n s fit row t there s.seconds s.sub (update_taken s.tables row t none).0; live = live })
   ordinary (App app) (ask.Validate handle) given = by_app_validate s (IsOrdinary n) refused app handle given (λ row t active there first. record {
-    fit = grown n _ (mark n s fit row t there active _ ((was n s fit row t there).pends active (pending_first s.pending row active first)).unasked);
+    fit = grown n _ (mark n s fit row t there active (verdict_at 0 given) ((was n s fit row t there).pends active (pending_first s.pending row active first)).unasked);
     live = live;
   })
   ordinary (App app) (ask.Manage handle) given = by_manage s (IsOrdinary n) refused app handle given (λ row t there. record { fit = managed n row given s fit; live = goes_on n row given s ∙ live })
