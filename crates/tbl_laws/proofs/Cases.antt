@@ -14,7 +14,7 @@ use Rattle.tbl_kinds.specs.TableFiles.{TableFile, FileFlaw, no_std_header, bad_c
 use Rattle.tbl_kinds.specs.Telemetry.{registry_record}
 use Rattle.tbl_model.specs.State.{State, Table, Handle, Tables}
 use Rattle.tbl_model.specs.Tables.{table_at, is_dump_only, is_quiet}
-use Rattle.tbl_model.specs.TableSteps.{handle_at, access_of, Access, find, is_that, locker, image_of, check_row, check_handle, stays, pin_last, get_address_of, release_of, read_of, last_image, load_image, put, fill_dump, set_notice, with_handle, new_handle}
+use Rattle.tbl_model.specs.TableSteps.{handle_at, access_of, Access, find, is_that, locker, image_of, check_row, check_handle, stays, pin_last, get_address_of, release_of, read_of, base, last_image, load_image, put, fill_dump, set_notice, with_handle, new_handle}
 use Rattle.tbl_model.specs.Registry.{registry_row}
 use Rattle.tbl_model.specs.Effects.{Effect, answered}
 use Rattle.tbl_model.specs.Given.{Given, verdict_at}
@@ -301,7 +301,7 @@ module _ (s : State) (P : Effect → Type 0) (refusal : (e : Effect) → e.next 
   by_dump_to_buffer app m done = by_its_table app m true _ (λ row t there. unless_then (not (is_asked t.dump)) INFO_NO_DUMP_PENDING 0 _ refl (λ is. done row t there (not-false (is_asked t.dump) is)))
 
   pub by_edit : (app m offset : ℕ) (bytes : List ℕ)
-      → ((row : ℕ) (t : Table) → table_at s.tables row ≡ Some t → edit_refusal s.tables row t offset (length bytes) ≡ None → P (record (answered s SUCCESS 0) { next = record s { tables = put row (patched (last_image t) offset bytes) s.tables } }))
+      → ((row : ℕ) (t : Table) → table_at s.tables row ≡ Some t → edit_refusal s.tables row t offset (length bytes) ≡ None → P (record (answered s SUCCESS 0) { next = record s { tables = put row (patched (base t) offset bytes) s.tables } }))
       → P (edit_effect s app m offset bytes)
   unfolding edit_effect
   by_edit app m offset bytes done = by_its_table app m true _ (λ row t there. by_ladder (edit_refusal s.tables row t offset (length bytes)) _ (edit_refused s.tables row t offset (length bytes)) (done row t there))

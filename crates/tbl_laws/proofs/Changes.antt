@@ -182,21 +182,21 @@ grown n s fit = fit_same n (suc n) s s (omega arith) fit refl refl refl (λ k t 
 
 -- its stages: each leaves a state in which all holds, and the images of a table have become one more at most
 module _ (n : ℕ) (row : ℕ) (given : Given) where
-  with_found : (P : Done → Type 0) (d : Done) (next : Table → Done) (found : Option Table) → table_at d.state.tables row ≡ found → P d → ((t : Table) → table_at d.state.tables row ≡ Some t → P (next t)) → P (option_map_or next found d)
+  pub with_found : (P : Done → Type 0) (d : Done) (next : Table → Done) (found : Option Table) → table_at d.state.tables row ≡ found → P d → ((t : Table) → table_at d.state.tables row ≡ Some t → P (next t)) → P (option_map_or next found d)
   with_found P d next None at stays does = stays
   with_found P d next (Some t) at stays does = does t at
 
   -- a test stands before what is done
-  either : (P : Done → Type 0) (b : Bool) (d e : Done) → P d → (b ≡ false → P e) → P (cond b d e)
+  pub either : (P : Done → Type 0) (b : Bool) (d e : Done) → P d → (b ≡ false → P e) → P (cond b d e)
   either P true d e stays does = stays
   either P false d e stays does = does refl
 
-  validated : (active : Bool) (d : Done) → AreFit n d.state → AreFit n (then_validate row active given d).state
+  pub validated : (active : Bool) (d : Done) → AreFit n d.state → AreFit n (then_validate row active given d).state
   validated active d fit = with_found (λ e. AreFit n e.state) d _ (table_at d.state.tables row) refl fit (λ t there.
       either (λ e. AreFit n e.state) (not (is_pending row active d.state.pending)) d (with_validation row active (verdict_at (length d.asked) given) d t) fit (λ pending.
       mark n d.state fit row t there active (verdict_at (length d.asked) given) ((was n d.state fit row t there).pends active (not-false (is_pending row active d.state.pending) pending)).unasked))
 
-  updated : (d : Done) → AreFit n d.state → AreFit (suc n) (then_update row d).state
+  pub updated : (d : Done) → AreFit n d.state → AreFit (suc n) (then_update row d).state
   updated d fit = with_found (λ e. AreFit (suc n) e.state) d _ (table_at d.state.tables row) refl (grown n d.state fit) (λ t there. by t there (update_refusal d.state.tables row t) refl) where
     by : (t : Table) → table_at d.state.tables row ≡ Some t → (r : Option Answer) → update_refusal d.state.tables row t ≡ r → AreFit (suc n) (cond (is_some r) d (with_update row d t)).state
     by t there (Some answer) is = grown n d.state fit

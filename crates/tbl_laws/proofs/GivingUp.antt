@@ -138,14 +138,14 @@ pub record Fewer (old new : State) (m : ℕ) : Type 0 where
   pub kit : new.kit ≡ old.kit
   pub ended : new.ended ≡ old.ended
 
-set_none : (handles : List (Option Handle)) (m : ℕ) → slice_index_or (slice_set handles m None) m None ≡ None
+pub set_none : (handles : List (Option Handle)) (m : ℕ) → slice_index_or (slice_set handles m None) m None ≡ None
 set_none [] zero = refl
 set_none [] (suc m) = refl
 set_none (h ∷ hs) zero = refl
 set_none (h ∷ hs) (suc m) = set_none hs m
 
 -- none is put at a place
-fewer_without : (handles : List (Option Handle)) (m k : ℕ) (h : Handle) → slice_index_or (slice_set handles m None) k None ≡ Some h → slice_index_or handles k None ≡ Some h
+pub fewer_without : (handles : List (Option Handle)) (m k : ℕ) (h : Handle) → slice_index_or (slice_set handles m None) k None ≡ Some h → slice_index_or handles k None ≡ Some h
 fewer_without handles m k h is = elim (cases_eq k m) [
   | inl same ↦ absurd (cc (rw same at is, set_none handles m))
   | inr other ↦ sym (get_or-set_other handles m k None None other) ∙ is
@@ -242,15 +242,15 @@ module _ (app : ℕ) where
 
   -- the tables that are left are of other applications
   module _ (n : ℕ) (s : State) (fit : AreFit n s) where
-    left : Left s (fold (give_up_if app) s (range_with_len 0 (length s.tables.handles))) (range_with_len 0 (length s.tables.handles))
+    pub left : Left s (fold (give_up_if app) s (range_with_len 0 (length s.tables.handles))) (range_with_len 0 (length s.tables.handles))
     left = all_left s (range_with_len 0 (length s.tables.handles))
 
-    no_handle : (k : ℕ) → k < length s.tables.handles → IsGone app (fold (give_up_if app) s (range_with_len 0 (length s.tables.handles))) k
+    pub no_handle : (k : ℕ) → k < length s.tables.handles → IsGone app (fold (give_up_if app) s (range_with_len 0 (length s.tables.handles))) k
     no_handle k low =
         let place : slice_index_or (range_with_len 0 (length s.tables.handles)) k 0 ≡ k = get_or-range_with_len 0 (length s.tables.handles) k 0 low ∙ omega arith in
         rw place at (left.each k (omega (arith, low, length-range_with_len 0 (length s.tables.handles))))
 
-    owned_by_others : (handles : List (Option Handle)) (row number owner : ℕ) → length handles ≡ length s.tables.handles → ((k : ℕ) → k < length s.tables.handles → is_handle_of app (slice_index_or handles k None) ≡ false)
+    pub owned_by_others : (handles : List (Option Handle)) (row number owner : ℕ) → length handles ≡ length s.tables.handles → ((k : ℕ) → k < length s.tables.handles → is_handle_of app (slice_index_or handles k None) ≡ false)
         → IsRegistered handles row number owner → owner ≢ app
     owned_by_others handles row number owner long none reg same =
         let low = within handles number reg.handle reg.place in

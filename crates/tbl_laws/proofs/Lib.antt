@@ -6,3 +6,8 @@ pub mod Fits
 pub mod Changes
 pub mod GivingUp
 pub mod Ordinary
+pub mod Pins
+pub mod PinsKept
+pub mod Fair
+pub mod FairRequests
+pub mod WholeLaws

@@ -44,7 +44,7 @@ fit_at_first n s tables pending = record { each = λ row. rw (tables, pending) (
   none row count = rw (nothing_at {X = Table} count row) (λ active. refl)
 
 -- nothing stands in a free place
-free_place : {X : Type 0} (places : List (Option X)) (n : ℕ) → least_free places ≡ Some n → (n < length places) × (slice_index_or places n None ≡ None)
+pub free_place : {X : Type 0} (places : List (Option X)) (n : ℕ) → least_free places ≡ Some n → (n < length places) × (slice_index_or places n None ≡ None)
 free_place places n free =
     let found = position-Some is_none places n None free in
     (found.0, none (slice_index_or places n None) found.1)
@@ -63,7 +63,7 @@ usable kit app (Some number) may = by (slice_get kit number) refl may where
   by (Some (Some owner)) at is = get_or_from_slice_get kit number (Some owner) None at ∙ ap (λ (k : ℕ). Some k) (eqb-true owner app is)
 
 -- what is done first is pending
-pending_first : (pending : List (ℕ × Bool)) (row : ℕ) (active : Bool) → first_pending pending row ≡ Some active → is_pending row active pending ≡ true
+pub pending_first : (pending : List (ℕ × Bool)) (row : ℕ) (active : Bool) → first_pending pending row ≡ Some active → is_pending row active pending ≡ true
 pending_first pending row active first = by (is_pending row true pending) (is_pending row false pending) refl refl first where
   by : (last load : Bool) → is_pending row true pending ≡ last → is_pending row false pending ≡ load → cond last (Some true) (cond load (Some false) None) ≡ Some active → is_pending row active pending ≡ true
   by true load is_last is_load found = rw (sym (same_Some true active found)) is_last

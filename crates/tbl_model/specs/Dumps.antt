@@ -10,7 +10,7 @@ use Rattle.tbl_kinds.specs.Telemetry.{registry_record}
 use Rattle.tbl_kinds.specs.Drawer.{with_file, is_full_for}
 use Rattle.tbl_model.specs.State.{State, Table, Tables, Dump, quiet, asked, filled}
 use Rattle.tbl_model.specs.Tables.{table_at, is_dump_only, is_quiet, rows_where}
-use Rattle.tbl_model.specs.TableSteps.{locker, last_image, load_image, put, ask_dump, fill_dump, end_dump}
+use Rattle.tbl_model.specs.TableSteps.{base, locker, last_image, load_image, put, ask_dump, fill_dump, end_dump}
 use Rattle.tbl_model.specs.Registry.{registry_row}
 use Rattle.tbl_model.specs.Effects.{Effect, answered}
 use Rattle.tbl_model.specs.Refusals.{refusal, by_answer, by_refusal, lock_refusal, buffer_refusal}
@@ -108,7 +108,7 @@ edit_refusal tables row t offset len =
 unfoldable pub edit_effect : State → ℕ → ℕ → ℕ → List ℕ → Effect
 edit_effect s app handle offset bytes = if_owner s app handle (λ row t.
     by_answer s (edit_refusal s.tables row t offset (length bytes))
-    (record (answered s SUCCESS 0) { next = record s { tables = put row (patched (last_image t) offset bytes) s.tables } }))
+    (record (answered s SUCCESS 0) { next = record s { tables = put row (patched (base t) offset bytes) s.tables } }))
 
 -- ---- housekeeping
 

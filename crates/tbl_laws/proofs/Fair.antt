@@ -1,0 +1,186 @@
+-- What the effect of each request does to pins: a handle that pins an image remains, or it got its address just now.
+use Rattle.std.proofs.Common.{◌≡◌, ◌≢◌, ℕ, suc, ◌+◌, ◌≤◌, eqb, nat_lt, List, [], length, Bool, true, false, not, ◌&&◌, ◌||◌, cond, Option, Some, None, is_some, is_none, refl, ap, sym, ◌∙◌, subst, inl, inr, ◌⊎◌}
+use Rattle.std.specs.Prelude.{slice_index_or, slice_set}
+use Rattle.std.specs.List.{fold, range_with_len}
+use Rattle.std.proofs.lemmas.Bool.{eqb-true, eqb-false, eq-eqb, ne_eqb, or_cases, or_from, or_parts, not-true}
+use Rattle.std.proofs.lemmas.List.{get_or-set_same, get_or-set_other}
+use Rattle.std.proofs.lemmas.Option.{same_Some}
+use Rattle.tbl_model.specs.State.{State, Table, Handle, Tables, Dump, quiet, asked}
+use Rattle.tbl_model.specs.Tables.{table_at, rows_where}
+use Rattle.tbl_model.specs.TableSteps.{handle_at, access_of, Access, with_handle, pin_last, new_table, new_handle, filled_with, last_image}
+use Rattle.tbl_model.specs.Effects.{Effect}
+use Rattle.tbl_model.specs.Addresses.{stepped}
+use Rattle.tbl_model.specs.Given.{Given}
+use Rattle.tbl_model.specs.Sharing.{give_up, give_up_if, is_handle_of, without_handles_of, ended_app}
+use Rattle.tbl_model.specs.Dispatch.{effect_of}
+use Rattle.tbl_model.specs.Counts.{is_reset}
+use Rattle.tbl_model.specs.Whole.{is_by, is_done, asks_address, is_get, asks_end, is_exit, gives_back, asks_removal, takes_away, begins_anew, ends_pin}
+use Rattle.tbl_kinds.specs.declared.entry.Entry.{Entry}
+use Rattle.tbl_kinds.specs.declared.request.Actor.{Actor}
+use Rattle.tbl_kinds.specs.declared.request.Actor.TheVariants.{Ground, App}
+use Rattle.tbl_kinds.specs.declared.request.Request.{Request}
+use Rattle.tbl_kinds.specs.declared.request.Request.TheVariants as ask
+use Rattle.tbl_kinds.specs.declared.status.Status.{Status}
+use Rattle.tbl_kinds.specs.declared.status.TheConstants.Status.{SUCCESS, INFO_UPDATED, INFO_STOPPED}
+use Rattle.tbl_model.proofs.RefusalLaws.{is_refusal}
+use Rattle.tbl_laws.specs.Fit.{IsRegistered, AreFit}
+use Rattle.tbl_laws.proofs.Rows.{within}
+use Rattle.tbl_laws.proofs.Fits.{was}
+use Rattle.tbl_laws.proofs.GivingUp.{IsGone, fewer_handles, given_up, exited, all_left}
+use Rattle.tbl_laws.proofs.Cases.{OfEffect, Leads, access_is}
+use Rattle.tbl_laws.proofs.Pins.{at_set, kept, IsNear, GoesOn, AreLoaded, Remains, Keeps, stays_goes_on, stays_keeps, unpinned_set}
+
+-- ---- what an entry says of a handle
+
+-- the request, with this status, gets no address by the application's handle and doesn't end its pin on a table that keeps this
+pub record Spares (actor : Actor) (request : Request) (status : Status) (app n : ℕ) (same : ℕ × ℕ × ℕ) : Type 0 where
+  pub no_get : (is_by app actor && asks_address n request && is_done status) ≡ false
+  pub no_return : (is_by app actor && is_done status && (asks_end n request || is_exit request)) ≡ false
+  pub no_removal : (is_by same.1 actor && is_done status && (asks_removal same.2 request || is_exit request)) ≡ false
+  pub goes_on : (is_reset request || eqb status.0 INFO_STOPPED.0) ≡ false
+
+-- so does the entry
+pub gets_none : (app n : ℕ) (t : Table) (e : Entry) → Spares e.actor e.request e.reply.status app n (kept t) → is_get app n e ≡ false
+gets_none app n t e spares = spares.no_get
+
+pub ends_none : (app n : ℕ) (t : Table) (e : Entry) → Spares e.actor e.request e.reply.status app n (kept t) → ends_pin app n t e ≡ false
+ends_none app n t e spares = or_from (gives_back app n e || takes_away t e) (begins_anew e) (or_from (gives_back app n e) (takes_away t e) spares.no_return spares.no_removal) spares.goes_on
+
+-- ---- the requests that end no pin
+
+-- a request that neither gets nor ends anything
+pub record IsPlain (request : Request) : Type 0 where
+  pub no_address : (n : ℕ) → asks_address n request ≡ false
+  pub no_end : (n : ℕ) → asks_end n request ≡ false
+  pub no_removal : (n : ℕ) → asks_removal n request ≡ false
+  pub no_exit : is_exit request ≡ false
+  pub no_reset : is_reset request ≡ false
+
+and_false : (a : Bool) → (a && false) ≡ false
+and_false true = refl
+and_false false = refl
+
+middle : (a b : Bool) → (a && false && b) ≡ false
+middle true b = refl
+middle false b = refl
+
+pub plain_spares : (actor : Actor) (request : Request) (status : Status) (app n : ℕ) (same : ℕ × ℕ × ℕ) → IsPlain request → eqb status.0 INFO_STOPPED.0 ≡ false → Spares actor request status app n same
+plain_spares actor request status app n same plain goes_on = record {
+  no_get = rw (plain.no_address n) (middle (is_by app actor) (is_done status));
+  no_return = rw (plain.no_end n, plain.no_exit) (and_false (is_by app actor && is_done status));
+  no_removal = rw (plain.no_removal same.2, plain.no_exit) (and_false (is_by same.1 actor && is_done status));
+  goes_on = rw plain.no_reset goes_on;
+}
+
+-- a refusal
+refused_spares : (actor : Actor) (request : Request) (status : Status) (app n : ℕ) (same : ℕ × ℕ × ℕ) → is_reset request ≡ false → is_refusal status ≡ true → Spares actor request status app n same
+refused_spares actor request status app n same no_reset refuses =
+    let parts = or_parts (is_done status) (eqb status.0 INFO_STOPPED.0) (not-true _ refuses) in record {
+      no_get = rw parts.0 (gone (is_by app actor) (asks_address n request));
+      no_return = rw parts.0 (middle (is_by app actor) (asks_end n request || is_exit request));
+      no_removal = rw parts.0 (middle (is_by same.1 actor) (asks_removal same.2 request || is_exit request));
+      goes_on = rw no_reset parts.1;
+    }
+  where
+    gone : (a b : Bool) → (a && b && false) ≡ false
+    gone true true = refl
+    gone true false = refl
+    gone false b = refl
+
+-- ---- what an effect does
+
+-- the request got an address by the handle, which pins the last image of the table behind it
+pub record Gets (old new : Tables) (actor : Actor) (request : Request) (status : Status) (n : ℕ) (h : Handle) (p : ℕ) : Type 0 where
+  pub asked_it : asks_address n request ≡ true
+  pub by : is_by h.app actor ≡ true
+  pub done : is_done status ≡ true
+  pub found : Access
+  pub behind : access_of old n ≡ Some found
+  pub row_is : h.row ≡ Some found.row
+  pub there : table_at new found.row ≡ Some found.table
+  pub is_last : p ≡ found.table.count
+  pub some : found.table.count ≢ 0
+
+-- the handle remains, and the request spares it
+pub record Stays (old new : Tables) (actor : Actor) (request : Request) (status : Status) (n : ℕ) (h : Handle) (p : ℕ) : Type 0 where
+  pub remains : Remains old new n h p
+  pub spares : (row : ℕ) (t : Table) → h.row ≡ Some row → table_at old row ≡ Some t → IsNear p t → Spares actor request status h.app n (kept t)
+
+-- after this effect each handle that pins an image stays, or it got its address just now
+pub record Fair (s : State) (actor : Actor) (request : Request) (effect : Effect) : Type 0 where
+  pub pins : (n : ℕ) (h : Handle) (p : ℕ) → handle_at effect.next.tables n ≡ Some h → h.pin ≡ Some p
+      → Stays s.tables effect.next.tables actor request effect.status n h p ⊎ Gets s.tables effect.next.tables actor request effect.status n h p
+  pub loaded : AreLoaded s.tables.rows → AreLoaded effect.next.tables.rows
+
+module _ (s : State) (actor : Actor) (request : Request) where
+  -- each handle remains and is spared
+  pub fair_keeps : (effect : Effect) → Keeps s.tables effect.next.tables
+      → ((n : ℕ) (h : Handle) (p row : ℕ) (t : Table) → handle_at effect.next.tables n ≡ Some h → h.pin ≡ Some p → h.row ≡ Some row → table_at s.tables row ≡ Some t → GoesOn effect.next.tables.rows row p t → Spares actor request effect.status h.app n (kept t))
+      → Fair s actor request effect
+  fair_keeps effect keeps spares = record {
+    pins = λ n h p at pin. let remains = keeps.remains n h p at pin in inl record { remains = remains; spares = λ row t of there near. spares n h p row t at pin of there (remains.goes_on row t of there near) };
+    loaded = keeps.loaded;
+  }
+
+  -- a request that ends nothing
+  pub fair_plain : IsPlain request → (effect : Effect) → Keeps s.tables effect.next.tables → eqb effect.status.0 INFO_STOPPED.0 ≡ false → Fair s actor request effect
+  fair_plain plain effect keeps goes_on = fair_keeps effect keeps (λ n h p row t at pin of there on. plain_spares actor request effect.status h.app n (kept t) plain goes_on)
+
+  -- a refusal leaves the tables as they are
+  pub fair_refused : is_reset request ≡ false → (effect : Effect) → effect.next ≡ s → effect.deeds ≡ [] → is_refusal effect.status ≡ true → Fair s actor request effect
+  fair_refused no_reset effect same no_deeds refuses = fair_keeps effect (rw same (stays_keeps s.tables)) (λ n h p row t at pin of there on. refused_spares actor request effect.status h.app n (kept t) no_reset refuses)
+
+-- ---- what each request does
+
+-- a granted call, whether or not an image came since the handle was told
+pub granted : (b : Bool) → (is_done (cond b INFO_UPDATED SUCCESS) ≡ true) × (eqb (cond b INFO_UPDATED SUCCESS).0 INFO_STOPPED.0 ≡ false)
+granted true = (refl, refl)
+granted false = (refl, refl)
+
+-- a call that names another handle
+pub other_number : (m n : ℕ) → n ≢ m → eqb m n ≡ false
+other_number m n other = ne_eqb m n (λ same. other (sym same))
+
+-- the handle pins the last image, and the others stay
+pub pin_fair : (s : State) (app m : ℕ) (a : Access) → Leads s.tables app m a → eqb a.table.count 0 ≡ false → Fair s (App app) (ask.Get m) (stepped s (pin_last s.tables m a.handle a.table))
+pin_fair s app m a leads some =
+    let h : Handle = a.handle in
+    let t : Table = a.table in
+    let pinning : Handle = record h { pin = Some t.count; told = t.count } in record {
+      pins = λ n g p at pin. elim (at_set s.tables.handles m n pinning g at) [
+        | inl here ↦ inr record {
+          asked_it = eq-eqb m n (sym here.0);
+          by = eq-eqb app g.app (sym leads.own ∙ ap (λ (x : Handle). x.app) here.1);
+          done = (granted (nat_lt h.told t.count)).0;
+          found = a;
+          behind = rw here.0 (access_is s.tables m h a.row leads.place leads.row_is ∙ rw leads.there refl);
+          row_is = ap (λ (x : Handle). x.row) (sym here.1) ∙ leads.row_is;
+          there = leads.there;
+          is_last = same_Some p t.count (sym pin ∙ ap (λ (x : Handle). x.pin) (sym here.1));
+          some = eqb-false t.count 0 some;
+        }
+        | inr other ↦ inl record {
+          remains = record { was = other.1; goes_on = λ row u of there near. stays_goes_on s.tables.rows row p u there near };
+          spares = λ row u of there near. record {
+            no_get = rw (other_number m n other.0) (middle (eqb app g.app) _);
+            no_return = and_false _;
+            no_removal = and_false _;
+            goes_on = (granted (nat_lt h.told t.count)).1;
+          };
+        }
+      ];
+      loaded = λ all. all;
+    }
+
+-- a handle that was given back
+module _ (s : State) (app m : ℕ) (request : Request) (names : (n : ℕ) → asks_end n request ≡ eqb m n) (gets : (n : ℕ) → asks_address n request ≡ false) (exit : is_exit request ≡ false) (reset : is_reset request ≡ false) where
+  pub back_fair : (effect : Effect) → Keeps s.tables effect.next.tables → eqb effect.status.0 INFO_STOPPED.0 ≡ false
+      → ((n : ℕ) (h : Handle) (p : ℕ) → handle_at effect.next.tables n ≡ Some h → h.pin ≡ Some p → n ≢ m)
+      → ((n : ℕ) (h : Handle) (p row : ℕ) (t : Table) → handle_at effect.next.tables n ≡ Some h → h.pin ≡ Some p → h.row ≡ Some row → table_at s.tables row ≡ Some t → GoesOn effect.next.tables.rows row p t → asks_removal t.handle request ≡ false)
+      → Fair s (App app) request effect
+  back_fair effect keeps goes_on others removal = fair_keeps s (App app) request effect keeps (λ n h p row t at pin of there on. record {
+    no_get = rw (gets n) (middle (eqb app h.app) (is_done effect.status));
+    no_return = rw (names n, other_number m n (others n h p at pin), exit) (and_false _);
+    no_removal = rw (removal n h p row t at pin of there on, exit) (and_false _);
+    goes_on = rw reset goes_on;
+  })

@@ -1,0 +1,299 @@
+-- Each request is fair to pins.
+use Rattle.std.proofs.Common.{◌≡◌, ◌≢◌, ℕ, suc, ◌+◌, ◌≤◌, ◌<◌, eqb, nat_lt, List, [], ◌∷◌, length, Bool, true, false, not, ◌&&◌, ◌||◌, cond, Option, Some, None, is_some, is_none, refl, ap, sym, ◌∙◌, subst, inl, inr, ◌⊎◌, arith, replicate}
+use Rattle.std.proofs.Common.{ℤ, pos}
+use Rattle.std.specs.Prelude.{slice_index_or, slice_set, IsSome}
+use Rattle.std.specs.List.{fold, range_with_len}
+use Rattle.std.specs.Option.{option_map_or}
+use Rattle.std.proofs.lemmas.Bool.{eqb-true, eqb-false, eq-eqb, ne_eqb, not-false, or_from, cond_both}
+use Rattle.std.proofs.lemmas.Option.{same_Some}
+use Rattle.tbl_kinds.specs.Buffers.{Buffer}
+use Rattle.tbl_kinds.specs.Drawer.{is_full_for}
+use Rattle.tbl_kinds.specs.Numbers.{patched}
+use Rattle.tbl_kinds.specs.TableFiles.{TableFile}
+use Rattle.tbl_model.specs.State.{State, Load, Table, Handle, Tables, Dump, quiet, asked, filled}
+use Rattle.tbl_model.specs.Tables.{table_at, is_quiet, rows_where}
+use Rattle.tbl_model.specs.TableSteps.{is_checked, locker, handle_at, Access, base, last_image, load_image, let_go, put, set_time, set_file, set_checked, ask, activate, close_load, filled_with, fill_dump, end_dump, with_table, with_handle, new_table, new_handle}
+use Rattle.tbl_model.specs.Effects.{Effect, answered}
+use Rattle.tbl_model.specs.Given.{Given, verdict_at}
+use Rattle.tbl_model.specs.Deeds.{is_good}
+use Rattle.tbl_model.specs.Pending.{is_pending}
+use Rattle.tbl_model.specs.Refusals.{image_refusal, file_refusal, update_refusal}
+use Rattle.tbl_model.specs.Validations.{marked}
+use Rattle.tbl_model.specs.AppLoads.{file_image}
+use Rattle.tbl_model.specs.Management.{Done, nothing_done, with_validation, then_validate, with_update, then_update, with_fill, then_fill, all_done, is_asked, manage_answer, pending_status}
+use Rattle.tbl_model.specs.Dumps.{Ended, end_by, then_end, is_filled, dumps_ended, housekeeping_effect}
+use Rattle.tbl_model.specs.Sharing.{give_up, give_up_if, is_handle_of, without_handles_of, ended_app}
+use Rattle.tbl_model.specs.Dispatch.{effect_of}
+use Rattle.tbl_model.specs.Counts.{is_reset}
+use Rattle.tbl_model.specs.Whole.{is_by, is_done, asks_address, asks_end, asks_removal, is_exit}
+use Rattle.tbl_kinds.specs.declared.entry.Answer.{Answer}
+use Rattle.tbl_kinds.specs.declared.request.Actor.{Actor}
+use Rattle.tbl_kinds.specs.declared.request.Actor.TheVariants.{Ground, App}
+use Rattle.tbl_kinds.specs.declared.request.Request.{Request}
+use Rattle.tbl_kinds.specs.declared.request.Request.TheVariants as ask
+use Rattle.tbl_kinds.specs.declared.status.Status.{Status}
+use Rattle.tbl_kinds.specs.declared.status.TheConstants.Status.{SUCCESS, INFO_UPDATED, INFO_TABLE_LOCKED, INFO_STOPPED, INFO_UPDATE_PENDING, INFO_VALIDATION_PENDING, INFO_DUMP_PENDING, ERR_VALIDATION_FAILED}
+use Rattle.tbl_model.proofs.RefusalLaws.{is_refusal, image_taken, file_taken, load_taken, may_take, update_taken, edit_taken}
+use Rattle.tbl_laws.specs.Fit.{IsRegistered, IsFit, AreFit}
+use Rattle.tbl_laws.proofs.Rows.{within}
+use Rattle.tbl_laws.proofs.Fits.{was}
+use Rattle.tbl_laws.proofs.Changes.{with_found, either, validated, updated}
+use Rattle.tbl_laws.proofs.GivingUp.{IsGone, fewer_handles, given_up, exited, left, no_handle, owned_by_others}
+use Rattle.tbl_laws.proofs.Ordinary.{free_place}
+use Rattle.tbl_laws.proofs.Pins.{kept, IsNear, GoesOn, AreLoaded, IsLoaded, Remains, Keeps, stays_keeps, stays_goes_on, unpinned_set, release_keeps, add_keeps, put_keeps, unseen_keeps, then_keeps, file_keeps, close_keeps, mark_keeps, patched_sized, base_sized}
+use Rattle.tbl_laws.proofs.PinsKept.{update_keeps, put_alone_keeps, without_keeps, give_up_keeps, leave_keeps}
+use Rattle.tbl_laws.proofs.Fair.{Spares, IsPlain, Fair, fair_keeps, fair_plain, fair_refused, pin_fair, back_fair, granted, other_number}
+use Rattle.tbl_laws.proofs.Cases.{OfEffect, Leads, Commands, by_command, by_file, by_start, by_register, by_share, by_unregister, by_exit, by_notify, by_info, by_load_image, by_load_file, by_app_validate, by_update, by_manage, by_get_status, by_dump_to_buffer, by_edit, by_get, by_read, by_release}
+
+-- a load that is about to go active is open
+pub open_checked : (t : Table) → is_checked t ≡ true → is_some t.load ≡ true
+open_checked t checked = by t.load checked where
+  by : (load : Option Load) → option_map_or (λ (l : Load). l.checked) load false ≡ true → is_some load ≡ true
+  by None is = absurd (cc is)
+  by (Some l) is = refl
+
+-- ---- Manage
+
+module _ (n : ℕ) (row : ℕ) (given : Given) where
+  validate_keeps : (active : Bool) (d : Done) → Keeps d.state.tables (then_validate row active given d).state.tables
+  validate_keeps active d = with_found n row given (λ e. Keeps d.state.tables e.state.tables) d _ (table_at d.state.tables row) refl (stays_keeps d.state.tables) (λ t there.
+      either n row given (λ e. Keeps d.state.tables e.state.tables) (not (is_pending row active d.state.pending)) d (with_validation row active (verdict_at (length d.asked) given) d t) (stays_keeps d.state.tables) (λ _. by active))
+    where
+      by : (a : Bool) → Keeps d.state.tables (marked row a (verdict_at (length d.asked) given) d.state.tables)
+      by true = stays_keeps d.state.tables
+      by false = mark_keeps d.state.tables row (is_good (verdict_at (length d.asked) given))
+
+  then_update_keeps : (d : Done) → AreFit n d.state → Keeps d.state.tables (then_update row d).state.tables
+  then_update_keeps d fit = with_found n row given (λ e. Keeps d.state.tables e.state.tables) d _ (table_at d.state.tables row) refl (stays_keeps d.state.tables) (λ t there. by t there (update_refusal d.state.tables row t) refl) where
+    by : (t : Table) → table_at d.state.tables row ≡ Some t → (r : Option Answer) → update_refusal d.state.tables row t ≡ r → Keeps d.state.tables (cond (is_some r) d (with_update row d t)).state.tables
+    by t there (Some answer) is = stays_keeps d.state.tables
+    by t there None is =
+        let taken = update_taken d.state.tables row t is in
+        update_keeps d.state.tables row t d.state.seconds d.state.sub there taken.1 (open_checked t ((was n d.state fit row t there).checked taken.0))
+
+  fill_keeps : (d : Done) → Keeps d.state.tables (then_fill row d).state.tables
+  fill_keeps d = with_found n row given (λ e. Keeps d.state.tables e.state.tables) d _ (table_at d.state.tables row) refl (stays_keeps d.state.tables) (λ t there.
+      either n row given (λ e. Keeps d.state.tables e.state.tables) (not (is_asked t.dump)) d (with_fill row d) (stays_keeps d.state.tables) (λ _. unseen_keeps d.state.tables row (λ u. record u { dump = filled_with (last_image u) u.dump }) (λ u. refl) (λ u. refl)))
+
+  pub manage_keeps : (s : State) → AreFit n s → Keeps s.tables (all_done s given row).state.tables
+  manage_keeps s fit =
+      let one = then_validate row true given (nothing_done s) in
+      let two = then_validate row false given one in
+      let three = then_update row two in
+      then_keeps s.tables one.state.tables _ (validate_keeps true (nothing_done s)) (then_keeps one.state.tables two.state.tables _ (validate_keeps false one)
+      (then_keeps two.state.tables three.state.tables _ (then_update_keeps two (validated n row given false one (validated n row given true (nothing_done s) fit))) (fill_keeps three)))
+
+-- the answer of Manage isn't that of a stop
+manage_goes_on : (tables : Tables) (row : ℕ) (t : Table) → eqb (manage_answer tables row t).status.0 INFO_STOPPED.0 ≡ false
+manage_goes_on tables row t = by t.activation (locker tables row t) where
+  by : (b : Bool) (lock : Option ℕ) → eqb (cond {A = Answer} (not b) (record { status = SUCCESS; detail = 0 }) (option_map_or (λ handle. record { status = INFO_TABLE_LOCKED; detail = handle }) lock (record { status = INFO_UPDATED; detail = 0 }))).status.0 INFO_STOPPED.0 ≡ false
+  by false lock = refl
+  by true None = refl
+  by true (Some handle) = refl
+
+-- ---- housekeeping
+
+ends_keep : (rows : List ℕ) (e : Ended) → Keeps e.state.tables (fold then_end e rows).state.tables
+ends_keep [] e = stays_keeps e.state.tables
+ends_keep (row ∷ rows) e = then_keeps e.state.tables (then_end e row).state.tables _ (one (table_at e.state.tables row)) (ends_keep rows (then_end e row)) where
+  over : Keeps e.state.tables (end_dump row e.state.tables)
+  over = unseen_keeps e.state.tables row (λ u. record u { dump = quiet }) (λ u. refl) (λ u. refl)
+
+  dump : (name : List ℕ) (d : Dump) → Keeps e.state.tables (end_by e row name d).state.tables
+  dump name quiet = stays_keeps e.state.tables
+  dump name (asked file) = stays_keeps e.state.tables
+  dump name (filled file image) = cond_both (is_full_for e.state.drawer file) _ _ (λ (d : Ended). Keeps e.state.tables d.state.tables) (λ _. over) (λ _. over)
+
+  one : (found : Option Table) → Keeps e.state.tables (option_map_or (λ (t : Table). end_by e row t.name t.dump) found e).state.tables
+  one None = stays_keeps e.state.tables
+  one (Some t) = dump t.name t.dump
+
+module _ (s : State) (n : ℕ) (fit : AreFit n s) where
+  -- ---- the ground
+
+  commands : (bytes : Buffer) → Commands s (Fair s Ground (ask.Command bytes))
+  unfolding housekeeping_effect dumps_ended
+  commands bytes =
+      let request : Request = ask.Command bytes in
+      let plain : IsPlain request = record { no_address = λ k. refl; no_end = λ k. refl; no_removal = λ k. refl; no_exit = refl; no_reset = refl } in
+      let keeps = fair_plain s Ground request plain in record {
+        about = λ e table p. record { pins = p.pins; loaded = p.loaded };
+        accepted = keeps _ (stays_keeps s.tables) refl;
+        housekeeping = keeps _ (ends_keep (rows_where is_filled 0 s.tables.rows) (record { state = s; bytes = []; deeds = [] })) refl;
+        loaded = λ name file row t there none. keeps _ (file_keeps s.tables row file.offset file.image name t there (load_taken s.tables row t file.offset (length file.image) none).within) refl;
+        pends = λ row t active there none function. keeps _ (stays_keeps s.tables) refl;
+        at_once = λ row t active there none no_function. keeps _ (marks_at_once row active) refl;
+        asks = λ row t there none. keeps _ (unseen_keeps s.tables row (λ u. record u { activation = true }) (λ u. refl) (λ u. refl)) refl;
+        aborted = λ row t there open_load. keeps _ (close_keeps s.tables row) refl;
+        shown = λ row. keeps _ (stays_keeps s.tables) refl;
+        written = λ row file bytes free. rw free (keeps _ (stays_keeps s.tables) refl);
+        dump_asked = λ file row t there only none. rw none (keeps _ (unseen_keeps s.tables row (λ u. record u { dump = asked file }) (λ u. refl) (λ u. refl)) refl);
+      }
+    where
+      marks_at_once : (row : ℕ) (active : Bool) → Keeps s.tables (marked row active (pos 0) s.tables)
+      marks_at_once row true = stays_keeps s.tables
+      marks_at_once row false = mark_keeps s.tables row (is_good (pos 0))
+
+  -- ---- handles and tables that go
+
+  unregistered : (app m : ℕ) (h : Handle) → handle_at s.tables m ≡ Some h → Fair s (App app) (ask.Unregister m) (record (answered s SUCCESS 0) { next = give_up m s })
+  unregistered app m h place =
+      let gone = (fewer_handles s m).gone in
+      back_fair s app m (ask.Unregister m) (λ k. refl) (λ k. refl) refl refl _ (give_up_keeps m s) refl
+      (λ k g p at pin same. cc (gone, ap (λ (j : ℕ). handle_at (give_up m s).tables j) (sym same) ∙ at))
+      (λ k g p row t at pin of there on.
+      let reg = (was n (give_up m s) (given_up n m s fit) row on.table on.there).registered in
+      ne_eqb m t.handle (λ same.
+      let number : on.table.handle ≡ m = ap (λ (x : ℕ × ℕ × ℕ). x.2) on.gives.same ∙ sym same in
+      cc (gone, sym (ap (λ (j : ℕ). handle_at (give_up m s).tables j) number) ∙ reg.place)))
+
+  ended : (app : ℕ) → Fair s (App app) ask.Exit (record (answered s SUCCESS 0) { next = ended_app app (without_handles_of app s) })
+  unfolding without_handles_of
+  ended app =
+      let after = left app n s fit in
+      let none = no_handle app n s fit in
+      fair_keeps s (App app) ask.Exit _ (leave_keeps app (range_with_len 0 (length s.tables.handles)) s) (λ k h p row t at pin of there on.
+      let low = within (fold (give_up_if app) s (range_with_len 0 (length s.tables.handles))).tables.handles k h at in
+      let others : eqb h.app app ≡ false = rw at at (none k (omega (arith, low, after.long))) in
+      let reg = (was n _ (after.fit n fit) row on.table on.there).registered in
+      let owner : on.table.owner ≢ app = owned_by_others app n s fit _ row on.table.handle on.table.owner after.long none reg in record {
+        no_get = both (eqb app h.app) _;
+        no_return = rw (eqb_sym app h.app others) refl;
+        no_removal = rw (ne_eqb app t.owner (λ same. owner (ap (λ (x : ℕ × ℕ × ℕ). x.1) on.gives.same ∙ sym same))) refl;
+        goes_on = refl;
+      })
+    where
+      both : (a b : Bool) → (a && false && b) ≡ false
+      both true b = refl
+      both false b = refl
+
+      eqb_sym : (a b : ℕ) → eqb b a ≡ false → eqb a b ≡ false
+      eqb_sym a b is = ne_eqb a b (λ same. cc (is, eq-eqb b a (sym same)))
+
+  marks : (row : ℕ) (active : Bool) (verdict : ℤ) → Keeps s.tables (marked row active verdict s.tables)
+  marks row true verdict = stays_keeps s.tables
+  marks row false verdict = mark_keeps s.tables row (is_good verdict)
+
+  judged_goes_on : (b : Bool) → eqb (cond b SUCCESS ERR_VALIDATION_FAILED).0 INFO_STOPPED.0 ≡ false
+  judged_goes_on true = refl
+  judged_goes_on false = refl
+
+  status_goes_on : (pending : List (ℕ × Bool)) (row : ℕ) (t : Table) → eqb (pending_status pending row t).0 INFO_STOPPED.0 ≡ false
+  status_goes_on pending row t = by (is_pending row true pending || is_pending row false pending) t.activation (is_quiet t.dump) where
+    by : (validation activation idle : Bool) → eqb (cond validation INFO_VALIDATION_PENDING (cond activation INFO_UPDATE_PENDING (cond (not idle) INFO_DUMP_PENDING SUCCESS))).0 INFO_STOPPED.0 ≡ false
+    by true activation idle = refl
+    by false true idle = refl
+    by false false true = refl
+    by false false false = refl
+
+  -- ---- all requests
+
+  -- of an application's call that ends nothing
+  module _ (app : ℕ) (request : Request) (plain : IsPlain request) where
+    keeps : (effect : Effect) → Keeps s.tables effect.next.tables → eqb effect.status.0 INFO_STOPPED.0 ≡ false → Fair s (App app) request effect
+    keeps effect kept_all goes_on = fair_plain s (App app) request plain effect kept_all goes_on
+
+    refuses : (effect : Effect) → effect.next ≡ s → effect.deeds ≡ [] → is_refusal effect.status ≡ true → Fair s (App app) request effect
+    refuses = fair_refused s (App app) request plain.no_reset
+
+    quiet_fair : (effect : Effect) → effect.next.tables ≡ s.tables → eqb effect.status.0 INFO_STOPPED.0 ≡ false → Fair s (App app) request effect
+    quiet_fair effect same goes_on = keeps effect (rw same (stays_keeps s.tables)) goes_on
+
+  -- an image that its owner loads
+  loaded_image : (row : ℕ) (t : Table) (image : List ℕ) → table_at s.tables row ≡ Some t → image_refusal s.tables row t (length image) ≡ None → Keeps s.tables (set_time row s.seconds s.sub (put row image s.tables))
+  loaded_image row t image there none = let takes = image_taken s.tables row t (length image) none in put_keeps s.tables row t image s.seconds s.sub there takes.unlocked takes.size
+
+  loaded_from : (name : List ℕ) (row : ℕ) (t : Table) (file : TableFile) → table_at s.tables row ≡ Some t → AreLoaded s.tables.rows → file_refusal s.tables row t file ≡ None
+      → Keeps s.tables (set_file row name (set_time row s.seconds s.sub (put row (file_image t file) s.tables)))
+  loaded_from name row t file there loaded none =
+      let taken = file_taken s.tables row t file none in
+      then_keeps s.tables (set_time row s.seconds s.sub (put row (file_image t file) s.tables)) _
+      (put_keeps s.tables row t (file_image t file) s.seconds s.sub there taken.1 (patched_sized t file.offset file.image (loaded row t there) taken.0))
+      (unseen_keeps _ row (λ u. record u { file = name }) (λ u. refl) (λ u. refl))
+
+  plain_of : (request : Request) → ((k : ℕ) → asks_address k request ≡ false) → ((k : ℕ) → asks_end k request ≡ false) → ((k : ℕ) → asks_removal k request ≡ false) → is_exit request ≡ false → is_reset request ≡ false → IsPlain request
+  plain_of request address end removal exit reset = record { no_address = address; no_end = end; no_removal = removal; no_exit = exit; no_reset = reset }
+
+  pub request_fair : AreLoaded s.tables.rows → (actor : Actor) (request : Request) (given : Given) → OfEffect (Fair s actor request) (effect_of s actor request given)
+  request_fair loaded Ground (ask.Command bytes) given = by_command s (Fair s Ground (ask.Command bytes)) (fair_refused s Ground (ask.Command bytes) refl) (commands bytes) bytes.list
+  request_fair loaded Ground (ask.File name bytes) given =
+      let request : Request = ask.File name bytes in
+      by_file s (Fair s Ground request) (fair_refused s Ground request refl) name bytes.list (fair_plain s Ground request (plain_of request (λ k. refl) (λ k. refl) (λ k. refl) refl refl) _ (stays_keeps s.tables) refl)
+  request_fair loaded Ground (ask.Time seconds sub) given =
+      let request : Request = ask.Time seconds sub in
+      fair_plain s Ground request (plain_of request (λ k. refl) (λ k. refl) (λ k. refl) refl refl) _ (stays_keeps s.tables) refl
+  request_fair loaded Ground _ given = tt
+  request_fair loaded (App app) (ask.Start name) given =
+      let request : Request = ask.Start name in
+      let plain = plain_of request (λ k. refl) (λ k. refl) (λ k. refl) refl refl in
+      by_start s (Fair s (App app) request) (refuses app request plain) app name (quiet_fair app request plain _ refl refl)
+  request_fair loaded (App app) (ask.Register short size flags validator) given =
+      let request : Request = ask.Register short size flags validator in
+      let plain = plain_of request (λ k. refl) (λ k. refl) (λ k. refl) refl refl in
+      by_register s (Fair s (App app) request) (refuses app request plain) app short size flags validator (λ name row handle may free_row free_handle.
+      keeps app request plain _ (add_keeps s.tables row handle app (new_table name app size flags validator handle) (free_place s.tables.rows row free_row).1 refl refl refl) refl)
+  request_fair loaded (App app) (ask.Share name) given =
+      let request : Request = ask.Share name in
+      let plain = plain_of request (λ k. refl) (λ k. refl) (λ k. refl) refl refl in
+      by_share s (Fair s (App app) request) (refuses app request plain) app name (λ row handle free. keeps app request plain _ (record {
+        remains = λ k h p at pin. record { was = (unpinned_set s.tables.handles handle (new_handle app row) k h p refl at pin).1; goes_on = λ j t of there near. stays_goes_on s.tables.rows j p t there near };
+        loaded = λ all. all;
+      }) refl)
+  request_fair loaded (App app) (ask.Unregister m) given = by_unregister s (Fair s (App app) (ask.Unregister m)) (fair_refused s (App app) (ask.Unregister m) refl) app m (λ h place own. unregistered app m h place)
+  request_fair loaded (App app) (ask.LoadImage handle image) given =
+      let request : Request = ask.LoadImage handle image in
+      let plain = plain_of request (λ k. refl) (λ k. refl) (λ k. refl) refl refl in
+      by_load_image s (Fair s (App app) request) (refuses app request plain) (λ row t bytes number verdict there is bad. quiet_fair app request plain _ refl refl) app handle image.list given
+      (λ row t there none no_function. keeps app request plain _ (loaded_image row t image.list there none) refl) (λ row t number verdict there none is good. keeps app request plain _ (loaded_image row t image.list there none) refl)
+  request_fair loaded (App app) (ask.LoadFile handle name) given =
+      let request : Request = ask.LoadFile handle name in
+      let plain = plain_of request (λ k. refl) (λ k. refl) (λ k. refl) refl refl in
+      by_load_file s (Fair s (App app) request) (refuses app request plain) (λ row t bytes number verdict there is bad. quiet_fair app request plain _ refl refl) app handle name given
+      (λ row t file there open_to none no_function. keeps app request plain _ (loaded_from name row t file there loaded none) refl) (λ row t file number verdict there open_to none is good. keeps app request plain _ (loaded_from name row t file there loaded none) refl)
+  request_fair loaded (App app) (ask.Update handle) given =
+      let request : Request = ask.Update handle in
+      let plain = plain_of request (λ k. refl) (λ k. refl) (λ k. refl) refl refl in
+      by_update s (Fair s (App app) request) (refuses app request plain) app handle (λ row t there none.
+      let taken = update_taken s.tables row t none in
+      keeps app request plain _ (update_keeps s.tables row t s.seconds s.sub there taken.1 (open_checked t ((was n s fit row t there).checked taken.0))) refl)
+  request_fair loaded (App app) (ask.Validate handle) given =
+      let request : Request = ask.Validate handle in
+      let plain = plain_of request (λ k. refl) (λ k. refl) (λ k. refl) refl refl in
+      by_app_validate s (Fair s (App app) request) (refuses app request plain) app handle given (λ row t active there first. keeps app request plain _ (marks row active (verdict_at 0 given)) (judged_goes_on (is_good (verdict_at 0 given))))
+  request_fair loaded (App app) (ask.Manage handle) given =
+      let request : Request = ask.Manage handle in
+      let plain = plain_of request (λ k. refl) (λ k. refl) (λ k. refl) refl refl in
+      by_manage s (Fair s (App app) request) (refuses app request plain) app handle given (λ row t there. keeps app request plain _ (manage_keeps n row given s fit) (manage_goes_on s.tables row t))
+  request_fair loaded (App app) (ask.DumpToBuffer handle) given =
+      let request : Request = ask.DumpToBuffer handle in
+      let plain = plain_of request (λ k. refl) (λ k. refl) (λ k. refl) refl refl in
+      by_dump_to_buffer s (Fair s (App app) request) (refuses app request plain) app handle (λ row t there is. keeps app request plain _ (unseen_keeps s.tables row (λ u. record u { dump = filled_with (last_image u) u.dump }) (λ u. refl) (λ u. refl)) refl)
+  request_fair loaded (App app) (ask.Edit handle offset bytes) given =
+      let request : Request = ask.Edit handle offset bytes in
+      let plain = plain_of request (λ k. refl) (λ k. refl) (λ k. refl) refl refl in
+      by_edit s (Fair s (App app) request) (refuses app request plain) app handle offset bytes.list (λ row t there none.
+      let taken = edit_taken s.tables row t offset (length bytes.list) none in
+      keeps app request plain _ (put_alone_keeps s.tables row t (patched (base t) offset bytes.list) there taken.2 (patched_sized t offset bytes.list (loaded row t there) taken.1)) refl)
+  request_fair loaded (App app) (ask.Get handle) given = by_get s (Fair s (App app) (ask.Get handle)) (fair_refused s (App app) (ask.Get handle) refl) app handle (pin_fair s app handle)
+  request_fair loaded (App app) (ask.Read handle offset len) given =
+      let request : Request = ask.Read handle offset len in
+      let plain = plain_of request (λ k. refl) (λ k. refl) (λ k. refl) refl refl in
+      by_read s (Fair s (App app) request) (refuses app request plain) app handle offset len (λ a leads pinned inside. quiet_fair app request plain _ refl refl)
+  request_fair loaded (App app) (ask.Release handle) given =
+      by_release s (Fair s (App app) (ask.Release handle)) (fair_refused s (App app) (ask.Release handle) refl) app handle (λ a leads pinned. rw pinned
+      (back_fair s app handle (ask.Release handle) (λ k. refl) (λ k. refl) refl refl _ (release_keeps s.tables handle a.handle a.row a.table leads.there) (granted (nat_lt a.handle.told a.table.count)).1
+      (λ k g p at pin. (unpinned_set s.tables.handles handle (record a.handle { pin = None }) k g p refl at pin).0) (λ k g p row t at pin of there on. refl)))
+  request_fair loaded (App app) (ask.GetStatus handle) given =
+      let request : Request = ask.GetStatus handle in
+      let plain = plain_of request (λ k. refl) (λ k. refl) (λ k. refl) refl refl in
+      by_get_status s (Fair s (App app) request) (refuses app request plain) app handle (λ row t. quiet_fair app request plain _ refl (status_goes_on s.pending row t))
+  request_fair loaded (App app) (ask.GetInfo name) given =
+      let request : Request = ask.GetInfo name in
+      let plain = plain_of request (λ k. refl) (λ k. refl) (λ k. refl) refl refl in
+      by_info s (Fair s (App app) request) (refuses app request plain) app name (λ t. quiet_fair app request plain _ refl refl)
+  request_fair loaded (App app) (ask.Notify handle msg code parameter) given =
+      let request : Request = ask.Notify handle msg code parameter in
+      let plain = plain_of request (λ k. refl) (λ k. refl) (λ k. refl) refl refl in
+      by_notify s (Fair s (App app) request) (refuses app request plain) app handle msg code parameter (λ row t there. keeps app request plain _ (unseen_keeps s.tables row (λ u. record u { notice = Some (record { msg = msg; code = code; parameter = parameter }) }) (λ u. refl) (λ u. refl)) refl)
+  request_fair loaded (App app) ask.Exit given = by_exit s (Fair s (App app) ask.Exit) (fair_refused s (App app) ask.Exit refl) app (ended app)
+  request_fair loaded (App app) _ given = tt
