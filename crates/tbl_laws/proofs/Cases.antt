@@ -264,7 +264,7 @@ module _ (s : State) (P : Effect → Type 0) (refusal : (e : Effect) → e.next 
     pub by_load_file : (app m : ℕ) (name : List ℕ) (given : Given)
         → ((row : ℕ) (t : Table) (file : TableFile) → table_at s.tables row ≡ Some t → closed_refusal t ≡ None → file_refusal s.tables row t file ≡ None → t.validator ≡ None → P (from_file row name (activate_effect s row t (file_image t file))))
         → ((row : ℕ) (t : Table) (file : TableFile) (number : ℕ) (verdict : ℤ) → table_at s.tables row ≡ Some t → closed_refusal t ≡ None → file_refusal s.tables row t file ≡ None → t.validator ≡ Some number → is_good verdict ≡ true
-          → P (with_verdict row (file_image t file) number verdict (from_file row name (activate_effect s row t (file_image t file)))))
+        → P (with_verdict row (file_image t file) number verdict (from_file row name (activate_effect s row t (file_image t file)))))
         → P (app_file_effect s app m name given)
     unfolding app_file_effect
     by_load_file app m name given plain good = by_its_table app m true _ (λ row t there.
@@ -367,9 +367,9 @@ module _ (s : State) (P : Effect → Type 0) (refusal : (e : Effect) → e.next 
         chosen row t there None = no ERR_BAD_SELECT 0 refl
         chosen row t there (Some active) = cond_both (is_dump_only t) _ _ P
             (λ only. ladder (dump_refusal s.tables t) refl row t there only) (λ _. image row t active) where
-          ladder : (r : Option Answer) → dump_refusal s.tables t ≡ r → (row : ℕ) (u : Table) → table_at s.tables row ≡ Some t → is_dump_only t ≡ true → P (ask_dump_effect s file row t)
-          ladder None is row u there only = asks row t there only is
-          ladder (Some answer) is row u there only = rw is (refusal _ refl refl (subst Refuses is (dump_refused s.tables t)))
+              ladder : (r : Option Answer) → dump_refusal s.tables t ≡ r → (row : ℕ) (u : Table) → table_at s.tables row ≡ Some t → is_dump_only t ≡ true → P (ask_dump_effect s file row t)
+              ladder None is row u there only = asks row t there only is
+              ladder (Some answer) is row u there only = rw is (refusal _ refl refl (subst Refuses is (dump_refused s.tables t)))
 
       pub by_dump_registry : (file : List ℕ) → P (dump_registry_effect s file)
       unfolding dump_registry_effect

@@ -11,3 +11,6 @@ pub mod PinsKept
 pub mod Fair
 pub mod FairRequests
 pub mod WholeLaws
+pub mod Honest
+pub mod HonestRequests
+pub mod VouchedLaws

@@ -6,8 +6,9 @@ use Rattle.std.proofs.Common.{ℤ}
 use Rattle.tbl_model.specs.State.{State, Table}
 use Rattle.tbl_model.specs.Tables.{table_at}
 use Rattle.tbl_model.specs.Deeds.{is_good}
+use Rattle.tbl_model.specs.Effects.{Effect}
 use Rattle.tbl_model.specs.Counts.{Told}
-use Rattle.tbl_model.specs.History.{begins_at, run_from}
+use Rattle.tbl_model.specs.History.{begins_at, run_from, effect_in, told}
 use Rattle.tbl_model.specs.declared.deeds.Deed.{Deed}
 use Rattle.tbl_model.specs.declared.deeds.Deed.TheVariants.{Finished, Judged, Activated}
 use Rattle.tbl_kinds.specs.declared.entry.Entry.{Entry}
@@ -59,12 +60,10 @@ abbrev pub IsVouchedEntry : List Told → Told → Type 0
 IsVouchedEntry earlier t = (place row count : ℕ) (name image : List ℕ) → Tells t place (Activated row count name) image → is_some (function_before t row) ≡ true
     → Passes t row image place ⊎ PassedBefore earlier t row image
 
-abbrev pub AreVouched : List Told → Type 0
-AreVouched past = (earlier later : List Told) (t : Told) → past ≡ earlier ++ t ∷ later → IsVouchedEntry earlier t
-
--- this holds of what the history tells
+-- this holds of each entry of the history
 abbrev pub IsVouched : State → List Entry → Type 0
-IsVouched opening entries = AreVouched (run_from (begins_at opening) entries).past
+IsVouched opening entries = (before after : List Entry) (e : Entry) (effect : Effect) → entries ≡ before ++ e ∷ after → effect_in (run_from (begins_at opening) before) e ≡ Some effect
+    → IsVouchedEntry (run_from (begins_at opening) before).past (told (run_from (begins_at opening) before).state e.actor e.request effect)
 
 -- ---- verdicts
 
