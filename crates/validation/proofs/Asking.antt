@@ -47,3 +47,12 @@ module _ {C : Type 0} (verdict : C → List ℕ → ℤ) (asked : C → ℕ) whe
     each = λ number. subst (λ times. Stays verdict asked times (entry_at old number) (entry_at new number)) (both_count (is_for number) q r) (stays_again _ _ (entry_at old number) (entry_at mid number) (entry_at new number) (first.each number) (second.each number));
     numbers = second.numbers ∙ first.numbers;
   }
+
+  there_still : (times : ℕ) (old new : Option (KitEntry C)) → Stays verdict asked times old new → IsSome old → IsSome new
+  there_still times None new stays is = absurd (cc is)
+  there_still times (Some old) new stays is = stays.0
+
+  -- whose functions stood in the kit has them still
+  pub stands_still : (old new : List (Option (KitEntry C))) (questions : List Question) (verdicts : List (Option ℤ)) → WasAsked verdict asked old new questions verdicts
+      → (number : ℕ) → IsSome (entry_at old number) → IsSome (entry_at new number)
+  stands_still old new questions verdicts was number is = there_still _ (entry_at old number) (entry_at new number) (was.each number) is
