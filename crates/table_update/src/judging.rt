@@ -9,7 +9,7 @@ ghost use Rattle.tbl_model.specs.Pending.{without_pair};
 ghost use Rattle.tbl_model.specs.Validations.{judged_image, questions, marked};
 ghost use Rattle.validation.specs.Kits.{MayAsk};
 ghost use Rattle.validation.specs.Asked.{WasAsked};
-ghost use Rattle.table_update.specs.Pending.{HasImage};
+ghost use Rattle.validation.specs.Ready.{HasImage};
 
 use check_word::check16;
 use tbl_outside::Validator;

@@ -12,7 +12,7 @@ ghost use Rattle.tbl_model.specs.Validations.{validate_by, first_pending, do_val
 ghost use Rattle.tbl_kinds.specs.Check.{check16};
 ghost use Rattle.validation.specs.Asked.{WasAsked};
 ghost use Rattle.table_update.specs.Answers.{requested, validated, verdicts_of, missing_refusal, full_refusal};
-ghost use Rattle.table_update.specs.Pending.{HasImage, ArePending, HaveFunctions};
+ghost use Rattle.validation.specs.Ready.{HasImage, ArePending, HaveFunctions};
 ghost use Rattle.validation.specs.Kits.{FewAsked};
 
 use crate::judging::{Judgement, checked, conclude, finish};

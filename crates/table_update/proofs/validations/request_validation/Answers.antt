@@ -1,6 +1,7 @@
 use Rattle.std.proofs.Common.{◌≡◌, ◌∙◌, sym, true, pos, Some, is_some}
 use Rattle.tbl_model.specs.Tables.{table_at}
-use Rattle.table_update.proofs.Kept.{nothing_missing, judged_keeps, asked_keeps, is_there}
+use Rattle.validation.proofs.Ready.{judged_keeps, asked_keeps, is_there}
+use Rattle.table_update.proofs.Missing.{nothing_missing}
 use Rattle.table_update.proofs.validations.request_validation.Goals as goal
 
 pub pass-requires-clause-image : goal.pass-requires-clause-image

@@ -2,7 +2,7 @@ use Rattle.std.proofs.Common.{◌≡◌, sym}
 use Rattle.tbl_model.specs.Tables.{table_at}
 use Rattle.tbl_model.specs.Validations.{marked}
 use Rattle.validation.proofs.Asking.{stands_still}
-use Rattle.table_update.proofs.Kept.{some_is, first_is_pending, judged_keeps, mark_has_functions, asked_has_functions}
+use Rattle.validation.proofs.Ready.{some_is, first_is_pending, judged_keeps, mark_has_functions, asked_has_functions}
 use Rattle.table_update.proofs.validations.validate.Goals as goal
 
 pub finish-judgement-requires-clause-image : goal.finish-judgement-requires-clause-image

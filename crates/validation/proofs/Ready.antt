@@ -15,8 +15,7 @@ use Rattle.tbl_model.specs.Pending.{is_pair, is_pending, without_pair}
 use Rattle.tbl_model.specs.Validations.{marked, first_pending}
 use Rattle.tbl_outside.specs.declared.validator.KitEntry.{KitEntry}
 use Rattle.validation.specs.Kits.{entry_at}
-use Rattle.table_update.specs.Answers.{missing_refusal}
-use Rattle.table_update.specs.Pending.{HasImage, CanBeJudged, ArePending, HaveFunctions}
+use Rattle.validation.specs.Ready.{HasImage, CanBeJudged, ArePending, HaveFunctions}
 
 -- ---- one table changes
 
@@ -125,20 +124,7 @@ pub mark_has_functions : {C : Type 0} (tables : Tables) (row : ℕ) (active : Bo
 mark_has_functions tables row true verdict kit all = all
 mark_has_functions tables row false verdict kit all = all_keep tables row _ (λ t. ForSome t.validator (λ number. IsSome (entry_at kit number))) (λ t has. has) all
 
--- ---- what is missing
-
-pub nothing_missing : (t : Table) (active : Bool) → missing_refusal t active ≡ None → HasImage t active
-nothing_missing t true none = by (t.count == 0) refl none
-  where
-    by : (b : Bool) → (t.count == 0) ≡ b → missing_refusal t true ≡ None → 0 < t.count
-    by true is none = absurd (cc (rw is at none))
-    by false is none = grind (arith, nat_tests)
-nothing_missing t false none = by t.load t.activation none
-  where
-    by : (load : Option Load) (asked : Bool) → missing_refusal (record t { load = load; activation = asked }) false ≡ None → IsSome load × (asked ≡ false)
-    by None asked none = absurd (cc none)
-    by (Some l) true none = absurd (cc none)
-    by (Some l) false none = (cc, refl)
+-- ---- options
 
 pub some_is : {X : Type 0} (place : Option X) → IsSome place → (x : X) × (place ≡ Some x)
 some_is None there = absurd (cc there)
