@@ -5,11 +5,11 @@ ghost use Rattle.std.specs.Option.{ForSome};
 ghost use Rattle.tbl_kinds.specs.Check.{check16};
 ghost use Rattle.tbl_model.specs.Tables.{table_at};
 ghost use Rattle.tbl_model.specs.Deeds.{is_good};
-ghost use Rattle.tbl_model.specs.Pending.{without_pair};
+ghost use Rattle.tbl_model.specs.Pending.{is_pending, without_pair};
 ghost use Rattle.tbl_model.specs.Validations.{judged_image, questions, marked};
-ghost use Rattle.validation.specs.Kits.{MayAsk};
+ghost use Rattle.validation.specs.Kits.{MayAsk, FewAsked};
 ghost use Rattle.validation.specs.Asked.{WasAsked};
-ghost use Rattle.validation.specs.Ready.{HasImage};
+ghost use Rattle.validation.specs.Ready.{HasImage, ArePending, HaveFunctions, HaveLoads};
 
 use check_word::check16;
 use tbl_outside::Validator;
@@ -114,8 +114,8 @@ fn judge<C: Validator>(tables: &Tables, kit: &mut Kit<C>, row: u8, active: bool)
     }
 }
 
-/// The pending validation of an image of the table of a row is done.
-pub(crate) fn finish<C: Validator>(
+/// Asks the table's function about an image of it, and concludes the validation.
+fn conclude_judged<C: Validator>(
     tables: &mut Tables,
     kit: &mut Kit<C>,
     pending: &mut Pending,
@@ -135,4 +135,29 @@ pub(crate) fn finish<C: Validator>(
     let judgement = judge(tables, kit, row, active);
     conclude(tables, pending, row, active, judgement.verdict);
     judgement
+}
+
+/// The pending validation of an image of the table of a row is done.
+pub(crate) fn finish<C: Validator>(
+    tables: &mut Tables,
+    kit: &mut Kit<C>,
+    pending: &mut Pending,
+    row: u8,
+    active: bool,
+) -> Judgement
+    requires pending { ArePending tables.old pending.old }
+    requires this { is_pending row active pending.old ≡ true }
+    requires kit { HaveFunctions tables.old kit.old }
+    requires few { FewAsked C.asked 1 kit.old }
+    ensures active { result.active ≡ active }
+    ensures check { ForSome (table_at tables.old row) (λ t. result.check ≡ check16 (judged_image t active)) }
+    ensures tables { tables.new ≡ marked row active result.verdict tables.old }
+    ensures dropped { pending.new ≡ without_pair row active pending.old }
+    ensures asked { ForSome (table_at tables.old row) (λ t. WasAsked C.verdict C.asked kit.old kit.new (questions t (judged_image t active)) (Some result.verdict ∷ None ∷ [])) }
+    ensures table { IsSome (table_at tables.new row) }
+    ensures pending { ArePending tables.new pending.new }
+    ensures kit { HaveFunctions tables.new kit.new }
+    ensures loads { HaveLoads tables.old → HaveLoads tables.new }
+{
+    conclude_judged(tables, kit, pending, row, active)
 }

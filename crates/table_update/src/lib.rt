@@ -4,6 +4,7 @@
 #![tactic(auto)]
 
 mod judging;
+mod management;
 mod validations;
 
 pub use judging::Judgement;

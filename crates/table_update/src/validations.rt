@@ -1,18 +1,18 @@
 //! Validations that the ground asks for and that owners have done.
 
-ghost use Rattle.std.specs.Prelude.{◌≡◌, ◌≢◌, ◌+◌, ◌≤◌, ◌^◌, ℕ, List, [], ◌∷◌, ◌++◌, Some, None, IsSome, IfNone, is_some, if◌then◌else◌};
+ghost use Rattle.std.specs.Prelude.{◌≡◌, ◌≢◌, ◌+◌, ◌≤◌, ◌^◌, ℕ, List, [], ◌∷◌, ◌++◌, Some, None, true, IsSome, IfNone, IfSome, is_some, if◌then◌else◌};
 ghost use Rattle.std.proofs.Common.{pos};
 ghost use Rattle.std.specs.Option.{ForSome};
 ghost use Rattle.tbl_model.specs.State.{State};
 ghost use Rattle.tbl_model.specs.Tables.{table_at};
 ghost use Rattle.tbl_model.specs.Given.{Given};
 ghost use Rattle.tbl_model.specs.Deeds.{is_good, verdict_bits};
-ghost use Rattle.tbl_model.specs.Pending.{without_pair};
+ghost use Rattle.tbl_model.specs.Pending.{is_pending, without_pair};
 ghost use Rattle.tbl_model.specs.Validations.{validate_by, first_pending, do_validation, judged_image, marked};
 ghost use Rattle.tbl_kinds.specs.Check.{check16};
 ghost use Rattle.validation.specs.Asked.{WasAsked};
 ghost use Rattle.table_update.specs.Answers.{requested, validated, verdicts_of, missing_refusal, full_refusal};
-ghost use Rattle.validation.specs.Ready.{HasImage, ArePending, HaveFunctions};
+ghost use Rattle.validation.specs.Ready.{HasImage, ArePending, HaveFunctions, HaveLoads};
 ghost use Rattle.validation.specs.Kits.{FewAsked};
 
 use crate::judging::{Judgement, checked, conclude, finish};
@@ -118,6 +118,7 @@ pub fn request_validation(
     requires pending { ArePending tables.old pending.old }
     ensures effect { (s : State) → s.tables ≡ tables.old → s.pending ≡ pending.old → ForSome (table_at tables.old row) (λ t. validate_by s row t (Some active) ≡ requested s row t result tables.new pending.new) }
     ensures pending { ArePending tables.new pending.new }
+    ensures loads { HaveLoads tables.old → HaveLoads tables.new }
 {
     if let Some(answer) = missing(tables, row, active) {
         return Requested::Refused(answer);
@@ -133,7 +134,8 @@ pub fn request_validation(
 
 /// The validation that is done first: that of the last image.
 pub(crate) fn first_pending(pending: &Pending, row: u8) -> Option<bool>
-    ensures { result ≡ first_pending pending.now row }
+    ensures first { result ≡ first_pending pending.now row }
+    ensures pending { IfSome result (λ active. is_pending row active pending.now ≡ true) }
 {
     if pending.has(row, true) {
         return Some(true);
@@ -173,6 +175,7 @@ pub fn validate<C: Validator>(
     ensures asked { (s : State) (given : Given) → s.tables ≡ tables.old → s.pending ≡ pending.old → given.verdicts ≡ verdicts_of result.judgement None → ForSome (table_at tables.old row) (λ t. WasAsked C.verdict C.asked kit.old kit.new (do_validation s given row t (first_pending s.pending row)).asked given.verdicts) }
     ensures pending { ArePending tables.new pending.new }
     ensures kit { HaveFunctions tables.new kit.new }
+    ensures loads { HaveLoads tables.old → HaveLoads tables.new }
 {
     let Some(active) = first_pending(pending, row) else {
         return Validated {

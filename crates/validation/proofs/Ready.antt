@@ -15,7 +15,7 @@ use Rattle.tbl_model.specs.Pending.{is_pair, is_pending, without_pair}
 use Rattle.tbl_model.specs.Validations.{marked, first_pending}
 use Rattle.tbl_outside.specs.declared.validator.KitEntry.{KitEntry}
 use Rattle.validation.specs.Kits.{entry_at}
-use Rattle.validation.specs.Ready.{HasImage, CanBeJudged, ArePending, HaveFunctions}
+use Rattle.validation.specs.Ready.{HasImage, CanBeJudged, ArePending, HaveFunctions, HasItsLoad, HaveLoads}
 
 -- ---- one table changes
 
@@ -41,9 +41,9 @@ module _ (tables : Tables) (row : ℕ) (change : Table → Table) where
   pub stays_there : (P : Table → Type 0) → ((t : Table) → table_at tables row ≡ Some t → P t → P (change t)) → (r : ℕ) → IsSome (table_at tables r) × ForSome (table_at tables r) P
       → IsSome (table_at (changed row change tables) r) × ForSome (table_at (changed row change tables) r) P
   stays_there P keeps r was = elim (cases_eq r row) [
-      inl here ↦ by_table (table_at tables row) refl (rw here at was.0) (rw here at was.1) here
+    | inl here ↦ by_table (table_at tables row) refl (rw here at was.0) (rw here at was.1) here
     | inr other ↦ rw (changed_there r other) was
-    ]
+  ]
     where
       by_table : (o : Option Table) → table_at tables row ≡ o → IsSome (table_at tables row) → ForSome (table_at tables row) P → r ≡ row
           → IsSome (table_at (changed row change tables) r) × ForSome (table_at (changed row change tables) r) P
@@ -57,9 +57,9 @@ all_keep tables row change P keeps all r = by (table_at tables r) refl
     by : (o : Option Table) → table_at tables r ≡ o → ForSome (table_at (changed row change tables) r) P
     by (Some t) is = (stays_there tables row change P (λ u there. keeps u) r (rw is cc, all r)).1
     by None is = elim (cases_eq r row) [
-        inl here ↦ rw (nothing_here tables row change (rw here at is)) (all r)
+      | inl here ↦ rw (nothing_here tables row change (rw here at is)) (all r)
       | inr other ↦ rw (changed_there tables row change r other) (all r)
-      ]
+    ]
 
 -- ---- the list of pending validations
 
@@ -124,6 +124,38 @@ pub mark_has_functions : {C : Type 0} (tables : Tables) (row : ℕ) (active : Bo
 mark_has_functions tables row true verdict kit all = all
 mark_has_functions tables row false verdict kit all = all_keep tables row _ (λ t. ForSome t.validator (λ number. IsSome (entry_at kit number))) (λ t has. has) all
 
+-- ---- other changes
+
+-- a change of a table of which no validation of the load is pending, and which goes on to have its images and its function
+pub change_keeps : (tables : Tables) (row : ℕ) (change : Table → Table) (pending : List (ℕ × Bool)) → ((t : Table) → IsSome t.validator → IsSome (change t).validator) → ((t : Table) → 0 < t.count → 0 < (change t).count)
+    → is_pending row false pending ≡ false → ArePending tables pending → ArePending (changed row change tables) pending
+change_keeps tables row change pending validator count gone all r true is =
+    stays_there tables row change (λ t. IsSome t.validator × HasImage t true) (λ t there can. (validator t can.0, count t can.1)) r (all r true is)
+change_keeps tables row change pending validator count gone all r false is = elim (cases_eq r row) [
+  | inl here ↦ absurd (cc (rw (here, gone) at is))
+  | inr other ↦ rw (changed_there tables row change r other) (all r false is)
+]
+
+-- where the activation of a load is asked, no validation of it is pending
+pub none_pending : (tables : Tables) (row : ℕ) (t : Table) (pending : List (ℕ × Bool)) → table_at tables row ≡ Some t → t.activation ≡ true → ArePending tables pending → is_pending row false pending ≡ false
+none_pending tables row t pending there asked all = by (is_pending row false pending) refl
+  where
+    by : (b : Bool) → is_pending row false pending ≡ b → b ≡ false
+    by false is = refl
+    by true is = let no_activation = ((all row false is).1 t there).1.1 in absurd (cc (rw asked at no_activation))
+
+pub dropped_keeps : (tables : Tables) (row : ℕ) (active : Bool) (pending : List (ℕ × Bool)) → ArePending tables pending → ArePending tables (without_pair row active pending)
+dropped_keeps tables row active pending all = λ r a is. all r a (pending_dropped row r active a pending is)
+
+-- ---- loads whose activation is asked
+
+pub loads_keep : (tables : Tables) (row : ℕ) (change : Table → Table) → ((t : Table) → HasItsLoad t → HasItsLoad (change t)) → HaveLoads tables → HaveLoads (changed row change tables)
+loads_keep tables row change keeps all = all_keep tables row change HasItsLoad keeps all
+
+pub mark_keeps_loads : (tables : Tables) (row : ℕ) (active : Bool) (verdict : ℤ) → HaveLoads tables → HaveLoads (marked row active verdict tables)
+mark_keeps_loads tables row true verdict all = all
+mark_keeps_loads tables row false verdict all = loads_keep tables row _ (λ t has asked. same_load (is_good verdict) t.load (has asked)) all
+
 -- ---- options
 
 pub some_is : {X : Type 0} (place : Option X) → IsSome place → (x : X) × (place ≡ Some x)
@@ -149,3 +181,8 @@ is_there (Some x) is = cc
 pub not_none : {X : Type 0} (o : Option X) → IsSome o → false ≡ is_some o → ⊥
 not_none None is same = absurd (cc is)
 not_none (Some x) is same = absurd (cc same)
+
+-- a mark leaves the tables where they are
+pub mark_leaves : (tables : Tables) (row : ℕ) (active : Bool) (verdict : ℤ) (r : ℕ) → IsSome (table_at tables r) → IsSome (table_at (marked row active verdict tables) r)
+mark_leaves tables row true verdict r there = there
+mark_leaves tables row false verdict r there = (stays_there tables row _ (λ t. Unit {0}) (λ t is none. none) r (there, λ t is. tt)).0

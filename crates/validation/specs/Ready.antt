@@ -23,3 +23,10 @@ ArePending tables pending = (row : ℕ) (active : Bool) → is_pending row activ
 -- the validation function of each table stands in the kit
 abbrev pub HaveFunctions : {C : Type 0} → Tables → List (Option (KitEntry C)) → Type 0
 HaveFunctions tables kit = (row : ℕ) → ForSome (table_at tables row) (λ t. ForSome t.validator (λ number. IsSome (entry_at kit number)))
+
+-- where the activation of a load is asked, that load is open
+abbrev pub HasItsLoad : Table → Type 0
+HasItsLoad t = t.activation ≡ true → IsSome t.load
+
+abbrev pub HaveLoads : Tables → Type 0
+HaveLoads tables = (row : ℕ) → ForSome (table_at tables row) HasItsLoad
