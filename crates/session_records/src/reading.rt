@@ -4,10 +4,10 @@ ghost use Rattle.tbl_kinds.specs.Records.{IsRecord, spelling};
 ghost use Rattle.tbl_kinds.specs.Heads.{IsShort, IsBad, is_name_field, has_name, has_name_last, is_good_head, is_right_body};
 ghost use Rattle.session_records.specs.Reading.{IfItem, IsSpelledBy, is_handle_kind};
 
-use crate::fields::{read_four, read_name, read_two, read_validator};
+use crate::fields::{read_four, read_two, read_validator};
 use crate::head::{HEAD_LEN, Head, actor_of};
 use std::alloc::Global;
-use tbl_kinds::{Actor, Bytes, Memory, Request};
+use tbl_kinds::{Actor, Bytes, Memory, Name, Request};
 
 /// What stands at the front of an input.
 #[derive(Debug, Drop)]
@@ -48,7 +48,7 @@ fn file(alloc: Global, body: &[u8]) -> Result<Option<Request>, Memory>
     ensures memory { OnErr result (IsTrue (has_name 0 64 body.now)) }
 {
     let (field, contents) = body.split_at(64);
-    let Some(name) = read_name::<64>(field) else {
+    let Some(name) = Name::<64>::exact(field) else {
         return Ok(None);
     };
     let bytes = copy_of(alloc, contents)?;
@@ -69,7 +69,7 @@ fn start(body: &[u8]) -> Option<Request>
     ensures right { is_some result ≡ is_name_field body.now }
     ensures spelled { IfSome result (λ request. IsSpelledBy 0x10 body.now request) }
 {
-    let name = read_name::<20>(body)?;
+    let name = Name::<20>::exact(body)?;
     Some(Request::Start { name })
 }
 
@@ -79,7 +79,7 @@ fn register(body: &[u8]) -> Option<Request>
     ensures spelled { IfSome result (λ request. IsSpelledBy 0x11 body.now request) }
 {
     let (field, rest) = body.split_at(16);
-    let name = read_name::<16>(field)?;
+    let name = Name::<16>::exact(field)?;
     let (size, rest) = read_four(rest);
     let (flags, rest) = read_two(rest);
     let validator = read_validator(rest);
@@ -96,7 +96,7 @@ fn share(body: &[u8]) -> Option<Request>
     ensures right { is_some result ≡ is_name_field body.now }
     ensures spelled { IfSome result (λ request. IsSpelledBy 0x12 body.now request) }
 {
-    let name = read_name::<40>(body)?;
+    let name = Name::<40>::exact(body)?;
     Some(Request::Share { name })
 }
 
@@ -115,7 +115,7 @@ fn load_file(body: &[u8]) -> Option<Request>
     ensures spelled { IfSome result (λ request. IsSpelledBy 0x15 body.now request) }
 {
     let (handle, field) = read_two(body);
-    let name = read_name::<64>(field)?;
+    let name = Name::<64>::exact(field)?;
     Some(Request::LoadFile { handle, name })
 }
 
@@ -152,7 +152,7 @@ fn get_info(body: &[u8]) -> Option<Request>
     ensures right { is_some result ≡ is_name_field body.now }
     ensures spelled { IfSome result (λ request. IsSpelledBy 0x1F body.now request) }
 {
-    let name = read_name::<40>(body)?;
+    let name = Name::<40>::exact(body)?;
     Some(Request::GetInfo { name })
 }
 
