@@ -5,7 +5,9 @@ use crate::files::{try_file, try_header, try_written as try_written_file};
 use crate::names::{try_actors, try_name};
 use crate::packets::{try_command, try_packet, try_written};
 use crate::records::{try_end, try_entry, try_record};
-use crate::telemetry::{try_event, try_telemetry};
+use crate::telemetry::{
+    try_event, try_housekeeping, try_notice, try_read_event, try_registry, try_telemetry,
+};
 use case_tables::{CaseFault, Cases, Pieces, number_in, numbers_in};
 use file_drawer::Drawer;
 use std::alloc::Global;
@@ -49,6 +51,9 @@ impl Codecs {
             "command" => try_command(self.alloc, bytes, wanted),
             "header" => try_header(self.alloc, bytes, wanted),
             "file" => try_file(self.alloc, bytes, wanted),
+            "event" => try_read_event(self.alloc, bytes, wanted),
+            "housekeeping" => try_housekeeping(self.alloc, bytes, wanted),
+            "registry" => try_registry(self.alloc, bytes, wanted),
             "record" => try_record(self.alloc, bytes, wanted),
             "entry" => try_entry(self.alloc, bytes, wanted),
             "end" => try_end(self.alloc, bytes, wanted),
@@ -97,6 +102,17 @@ impl Codecs {
         }
     }
 
+    /// A notice with these numbers is written.
+    fn try_notice(&self, numbers: &str, wanted: &[u8]) -> Result<(), CaseFault> {
+        match numbers_in(self.alloc, numbers)?.as_slice() {
+            [count, msg, code, parameter] => {
+                let (count, msg, code) = (short(*count)?, short(*msg)?, byte(*code)?);
+                try_notice(self.alloc, count, msg, code, *parameter, wanted)
+            }
+            _ => Err(CaseFault::Unreadable),
+        }
+    }
+
     fn try_cells(&mut self, pieces: &Pieces, cells: &[&str]) -> Result<(), CaseFault> {
         match cells {
             ["clear", _] => {
@@ -116,6 +132,7 @@ impl Codecs {
                 try_put(self.alloc, &mut self.drawer, &name, &contents, wanted)
             }
             ["write-event", numbers, wanted] => self.try_event(numbers, &pieces.bytes(wanted)?),
+            ["write-notice", numbers, wanted] => self.try_notice(numbers, &pieces.bytes(wanted)?),
             ["write-file", header, offset, name, image, wanted] => try_written_file(
                 self.alloc,
                 &pieces.bytes(header)?,

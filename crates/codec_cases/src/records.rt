@@ -30,9 +30,18 @@ fn text_of_request(alloc: Global, request: &Request) -> Result<String, AllocErro
             let name = text_of(name.bytes());
             format!(in alloc; "Register {name} {size} {flags} {validator:?}")
         }
+        Request::Share { name } => format!(in alloc; "Share {}", text_of(name.bytes())),
         Request::LoadImage { handle, image } => {
             format!(in alloc; "LoadImage {handle} {}", digits(alloc, image)?)
         }
+        Request::LoadFile { handle, name } => {
+            format!(in alloc; "LoadFile {handle} {}", text_of(name.bytes()))
+        }
+        Request::Edit {
+            handle,
+            offset,
+            bytes,
+        } => format!(in alloc; "Edit {handle} {offset} {}", digits(alloc, bytes)?),
         Request::Get { handle } => format!(in alloc; "Get {handle}"),
         Request::Read {
             handle,
@@ -40,7 +49,8 @@ fn text_of_request(alloc: Global, request: &Request) -> Result<String, AllocErro
             len,
         } => format!(in alloc; "Read {handle} {offset} {len}"),
         Request::Release { handle } => format!(in alloc; "Release {handle}"),
-        _ => format!(in alloc; "no request of a record"),
+        Request::GetInfo { name } => format!(in alloc; "GetInfo {}", text_of(name.bytes())),
+        request => format!(in alloc; "{request:?}"),
     }
 }
 

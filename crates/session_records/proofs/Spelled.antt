@@ -1,6 +1,7 @@
 -- What is read from a head and a body is spelled by them.
-use Rattle.std.proofs.Common.{◌≡◌, ℕ, zero, suc, ◌+◌, ◌<◌, ◌≤◌, true, false, ◌&&◌, ◌||◌, List, [], ◌∷◌, ◌++◌, length, get_or, take, drop, refl, sym, ap, ◌∙◌, arith}
-use Rattle.std.specs.Prelude.{nat_le}
+use Rattle.std.proofs.Common.{◌≡◌, ℕ, zero, suc, ◌+◌, ◌<◌, ◌≤◌, true, false, ◌&&◌, ◌||◌, List, [], ◌∷◌, ◌++◌, length, get_or, take, drop, refl, sym, ap, ◌∙◌, arith, inl, inr}
+use Rattle.std.specs.Prelude.{◌==◌, nat_le, IsTrue}
+use Rattle.std.specs.List.{AllByRecursion, list_any}
 use Rattle.std.proofs.lemmas.Bool.Decides.{nat_tests}
 use Rattle.std.proofs.lemmas.List.{length-take}
 use Rattle.std.proofs.lemmas.Nat.{be_bytes_2}
@@ -9,12 +10,12 @@ use Rattle.tbl_kinds.specs.Numbers.{two, byte_at}
 use Rattle.tbl_kinds.specs.Requests.{IsFromGround, HasNoValidator255, Fits}
 use Rattle.tbl_kinds.specs.Records.{Pair, IsBuilt, IsRecord, kind_of, actor_number, body_of, spelling}
 use Rattle.tbl_kinds.specs.Heads.{is_good_head, stated_len}
-use Rattle.tbl_kinds.proofs.RecordLaws.{good_within}
+use Rattle.tbl_kinds.proofs.RecordLaws.{or_true, good_within}
 use Rattle.tbl_kinds.specs.declared.request.Actor.{Actor}
 use Rattle.tbl_kinds.specs.declared.request.Actor.TheVariants.{App}
 use Rattle.tbl_kinds.specs.declared.request.Request.{Request}
 use Rattle.tbl_kinds.specs.declared.request.Request.TheVariants as ask
-use Rattle.session_records.specs.Reading.{actor_at, IsSpelledBy}
+use Rattle.session_records.specs.Reading.{actor_at, handle_kinds, is_handle_kind, IsSpelledBy}
 
 pub number_of_actor : (number : ℕ) → actor_number (actor_at number) ≡ number
 number_of_actor number = grind arith
@@ -25,27 +26,62 @@ app_fits number request low high other none =
     let app : actor_at number ≡ App number = grind (arith, nat_tests) in
     rw app (low, high, other, none)
 
--- what the head of an application's kind says of its sender
-app_sender : (number len least most : ℕ) → ((nat_le 1 number && nat_le number 16 && nat_le least len && nat_le len most) || false) ≡ true → (1 ≤ number) × (number ≤ 16)
-app_sender number len least most e = (grind (arith, nat_tests), grind (arith, nat_tests))
+-- whom the head of an application's kind allows may make such a request
+app_may : (number len least most : ℕ) (request : Request) → ¬ IsFromGround request → HasNoValidator255 request
+    → ((nat_le 1 number && nat_le number 16 && nat_le least len && nat_le len most) || false) ≡ true → Fits (actor_at number) request
+app_may number len least most request other none e = app_fits number request (grind (arith, nat_tests)) (grind (arith, nat_tests)) other none
+
+-- ---- kinds with a handle alone
+
+-- what holds of each number of a list holds of one that is there
+of_each : (P : ℕ → Type 0) (number : ℕ) (list : List ℕ) → AllByRecursion P list → list_any (λ other. number == other) list ≡ true → P number
+of_each P number [] each e = absurd cc
+of_each P number (other ∷ list) each e =
+    elim (or_true (number == other) (list_any (λ other. number == other) list) e) [
+      | inl here ↦ let same : number ≡ other = grind (arith, nat_tests) in rw same each.0
+      | inr there ↦ of_each P number list each.1 there
+    ]
+
+HasTwoBytes : ℕ → Type 0
+HasTwoBytes kind = (number len : ℕ) → is_good_head kind number len ≡ true → len ≡ 2
+
+two_alone : (number len : ℕ) → ((nat_le 1 number && nat_le number 16 && nat_le 2 len && nat_le len 2) || false) ≡ true → len ≡ 2
+two_alone number len good = grind (arith, nat_tests)
+
+each_two : AllByRecursion HasTwoBytes handle_kinds
+unfolding is_good_head HasTwoBytes
+each_two = (two_alone, (two_alone, (two_alone, (two_alone, (two_alone, (two_alone, (two_alone, (two_alone, tt))))))))
+
+pub handle_len : (kind number len : ℕ) → IsTrue (is_handle_kind kind) → is_good_head kind number len ≡ true → len ≡ 2
+unfolding HasTwoBytes
+handle_len kind number len e good = of_each HasTwoBytes kind handle_kinds each_two e number len good
+
+-- ---- records
 
 -- a good head's sender may make the request of its kind
 sender_fits : (number len : ℕ) (request : Request) → IsBuilt request → HasNoValidator255 request → is_good_head (kind_of request) number len ≡ true → Fits (actor_at number) request
 unfolding is_good_head
 sender_fits number len (ask.Command bytes) built none good = let ground : number ≡ 0 = grind (arith, nat_tests) in rw ground tt
 sender_fits number len (ask.File name bytes) built none good = let ground : number ≡ 0 = grind (arith, nat_tests) in rw ground tt
-sender_fits number len (ask.Start name) built none good =
-    let a = app_sender number len 20 20 good in app_fits number (ask.Start name) a.0 a.1 (λ no. no) none
-sender_fits number len (ask.Register name size flags validator) built none good =
-    let a = app_sender number len 23 23 good in app_fits number (ask.Register name size flags validator) a.0 a.1 (λ no. no) none
-sender_fits number len (ask.LoadImage handle image) built none good =
-    let a = app_sender number len 2 32832 good in app_fits number (ask.LoadImage handle image) a.0 a.1 (λ no. no) none
-sender_fits number len (ask.Get handle) built none good =
-    let a = app_sender number len 2 2 good in app_fits number (ask.Get handle) a.0 a.1 (λ no. no) none
-sender_fits number len (ask.Read handle offset count) built none good =
-    let a = app_sender number len 10 10 good in app_fits number (ask.Read handle offset count) a.0 a.1 (λ no. no) none
-sender_fits number len (ask.Release handle) built none good =
-    let a = app_sender number len 2 2 good in app_fits number (ask.Release handle) a.0 a.1 (λ no. no) none
+sender_fits number len (ask.Time seconds sub) built none good = let ground : number ≡ 0 = grind (arith, nat_tests) in rw ground tt
+sender_fits number len (ask.Start name) built none good = app_may number len 20 20 (ask.Start name) (λ no. no) none good
+sender_fits number len (ask.Register name size flags validator) built none good = app_may number len 23 23 (ask.Register name size flags validator) (λ no. no) none good
+sender_fits number len (ask.Share name) built none good = app_may number len 40 40 (ask.Share name) (λ no. no) none good
+sender_fits number len (ask.Unregister handle) built none good = app_may number len 2 2 (ask.Unregister handle) (λ no. no) none good
+sender_fits number len (ask.LoadImage handle image) built none good = app_may number len 2 32832 (ask.LoadImage handle image) (λ no. no) none good
+sender_fits number len (ask.LoadFile handle name) built none good = app_may number len 66 66 (ask.LoadFile handle name) (λ no. no) none good
+sender_fits number len (ask.Update handle) built none good = app_may number len 2 2 (ask.Update handle) (λ no. no) none good
+sender_fits number len (ask.Validate handle) built none good = app_may number len 2 2 (ask.Validate handle) (λ no. no) none good
+sender_fits number len (ask.Manage handle) built none good = app_may number len 2 2 (ask.Manage handle) (λ no. no) none good
+sender_fits number len (ask.DumpToBuffer handle) built none good = app_may number len 2 2 (ask.DumpToBuffer handle) (λ no. no) none good
+sender_fits number len (ask.Edit handle offset bytes) built none good = app_may number len 6 32832 (ask.Edit handle offset bytes) (λ no. no) none good
+sender_fits number len (ask.Get handle) built none good = app_may number len 2 2 (ask.Get handle) (λ no. no) none good
+sender_fits number len (ask.Read handle offset count) built none good = app_may number len 10 10 (ask.Read handle offset count) (λ no. no) none good
+sender_fits number len (ask.Release handle) built none good = app_may number len 2 2 (ask.Release handle) (λ no. no) none good
+sender_fits number len (ask.GetStatus handle) built none good = app_may number len 2 2 (ask.GetStatus handle) (λ no. no) none good
+sender_fits number len (ask.GetInfo name) built none good = app_may number len 40 40 (ask.GetInfo name) (λ no. no) none good
+sender_fits number len (ask.Notify handle msg code parameter) built none good = app_may number len 10 10 (ask.Notify handle msg code parameter) (λ no. no) none good
+sender_fits number len ask.Exit built none good = app_may number len 0 0 ask.Exit (λ no. no) none good
 sender_fits number len request built none good = absurd built
 
 -- a request that a good head and its body spell makes a record with the head's sender

@@ -1,5 +1,6 @@
 -- What is read at the front of an input.
-use Rattle.std.specs.Prelude.{◌≡◌, ℕ, ◌==◌, List, if◌then◌else◌}
+use Rattle.std.specs.Prelude.{◌≡◌, ℕ, ◌==◌, List, [], ◌∷◌, Bool, if◌then◌else◌}
+use Rattle.std.specs.List.{list_any}
 use Rattle.tbl_kinds.specs.Requests.{HasNoValidator255}
 use Rattle.tbl_kinds.specs.Records.{Pair, IsBuilt, IsSized, kind_of, body_of}
 use Rattle.tbl_kinds.specs.declared.request.Actor.{Actor}
@@ -11,6 +12,13 @@ use Rattle.session_records.specs.declared.reading.Next.TheVariants.{Item}
 -- who has this number in a head
 abbrev pub actor_at : ℕ → Actor
 actor_at number = if number == 0 then Ground else App number
+
+-- the kinds whose body is a handle alone
+abbrev pub handle_kinds : List ℕ
+handle_kinds = 0x13 ∷ 0x16 ∷ 0x17 ∷ 0x18 ∷ 0x19 ∷ 0x1B ∷ 0x1D ∷ 0x1E ∷ []
+
+abbrev pub is_handle_kind : ℕ → Bool
+is_handle_kind number = list_any (λ kind. number == kind) handle_kinds
 
 -- where a record is read, this holds of it and of the number of its bytes
 abbrev pub IfItem : Next → (Pair → ℕ → Type 0) → Type 0

@@ -1,37 +1,11 @@
-ghost use Rattle.std.specs.Prelude.{◌≡◌, ◌≢◌, ◌+◌, ◌^◌, ◌<◌, ◌≤◌, ◌∷◌, ◌++◌, [], length, IfSome, Some, is_some};
-ghost use Rattle.std.specs.List.{list_all};
-ghost use Rattle.tbl_kinds.specs.Names.{is_zero, name_field};
+ghost use Rattle.std.specs.Prelude.{◌≡◌, ◌≢◌, ◌+◌, ◌^◌, ◌<◌, ◌≤◌, ◌∷◌, ◌++◌, [], length, Some};
 ghost use Rattle.tbl_kinds.specs.Numbers.{two, four};
 ghost use Rattle.tbl_kinds.specs.Records as records;
-ghost use Rattle.tbl_kinds.specs.Records.{FitsField};
-ghost use Rattle.tbl_kinds.specs.Heads.{is_name_field};
 
-use tbl_kinds::{Bytes, Name, u16_at, u32_at};
+use tbl_kinds::{Bytes, u16_at, u32_at};
 
 /// What spells that there is no validator.
 const NO_VALIDATOR: u8 = 0xFF;
-
-fn are_zeros(bytes: &[u8]) -> bool
-    ensures { result ≡ list_all is_zero bytes.now }
-{
-    bytes.iter().all(|byte| *byte == 0)
-}
-
-/// The name in a field of `N` bytes, none where a byte behind the field's first zero byte isn't zero.
-#[tactic(auto, using(tbl_kinds::proofs::NameFields::written_again))]
-pub fn read_name<const N: usize>(field: &[u8]) -> Option<Name<N>>
-    requires { length field.now ≡ N }
-    ensures right { is_some result ≡ is_name_field field.now }
-    ensures field { IfSome result (λ name. name_field N name ≡ field.now) }
-    ensures fits { IfSome result (λ name. FitsField N name) }
-{
-    let name = Name::<N>::of(field);
-    let (_, behind) = field.split_at(name.bytes().len());
-    if !are_zeros(behind) {
-        return None;
-    }
-    Some(name)
-}
 
 /// The number in the first two bytes, and the bytes behind them.
 pub fn read_two(bytes: &[u8]) -> (u16, &[u8])

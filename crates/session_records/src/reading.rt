@@ -1,13 +1,13 @@
 ghost use Rattle.std.specs.Prelude.{◌≡◌, ◌↔◌, ◌≤◌, [], length, take, IfOk, OnErr, IfSome, IsTrue, is_some, Ok};
 ghost use Rattle.tbl_kinds.specs.Numbers.{two};
 ghost use Rattle.tbl_kinds.specs.Records.{IsRecord, spelling};
-ghost use Rattle.tbl_kinds.specs.Heads.{IsShort, IsBad, is_name_field, has_name, is_good_head, is_right_body};
-ghost use Rattle.session_records.specs.Reading.{IfItem, IsSpelledBy};
+ghost use Rattle.tbl_kinds.specs.Heads.{IsShort, IsBad, is_name_field, has_name, has_name_last, is_good_head, is_right_body};
+ghost use Rattle.session_records.specs.Reading.{IfItem, IsSpelledBy, is_handle_kind};
 
-use crate::fields::{read_four, read_name, read_two, read_validator};
+use crate::fields::{read_four, read_two, read_validator};
 use crate::head::{HEAD_LEN, Head, actor_of};
 use std::alloc::Global;
-use tbl_kinds::{Actor, Bytes, Memory, Request};
+use tbl_kinds::{Actor, Bytes, Memory, Name, Request};
 
 /// What stands at the front of an input.
 #[derive(Debug, Drop)]
@@ -48,11 +48,20 @@ fn file(alloc: Global, body: &[u8]) -> Result<Option<Request>, Memory>
     ensures memory { OnErr result (IsTrue (has_name 0 64 body.now)) }
 {
     let (field, contents) = body.split_at(64);
-    let Some(name) = read_name::<64>(field) else {
+    let Some(name) = Name::<64>::exact(field) else {
         return Ok(None);
     };
     let bytes = copy_of(alloc, contents)?;
     Ok(Some(Request::File { name, bytes }))
+}
+
+fn time(body: &[u8]) -> Request
+    requires { length body.now ≡ 6 }
+    ensures { IsSpelledBy 0x03 body.now result }
+{
+    let (seconds, rest) = read_four(body);
+    let (sub, _) = read_two(rest);
+    Request::Time { seconds, sub }
 }
 
 fn start(body: &[u8]) -> Option<Request>
@@ -60,7 +69,7 @@ fn start(body: &[u8]) -> Option<Request>
     ensures right { is_some result ≡ is_name_field body.now }
     ensures spelled { IfSome result (λ request. IsSpelledBy 0x10 body.now request) }
 {
-    let name = read_name::<20>(body)?;
+    let name = Name::<20>::exact(body)?;
     Some(Request::Start { name })
 }
 
@@ -70,7 +79,7 @@ fn register(body: &[u8]) -> Option<Request>
     ensures spelled { IfSome result (λ request. IsSpelledBy 0x11 body.now request) }
 {
     let (field, rest) = body.split_at(16);
-    let name = read_name::<16>(field)?;
+    let name = Name::<16>::exact(field)?;
     let (size, rest) = read_four(rest);
     let (flags, rest) = read_two(rest);
     let validator = read_validator(rest);
@@ -82,6 +91,15 @@ fn register(body: &[u8]) -> Option<Request>
     })
 }
 
+fn share(body: &[u8]) -> Option<Request>
+    requires { length body.now ≡ 40 }
+    ensures right { is_some result ≡ is_name_field body.now }
+    ensures spelled { IfSome result (λ request. IsSpelledBy 0x12 body.now request) }
+{
+    let name = Name::<40>::exact(body)?;
+    Some(Request::Share { name })
+}
+
 fn load_image(alloc: Global, body: &[u8]) -> Result<Request, Memory>
     requires { 2 ≤ length body.now }
     ensures { IfOk result (λ request. IsSpelledBy 0x14 body.now request) }
@@ -89,6 +107,30 @@ fn load_image(alloc: Global, body: &[u8]) -> Result<Request, Memory>
     let (handle, rest) = read_two(body);
     let image = copy_of(alloc, rest)?;
     Ok(Request::LoadImage { handle, image })
+}
+
+fn load_file(body: &[u8]) -> Option<Request>
+    requires { length body.now ≡ 66 }
+    ensures right { is_some result ≡ has_name_last body.now }
+    ensures spelled { IfSome result (λ request. IsSpelledBy 0x15 body.now request) }
+{
+    let (handle, field) = read_two(body);
+    let name = Name::<64>::exact(field)?;
+    Some(Request::LoadFile { handle, name })
+}
+
+fn edit(alloc: Global, body: &[u8]) -> Result<Request, Memory>
+    requires { 6 ≤ length body.now }
+    ensures { IfOk result (λ request. IsSpelledBy 0x1A body.now request) }
+{
+    let (handle, rest) = read_two(body);
+    let (offset, rest) = read_four(rest);
+    let bytes = copy_of(alloc, rest)?;
+    Ok(Request::Edit {
+        handle,
+        offset,
+        bytes,
+    })
 }
 
 fn read(body: &[u8]) -> Request
@@ -105,6 +147,31 @@ fn read(body: &[u8]) -> Request
     }
 }
 
+fn get_info(body: &[u8]) -> Option<Request>
+    requires { length body.now ≡ 40 }
+    ensures right { is_some result ≡ is_name_field body.now }
+    ensures spelled { IfSome result (λ request. IsSpelledBy 0x1F body.now request) }
+{
+    let name = Name::<40>::exact(body)?;
+    Some(Request::GetInfo { name })
+}
+
+fn notify(body: &[u8]) -> Request
+    requires { length body.now ≡ 10 }
+    ensures { IsSpelledBy 0x20 body.now result }
+{
+    let (handle, rest) = read_two(body);
+    let (msg, rest) = read_two(rest);
+    let (code, rest) = read_two(rest);
+    let (parameter, _) = read_four(rest);
+    Request::Notify {
+        handle,
+        msg,
+        code,
+        parameter,
+    }
+}
+
 /// The handle that a body of two bytes is.
 fn handle_in(body: &[u8]) -> u16
     requires { length body.now ≡ 2 }
@@ -112,6 +179,27 @@ fn handle_in(body: &[u8]) -> u16
 {
     let (handle, _) = read_two(body);
     handle
+}
+
+/// The request of a kind whose body is a handle alone.
+#[tactic(auto, using(crate::proofs::Spelled::handle_len))]
+fn handle_request(head: Head, body: &[u8]) -> Request
+    requires kind { IsTrue (is_handle_kind head.kind) }
+    requires good { IsTrue (is_good_head head.kind head.actor (length body.now)) }
+    ensures { IsSpelledBy head.kind body.now result }
+{
+    let handle = handle_in(body);
+    match head.kind {
+        0x13 => Request::Unregister { handle },
+        0x16 => Request::Update { handle },
+        0x17 => Request::Validate { handle },
+        0x18 => Request::Manage { handle },
+        0x19 => Request::DumpToBuffer { handle },
+        0x1B => Request::Get { handle },
+        0x1D => Request::Release { handle },
+        0x1E => Request::GetStatus { handle },
+        _ => unreachable!(),
+    }
 }
 
 /// The request that a body of this kind spells, if it is of the right form.
@@ -125,16 +213,20 @@ fn request_of(alloc: Global, head: Head, body: &[u8]) -> Result<Option<Request>,
     match head.kind {
         0x01 => Ok(Some(command(alloc, body)?)),
         0x02 => file(alloc, body),
+        0x03 => Ok(Some(time(body))),
         0x10 => Ok(start(body)),
         0x11 => Ok(register(body)),
+        0x12 => Ok(share(body)),
+        0x13 | 0x16 | 0x17 | 0x18 | 0x19 | 0x1B | 0x1D | 0x1E => {
+            Ok(Some(handle_request(head, body)))
+        }
         0x14 => Ok(Some(load_image(alloc, body)?)),
-        0x1B => Ok(Some(Request::Get {
-            handle: handle_in(body),
-        })),
+        0x15 => Ok(load_file(body)),
+        0x1A => Ok(Some(edit(alloc, body)?)),
         0x1C => Ok(Some(read(body))),
-        0x1D => Ok(Some(Request::Release {
-            handle: handle_in(body),
-        })),
+        0x1F => Ok(get_info(body)),
+        0x20 => Ok(Some(notify(body))),
+        0x21 => Ok(Some(Request::Exit)),
         _ => Ok(None),
     }
 }

@@ -29,6 +29,10 @@ length-spelling p = omega (arith, length-append (head_of p) (body_of p.request))
 app_allowed : (number len least most : ℕ) → 1 ≤ number → number ≤ 16 → least ≤ len → len ≤ most → (nat_le 1 number && nat_le number 16 && nat_le least len && nat_le len most) ≡ true
 app_allowed number len least most low high few many = rw (le-leb 1 number low, le-leb number 16 high, le-leb least len few, le-leb len most many) refl
 
+-- so with a handle alone
+handle_allowed : (number : ℕ) → 1 ≤ number → number ≤ 16 → (nat_le 1 number && nat_le number 16 && nat_le 2 2 && nat_le 2 2 || false) ≡ true
+handle_allowed number low high = rw (app_allowed number 2 2 2 low high (omega arith) (omega arith)) refl
+
 length-file : (name contents : List ℕ) → FitsField 64 name → length (name_field 64 name ++ contents) ≡ 64 + length contents
 length-file name contents fits = omega (arith, length-name_field 64 name fits, length-append (name_field 64 name) contents)
 
@@ -45,21 +49,40 @@ good_head Ground (ask.Command bytes) built fits sized within = rw (le-leb (lengt
 good_head Ground (ask.File name bytes) built fits sized within =
     let len = length-file name bytes.list sized in
     rw (le-leb (length (body_of (ask.File name bytes))) 32832 within, le-leb 64 (length (body_of (ask.File name bytes))) (omega (arith, len))) refl
-good_head Ground (ask.Time seconds sub) built fits sized within = absurd built
+good_head Ground (ask.Time seconds sub) built fits sized within = refl
 good_head Ground (ask.Reset kind) built fits sized within = absurd built
 good_head Ground request built fits sized within = absurd fits
 good_head (App number) (ask.Command bytes) built fits sized within = absurd (fits.2 tt)
 good_head (App number) (ask.File name bytes) built fits sized within = absurd (fits.2 tt)
+good_head (App number) (ask.Time seconds sub) built fits sized within = absurd (fits.2 tt)
 good_head (App number) (ask.Start name) built fits sized within =
     let len = length-name_field 20 name sized in
     rw (app_allowed number (length (name_field 20 name)) 20 20 fits.0 fits.1 (omega (arith, len)) (omega (arith, len))) refl
 good_head (App number) (ask.Register name size flags validator) built fits sized within =
     let len = length-register name size flags (validator_number validator) sized.0 in
     rw (app_allowed number (length (body_of (ask.Register name size flags validator))) 23 23 fits.0 fits.1 (omega (arith, len)) (omega (arith, len))) refl
+good_head (App number) (ask.Share name) built fits sized within =
+    let len = length-name_field 40 name sized in
+    rw (app_allowed number (length (name_field 40 name)) 40 40 fits.0 fits.1 (omega (arith, len)) (omega (arith, len))) refl
+good_head (App number) (ask.Unregister handle) built fits sized within = handle_allowed number fits.0 fits.1
 good_head (App number) (ask.LoadImage handle image) built fits sized within = rw (app_allowed number (length (body_of (ask.LoadImage handle image))) 2 32832 fits.0 fits.1 (omega arith) within) refl
-good_head (App number) (ask.Get handle) built fits sized within = rw (app_allowed number 2 2 2 fits.0 fits.1 (omega arith) (omega arith)) refl
+good_head (App number) (ask.LoadFile handle name) built fits sized within =
+    let len = length-name_field 64 name sized.1 in
+    rw (app_allowed number (length (body_of (ask.LoadFile handle name))) 66 66 fits.0 fits.1 (omega (arith, len)) (omega (arith, len))) refl
+good_head (App number) (ask.Update handle) built fits sized within = handle_allowed number fits.0 fits.1
+good_head (App number) (ask.Validate handle) built fits sized within = handle_allowed number fits.0 fits.1
+good_head (App number) (ask.Manage handle) built fits sized within = handle_allowed number fits.0 fits.1
+good_head (App number) (ask.DumpToBuffer handle) built fits sized within = handle_allowed number fits.0 fits.1
+good_head (App number) (ask.Edit handle offset bytes) built fits sized within = rw (app_allowed number (length (body_of (ask.Edit handle offset bytes))) 6 32832 fits.0 fits.1 (omega arith) within) refl
+good_head (App number) (ask.Get handle) built fits sized within = handle_allowed number fits.0 fits.1
 good_head (App number) (ask.Read handle offset len) built fits sized within = rw (app_allowed number 10 10 10 fits.0 fits.1 (omega arith) (omega arith)) refl
-good_head (App number) (ask.Release handle) built fits sized within = rw (app_allowed number 2 2 2 fits.0 fits.1 (omega arith) (omega arith)) refl
+good_head (App number) (ask.Release handle) built fits sized within = handle_allowed number fits.0 fits.1
+good_head (App number) (ask.GetStatus handle) built fits sized within = handle_allowed number fits.0 fits.1
+good_head (App number) (ask.GetInfo name) built fits sized within =
+    let len = length-name_field 40 name sized in
+    rw (app_allowed number (length (name_field 40 name)) 40 40 fits.0 fits.1 (omega (arith, len)) (omega (arith, len))) refl
+good_head (App number) (ask.Notify handle msg code parameter) built fits sized within = rw (app_allowed number 10 10 10 fits.0 fits.1 (omega arith) (omega arith)) refl
+good_head (App number) ask.Exit built fits sized within = rw (app_allowed number 0 0 0 fits.0 fits.1 (omega arith) (omega arith)) refl
 good_head (App number) request built fits sized within = absurd built
 
 -- a body that begins with the field of a name has such a field there
@@ -73,14 +96,27 @@ right_body : (request : Request) → IsBuilt request → IsSized request → is_
 unfolding is_right_body
 right_body (ask.Command bytes) built sized = refl
 right_body (ask.File name bytes) built sized = rw (has_name_first 64 name bytes.list (name_field 64 name ++ bytes.list) sized refl) refl
+right_body (ask.Time seconds sub) built sized = refl
 right_body (ask.Start name) built sized = rw (is_name_field-name_field 20 name sized) refl
 right_body (ask.Register name size flags validator) built sized =
     let parts : body_of (ask.Register name size flags validator) ≡ name_field 16 name ++ (four size ++ two flags ++ validator_number validator ∷ []) = simp append_assoc in
     rw (has_name_first 16 name (four size ++ two flags ++ validator_number validator ∷ []) (body_of (ask.Register name size flags validator)) sized.0 parts) refl
+right_body (ask.Share name) built sized = rw (is_name_field-name_field 40 name sized) refl
+right_body (ask.Unregister handle) built sized = refl
 right_body (ask.LoadImage handle image) built sized = refl
+right_body (ask.LoadFile handle name) built sized = rw (is_name_field-name_field 64 name sized.1) refl
+right_body (ask.Update handle) built sized = refl
+right_body (ask.Validate handle) built sized = refl
+right_body (ask.Manage handle) built sized = refl
+right_body (ask.DumpToBuffer handle) built sized = refl
+right_body (ask.Edit handle offset bytes) built sized = refl
 right_body (ask.Get handle) built sized = refl
 right_body (ask.Read handle offset len) built sized = refl
 right_body (ask.Release handle) built sized = refl
+right_body (ask.GetStatus handle) built sized = refl
+right_body (ask.GetInfo name) built sized = rw (is_name_field-name_field 40 name sized) refl
+right_body (ask.Notify handle msg code parameter) built sized = refl
+right_body ask.Exit built sized = refl
 right_body request built sized = absurd built
 
 -- what stands at the front of a spelling, whatever follows it
@@ -167,16 +203,33 @@ validator_again (Some number) none =
 register_in : List ℕ → List ℕ → Request
 register_in field rest = ask.Register (name_in field) (four_at 0 rest) (two_at 4 rest) (validator_in (byte_at 6 rest))
 
+-- the request of a kind with a handle alone
+handle_request : ℕ → ℕ → Request
+handle_request kind handle =
+    if kind == 0x13 then ask.Unregister handle else
+    (if kind == 0x16 then ask.Update handle else
+    (if kind == 0x17 then ask.Validate handle else
+    (if kind == 0x18 then ask.Manage handle else
+    (if kind == 0x19 then ask.DumpToBuffer handle else
+    (if kind == 0x1B then ask.Get handle else
+    (if kind == 0x1D then ask.Release handle else ask.GetStatus handle))))))
+
 -- the request that a body of a kind spells
 request_in : ℕ → List ℕ → Request
 request_in kind body =
     if kind == 0x01 then ask.Command (record { list = body; spare = 0 }) else
     (if kind == 0x02 then ask.File (name_in (take 64 body)) (record { list = drop 64 body; spare = 0 }) else
+    (if kind == 0x03 then ask.Time (four_at 0 body) (two_at 4 body) else
     (if kind == 0x10 then ask.Start (name_in body) else
     (if kind == 0x11 then register_in (take 16 body) (drop 16 body) else
+    (if kind == 0x12 then ask.Share (name_in body) else
     (if kind == 0x14 then ask.LoadImage (two_at 0 body) (record { list = drop 2 body; spare = 0 }) else
-    (if kind == 0x1B then ask.Get (two_at 0 body) else
-    (if kind == 0x1C then ask.Read (two_at 0 body) (four_at 2 body) (four_at 6 body) else ask.Release (two_at 0 body)))))))
+    (if kind == 0x15 then ask.LoadFile (two_at 0 body) (name_in (drop 2 body)) else
+    (if kind == 0x1A then ask.Edit (two_at 0 body) (four_at 2 body) (record { list = drop 6 body; spare = 0 }) else
+    (if kind == 0x1C then ask.Read (two_at 0 body) (four_at 2 body) (four_at 6 body) else
+    (if kind == 0x1F then ask.GetInfo (name_in body) else
+    (if kind == 0x20 then ask.Notify (two_at 0 body) (two_at 2 body) (two_at 4 body) (four_at 6 body) else
+    (if kind == 0x21 then ask.Exit else handle_request kind (two_at 0 body)))))))))))))
 
 register_again : (name : List ℕ) (size flags : ℕ) (validator : Option ℕ) → FitsField 16 name → size < 2 ^ 32 → flags < 2 ^ 16 → validator ≢ Some 255
     → register_in (name_field 16 name) (four size ++ two flags ++ validator_number validator ∷ []) ≡ ask.Register name size flags validator
@@ -185,11 +238,12 @@ register_again name size flags validator fits s f v =
     rw (name_in-name_field 16 name fits, from_be_bytes-to_be_bytes_4 size s, from_be_bytes-to_be_bytes_2 flags f, validator_again validator v) refl
 
 request_again : (request : Request) → IsBuilt request → IsSized request → HasNoValidator255 request → request_in (kind_of request) (body_of request) ≡ without_room request
-unfolding request_in
+unfolding request_in handle_request
 request_again (ask.Command bytes) built sized v = refl
 request_again (ask.File name bytes) built sized v =
     let len = length-name_field 64 name sized in
     rw (take_at (name_field 64 name) bytes.list 64 len, drop_at (name_field 64 name) bytes.list 64 len, name_in-name_field 64 name sized) refl
+request_again (ask.Time seconds sub) built sized v = rw (from_be_bytes-to_be_bytes_4 seconds sized.0, from_be_bytes-to_be_bytes_2 sub sized.1) refl
 request_again (ask.Start name) built sized v = rw (name_in-name_field 20 name sized) refl
 request_again (ask.Register name size flags validator) built sized v =
     let field = name_field 16 name in
@@ -199,11 +253,24 @@ request_again (ask.Register name size flags validator) built sized v =
     let front : take 16 (body_of (ask.Register name size flags validator)) ≡ field = ap (take 16) body ∙ take_at field rest 16 len in
     let back : drop 16 (body_of (ask.Register name size flags validator)) ≡ rest = ap (drop 16) body ∙ drop_at field rest 16 len in
     rw (front, back) (register_again name size flags validator sized.0 sized.1 sized.2 v)
+request_again (ask.Share name) built sized v = rw (name_in-name_field 40 name sized) refl
+request_again (ask.Unregister handle) built sized v = rw (from_be_bytes-to_be_bytes_2 handle sized) refl
 request_again (ask.LoadImage handle image) built sized v = rw (from_be_bytes-to_be_bytes_2 handle sized) refl
+request_again (ask.LoadFile handle name) built sized v = rw (from_be_bytes-to_be_bytes_2 handle sized.0, name_in-name_field 64 name sized.1) refl
+request_again (ask.Update handle) built sized v = rw (from_be_bytes-to_be_bytes_2 handle sized) refl
+request_again (ask.Validate handle) built sized v = rw (from_be_bytes-to_be_bytes_2 handle sized) refl
+request_again (ask.Manage handle) built sized v = rw (from_be_bytes-to_be_bytes_2 handle sized) refl
+request_again (ask.DumpToBuffer handle) built sized v = rw (from_be_bytes-to_be_bytes_2 handle sized) refl
+request_again (ask.Edit handle offset bytes) built sized v = rw (from_be_bytes-to_be_bytes_2 handle sized.0, from_be_bytes-to_be_bytes_4 offset sized.1) refl
 request_again (ask.Get handle) built sized v = rw (from_be_bytes-to_be_bytes_2 handle sized) refl
 request_again (ask.Read handle offset len) built sized v =
     rw (from_be_bytes-to_be_bytes_2 handle sized.0, from_be_bytes-to_be_bytes_4 offset sized.1, from_be_bytes-to_be_bytes_4 len sized.2) refl
 request_again (ask.Release handle) built sized v = rw (from_be_bytes-to_be_bytes_2 handle sized) refl
+request_again (ask.GetStatus handle) built sized v = rw (from_be_bytes-to_be_bytes_2 handle sized) refl
+request_again (ask.GetInfo name) built sized v = rw (name_in-name_field 40 name sized) refl
+request_again (ask.Notify handle msg code parameter) built sized v =
+    rw (from_be_bytes-to_be_bytes_2 handle sized.0, from_be_bytes-to_be_bytes_2 msg sized.1, from_be_bytes-to_be_bytes_2 code sized.2, from_be_bytes-to_be_bytes_4 parameter sized.3) refl
+request_again ask.Exit built sized v = refl
 request_again request built sized v = absurd built
 
 no_validator_255 : (actor : Actor) (request : Request) → Fits actor request → HasNoValidator255 request
@@ -233,7 +300,7 @@ one_request p q p-is q-is e =
 
 -- ---- more bytes
 
-or_true : (a b : Bool) → (a || b) ≡ true → (a ≡ true) ⊎ (b ≡ true)
+pub or_true : (a b : Bool) → (a || b) ≡ true → (a ≡ true) ⊎ (b ≡ true)
 or_true true b e = inl refl
 or_true false b e = inr e
 

@@ -1,7 +1,8 @@
-ghost use Rattle.std.specs.Prelude.{◌≡◌, ◌+◌, ◌≤◌, ◌++◌, length};
+ghost use Rattle.std.specs.Prelude.{◌≡◌, ◌+◌, ◌≤◌, ◌++◌, length, IfSome, is_some};
 ghost use Rattle.std.specs.List.{list_all, position_or_len};
 ghost use Rattle.tbl_kinds.specs.Names.{is_zero, name_in, name_field, is_printable_byte, is_name, HasNoZero};
 ghost use Rattle.tbl_kinds.specs.Records.{FitsField};
+ghost use Rattle.tbl_kinds.specs.Heads.{is_name_field};
 
 use crate::bytes::Bytes;
 use arrayvec::ArrayVec;
@@ -50,6 +51,12 @@ fn first_zero(field: &[u8]) -> usize
     field.len()
 }
 
+fn are_zeros(bytes: &[u8]) -> bool
+    ensures { result ≡ list_all is_zero bytes.now }
+{
+    bytes.iter().all(|byte| *byte == 0)
+}
+
 fn is_printable(byte: u8) -> bool
     ensures { result ≡ is_printable_byte byte }
 {
@@ -74,6 +81,23 @@ impl<const N: usize> Name<N> {
         Name { items }
     }
 
+    /// The name that a field of `N` bytes is written for. None where a byte behind the field's first zero byte isn't zero.
+    #[tactic(auto, using(crate::proofs::NameFields::written_again))]
+    pub fn exact(field: &[u8]) -> Option<Name<N>>
+        requires { length field.now ≡ N }
+        ensures right { is_some result ≡ is_name_field field.now }
+        ensures name { IfSome result (λ name. name ≡ name_in field.now) }
+        ensures field { IfSome result (λ name. name_field N name ≡ field.now) }
+        ensures fits { IfSome result (λ name. FitsField N name) }
+    {
+        let name = Name::<N>::of(field);
+        let (_, behind) = field.split_at(name.bytes().len());
+        if !are_zeros(behind) {
+            return None;
+        }
+        Some(name)
+    }
+
     /// How many bytes the field of this name has: `N`.
     pub fn field_len(&self) -> usize
         ensures len { result ≡ length (name_field N self.now) }
@@ -83,18 +107,26 @@ impl<const N: usize> Name<N> {
         N
     }
 
-    /// Appends the field of this name: its bytes, and zeros up to `N` in all.
+    /// The field of this name: its bytes, and zeros up to `N` in all.
+    pub fn field(&self) -> [u8; N]
+        ensures bytes { result ≡ name_field N self.now }
+        ensures len { length (name_field N self.now) ≡ N }
+        ensures fits { FitsField N self.now }
+    {
+        let bytes = self.bytes();
+        let mut field = [0; N];
+        field[..bytes.len()].copy_from_slice(bytes);
+        field
+    }
+
+    /// Appends the field of this name.
     pub fn append_field(&self, out: &mut Bytes)
         requires { length (name_field N self.now) ≤ out.old.spare }
         ensures bytes { out.new.list ≡ out.old.list ++ name_field N self.now }
         ensures room { out.old.spare ≤ out.new.spare + length (name_field N self.now) }
         ensures fits { FitsField N self.now }
     {
-        let bytes = self.bytes();
-        let zeros = [0; N];
-        let (_, behind) = zeros.as_slice().split_at(bytes.len());
-        out.append(bytes);
-        out.append(behind);
+        out.append(&self.field());
     }
 
     /// The bytes, at most `N`.

@@ -55,6 +55,14 @@ fn names_end_before_a_zero(rt: HostRuntime) -> Result<(), Fail> {
 }
 
 #[test]
+fn a_field_is_of_one_name(rt: HostRuntime) {
+    let field = *b"AB\0\0";
+    let name: Option<Name<4>> = Name::exact(&field);
+    assert_eq!(rt; name.map(|name| name.field()), Some(field));
+    assert!(rt; Name::<4>::exact(b"AB\0C").is_none());
+}
+
+#[test]
 fn slots_stay_in_order(rt: HostRuntime) {
     let mut slots = Slots::make();
     assert_eq!(rt; slots.list(), b"".as_slice());

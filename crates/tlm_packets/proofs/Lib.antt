@@ -1,1 +1,6 @@
+mod Headers
 mod Fields
+mod Options
+mod Events
+mod Rows
+mod States

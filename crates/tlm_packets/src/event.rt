@@ -11,7 +11,7 @@ use cfe_headers::write_tlm;
 use tbl_kinds::{Bytes, Event, TlmHead};
 
 /// The message id of event packets.
-const EVENT_ID: u16 = 0x0808;
+pub(crate) const EVENT_ID: u16 = 0x0808;
 
 /// The 12 bytes of an event's body.
 #[tactic(auto, unfolding(tbl_kinds::specs::Telemetry::event_body))]

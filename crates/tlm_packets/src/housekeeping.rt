@@ -5,13 +5,13 @@ ghost use Rattle.arrayvec.specs.ArrayVec.{array_vec_len};
 ghost use Rattle.tbl_kinds.specs.Packets.{telemetry_packet, housekeeping_id};
 ghost use Rattle.tbl_kinds.specs.Telemetry.{housekeeping_body, commands_and_loads, last_validation, validations_and_buffers, last_update};
 
-use crate::put::{put, put_name};
+use crate::put::put;
 use arrayvec::ArrayVec;
 use cfe_headers::write_tlm;
 use tbl_kinds::{Bytes, Housekeeping, TlmHead};
 
 /// The message id of housekeeping packets.
-const HOUSEKEEPING_ID: u16 = 0x0804;
+pub(crate) const HOUSEKEEPING_ID: u16 = 0x0804;
 
 type Body = ArrayVec<u8, 278>;
 
@@ -74,11 +74,11 @@ pub fn write_housekeeping(out: &mut Bytes, head: &TlmHead, state: &Housekeeping)
     put_last_validation(&mut body, state);
     put_validations_and_buffers(&mut body, state);
     put_last_update(&mut body, state);
-    put_name(&mut body, &state.validated);
-    put_name(&mut body, &state.updated);
-    put_name(&mut body, &state.loaded_file);
-    put_name(&mut body, &state.dumped_file);
-    put_name(&mut body, &state.loaded);
+    put(&mut body, &state.validated.field());
+    put(&mut body, &state.updated.field());
+    put(&mut body, &state.loaded_file.field());
+    put(&mut body, &state.dumped_file.field());
+    put(&mut body, &state.loaded.field());
     write_tlm(
         out,
         HOUSEKEEPING_ID,

@@ -1,6 +1,6 @@
 use super::*;
 use std::test::Fail;
-use tbl_kinds::{Bytes, Event, Housekeeping, Name, Name40, Status, TlmHead};
+use tbl_kinds::{Bytes, Event, Housekeeping, Name, Name40, RegistryRow, Status, TlmHead};
 
 const FIRST: TlmHead = TlmHead {
     count: 0,
@@ -32,7 +32,7 @@ fn nothing() -> Housekeeping {
     }
 }
 
-// A further case stands in the table of the program codec_cases.
+// Further cases stand in the table of the program codec_cases.
 #[test]
 fn events(rt: HostRuntime) -> Result<(), Fail> {
     let mut out = Bytes::make(rt.alloc(), 24)?;
@@ -47,6 +47,7 @@ fn events(rt: HostRuntime) -> Result<(), Fail> {
         out.bytes(),
         b"\x08\x08\xC0\x00\x00\x11\0\0\0\0\0\0\0\x01\0\0\0\0\xFF\xFF\0\0\0\0".as_slice()
     );
+    assert_eq!(rt; read_event(out.bytes()), Some(noop));
     Ok(())
 }
 
@@ -78,5 +79,40 @@ fn housekeeping(rt: HostRuntime) -> Result<(), Fail> {
     );
     assert_eq!(rt; &bytes[36..46], b"\0\0\0\0\0\0A.T\0".as_slice());
     assert!(rt; bytes[46..].iter().all(|byte| *byte == 0));
+    assert_eq!(rt; read_housekeeping(bytes), Some(state));
+    Ok(())
+}
+
+#[test]
+fn registry(rt: HostRuntime) -> Result<(), Fail> {
+    let row = RegistryRow {
+        size: 4,
+        check: 0x0FA1,
+        count: 1,
+        seconds: 5,
+        sub: 0,
+        bits: 1,
+        validator: 0xFF,
+        name: Name::of(b"A.T"),
+        owner: Name::of(b"A"),
+        file: Name::of(b""),
+    };
+    let mut record = Bytes::make(rt.alloc(), 144)?;
+    registry_bytes(&mut record, &row);
+    let mut out = Bytes::make(rt.alloc(), 156)?;
+    write_registry(&mut out, &FIRST, &row);
+    assert_eq!(rt; &out.bytes()[12..], record.bytes());
+    assert_eq!(rt; read_registry(out.bytes()), Some(row));
+    Ok(())
+}
+
+#[test]
+fn notices(rt: HostRuntime) -> Result<(), Fail> {
+    let mut out = Bytes::make(rt.alloc(), 12)?;
+    write_notice(&mut out, 0, 0x1880, 5, 7);
+    assert_eq!(rt;
+        out.bytes(),
+        b"\x18\x80\xC0\0\0\x05\x05\xA0\0\0\0\x07".as_slice()
+    );
     Ok(())
 }
