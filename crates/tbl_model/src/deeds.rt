@@ -56,10 +56,3 @@ pub enum Shown {
     /// Housekeeping.
     Housekeeping,
 }
-
-impl Default for Deed {
-    /// What stands in the places of an `ArrayVec` that hold no deed.
-    fn default() -> Deed {
-        Deed::NotDumped { row: 0 }
-    }
-}
