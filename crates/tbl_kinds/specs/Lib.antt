@@ -19,5 +19,6 @@ pub mod Blocks
 pub mod StoreSteps
 pub mod StoreCalls
 pub mod Drawer
+pub mod Notes
 pub mod Check
 pub mod Vectors

@@ -1,9 +1,9 @@
 -- What the outside gives in a request.
-use Rattle.std.specs.Prelude.{◌≡◌, List, [], ◌∷◌, false, Option, None}
+use Rattle.std.specs.Prelude.{◌≡◌, List, [], ◌∷◌, Option, None}
 use Rattle.std.proofs.Common.{ℤ}
 use Rattle.tbl_model.specs.State.{State}
 use Rattle.tbl_kinds.specs.declared.note.BankNote.{BankNote}
-use Rattle.tbl_kinds.specs.declared.note.Outcome.TheVariants.{Untouched}
+use Rattle.tbl_kinds.specs.Notes.{untouched}
 use Rattle.tbl_kinds.specs.declared.request.Actor.{Actor}
 use Rattle.tbl_kinds.specs.declared.request.Request.{Request}
 
@@ -11,10 +11,6 @@ use Rattle.tbl_kinds.specs.declared.request.Request.{Request}
 pub record Given : Type 0 where
   pub note : BankNote
   pub verdicts : List (Option ℤ)
-
--- no call of the store was made
-abbrev pub untouched : BankNote
-untouched = record { outcome = Untouched; done = 0; gate = false; old = false; ended = false; restored = None; found = [] }
 
 abbrev pub nothing_given : Given
 nothing_given = record { note = untouched; verdicts = None ∷ None ∷ [] }
