@@ -1,4 +1,5 @@
 pub mod Buffers
+pub mod Items
 pub mod Limits
 pub mod Names
 pub mod Numbers

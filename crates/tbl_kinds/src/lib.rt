@@ -4,6 +4,7 @@
 mod block;
 mod bytes;
 mod entry;
+mod few;
 mod name;
 mod note;
 mod number;
