@@ -486,6 +486,18 @@ fn housekeeping(counters: &Counters, tables: &Tables) -> Housekeeping
     }
 }
 
+/// Appends a housekeeping packet. It isn't inlined, since whoever calls it would clear the memory of its fields for each
+/// request.
+#[inline(never)]
+fn put_housekeeping(packets: &mut Bytes, head: &TlmHead, counters: &Counters, tables: &Tables)
+    requires count { head.now.count < 16384 }
+    requires room { 290 ≤ packets.old.spare }
+    ensures bytes { packets.new.list ≡ packets.old.list ++ shown_packet head.now (counts_view counters.now) tables.now Shown.Housekeeping }
+    ensures len { length packets.new.list ≤ length packets.old.list + 290 }
+{
+    write_housekeeping(packets, head, &housekeeping(counters, tables));
+}
+
 /// Appends the packet behind the events.
 pub(crate) fn put_shown(
     packets: &mut Bytes,
@@ -501,8 +513,6 @@ pub(crate) fn put_shown(
 {
     match shown {
         Shown::Nothing => {}
-        Shown::Housekeeping => {
-            write_housekeeping(packets, &head, &housekeeping(counters, tables));
-        }
+        Shown::Housekeeping => put_housekeeping(packets, &head, counters, tables),
     }
 }
