@@ -1,7 +1,9 @@
 pub mod Buffers
 pub mod Cases
 pub mod CommandAnswers
+pub mod CommandReadings
 pub mod Fair
+pub mod Few
 pub mod Ordinary
 pub mod Pins
 pub mod Places

@@ -15,13 +15,11 @@ use tbl_kinds::{Name64, Request};
 pub(crate) type Asked = Option<Result<Ground, CmdFault>>;
 
 /// Reads the packet of a command.
+#[tactic(auto, using(crate::proofs::CommandReadings::gives_read))]
 fn read(bytes: &[u8]) -> Result<Ground, CmdFault>
     ensures { read_of result ≡ command_in bytes.now }
 {
-    match read_command(bytes) {
-        Ok(command) => Ok(command),
-        Err(fault) => Err(fault),
-    }
+    read_command(bytes)
 }
 
 /// What a request asks.

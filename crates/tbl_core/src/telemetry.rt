@@ -181,6 +181,7 @@ pub(crate) fn put_events(
     asked: &Asked,
     effect: &Effect,
 )
+    requires few { length effect.now.deeds.items ≤ 8 }
     requires sent { sent < 16384 }
     requires room { 24 * length (told_events (asked_of asked.now) effect.now) ≤ packets.old.spare }
     ensures bytes { packets.new.list ≡ packets.old.list ++ event_packets clock.seconds clock.sub sent (told_events (asked_of asked.now) effect.now) }
@@ -323,6 +324,7 @@ fn latest_dump(deeds: &[Deed]) -> Option<Name64>
 
 /// How many events a request sends.
 fn event_count(asked: &Asked, effect: &Effect) -> u8
+    requires { length effect.now.deeds.items ≤ 8 }
     ensures { result ≡ length (told_events (asked_of asked.now) effect.now) }
 {
     let deeds = effect.deeds.len() as u8;
@@ -415,7 +417,8 @@ fn adds_request(asked: &Asked, effect: &Effect) -> bool
 
 /// What a request adds to the running numbers.
 pub(crate) fn tally(clock: Clock, request: &Request, asked: &Asked, effect: &Effect) -> Tally
-    requires { asked_of asked.now ≡ asked_in request.now }
+    requires asked { asked_of asked.now ≡ asked_in request.now }
+    requires few { length effect.now.deeds.items ≤ 8 }
     ensures { tally_view result ≡ tally_of (told_at clock.seconds clock.sub no_tables request.now effect.now) }
 {
     let restarted = restarts(request, effect);
@@ -483,6 +486,18 @@ fn housekeeping(counters: &Counters, tables: &Tables) -> Housekeeping
     }
 }
 
+/// Appends a housekeeping packet. It isn't inlined, since whoever calls it would clear the memory of its fields for each
+/// request.
+#[inline(never)]
+fn put_housekeeping(packets: &mut Bytes, head: &TlmHead, counters: &Counters, tables: &Tables)
+    requires count { head.now.count < 16384 }
+    requires room { 290 ≤ packets.old.spare }
+    ensures bytes { packets.new.list ≡ packets.old.list ++ shown_packet head.now (counts_view counters.now) tables.now Shown.Housekeeping }
+    ensures len { length packets.new.list ≤ length packets.old.list + 290 }
+{
+    write_housekeeping(packets, head, &housekeeping(counters, tables));
+}
+
 /// Appends the packet behind the events.
 pub(crate) fn put_shown(
     packets: &mut Bytes,
@@ -498,8 +513,6 @@ pub(crate) fn put_shown(
 {
     match shown {
         Shown::Nothing => {}
-        Shown::Housekeeping => {
-            write_housekeeping(packets, &head, &housekeeping(counters, tables));
-        }
+        Shown::Housekeeping => put_housekeeping(packets, &head, counters, tables),
     }
 }
