@@ -23,6 +23,7 @@ pub(crate) fn start(apps: &mut Apps, app: u8, name: &Name20, empty: Bytes) -> Ef
 }
 
 /// An application registers a table (`CFE_TBL_Register`).
+#[inline(never)]
 pub(crate) fn register(
     tables: &mut Tables,
     apps: &Apps,

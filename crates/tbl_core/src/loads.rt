@@ -62,6 +62,7 @@ fn activated(tables: &Tables, row: u8, mut deeds: Vec<Deed>, empty: Bytes) -> Ef
 
 /// The owner of a table loads an image of it (`CFE_TBL_Load` from an address).
 #[tactic(auto, unfolding(tbl_model::specs::Applications::load_image_effect))]
+#[inline(never)]
 pub(crate) fn load_image(
     alloc: Global,
     tables: &mut Tables,
