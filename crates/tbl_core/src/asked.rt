@@ -16,6 +16,7 @@ pub(crate) type Asked = Option<Result<Ground, CmdFault>>;
 
 /// Reads the packet of a command.
 #[tactic(auto, using(crate::proofs::CommandReadings::gives_read))]
+#[inline(never)]
 fn read(bytes: &[u8]) -> Result<Ground, CmdFault>
     ensures { read_of result ≡ command_in bytes.now }
 {
