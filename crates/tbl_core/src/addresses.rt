@@ -15,6 +15,7 @@ use tbl_registry::Tables;
 
 /// An application gets the address of a table (`CFE_TBL_GetAddress`): its handle pins the last image.
 #[tactic(auto, unfolding(tbl_model::specs::Applications::get_effect))]
+#[inline(never)]
 pub(crate) fn get(tables: &mut Tables, apps: &Apps, app: u8, handle: u16, empty: Bytes) -> Effect
     requires { empty.list ≡ [] }
     ensures effect { (s : State) → s.tables ≡ tables.old → s.apps ≡ apps.now → IsEffect result (record s { tables = tables.new }) (get_effect s app handle) }
@@ -29,6 +30,7 @@ pub(crate) fn get(tables: &mut Tables, apps: &Apps, app: u8, handle: u16, empty:
 
 /// An application gives the address of a table back (`CFE_TBL_ReleaseAddress`): the pin ends.
 #[tactic(auto, unfolding(tbl_model::specs::Applications::release_effect))]
+#[inline(never)]
 pub(crate) fn release(
     tables: &mut Tables,
     apps: &Apps,
@@ -68,6 +70,7 @@ fn piece<'a>(
 }
 
 /// An application reads bytes of the image that its handle pins.
+#[inline(never)]
 pub(crate) fn read(
     tables: &Tables,
     apps: &Apps,

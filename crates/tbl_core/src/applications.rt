@@ -11,6 +11,7 @@ use tbl_kinds::{Answer, Bytes, Memory, Name16, Name20};
 use tbl_registry::Tables;
 
 /// An application begins to run (`CFE_ES_CreateApp` calls its entry).
+#[inline(never)]
 pub(crate) fn start(apps: &mut Apps, app: u8, name: &Name20, empty: Bytes) -> Effect
     requires from { 1 ≤ app }
     requires to { app ≤ 16 }

@@ -29,6 +29,7 @@ fn not_built(code: u8) -> Answer
 }
 
 /// Plays a command, by what its packet was read as.
+#[inline(never)]
 pub(crate) fn command(
     alloc: Global,
     tables: &mut Tables,

@@ -1,7 +1,7 @@
 //! What an effect adds to telemetry: its events, what it counts as, and the packet behind the events.
 
 ghost use Rattle.std.specs.Prelude.{◌≡◌, ◌+◌, ◌*◌, ◌<◌, ◌≤◌, ◌++◌, ◌&&◌, ◌||◌, map, length, count_by, is_none, if◌then◌else◌, None};
-ghost use Rattle.std.specs.Option.{option_map};
+ghost use Rattle.std.specs.Option.{option_map, option_copied};
 ghost use Rattle.tbl_kinds.specs.Statuses.{is_success};
 ghost use Rattle.tbl_kinds.specs.Packets.{telemetry_packet, event_id};
 ghost use Rattle.tbl_kinds.specs.Telemetry.{event_body};
@@ -9,11 +9,11 @@ ghost use Rattle.tbl_model.specs.Tables.{free_buffers};
 ghost use Rattle.tbl_model.specs.State.{no_tables};
 ghost use Rattle.tbl_model.specs.Commands.{asked_in, asks_housekeeping, asks_reset_counters, asks_validate, asked_file, asked_code};
 ghost use Rattle.tbl_model.specs.Events.{row_field, table_field, is_good, verdict_event, deed_event, command_events};
-ghost use Rattle.tbl_model.specs.Counts.{is_reset, is_stopped, resets_counters, adds_accepted, adds_refused, adds_request, is_housekeeping, asks_load, load_file_of, latest, is_finished, is_finished_well, is_finished_badly, validation_of, updated_name, dump_of};
+ghost use Rattle.tbl_model.specs.Counts.{is_reset, is_stopped, resets_counters, adds_accepted, adds_refused, adds_request, is_housekeeping, asks_load, load_file_of, latest, is_finished, is_finished_well, is_finished_badly, validation_of, updated_name, dump_of, loaded_in, loaded_file_in};
 ghost use Rattle.tbl_model.specs.CountsAfter.{tally_of};
 ghost use Rattle.tbl_model.specs.Replies.{head_at, event_packets, housekeeping_of, shown_packet};
 ghost use Rattle.tbl_core.specs.Asked.{asked_of};
-ghost use Rattle.tbl_core.specs.Counters.{counts_view, tally_view};
+ghost use Rattle.tbl_core.specs.Counters.{counts_view, tally_view, update_in};
 ghost use Rattle.tbl_core.specs.Effects.{seen, told_events, listed, told_at};
 
 use crate::asked::{
@@ -276,7 +276,7 @@ fn validation_of(deed: &Deed) -> Option<Validation>
 }
 
 /// The latest validation that came to its end.
-fn latest_validation(deeds: &[Deed]) -> Option<Validation>
+pub(crate) fn latest_validation(deeds: &[Deed]) -> Option<Validation>
     ensures { result ≡ latest validation_of deeds.now }
 {
     deeds
@@ -314,7 +314,7 @@ fn dump_of(deed: &Deed) -> Option<Name64>
 }
 
 /// The dump file that was written last.
-fn latest_dump(deeds: &[Deed]) -> Option<Name64>
+pub(crate) fn latest_dump(deeds: &[Deed]) -> Option<Name64>
     ensures { result ≡ latest dump_of deeds.now }
 {
     deeds
@@ -335,21 +335,29 @@ fn event_count(asked: &Asked, effect: &Effect) -> u8
 }
 
 /// The table that an accepted load filled, by its name.
-fn loaded_name(request: &Request, asked: &Asked, effect: &Effect) -> Option<Name40>
-    ensures { result ≡ (if is_success effect.now.answer.status && asks_load request.now (asked_of asked.now) then option_map (λ (table : Named). table.name) effect.now.table else None) }
+pub(crate) fn loaded_name<'a>(
+    request: &Request,
+    asked: &Asked,
+    effect: &'a Effect,
+) -> Option<&'a Name40>
+    ensures { option_copied result ≡ (if is_success effect.now.answer.status && asks_load request.now (asked_of asked.now) then option_map (λ (table : Named). table.name) effect.now.table else None) }
 {
     if !is_success(effect) || !asks_load(request, asked) {
         return None;
     }
     match &effect.table {
-        Some(table) => Some(table.name.copy()),
+        Some(table) => Some(&table.name),
         None => None,
     }
 }
 
 /// The file of an accepted load.
-fn loaded_file(request: &Request, asked: &Asked, effect: &Effect) -> Option<Name64>
-    ensures { result ≡ (if is_success effect.now.answer.status then load_file_of request.now (asked_of asked.now) else None) }
+pub(crate) fn loaded_file<'a>(
+    request: &'a Request,
+    asked: &'a Asked,
+    effect: &Effect,
+) -> Option<&'a Name64>
+    ensures { option_copied result ≡ (if is_success effect.now.answer.status then load_file_of request.now (asked_of asked.now) else None) }
 {
     if !is_success(effect) {
         return None;
@@ -358,10 +366,10 @@ fn loaded_file(request: &Request, asked: &Asked, effect: &Effect) -> Option<Name
 }
 
 /// The latest image that went active, at the service's time.
-fn update_in(clock: Clock, effect: &Effect) -> Option<Update>
-    ensures { result ≡ option_map (λ name. record { seconds = clock.seconds; sub = clock.sub; name = name }) (latest updated_name effect.now.deeds.items) }
+pub(crate) fn update_in(clock: Clock, deeds: &[Deed]) -> Option<Update>
+    ensures { result ≡ update_in clock deeds.now }
 {
-    match latest_updated(effect.deeds.as_slice()) {
+    match latest_updated(deeds) {
         Some(name) => Some(Update {
             seconds: clock.seconds,
             sub: clock.sub,
@@ -416,10 +424,10 @@ fn adds_request(asked: &Asked, effect: &Effect) -> bool
 }
 
 /// What a request adds to the running numbers.
-pub(crate) fn tally(clock: Clock, request: &Request, asked: &Asked, effect: &Effect) -> Tally
+pub(crate) fn tally(request: &Request, asked: &Asked, effect: &Effect) -> Tally
     requires asked { asked_of asked.now ≡ asked_in request.now }
     requires few { length effect.now.deeds.items ≤ 8 }
-    ensures { tally_view result ≡ tally_of (told_at clock.seconds clock.sub no_tables request.now effect.now) }
+    ensures { (clock : Clock) → tally_view result clock effect.now.deeds.items (loaded_in (told_at clock.seconds clock.sub no_tables request.now effect.now)) (loaded_file_in (told_at clock.seconds clock.sub no_tables request.now effect.now)) ≡ tally_of (told_at clock.seconds clock.sub no_tables request.now effect.now) }
 {
     let restarted = restarts(request, effect);
     let resets = resets_counters(asked, effect);
@@ -435,11 +443,6 @@ pub(crate) fn tally(clock: Clock, request: &Request, asked: &Asked, effect: &Eff
         request: adds_request(asked, effect),
         events: event_count(asked, effect),
         housekeeping: is_housekeeping(effect.shown),
-        validation: latest_validation(deeds),
-        update: update_in(clock, effect),
-        loaded: loaded_name(request, asked, effect),
-        loaded_file: loaded_file(request, asked, effect),
-        dumped_file: latest_dump(deeds),
     }
 }
 
