@@ -8,4 +8,5 @@ mod management;
 mod validations;
 
 pub use judging::Judgement;
+pub use management::Managed;
 pub use validations::{Requested, Validated, request_validation, validate};

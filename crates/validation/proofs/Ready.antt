@@ -24,7 +24,7 @@ within : {X : Type 0} (xs : List (Option X)) (k : ℕ) (x : X) → slice_index_o
 within xs k x there = elim (cases_lt k (length xs)) [ inl is ↦ is | inr past ↦ absurd (cc (get_or_past xs k None past)) ]
 
 module _ (tables : Tables) (row : ℕ) (change : Table → Table) where
-  changed_here : (t : Table) → table_at tables row ≡ Some t → table_at (changed row change tables) row ≡ Some (change t)
+  pub changed_here : (t : Table) → table_at tables row ≡ Some t → table_at (changed row change tables) row ≡ Some (change t)
   changed_here t there = rw there (get_or-set_same tables.rows row (Some (change t)) None (within tables.rows row t there))
 
   nothing_here : table_at tables row ≡ None → changed row change tables ≡ tables
