@@ -70,6 +70,21 @@ named_added rows row t free within new named k x is =
           position-set (has_name x.name) rows row (Some t) None (rw free (other_name x.name t.name differ)) ∙ named k x at
     ]
 
+-- a table goes
+pub named_removed : (rows : List (Option Table)) (row : ℕ) (t : Table) → slice_index_or rows row None ≡ Some t → AreNamed rows → AreNamed (slice_set rows row None)
+named_removed rows row t there named k x is =
+    elim (cases_eq k row) [
+      | inl here ↦ absurd (cc (get_or-set_same rows row None None (within_row rows row t there), rw here at is))
+      | inr apart ↦
+          let at : slice_index_or rows k None ≡ Some x = sym (get_or-set_other rows row k None None apart) ∙ is in
+          elim (cases_Bool (bytes_eq t.name x.name)) [
+            | inl same ↦
+                let name : t.name ≡ x.name = (bytes_eq-Decides t.name x.name).0 same in
+                absurd (apart (same_Some k row (sym (named k x at) ∙ rw (← name) (named row t there))))
+            | inr differ ↦ position-set (has_name x.name) rows row None None (rw (there, differ) refl) ∙ named k x at
+          ]
+    ]
+
 named_there : (name : List ℕ) (row : Option Table) → has_name name row ≡ true → IsSome row
 named_there name None is = absurd (cc is)
 named_there name (Some t) is = refl

@@ -1,12 +1,12 @@
 -- Lists of places, seen by index.
-use Rattle.std.proofs.Common.{◌≡◌, ℕ, ◌+◌, ◌<◌, ◌≤◌, zero, suc, List, [], ◌∷◌, length, map, take, replicate, count_by, position, slice_index_or, slice_set, Bool, true, false, not, ◌||◌, cond, nat_lt, is_some, is_none, Option, Some, None, refl, ap, sym, ◌∙◌, subst, IsSome, inl, inr, arith}
+use Rattle.std.proofs.Common.{◌≡◌, ℕ, ◌+◌, ◌<◌, ◌≤◌, zero, suc, List, [], ◌∷◌, length, map, take, replicate, count_by, position, slice_index_or, slice_set, Bool, true, false, not, ◌||◌, cond, nat_lt, is_some, Option, Some, None, refl, ap, sym, ◌∙◌, subst, IsSome, inl, inr, arith}
 use Rattle.std.specs.List.{position_or_len, list_any}
 use Rattle.std.specs.Option.{option_map, ForSome}
 use Rattle.std.proofs.lemmas.Bool.{cases_lt}
 use Rattle.std.proofs.lemmas.Option.{same_Some}
 use Rattle.std.proofs.lemmas.Bool.Decides.{nat_tests}
 use Rattle.std.proofs.lemmas.List.{length-map, length-take-le, get_or_past}
-use Rattle.std.proofs.lemmas.List.Sums.{fails_before_first, sum_by-set, sum_by-cons, count_by_more_yes, count_by_more_no, count_by-le-length}
+use Rattle.std.proofs.lemmas.List.Sums.{sum_by-set, sum_by-cons, count_by_more_yes, count_by_more_no, count_by-le-length}
 use Rattle.tbl_kinds.proofs.PositionLaws.{position-None}
 use Rattle.access_desc.specs.Steps.{at_place, changed_at}
 use Rattle.tbl_registry.specs.Pins.{AtEachPlace}
@@ -117,6 +117,14 @@ any_is_found {X} q xs = rw (found_at (position_or_len q xs) (length xs)) (by xs)
 
 pub none_passes : {X : Type 0} (xs : List (Option X)) (test : Option X → Bool) → test None ≡ false → position test xs ≡ None → AtEachPlace (λ x. test (Some x) ≡ false) xs
 none_passes xs test none free n x at = rw at at (position-None test xs n None free none)
+
+-- none counts where there is no first
+pub none_counted : {X : Type 0} (p : Option X → Bool) (xs : List (Option X)) → p None ≡ false → position p xs ≡ None → count_by p xs ≡ 0
+none_counted {X} p xs none free = by xs (none_passes xs p none free) where
+  by : (xs : List (Option X)) → AtEachPlace (λ x. p (Some x) ≡ false) xs → count_by p xs ≡ 0
+  by [] fails = refl
+  by (None ∷ xs) fails = sum_by-cons (λ x. cond (p x) 1 0) None xs ∙ rw (none, by xs (λ k. fails (suc k))) refl
+  by (Some x ∷ xs) fails = sum_by-cons (λ x. cond (p x) 1 0) (Some x) xs ∙ rw (fails zero x refl, by xs (λ k. fails (suc k))) refl
 
 -- ---- each place changed
 

@@ -15,4 +15,5 @@ row_view t = record {
   load = is_some t.load;
   checked = option_map_or (λ (load : Load). load.checked) t.load false;
   asked = t.activation;
+  notice = t.notice;
 }

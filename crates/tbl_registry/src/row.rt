@@ -1,4 +1,4 @@
-ghost use Rattle.std.specs.Prelude.{◌≡◌, ◌<◌, ◌+◌, ◌-◌, ◌≤◌, ◌^◌, ℕ, List, [], false, None, Some, IsSome, IfSome, length, if◌then◌else◌};
+ghost use Rattle.std.specs.Prelude.{◌≡◌, ◌<◌, ◌+◌, ◌-◌, ◌≤◌, ◌^◌, ℕ, List, [], true, false, None, Some, IsSome, IfSome, length, if◌then◌else◌};
 ghost use Rattle.std.specs.Option.{option_map};
 ghost use Rattle.std.specs.Borrow.{Bor};
 ghost use Rattle.std.specs.Str.{bytes_eq};
@@ -6,12 +6,16 @@ ghost use Rattle.tbl_kinds.specs.Limits.{table_limit};
 ghost use Rattle.tbl_kinds.specs.Numbers.{patched};
 ghost use Rattle.tbl_model.specs.State.{Load};
 ghost use Rattle.tbl_model.specs.Tables.{option_bits, is_double, uses_buffer};
+ghost use Rattle.tbl_model.specs.Management.{pending_status};
 ghost use Rattle.tbl_model.specs.TableSteps.{new_table, unchecked, base};
 
 use bitflags::Flags;
 use buffer_pairs::{Buffers, Image};
 use std::marker::Model;
-use tbl_kinds::{Name40, Name64, Options};
+use tbl_kinds::{Name40, Name64, Options, Status};
+use tbl_model::Notice;
+
+mod info;
 
 /// What a table is registered with (`CFE_TBL_Register`).
 #[derive(Debug, Drop)]
@@ -45,6 +49,8 @@ pub struct RowView {
     pub checked: bool,
     /// Whether the activation of the open load was asked.
     pub asked: bool,
+    /// The command packet that tells the owner of pending work.
+    pub notice: Option<Notice>,
 }
 
 /// An open load: the image that is being put together.
@@ -76,6 +82,7 @@ pub(crate) struct Row {
     buffers: Buffers,
     load: Option<OpenLoad>,
     asked: bool,
+    notice: Option<Notice>,
     seconds: u32,
     sub: u16,
     file: Name64,
@@ -114,6 +121,7 @@ impl Row {
             buffers: Buffers::make(None, plan.flags.contains(Options::DOUBLE)),
             load: None,
             asked: false,
+            notice: None,
             seconds: 0,
             sub: 0,
             file: Name64::of(&[]),
@@ -149,6 +157,7 @@ impl Row {
             load: self.load.is_some(),
             checked: self.is_checked(),
             asked: self.asked,
+            notice: self.notice,
         }
     }
 
@@ -221,6 +230,44 @@ impl Row {
         self.file = file.copy();
     }
 
+    /// What is pending for it, where no validation is.
+    pub(crate) fn pending(&self) -> Status
+        ensures { (row : ℕ) → result ≡ pending_status [] row self.now }
+    {
+        if self.asked {
+            Status::INFO_UPDATE_PENDING
+        } else {
+            Status::SUCCESS
+        }
+    }
+
+    /// Sets the notice that tells its owner of pending work.
+    pub(crate) fn set_notice(&mut self, notice: Notice)
+        ensures { self.new ≡ record self.old { notice = Some notice } }
+    {
+        self.notice = Some(notice);
+    }
+
+    /// The activation of its open load is asked.
+    pub(crate) fn ask(&mut self)
+        ensures { self.new ≡ record self.old { activation = true } }
+    {
+        self.asked = true;
+    }
+
+    /// Closes its load, whose activation isn't asked any more, and gives the load's image.
+    pub(crate) fn end_load(&mut self) -> Option<Image>
+        ensures image { result ≡ option_map (λ (load : Load). load.image) self.old.load }
+        ensures size { IfSome result (λ image. length image ≡ self.old.size) }
+        ensures closed { self.new ≡ record self.old { load = None; activation = false } }
+    {
+        self.asked = false;
+        match self.load.take() {
+            Some(load) => Some(load.image),
+            None => None,
+        }
+    }
+
     /// Whether its open load was validated since its last change.
     fn is_checked(&self) -> bool
         ensures { result ≡ (row_view self.now).checked }
@@ -258,7 +305,7 @@ impl Row {
     pub(crate) fn write_load(&mut self, offset: u32, bytes: &[u8]) -> bool
         requires load { IsSome self.old.load }
         requires within { offset + length bytes.now ≤ self.old.size }
-        ensures { self.new ≡ (if result then record self.old { load = unchecked (patched (base self.old) offset bytes.now) } else self.old) }
+        ensures { self.new ≡ record self.old { load = if result then unchecked (patched (base self.old) offset bytes.now) else self.old.load } }
     {
         let Some(load) = &mut self.load else {
             unreachable!();

@@ -23,6 +23,16 @@ pub(crate) fn free_rows(alloc: Global) -> Result<Vec<Option<Row>>, AllocError>
     Ok(rows)
 }
 
+/// Takes every table away.
+pub(crate) fn free_all(rows: &mut [Option<Row>])
+    requires { length rows.old ≡ 128 }
+    ensures { rows.new ≡ replicate 128 None }
+{
+    for row in rows.iter_mut() {
+        *row = None;
+    }
+}
+
 /// Whether the row has a table of this full name.
 fn has_name(row: &Option<Row>, name: &[u8]) -> bool
     ensures { result ≡ has_name name.now row.now }

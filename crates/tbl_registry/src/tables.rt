@@ -6,6 +6,7 @@ ghost use Rattle.tbl_kinds.specs.Limits.{table_limit};
 ghost use Rattle.tbl_model.specs.State.{no_tables, Load, Table};
 ghost use Rattle.tbl_model.specs.Tables.{table_count, handle_count, load_count, in_use, option_bits, table_at};
 ghost use Rattle.tbl_model.specs.TableSteps.{find, new_table, new_handle, with_table, with_handle};
+ghost use Rattle.tbl_model.specs.Registry.{registry_row};
 ghost use Rattle.tbl_registry.specs.Rows.{IsTable};
 ghost use Rattle.tbl_registry.specs.Seen.{padded};
 
@@ -16,9 +17,11 @@ use crate::rows::{
 use access_desc::Handles;
 use std::alloc::Global;
 use std::marker::Model;
-use tbl_kinds::{Memory, Name40};
+use tbl_kinds::{Memory, Name40, RegistryRow};
 use working_buffers::Working;
 
+mod buffers;
+mod ends;
 mod handles;
 mod images;
 
@@ -145,6 +148,17 @@ impl Tables {
         ensures named { ForSome (table_at self.now row) (λ t. find t.name self.now ≡ Some row) }
     {
         Some(table_in(&self.rows, row)?.view())
+    }
+
+    /// The record of the table of a row, as the registry tells it (`CFE_TBL_GetInfo`).
+    pub fn info(&self, row: u8) -> RegistryRow
+        requires { IsSome (table_at self.now row) }
+        ensures { ForSome (table_at self.now row) (λ t. result ≡ registry_row t) }
+    {
+        let Some(table) = table_in(&self.rows, row) else {
+            unreachable!();
+        };
+        table.info()
     }
 
     /// The full name of the table of a row.

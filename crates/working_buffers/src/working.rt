@@ -1,5 +1,6 @@
 ghost use Rattle.std.specs.Prelude.{◌≡◌, ◌<◌, ◌↔◌, None, is_some, is_none, IsSome, IsNone, IfOk, IfSome, IfNone, map, position, count_by, length, replicate, slice_set};
 ghost use Rattle.std.specs.Option.{option_map};
+ghost use Rattle.working_buffers.specs.Buffers.{place_of};
 ghost use Rattle.working_buffers.specs.Places.{at_place, IsTaken};
 
 use crate::buffer::Buffer;
@@ -33,6 +34,17 @@ fn first_free(buffers: &[Buffer]) -> Option<usize>
     ensures within { IfSome result (λ n. n < length buffers.now) }
 {
     buffers.iter().position(|buffer| buffer.row().is_none())
+}
+
+/// Frees all four buffers.
+fn free_all(buffers: &mut [Buffer])
+    requires { length buffers.old ≡ 4 }
+    ensures free { map place_of buffers.new ≡ replicate 4 None }
+    ensures four { length buffers.new ≡ 4 }
+{
+    for buffer in buffers.iter_mut() {
+        buffer.set_row(None);
+    }
 }
 
 impl Working {
@@ -72,6 +84,13 @@ impl Working {
         ensures { self.new ≡ slice_set self.old buffer None }
     {
         self.buffers[buffer as usize].set_row(None);
+    }
+
+    /// All four buffers are free again.
+    pub fn clear(&mut self)
+        ensures { self.new ≡ replicate 4 None }
+    {
+        free_all(&mut self.buffers);
     }
 
     /// The bytes of a buffer.

@@ -1,7 +1,7 @@
 use Rattle.std.proofs.Common.{◌≡◌, Some, None, slice_index_or}
 use Rattle.tbl_model.specs.Tables.{table_at}
-use Rattle.tbl_registry.proofs.Places.{at_place-read}
 use Rattle.tbl_registry.proofs.NewImages.{put_sound, put_seen}
+use Rattle.tbl_registry.proofs.Places.{at_place-read}
 use Rattle.tbl_registry.proofs.tables.Tables.put.Goals as goal
 
 pub invariant_of-self : goal.invariant_of-self
