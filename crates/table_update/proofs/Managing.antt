@@ -12,6 +12,7 @@ use Rattle.tbl_model.specs.Validations.{judged_image, questions}
 use Rattle.tbl_model.specs.Management.{Done, nothing_done, then_update, manage_answer}
 use Rattle.tbl_kinds.specs.declared.entry.Answer.{Answer}
 use Rattle.tbl_kinds.specs.declared.status.TheConstants.Status.{SUCCESS, INFO_UPDATED, INFO_TABLE_LOCKED, INFO_NO_UPDATE_PENDING}
+use Rattle.validation.specs.Asked.{asks}
 use Rattle.validation.proofs.Ready.{changed_here}
 use Rattle.table_update.specs.Answers.{then_judged, then_updated, marked_by, verdicts_of, bits_of, answer_by, is_updated}
 use Rattle.table_update.specs.declared.judging.Judgement.{Judgement}
@@ -23,7 +24,7 @@ first_verdict given None second is = tt
 first_verdict given (Some j) None is = rw is refl
 first_verdict given (Some j) (Some k) is = rw is refl
 
-one_question : (number : Option ℕ) (image : List ℕ) → IsSome number → length (option_map_or {A = ℕ} {B = List Question} (λ n. record { number = n; image = image } ∷ []) number []) ≡ 1
+one_question : (number : Option ℕ) (image : List ℕ) → IsSome number → length (asks number image) ≡ 1
 one_question None image is = absurd (cc is)
 one_question (Some n) image is = refl
 
@@ -31,7 +32,9 @@ pub second_verdict : (s : State) (given : Given) (row : ℕ) (t : Table) (first 
     → IfSome second (λ j. verdict_at (length (then_judged row t first (nothing_done s)).asked) given ≡ j.verdict)
 second_verdict s given row t first None is has = tt
 second_verdict s given row t None (Some k) is has = rw is refl
-second_verdict s given row t (Some j) (Some k) is has = let one = one_question t.validator (judged_image t j.active) has in rw (is, one) refl
+second_verdict s given row t (Some j) (Some k) is has =
+    let one : length (then_judged row t (Some j) (nothing_done s)).asked ≡ 1 = one_question t.validator (judged_image t j.active) has in
+    rw (is, one) refl
 
 -- ---- the marks
 
@@ -60,10 +63,14 @@ module _ (row : ℕ) (t : Table) where
 -- ---- the update
 
   -- the update after the validations, by what was in its way
-  pub update_made : (d : Done) (new : Tables) (second : Option Judgement) → table_at d.state.tables row ≡ Some (marked_table second t) → update_refusal d.state.tables row (marked_table second t) ≡ None → new ≡ activate row d.state.tables
-      → then_update row d ≡ then_updated row t true (record d { state = record d.state { tables = set_time row d.state.seconds d.state.sub new } })
-  update_made d new None there none is = rw (there, none, is) refl
-  update_made d new (Some j) there none is = let image = same_load_image (is_good j.verdict) t.load in rw (there, none, is, image) refl
+  pub update_made : (d : Done) (u : Table) (new : Tables) → table_at d.state.tables row ≡ Some u → update_refusal d.state.tables row u ≡ None → new ≡ activate row d.state.tables
+      → then_update row d ≡ then_updated row u true (record d { state = record d.state { tables = set_time row d.state.seconds d.state.sub new } })
+  update_made d u new there none is = rw (is, there, none) refl
+
+  -- a mark isn't told
+  pub same_update : (second : Option Judgement) (d : Done) → then_updated row (marked_table second t) true d ≡ then_updated row t true d
+  same_update None d = refl
+  same_update (Some j) d = let image = same_load_image (is_good j.verdict) t.load in rw image refl
 
   pub update_refused : (d : Done) (u : Table) (answer : Answer) → table_at d.state.tables row ≡ Some u → update_refusal d.state.tables row u ≡ Some answer → then_update row d ≡ d
   update_refused d u answer there is = rw (there, is) refl
