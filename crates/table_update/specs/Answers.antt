@@ -3,18 +3,19 @@ use Rattle.std.specs.Prelude.{ℕ, ◌+◌, ◌==◌, List, [], ◌∷◌, ◌++
 use Rattle.std.proofs.Common.{ℤ}
 use Rattle.tbl_model.specs.State.{State, Table, Tables}
 use Rattle.tbl_model.specs.Effects.{Effect, answered}
-use Rattle.tbl_model.specs.TableSteps.{set_time}
+use Rattle.tbl_model.specs.TableSteps.{set_time, load_image}
 use Rattle.tbl_model.specs.Activations.{updated_effect}
-use Rattle.tbl_model.specs.Management.{Done}
+use Rattle.tbl_model.specs.Management.{Done, nothing_done, managed_effect}
 use Rattle.tbl_kinds.specs.Statuses.{is_success}
-use Rattle.tbl_model.specs.Deeds.{Question}
+use Rattle.tbl_model.specs.Deeds.{Question, activated}
 use Rattle.tbl_model.specs.Validations.{judged_image, questions, marked}
 use Rattle.tbl_model.specs.declared.deeds.Deed.{Deed}
 use Rattle.tbl_model.specs.declared.deeds.Deed.TheVariants.{Finished as Deed_finished}
-use Rattle.tbl_kinds.specs.declared.status.TheConstants.Status.{SUCCESS, ERR_UPDATE_PENDING, ERR_NEVER_LOADED, ERR_NO_LOAD, ERR_VALIDATION_PENDING, ERR_VALIDATIONS_FULL}
+use Rattle.tbl_kinds.specs.declared.status.TheConstants.Status.{SUCCESS, INFO_UPDATED, INFO_TABLE_LOCKED, ERR_UPDATE_PENDING, ERR_NEVER_LOADED, ERR_NO_LOAD, ERR_VALIDATION_PENDING, ERR_VALIDATIONS_FULL}
 use Rattle.tbl_model.specs.Pending.{is_pending}
 use Rattle.tbl_kinds.specs.declared.entry.Answer.{Answer}
 use Rattle.tbl_model.specs.Refusals.{refusal}
+use Rattle.table_update.specs.declared.management.Managed.{Managed}
 use Rattle.table_update.specs.declared.judging.Judgement.{Judgement}
 use Rattle.table_update.specs.declared.validations.Requested.{Requested}
 use Rattle.table_update.specs.declared.validations.Requested.TheVariants.{Refused, Asked, Finished}
@@ -101,6 +102,34 @@ marked_by row active (Some j) tables = marked row active j.verdict tables
 -- these tables and pending validations stand now
 abbrev pub with_tables : Tables → List (ℕ × Bool) → Done → Done
 with_tables tables pending d = record d { state = record d.state { tables = tables; pending = pending } }
+
+-- the update was made, if it was
+abbrev pub then_updated : ℕ → Table → Bool → Done → Done
+then_updated row t made d =
+    if made then record d { deeds = d.deeds ++ activated row t ∷ []; images = d.images ++ Some (load_image t) ∷ []; bits = d.bits + 4 } else d
+
+-- a bit for each thing that was done
+abbrev pub bits_of : Option Judgement → Option Judgement → Bool → ℕ
+bits_of first second made = (if is_some first then 1 else 0) + (if is_some second then 2 else 0) + (if made then 4 else 0)
+
+-- by what was in the way of the update
+abbrev pub answer_by : Option Answer → Answer
+answer_by None = record { status = INFO_UPDATED; detail = 0 }
+answer_by (Some answer) = if answer.status.0 == INFO_TABLE_LOCKED.0 then answer else record { status = SUCCESS; detail = 0 }
+
+abbrev pub is_updated : Answer → Bool
+is_updated answer = answer.status.0 == INFO_UPDATED.0
+
+-- what an owner is answered that has all done that is pending for the table in this row. Where the update was made, the
+-- tables lack its time
+abbrev pub managed : State → ℕ → Table → Managed → Tables → List (ℕ × Bool) → Effect
+managed s row t done tables pending =
+    let made = is_updated done.answer in
+    let d = then_updated row t made (then_judged row t done.second (then_judged row t done.first (nothing_done s))) in
+    managed_effect s done.answer (record d {
+      state = record s { tables = if made then set_time row s.seconds s.sub tables else tables; pending = pending };
+      bits = done.did;
+    })
 
 -- ---- verdicts
 

@@ -5,7 +5,10 @@
 
 mod judging;
 mod management;
+mod updates;
 mod validations;
 
 pub use judging::Judgement;
+pub use management::Managed;
+pub use updates::{request_activation, update};
 pub use validations::{Requested, Validated, request_validation, validate};

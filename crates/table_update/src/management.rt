@@ -8,12 +8,26 @@ ghost use Rattle.tbl_model.specs.Management.{Done, then_validate};
 ghost use Rattle.validation.specs.Kits.{FewAsked};
 ghost use Rattle.validation.specs.Asked.{WasAsked};
 ghost use Rattle.validation.specs.Ready.{ArePending, HaveFunctions, HaveLoads};
-ghost use Rattle.table_update.specs.Answers.{then_judged, with_tables, verdicts_of, asked_by, marked_by};
+ghost use Rattle.table_update.specs.Answers.{then_judged, with_tables, verdicts_of, asked_by, marked_by, bits_of, answer_by, managed};
 
 use crate::judging::{Judgement, finish};
+use tbl_kinds::{Answer, Status};
 use tbl_outside::Validator;
 use tbl_registry::Tables;
 use validation::{Kit, Pending};
+
+/// What was done of all that was pending for a table.
+#[derive(Clone, Copy, Debug, PartialEq, Eq)]
+#[must_use]
+pub struct Managed {
+    pub answer: Answer,
+    /// Bit 0 for the last image's validation, bit 1 for that of the load's, bit 2 for the update.
+    pub did: u8,
+    /// What the last image's validation came to.
+    pub first: Option<Judgement>,
+    /// And that of the load's image.
+    pub second: Option<Judgement>,
+}
 
 /// The validation of this image is done, where it is pending.
 fn validate_pending<C: Validator>(
@@ -39,4 +53,25 @@ fn validate_pending<C: Validator>(
         return None;
     }
     Some(finish(tables, kit, pending, row, active))
+}
+
+/// A bit for each thing that was done: the last image's validation, the load's, the update.
+fn did(first: Option<Judgement>, second: Option<Judgement>, updated: bool) -> u8
+    ensures { result ≡ bits_of first second updated }
+{
+    let first = if first.is_some() { 1 } else { 0 };
+    let second = if second.is_some() { 2 } else { 0 };
+    let third = if updated { 4 } else { 0 };
+    first + second + third
+}
+
+/// What an owner is answered, by what was in the way of the update.
+fn update_answer(refusal: Option<Answer>) -> Answer
+    ensures { result ≡ answer_by refusal }
+{
+    match refusal {
+        Some(answer) if answer.status == Status::INFO_TABLE_LOCKED => answer,
+        Some(_) => Answer::plain(Status::SUCCESS),
+        None => Answer::plain(Status::INFO_UPDATED),
+    }
 }

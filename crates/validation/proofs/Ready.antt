@@ -24,7 +24,7 @@ within : {X : Type 0} (xs : List (Option X)) (k : ℕ) (x : X) → slice_index_o
 within xs k x there = elim (cases_lt k (length xs)) [ inl is ↦ is | inr past ↦ absurd (cc (get_or_past xs k None past)) ]
 
 module _ (tables : Tables) (row : ℕ) (change : Table → Table) where
-  changed_here : (t : Table) → table_at tables row ≡ Some t → table_at (changed row change tables) row ≡ Some (change t)
+  pub changed_here : (t : Table) → table_at tables row ≡ Some t → table_at (changed row change tables) row ≡ Some (change t)
   changed_here t there = rw there (get_or-set_same tables.rows row (Some (change t)) None (within tables.rows row t there))
 
   nothing_here : table_at tables row ≡ None → changed row change tables ≡ tables
@@ -51,11 +51,11 @@ module _ (tables : Tables) (row : ℕ) (change : Table → Table) where
       by_table (Some t) is some holds here = rw (here, changed_here t is) (cc, λ u same. rw (sym (same_Some (change t) u same)) (keeps t is (holds t is)))
 
 -- what every table has, every table has still
-pub all_keep : (tables : Tables) (row : ℕ) (change : Table → Table) (P : Table → Type 0) → ((t : Table) → P t → P (change t)) → ((r : ℕ) → ForSome (table_at tables r) P) → (r : ℕ) → ForSome (table_at (changed row change tables) r) P
+pub all_keep : (tables : Tables) (row : ℕ) (change : Table → Table) (P : Table → Type 0) → ((t : Table) → table_at tables row ≡ Some t → P t → P (change t)) → ((r : ℕ) → ForSome (table_at tables r) P) → (r : ℕ) → ForSome (table_at (changed row change tables) r) P
 all_keep tables row change P keeps all r = by (table_at tables r) refl
   where
     by : (o : Option Table) → table_at tables r ≡ o → ForSome (table_at (changed row change tables) r) P
-    by (Some t) is = (stays_there tables row change P (λ u there. keeps u) r (rw is cc, all r)).1
+    by (Some t) is = (stays_there tables row change P keeps r (rw is cc, all r)).1
     by None is = elim (cases_eq r row) [
       | inl here ↦ rw (nothing_here tables row change (rw here at is)) (all r)
       | inr other ↦ rw (changed_there tables row change r other) (all r)
@@ -122,7 +122,7 @@ asked_keeps tables row active pending all can = λ r a is. elim (pending_added r
 
 pub mark_has_functions : {C : Type 0} (tables : Tables) (row : ℕ) (active : Bool) (verdict : ℤ) (kit : List (Option (KitEntry C))) → HaveFunctions tables kit → HaveFunctions (marked row active verdict tables) kit
 mark_has_functions tables row true verdict kit all = all
-mark_has_functions tables row false verdict kit all = all_keep tables row _ (λ t. ForSome t.validator (λ number. IsSome (entry_at kit number))) (λ t has. has) all
+mark_has_functions tables row false verdict kit all = all_keep tables row _ (λ t. ForSome t.validator (λ number. IsSome (entry_at kit number))) (λ t there has. has) all
 
 -- ---- other changes
 
@@ -149,12 +149,12 @@ dropped_keeps tables row active pending all = λ r a is. all r a (pending_droppe
 
 -- ---- loads whose activation is asked
 
-pub loads_keep : (tables : Tables) (row : ℕ) (change : Table → Table) → ((t : Table) → HasItsLoad t → HasItsLoad (change t)) → HaveLoads tables → HaveLoads (changed row change tables)
+pub loads_keep : (tables : Tables) (row : ℕ) (change : Table → Table) → ((t : Table) → table_at tables row ≡ Some t → HasItsLoad t → HasItsLoad (change t)) → HaveLoads tables → HaveLoads (changed row change tables)
 loads_keep tables row change keeps all = all_keep tables row change HasItsLoad keeps all
 
 pub mark_keeps_loads : (tables : Tables) (row : ℕ) (active : Bool) (verdict : ℤ) → HaveLoads tables → HaveLoads (marked row active verdict tables)
 mark_keeps_loads tables row true verdict all = all
-mark_keeps_loads tables row false verdict all = loads_keep tables row _ (λ t has asked. same_load (is_good verdict) t.load (has asked)) all
+mark_keeps_loads tables row false verdict all = loads_keep tables row _ (λ t there has asked. same_load (is_good verdict) t.load (has asked)) all
 
 -- ---- options
 
