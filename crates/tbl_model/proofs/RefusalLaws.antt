@@ -108,30 +108,26 @@ load_taken tables row t offset len none =
       opens = λ closed. rw closed at c.1;
     }
 
--- a registration that may look at the registered tables, while no validation function stands in the kit
-pub record TakesPlan (size flags : ℕ) (validator : Option ℕ) : Type 0 where
+-- a registration that may look at the registered tables
+pub record TakesPlan (kit : List (Option ℕ)) (app size flags : ℕ) (validator : Option ℕ) : Type 0 where
   pub some_bytes : 0 < size
   pub within : size ≤ table_limit
   pub no_flag : flags ≡ 0
-  pub no_validator : validator ≡ None
+  pub may : may_use kit app validator ≡ true
 
-pub plan_taken : (app : ℕ) (short : List ℕ) (size flags : ℕ) (validator : Option ℕ) → plan_refusal [] app short size flags validator ≡ None → TakesPlan size flags validator
-plan_taken app short size flags validator none =
+pub plan_taken : (kit : List (Option ℕ)) (app : ℕ) (short : List ℕ) (size flags : ℕ) (validator : Option ℕ) → plan_refusal kit app short size flags validator ≡ None → TakesPlan kit app size flags validator
+plan_taken kit app short size flags validator none =
     let a = passed (not (is_name short)) _ _ none in
     let b = passed (size == 0 || nat_lt table_limit size) _ _ a.1 in
     let c = passed (not (are_options flags)) _ _ b.1 in
-    let d = passed (not (may_use [] app validator)) _ _ c.1 in
+    let d = passed (not (may_use kit app validator)) _ None c.1 in
     let sized = b.0 in
     let plain = not_false _ c.0 in record {
       some_bytes = grind (arith, nat_tests);
       within = grind (arith, nat_tests);
       no_flag = grind (arith, nat_tests);
-      no_validator = by validator d.0;
+      may = not_false _ d.0;
     }
-  where
-    by : (v : Option ℕ) → not (may_use [] app v) ≡ false → v ≡ None
-    by None _ = refl
-    by (Some number) may = absurd (cc may)
 
 -- ---- what a refusal is
 
