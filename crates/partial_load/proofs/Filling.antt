@@ -1,21 +1,19 @@
 -- What a load does to a table that takes it, and what it is answered.
-use Rattle.std.proofs.Common.{◌≡◌, ◌==◌, ◌&&◌, ◌+◌, ◌≤◌, ℕ, List, [], ◌++◌, length, take, drop, Bool, true, false, cond, Option, Some, None, IsSome, refl, ap, sym, ◌∙◌, arith}
-use Rattle.std.specs.Prelude.{replicate, IfSome}
+use Rattle.std.proofs.Common.{◌≡◌, ◌==◌, ◌&&◌, ◌+◌, ℕ, List, [], length, drop, Bool, true, false, Option, Some, None, IsSome, refl, sym, arith}
+use Rattle.std.specs.Prelude.{replicate}
 use Rattle.std.proofs.lemmas.Bool.Decides.{nat_tests}
 use Rattle.std.proofs.lemmas.List.{append-nil, length-replicate}
 use Rattle.std.proofs.Math.Seq.{drop-length}
 use Rattle.tbl_kinds.specs.Numbers.{patched}
-use Rattle.tbl_kinds.specs.Statuses.{is_success}
 use Rattle.tbl_kinds.specs.TableFiles.{TableFile}
 use Rattle.tbl_model.specs.State.{State, Table, Tables}
 use Rattle.tbl_model.specs.Tables.{table_at}
-use Rattle.tbl_model.specs.TableSteps.{find, base, put, patch, set_load, set_file}
-use Rattle.tbl_model.specs.Refusals.{refusal, image_refusal, load_refusal, by_refusal}
-use Rattle.tbl_model.specs.Effects.{Effect, answered, named}
-use Rattle.tbl_model.specs.Applications.{activate_effect, load_image_of}
-use Rattle.tbl_model.specs.GroundLoads.{loaded_effect, load_into, load_file_effect}
+use Rattle.tbl_model.specs.TableSteps.{find, base, patch, set_load, set_file}
+use Rattle.tbl_model.specs.Refusals.{load_refusal}
+use Rattle.tbl_model.specs.Effects.{named}
+use Rattle.tbl_model.specs.GroundLoads.{load_into, load_file_effect}
 use Rattle.tbl_model.proofs.RefusalLaws.{load_taken}
-use Rattle.partial_load.specs.Answers.{load_answered, image_answered}
+use Rattle.partial_load.specs.Answers.{load_answered}
 use Rattle.tbl_kinds.specs.declared.entry.Answer.{Answer}
 use Rattle.tbl_kinds.specs.declared.status.Status.{Status}
 use Rattle.tbl_kinds.specs.declared.status.TheConstants.Status.{SUCCESS, ERR_NO_SUCH_TABLE}
@@ -60,16 +58,16 @@ answer_is answer status p q = λ i. record { status = p i; detail = q i }
 
 module _ (s : State) (name : List ℕ) (file : TableFile) where
   module _ (row : ℕ) (t : Table) (there : table_at s.tables row ≡ Some t) where
-    pub load_turned_away : (answer : Answer) → Some answer ≡ load_refusal s.tables row t file.offset (length file.image) → load_into s name file row (table_at s.tables row) ≡ load_answered s None answer s.tables
-    load_turned_away answer first = rw (there, ← first) refl
+    pub load_turned_away : (answer : Answer) → Some answer ≡ load_refusal s.tables row t file.offset (length file.image) → load_into s name file row t ≡ load_answered s None answer s.tables
+    load_turned_away answer first = rw (← first) refl
 
-    pub load_taken_up : None ≡ load_refusal s.tables row t file.offset (length file.image) → load_into s name file row (table_at s.tables row) ≡ load_answered s None (record { status = SUCCESS; detail = 0 }) (set_file row name (patch row file.offset file.image s.tables))
-    load_taken_up first = rw (there, ← first, there) refl
+    pub load_taken_up : None ≡ load_refusal s.tables row t file.offset (length file.image) → load_into s name file row t ≡ load_answered s None (record { status = SUCCESS; detail = 0 }) (set_file row name (patch row file.offset file.image s.tables))
+    load_taken_up first = rw (← first) refl
 
   pub not_found : find file.name s.tables ≡ None → load_file_effect s name file ≡ load_answered s (named file.name None) (record { status = ERR_NO_SUCH_TABLE; detail = 0 }) s.tables
   unfolding load_file_effect
   not_found none = rw none refl
 
-  pub found_in : (row : ℕ) (answer : Answer) (tables : Tables) → find file.name s.tables ≡ Some row → load_into s name file row (table_at s.tables row) ≡ load_answered s None answer tables → load_file_effect s name file ≡ load_answered s (named file.name (Some row)) answer tables
+  pub found_in : (row : ℕ) (t : Table) (answer : Answer) (tables : Tables) → find file.name s.tables ≡ Some row → table_at s.tables row ≡ Some t → load_into s name file row t ≡ load_answered s None answer tables → load_file_effect s name file ≡ load_answered s (named file.name (Some row)) answer tables
   unfolding load_file_effect
-  found_in row answer tables found into = rw (found, into) refl
+  found_in row t answer tables found there into = rw (found, there, into) refl

@@ -86,7 +86,7 @@ pub fn load_into(
 ) -> Result<Answer, Memory>
     requires table { IsSome (table_at tables.old row) }
     requires count { length image.now ≡ parsed.now.count }
-    ensures effect { IfOk result (λ answer. (s : State) → s.tables ≡ tables.old → load_into s file.now (with_image parsed.now image.now) row (table_at s.tables row) ≡ load_answered s None answer tables.new) }
+    ensures effect { IfOk result (λ answer. (s : State) → s.tables ≡ tables.old → ForSome (table_at tables.old row) (λ t. load_into s file.now (with_image parsed.now image.now) row t ≡ load_answered s None answer tables.new)) }
     ensures refused { IfOk result (λ answer. is_success answer.status ≡ false → tables.new ≡ tables.old) }
     ensures err { OnErr result (tables.new ≡ tables.old) }
 {

@@ -1,11 +1,12 @@
 //! Images that applications load.
 
-ghost use Rattle.std.specs.Prelude.{◌≡◌, ◌<◌, ◌-◌, ◌^◌, false, Some, IsSome, IfOk, OnOk, OnErr};
+ghost use Rattle.std.specs.Prelude.{◌≡◌, ◌<◌, ◌-◌, ◌^◌, false, Some, None, IsSome, IfOk, OnOk, OnErr};
 ghost use Rattle.std.specs.Option.{ForSome};
 ghost use Rattle.tbl_kinds.specs.Statuses.{is_success};
 ghost use Rattle.tbl_model.specs.State.{State};
 ghost use Rattle.tbl_model.specs.Tables.{table_at};
-ghost use Rattle.tbl_model.specs.Applications.{load_image_of};
+ghost use Rattle.tbl_model.specs.Given.{Given};
+ghost use Rattle.tbl_model.specs.AppLoads.{load_image_of};
 ghost use Rattle.partial_load.specs.Answers.{image_answered};
 
 use crate::refusals::image_refusal;
@@ -25,7 +26,7 @@ pub fn image_load(
 ) -> Result<Answer, Memory>
     requires table { IsSome (table_at tables.old row) }
     requires few { ForSome (table_at tables.old row) (λ t. t.count < 2 ^ 32 - 1) }
-    ensures effect { IfOk result (λ answer. (s : State) → s.tables ≡ tables.old → load_image_of s row (table_at s.tables row) image.now ≡ image_answered s row (table_at s.tables row) image.now answer tables.new) }
+    ensures effect { IfOk result (λ answer. (s : State) (given : Given) → s.tables ≡ tables.old → ForSome (table_at tables.old row) (λ t. t.validator ≡ None → load_image_of s image.now given row t ≡ image_answered s row t image.now answer tables.new)) }
     ensures refused { IfOk result (λ answer. is_success answer.status ≡ false → tables.new ≡ tables.old) }
     ensures table { OnOk result (IsSome (table_at tables.new row)) }
     ensures err { OnErr result (tables.new ≡ tables.old) }

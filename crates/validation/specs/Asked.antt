@@ -1,5 +1,5 @@
 -- What a kit does when it is asked: it gives the verdicts of its functions, and each of them counts.
-use Rattle.std.specs.Prelude.{◌≡◌, ℕ, ◌+◌, ◌==◌, List, [], ◌∷◌, length, Bool, count_by, Option, Some, None}
+use Rattle.std.specs.Prelude.{◌≡◌, ℕ, ◌+◌, ◌==◌, List, [], ◌∷◌, length, Bool, count_by, Option, Some, None, IsSome}
 use Rattle.std.specs.Option.{ForSome}
 use Rattle.std.proofs.Common.{ℤ}
 use Rattle.tbl_model.specs.Deeds.{Question}
@@ -10,9 +10,9 @@ use Rattle.validation.specs.Kits.{entry_at}
 abbrev pub is_for : ℕ → Question → Bool
 is_for number q = q.number == number
 
--- the kit's function that is asked gives this verdict on the image
+-- the function that is asked stands in the kit, and gives this verdict on the image
 abbrev pub Gives : {C : Type 0} → (C → List ℕ → ℤ) → List (Option (KitEntry C)) → Question → ℤ → Type 0
-Gives verdict kit q v = ForSome (entry_at kit q.number) (λ entry. v ≡ verdict entry.check q.image)
+Gives verdict kit q v = IsSome (entry_at kit q.number) × ForSome (entry_at kit q.number) (λ entry. v ≡ verdict entry.check q.image)
 
 -- and so for each question, in order
 abbrev pub GivesEach : {C : Type 0} → (C → List ℕ → ℤ) → List (Option (KitEntry C)) → List Question → List (Option ℤ) → Type 0
@@ -24,7 +24,7 @@ GivesEach verdict kit (q ∷ more) (Some v ∷ verdicts) = Gives verdict kit q v
 -- the same function of the same application, asked so many times more; where there is none, none comes
 abbrev pub Stays : {C : Type 0} → (C → List ℕ → ℤ) → (C → ℕ) → ℕ → Option (KitEntry C) → Option (KitEntry C) → Type 0
 Stays verdict asked times None new = new ≡ None
-Stays verdict asked times (Some old) new = ForSome new (λ entry. (entry.app ≡ old.app) × ((image : List ℕ) → verdict entry.check image ≡ verdict old.check image) × (asked entry.check ≡ asked old.check + times))
+Stays verdict asked times (Some old) new = IsSome new × ForSome new (λ entry. (entry.app ≡ old.app) × ((image : List ℕ) → verdict entry.check image ≡ verdict old.check image) × (asked entry.check ≡ asked old.check + times))
 
 -- it was asked these questions, and gave these verdicts
 pub record WasAsked {C : Type 0} (verdict : C → List ℕ → ℤ) (asked : C → ℕ) (old new : List (Option (KitEntry C))) (questions : List Question) (verdicts : List (Option ℤ)) : Type 0 where

@@ -1,5 +1,5 @@
 -- A kit of validation functions: which application's stands under each number.
-use Rattle.std.specs.Prelude.{◌≡◌, ◌≢◌, ℕ, ◌+◌, ◌==◌, List, map, length, Bool, false, if◌then◌else◌, slice_index_or, Option, Some, None}
+use Rattle.std.specs.Prelude.{◌≡◌, ℕ, ◌+◌, ◌==◌, List, map, Bool, false, if◌then◌else◌, slice_index_or, Option, None}
 use Rattle.std.proofs.Common.{ℤ}
 use Rattle.std.specs.Option.{option_map, option_map_or}
 use Rattle.tbl_outside.specs.declared.validator.KitEntry.{KitEntry}

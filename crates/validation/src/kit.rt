@@ -1,6 +1,7 @@
-ghost use Rattle.std.specs.Prelude.{◌≡◌, ◌≢◌, ◌<◌, ◌^◌, ℕ, List, Option, Some, map, length, IsSome, IfOk};
+ghost use Rattle.std.specs.Prelude.{◌≡◌, ◌≢◌, ◌<◌, ◌^◌, ℕ, List, [], ◌∷◌, Option, Some, None, map, length, IsSome, IfOk};
 ghost use Rattle.std.specs.Option.{ForSome};
 ghost use Rattle.validation.specs.Kits.{entry_at, is_of, dropped, AskedOnce};
+ghost use Rattle.validation.specs.Asked.{WasAsked};
 ghost use Rattle.tbl_outside.specs.declared.validator.KitEntry.{KitEntry as Entry};
 
 use std::alloc::Global;
@@ -17,6 +18,7 @@ pub struct Kit<C: Validator> {
 
 impl<C: Validator> Model for Kit<C> {
     ghost use Rattle.std.specs.Prelude.{List, Option};
+    ghost use Rattle.validation.specs.Asked.{WasAsked};
     ghost use Rattle.tbl_outside.specs.declared.validator.KitEntry.{KitEntry};
 
     ghost Value = { List (Option (KitEntry C)) };
@@ -83,6 +85,7 @@ impl<C: Validator> Kit<C> {
         ensures asked { ForSome (entry_at self.old number) (λ old. ForSome (entry_at self.new number) (AskedOnce C.verdict C.asked old)) }
         ensures others { (n : ℕ) → n ≢ number → entry_at self.new n ≡ entry_at self.old n }
         ensures numbers { length self.new ≡ length self.old }
+        ensures answers { WasAsked C.verdict C.asked self.old self.new (record { number = number; image = image.now } ∷ []) (Some result ∷ None ∷ []) }
     {
         let Some(entry) = &mut self.entries[number as usize] else {
             unreachable!();

@@ -1,4 +1,4 @@
-use Rattle.std.proofs.Common.{◌≡◌, ◌∙◌, sym, length}
+use Rattle.std.proofs.Common.{length}
 use Rattle.tbl_model.proofs.RefusalLaws.{load_taken}
 use Rattle.partial_load.proofs.ground.fill.Goals as goal
 

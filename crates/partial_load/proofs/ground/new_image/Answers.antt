@@ -1,4 +1,4 @@
-use Rattle.std.proofs.Common.{◌≡◌, ◌∙◌, sym, ap, List, ℕ, length, arith}
+use Rattle.std.proofs.Common.{◌∙◌, ap, List, ℕ, length, arith}
 use Rattle.std.proofs.lemmas.Result.{IfOk-weaker}
 use Rattle.tbl_model.specs.Tables.{table_at}
 use Rattle.tbl_model.proofs.RefusalLaws.{load_taken}

@@ -1,5 +1,4 @@
-use Rattle.std.proofs.Common.{◌≡◌, ◌∙◌, sym, refl, Some, None, length}
-use Rattle.tbl_model.specs.Tables.{table_at}
+use Rattle.std.proofs.Common.{sym}
 use Rattle.tbl_model.proofs.RefusalLaws.{image_taken}
 use Rattle.partial_load.proofs.images.image_load.Goals as goal
 
