@@ -2,6 +2,7 @@ pub mod Buffers
 pub mod Cases
 pub mod CommandAnswers
 pub mod Fair
+pub mod Few
 pub mod Ordinary
 pub mod Pins
 pub mod Places

@@ -16,7 +16,7 @@ use crate::addresses::{get, read, release};
 use crate::applications::{register, start};
 use crate::asked::Asked;
 use crate::commands::command;
-use crate::effect::Effect;
+use crate::effect::{Effect, room_for_deeds};
 use crate::files::file;
 use crate::loads::load_image;
 use crate::parts::Parts;
@@ -44,6 +44,7 @@ impl Parts {
         ensures err { OnErr result (held_of self.new ≡ held_of self.old) }
     {
         let empty = Bytes::make(self.alloc, 0)?;
+        let deeds = room_for_deeds(self.alloc, request)?;
         let tables = &mut self.tables;
         let apps = &mut self.apps;
         let effect = match (actor, request) {
@@ -73,6 +74,7 @@ impl Parts {
                     app,
                     *handle,
                     image.bytes(),
+                    deeds,
                     empty,
                 )?
             }

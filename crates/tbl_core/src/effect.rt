@@ -1,15 +1,14 @@
 //! What a request does, as a value: its answer, and what telemetry tells of it.
 
-ghost use Rattle.std.specs.Prelude.{◌≡◌, [], ◌∷◌, None};
+ghost use Rattle.std.specs.Prelude.{◌≡◌, [], ◌∷◌, None, IfOk, vec_capacity};
 ghost use Rattle.tbl_model.specs.Given.{nothing_given};
+ghost use Rattle.tbl_core.specs.Asked.{most_deeds};
 ghost use Rattle.tbl_core.specs.Effects.{given_of};
 
-use arrayvec::ArrayVec;
-use tbl_kinds::{Answer, BankNote, Bytes, Outcome, Slots};
+use crate::asked::most_deeds;
+use std::alloc::Global;
+use tbl_kinds::{Answer, BankNote, Bytes, Memory, Outcome, Request, Slots};
 use tbl_model::{Deed, Named, Shown};
-
-/// The most deeds of a request.
-pub(crate) const MOST_DEEDS: usize = 8;
 
 /// What a request did, once it is done.
 #[derive(Drop)]
@@ -19,7 +18,7 @@ pub(crate) struct Effect {
     pub bytes: Bytes,
     /// The table that a command names or a load fills.
     pub table: Option<Named>,
-    pub deeds: ArrayVec<Deed, MOST_DEEDS>,
+    pub deeds: Vec<Deed>,
     /// The packet behind the events.
     pub shown: Shown,
     /// How the calls of the Critical Data Store went.
@@ -28,8 +27,16 @@ pub(crate) struct Effect {
     pub verdicts: [Option<i32>; 2],
 }
 
+/// Reserved room for the deeds of a request.
+pub(crate) fn room_for_deeds(alloc: Global, request: &Request) -> Result<Vec<Deed>, Memory>
+    ensures empty { IfOk result (λ deeds. deeds.items ≡ []) }
+    ensures room { IfOk result (λ deeds. vec_capacity deeds ≡ most_deeds request.now) }
+{
+    Ok(Vec::with_capacity(alloc, most_deeds(request))?)
+}
+
 /// The note of a request that made no call of the Critical Data Store.
-fn untouched() -> BankNote
+pub(crate) fn untouched() -> BankNote
     ensures { result ≡ nothing_given.note }
 {
     BankNote {
@@ -53,11 +60,12 @@ impl Effect {
         ensures shown { result.shown ≡ Shown.Nothing }
         ensures given { given_of result ≡ nothing_given }
     {
+        let deeds = Vec::new(bytes.allocator());
         Effect {
             answer,
             bytes,
             table: None,
-            deeds: ArrayVec::new(),
+            deeds,
             shown: Shown::Nothing,
             note: untouched(),
             verdicts: [None, None],

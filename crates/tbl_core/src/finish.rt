@@ -29,6 +29,7 @@ pub(crate) fn packets_room(request: &Request, asked: &Asked) -> usize
 
 impl Parts {
     /// Appends the packets of a request, and counts it.
+    #[tactic(auto, using(crate::proofs::Few::few_deeds))]
     fn tell(&mut self, request: &Request, asked: &Asked, effect: &Effect, packets: &mut Bytes)
         requires asked { asked_of asked.now ≡ asked_in request.now }
         requires within { IsWithin (most_deeds request.now) (asks_housekeeping (asked_of asked.now)) effect.now }

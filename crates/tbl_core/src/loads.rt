@@ -1,6 +1,6 @@
 //! Images that applications load.
 
-ghost use Rattle.std.specs.Prelude.{◌≡◌, ◌-◌, ◌^◌, ◌≤◌, ◌<◌, ◌∷◌, [], length, false, None, Some, IsSome, OnErr, IfOk};
+ghost use Rattle.std.specs.Prelude.{◌≡◌, ◌-◌, ◌^◌, ◌≤◌, ◌<◌, ◌∷◌, [], length, false, vec_capacity, None, Some, IsSome, OnErr, IfOk};
 ghost use Rattle.std.specs.Option.{ForSome};
 ghost use Rattle.tbl_model.specs.State.{State};
 ghost use Rattle.tbl_model.specs.Tables.{table_at};
@@ -13,9 +13,8 @@ ghost use Rattle.tbl_core.specs.Effects.{IsEffect, IsWithin, given_of};
 ghost use Rattle.tbl_core.specs.Service.{HasFewImages};
 
 use crate::checks::{BUFFERS, answered_load, check};
-use crate::effect::Effect;
+use crate::effect::{Effect, untouched};
 use crate::parts::Clock;
-use arrayvec::ArrayVec;
 use partial_load::image_load;
 use sharing::Apps;
 use std::alloc::Global;
@@ -24,7 +23,9 @@ use tbl_model::{Deed, Named, Shown};
 use tbl_registry::Tables;
 
 /// The effect of an image that goes active, as the next one of the table in a row.
-fn activated(tables: &Tables, row: u8, empty: Bytes) -> Effect
+fn activated(tables: &Tables, row: u8, mut deeds: Vec<Deed>, empty: Bytes) -> Effect
+    requires no_deeds { deeds.items ≡ [] }
+    requires room { 1 ≤ vec_capacity deeds }
     requires table { IsSome (table_at tables.now row) }
     requires few { ForSome (table_at tables.now row) (λ t. t.count < 2 ^ 32 - 1) }
     ensures answer { result.answer ≡ record { status = Status.SUCCESS; detail = 0 } }
@@ -40,19 +41,22 @@ fn activated(tables: &Tables, row: u8, empty: Bytes) -> Effect
     let Some(name) = tables.name(row) else {
         unreachable!();
     };
-    let mut deeds = ArrayVec::new();
-    deeds.push(Deed::Activated {
+    deeds.push_reserved(Deed::Activated {
         row,
         count: table.count + 1,
         name: name.copy(),
     });
     Effect {
+        answer: Answer::plain(Status::SUCCESS),
+        bytes: empty,
         table: Some(Named {
             row,
             name: name.copy(),
         }),
         deeds,
-        ..Effect::of(Answer::plain(Status::SUCCESS), empty)
+        shown: Shown::Nothing,
+        note: untouched(),
+        verdicts: [None, None],
     }
 }
 
@@ -66,8 +70,11 @@ pub(crate) fn load_image(
     app: u8,
     handle: u16,
     image: &[u8],
+    deeds: Vec<Deed>,
     mut empty: Bytes,
 ) -> Result<Effect, Memory>
+    requires no_deeds { deeds.items ≡ [] }
+    requires room { 1 ≤ vec_capacity deeds }
     requires empty { empty.list ≡ [] }
     requires few { HasFewImages tables.old record_limit }
     ensures effect { IfOk result (λ done. (s : State) → s.tables ≡ tables.old → s.apps ≡ apps.now → s.seconds ≡ clock.seconds → s.sub ≡ clock.sub → IsEffect done (record s { tables = tables.new }) (load_image_effect s app handle image.now)) }
@@ -81,7 +88,7 @@ pub(crate) fn load_image(
         Ok(row) => row,
         Err(status) => return Ok(Effect::of(Answer::plain(status), empty)),
     };
-    let accepted = activated(tables, row, Bytes::make(alloc, 0)?);
+    let accepted = activated(tables, row, deeds, Bytes::make(alloc, 0)?);
     let answer = image_load(alloc, tables, row, image)?;
     if answer.status != Status::SUCCESS {
         return Ok(answered_load(tables, answer, empty));

@@ -181,6 +181,7 @@ pub(crate) fn put_events(
     asked: &Asked,
     effect: &Effect,
 )
+    requires few { length effect.now.deeds.items ≤ 8 }
     requires sent { sent < 16384 }
     requires room { 24 * length (told_events (asked_of asked.now) effect.now) ≤ packets.old.spare }
     ensures bytes { packets.new.list ≡ packets.old.list ++ event_packets clock.seconds clock.sub sent (told_events (asked_of asked.now) effect.now) }
@@ -323,6 +324,7 @@ fn latest_dump(deeds: &[Deed]) -> Option<Name64>
 
 /// How many events a request sends.
 fn event_count(asked: &Asked, effect: &Effect) -> u8
+    requires { length effect.now.deeds.items ≤ 8 }
     ensures { result ≡ length (told_events (asked_of asked.now) effect.now) }
 {
     let deeds = effect.deeds.len() as u8;
@@ -415,7 +417,8 @@ fn adds_request(asked: &Asked, effect: &Effect) -> bool
 
 /// What a request adds to the running numbers.
 pub(crate) fn tally(clock: Clock, request: &Request, asked: &Asked, effect: &Effect) -> Tally
-    requires { asked_of asked.now ≡ asked_in request.now }
+    requires asked { asked_of asked.now ≡ asked_in request.now }
+    requires few { length effect.now.deeds.items ≤ 8 }
     ensures { tally_view result ≡ tally_of (told_at clock.seconds clock.sub no_tables request.now effect.now) }
 {
     let restarted = restarts(request, effect);

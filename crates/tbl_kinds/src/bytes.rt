@@ -52,6 +52,11 @@ impl Bytes {
         self.items.as_slice()
     }
 
+    /// Where the memory of the bytes comes from.
+    pub fn allocator(&self) -> Global {
+        *self.items.allocator()
+    }
+
     /// The same bytes in memory of their own.
     pub fn copy(&self) -> Result<Bytes, Memory>
         ensures { IfOk result (λ b. b.list ≡ self.now.list) }

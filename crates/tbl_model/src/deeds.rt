@@ -69,10 +69,3 @@ pub enum Shown {
     /// The registry packet of the table in this row.
     Registry { row: u8 },
 }
-
-impl Default for Deed {
-    /// What stands in the places of an `ArrayVec` that hold no deed.
-    fn default() -> Deed {
-        Deed::NotDumped { row: 0 }
-    }
-}
