@@ -13,6 +13,7 @@ ghost use Rattle.tbl_model.specs.GroundLoads.{load_into, load_file_effect};
 ghost use Rattle.table_files.specs.Files.{with_image};
 ghost use Rattle.partial_load.specs.Answers.{load_answered};
 
+use crate::making::new_image;
 use crate::refusals::load_refusal;
 use buffer_pairs::Image;
 use std::alloc::Global;
@@ -20,41 +21,8 @@ use table_files::TableFile;
 use tbl_kinds::{Answer, Memory, Name64, Status};
 use tbl_registry::Tables;
 
-/// What a load of the table of a row begins with: the image of its open load, or its last one. None stands for zeros.
-fn base(tables: &Tables, row: u8) -> Option<&[u8]>
-    requires { IsSome (table_at tables.now row) }
-    ensures image { IfSome result (λ image. ForSome (table_at tables.now row) (λ t. image.now ≡ base t)) }
-    ensures size { IfSome result (λ image. ForSome (table_at tables.now row) (λ t. length image.now ≡ t.size)) }
-    ensures zeros { IfNone result (ForSome (table_at tables.now row) (λ t. base t ≡ replicate t.size 0)) }
-    ensures none { IfNone result (ForSome (table_at tables.now row) (λ t. t.count ≡ 0)) }
-{
-    match tables.load(row) {
-        Some(image) => Some(image),
-        None => tables.last(row),
-    }
-}
-
-/// What a load of a table begins with, with bytes over some of it. A table that was never loaded takes only bytes for all
-/// of it, unless a load is open.
-fn new_image(
-    alloc: Global,
-    tables: &Tables,
-    row: u8,
-    offset: u32,
-    bytes: &[u8],
-) -> Result<Image, Memory>
-    requires table { IsSome (table_at tables.now row) }
-    requires taken { ForSome (table_at tables.now row) (λ t. load_refusal tables.now row t offset (length bytes.now) ≡ None) }
-    ensures image { IfOk result (λ image. ForSome (table_at tables.now row) (λ t. image ≡ patched (base t) offset bytes.now)) }
-    ensures size { IfOk result (λ image. ForSome (table_at tables.now row) (λ t. length image ≡ t.size)) }
-{
-    match base(tables, row) {
-        Some(base) => Image::patched(alloc, base, offset, bytes),
-        None => Image::of(alloc, bytes),
-    }
-}
-
 /// Writes bytes into the load of a table, which is opened where none is open. In place, where nobody else has the image.
+#[tactic(auto, using(crate::proofs::Filling::part_of_load))]
 fn fill(
     alloc: Global,
     tables: &mut Tables,

@@ -1,40 +1,204 @@
-//! Images that applications load.
+//! Images and files that the owners of tables load.
 
-ghost use Rattle.std.specs.Prelude.{◌≡◌, ◌<◌, ◌-◌, ◌^◌, false, Some, None, IsSome, IfOk, OnOk, OnErr};
-ghost use Rattle.std.specs.Option.{ForSome};
+ghost use Rattle.std.specs.Prelude.{◌≡◌, ◌<◌, ◌-◌, ◌^◌, ℕ, List, [], ◌∷◌, length, false, true, Some, None, IsSome, is_some, IfOk, OnOk, OnErr};
+ghost use Rattle.std.specs.Option.{ForSome, option_map};
+ghost use Rattle.std.specs.Borrow.{Bor};
+ghost use Rattle.tbl_kinds.specs.Numbers.{patched};
 ghost use Rattle.tbl_kinds.specs.Statuses.{is_success};
 ghost use Rattle.tbl_model.specs.State.{State};
 ghost use Rattle.tbl_model.specs.Tables.{table_at};
+ghost use Rattle.tbl_model.specs.TableSteps.{put, locker, access_of};
 ghost use Rattle.tbl_model.specs.Given.{Given};
-ghost use Rattle.tbl_model.specs.AppLoads.{load_image_of};
-ghost use Rattle.partial_load.specs.Answers.{image_answered};
+ghost use Rattle.tbl_model.specs.Refusals.{closed_refusal, file_refusal};
+ghost use Rattle.tbl_model.specs.AppLoads.{load_image_of, load_file_of, file_image};
+ghost use Rattle.table_files.specs.Files.{with_image};
+ghost use Rattle.validation.specs.Kits.{MayAsk};
+ghost use Rattle.validation.specs.Asked.{WasAsked, asks};
+ghost use Rattle.partial_load.specs.Answers.{verdict_answer, image_answered, file_answered, app_load_of, app_load_answered};
+ghost use Rattle.table_files.specs.declared.reading.TableFile.{TableFile as File};
 
-use crate::refusals::image_refusal;
+use crate::making::new_image;
+use crate::refusals::{closed_refusal, file_refusal, image_refusal};
 use buffer_pairs::Image;
 use std::alloc::Global;
+use table_files::TableFile;
 use tbl_kinds::{Answer, Memory, Status};
+use tbl_outside::Validator;
 use tbl_registry::Tables;
+use validation::Kit;
 
-/// An image of the table of a row, which its owner loads (`CFE_TBL_Load` from an address; cFE User's Guide, Table Services,
-/// "Loading tables"): where nothing refuses it, it is active. The time of the table's last update stays for the caller to
-/// set. `ERR_NO_BUFFER_AVAIL`: `Tables::in_use` tells which rows have the buffers. Out of memory: nothing was changed.
-pub fn image_load(
+/// What a load of a table's owner is answered, and the verdict of the table's validation function, if it was asked.
+#[derive(Clone, Copy, Debug, PartialEq, Eq)]
+#[must_use]
+pub struct Loaded {
+    pub answer: Answer,
+    pub verdict: Option<i32>,
+}
+
+/// What a load is answered that nothing refuses but the verdict on its image.
+fn verdict_answer(verdict: Option<i32>) -> Answer
+    ensures { result ≡ verdict_answer verdict }
+{
+    match verdict {
+        Some(verdict) if verdict.cast_unsigned() != 0 => Answer {
+            status: Status::ERR_VALIDATION_FAILED,
+            detail: verdict.cast_unsigned(),
+        },
+        _ => Answer::plain(Status::SUCCESS),
+    }
+}
+
+/// The number of the validation function of the table of a row.
+fn validator(tables: &Tables, row: u8) -> Option<u8>
+    requires { IsSome (table_at tables.now row) }
+    ensures { ForSome (table_at tables.now row) (λ t. result ≡ t.validator) }
+{
+    let Some(table) = tables.row(row) else {
+        unreachable!();
+    };
+    table.validator
+}
+
+/// An image that nothing refuses is active, unless the table's function judges otherwise.
+fn admit<C: Validator>(tables: &mut Tables, kit: &mut Kit<C>, row: u8, image: Image) -> Loaded
+    requires table { IsSome (table_at tables.old row) }
+    requires unlocked { ForSome (table_at tables.old row) (λ t. locker tables.old row t ≡ None) }
+    requires no_load { ForSome (table_at tables.old row) (λ t. t.load ≡ None) }
+    requires size { ForSome (table_at tables.old row) (λ t. length image ≡ t.size) }
+    requires few { ForSome (table_at tables.old row) (λ t. t.count < 2 ^ 32 - 1) }
+    requires kit { ForSome (table_at tables.old row) (λ t. ForSome t.validator (MayAsk C.asked 1 kit.old)) }
+    ensures answer { result.answer ≡ verdict_answer result.verdict }
+    ensures told { ForSome (table_at tables.old row) (λ t. is_some result.verdict ≡ is_some t.validator) }
+    ensures active { is_success result.answer.status ≡ true → tables.new ≡ put row image tables.old }
+    ensures refused { is_success result.answer.status ≡ false → tables.new ≡ tables.old }
+    ensures table { IsSome (table_at tables.new row) }
+    ensures asked { ForSome (table_at tables.old row) (λ t. WasAsked C.verdict C.asked kit.old kit.new (asks t.validator image) (result.verdict ∷ None ∷ [])) }
+{
+    let number = validator(tables, row);
+    let verdict = kit.judge(number, image.bytes());
+    let answer = verdict_answer(verdict);
+    if answer.status != Status::SUCCESS {
+        return Loaded { answer, verdict };
+    }
+    tables.put(row, image);
+    Loaded { answer, verdict }
+}
+
+/// An answer without a question.
+fn refused(answer: Answer) -> Loaded
+    ensures { result ≡ record { answer = answer; verdict = None } }
+{
+    Loaded {
+        answer,
+        verdict: None,
+    }
+}
+
+/// An image of the whole table of a row, which its owner loads (`CFE_TBL_Load` from an address; cFE User's Guide, Table
+/// Services, "Loading tables"): where nothing refuses it and the table's validation function, if it has one, answers 0,
+/// it is active. The function is asked once, after all other tests. The time of the table's last update stays for the
+/// caller to set. `ERR_NO_BUFFER_AVAIL`: `Tables::in_use` tells which rows have the buffers; `ERR_VALIDATION_FAILED`: the
+/// detail is the verdict. Out of memory: nothing was changed, and nobody was asked.
+pub fn load_image<C: Validator>(
     alloc: Global,
     tables: &mut Tables,
+    kit: &mut Kit<C>,
     row: u8,
     image: &[u8],
-) -> Result<Answer, Memory>
+) -> Result<Loaded, Memory>
     requires table { IsSome (table_at tables.old row) }
     requires few { ForSome (table_at tables.old row) (λ t. t.count < 2 ^ 32 - 1) }
-    ensures effect { IfOk result (λ answer. (s : State) (given : Given) → s.tables ≡ tables.old → ForSome (table_at tables.old row) (λ t. t.validator ≡ None → load_image_of s image.now given row t ≡ image_answered s row t image.now answer tables.new)) }
-    ensures refused { IfOk result (λ answer. is_success answer.status ≡ false → tables.new ≡ tables.old) }
+    requires kit { ForSome (table_at tables.old row) (λ t. ForSome t.validator (MayAsk C.asked 1 kit.old)) }
+    ensures effect { IfOk result (λ loaded. (s : State) (given : Given) → s.tables ≡ tables.old → given.verdicts ≡ loaded.verdict ∷ None ∷ [] → ForSome (table_at tables.old row) (λ t. load_image_of s image.now given row t ≡ image_answered s row t image.now loaded tables.new)) }
+    ensures asked { IfOk result (λ loaded. (s : State) (given : Given) → s.tables ≡ tables.old → given.verdicts ≡ loaded.verdict ∷ None ∷ [] → ForSome (table_at tables.old row) (λ t. WasAsked C.verdict C.asked kit.old kit.new (load_image_of s image.now given row t).asked (loaded.verdict ∷ None ∷ []))) }
+    ensures refused { IfOk result (λ loaded. is_success loaded.answer.status ≡ false → tables.new ≡ tables.old) }
     ensures table { OnOk result (IsSome (table_at tables.new row)) }
     ensures err { OnErr result (tables.new ≡ tables.old) }
+    ensures not_asked { OnErr result (kit.new ≡ kit.old) }
 {
     if let Some(answer) = image_refusal(tables, row, image.len()) {
-        return Ok(answer);
+        return Ok(refused(answer));
     }
     let image = Image::of(alloc, image)?;
-    tables.put(row, image);
-    Ok(Answer::plain(Status::SUCCESS))
+    Ok(admit(tables, kit, row, image))
+}
+
+/// A file for the table of a row, or for a part of it, which its owner loads (`CFE_TBL_Load` from a file): its bytes over
+/// the last image, or over zeros. Where nothing refuses it and the table's validation function, if it has one, answers 0
+/// on the whole image that this makes, that image is active. The function is asked once, after all other tests. The time
+/// of the table's last update and the file of its last load stay for the caller to set. Call `closed_refusal` before.
+/// `image` are the bytes of the file. `ERR_NO_BUFFER_AVAIL`: `Tables::in_use` tells which rows have the buffers;
+/// `ERR_VALIDATION_FAILED`: the detail is the verdict. Out of memory: nothing was changed, and nobody was asked.
+pub fn load_part<C: Validator>(
+    alloc: Global,
+    tables: &mut Tables,
+    kit: &mut Kit<C>,
+    row: u8,
+    parsed: &TableFile,
+    image: &[u8],
+) -> Result<Loaded, Memory>
+    requires table { IsSome (table_at tables.old row) }
+    requires open_to { ForSome (table_at tables.old row) (λ t. closed_refusal t ≡ None) }
+    requires count { length image.now ≡ parsed.now.count }
+    requires few { ForSome (table_at tables.old row) (λ t. t.count < 2 ^ 32 - 1) }
+    requires kit { ForSome (table_at tables.old row) (λ t. ForSome t.validator (MayAsk C.asked 1 kit.old)) }
+    ensures effect { IfOk result (λ loaded. (s : State) (name : List ℕ) (given : Given) → s.tables ≡ tables.old → given.verdicts ≡ loaded.verdict ∷ None ∷ [] → ForSome (table_at tables.old row) (λ t. load_file_of s name given row t (with_image parsed.now image.now) ≡ file_answered s name row t (file_image t (with_image parsed.now image.now)) loaded tables.new)) }
+    ensures asked { IfOk result (λ loaded. (s : State) (name : List ℕ) (given : Given) → s.tables ≡ tables.old → given.verdicts ≡ loaded.verdict ∷ None ∷ [] → ForSome (table_at tables.old row) (λ t. WasAsked C.verdict C.asked kit.old kit.new (load_file_of s name given row t (with_image parsed.now image.now)).asked (loaded.verdict ∷ None ∷ []))) }
+    ensures refused { IfOk result (λ loaded. is_success loaded.answer.status ≡ false → tables.new ≡ tables.old) }
+    ensures table { OnOk result (IsSome (table_at tables.new row)) }
+    ensures err { OnErr result (tables.new ≡ tables.old) }
+    ensures not_asked { OnErr result (kit.new ≡ kit.old) }
+{
+    if let Some(answer) = file_refusal(tables, row, parsed) {
+        return Ok(refused(answer));
+    }
+    let image = new_image(alloc, tables, row, parsed.offset, image)?;
+    Ok(admit(tables, kit, row, image))
+}
+
+/// The row of the table behind a handle.
+fn row_behind(tables: &Tables, handle: u16) -> u8
+    requires { IsSome (access_of tables.now handle) }
+    ensures row { ForSome (access_of tables.now handle) (λ a. a.row ≡ result) }
+    ensures table { ForSome (access_of tables.now handle) (λ a. table_at tables.now result ≡ Some a.table) }
+    ensures there { IsSome (table_at tables.now result) }
+{
+    let Some(view) = tables.handle(handle) else {
+        unreachable!();
+    };
+    let Some(row) = view.row else {
+        unreachable!();
+    };
+    row
+}
+
+/// What the owner of the table behind a handle loads (`CFE_TBL_Load`): an image of the whole table where `parsed` is None,
+/// else the bytes of that file. As `load_image`, or as `closed_refusal` and `load_part` behind it.
+pub fn app_load<C: Validator>(
+    alloc: Global,
+    tables: &mut Tables,
+    kit: &mut Kit<C>,
+    handle: u16,
+    parsed: Option<&TableFile>,
+    image: &[u8],
+) -> Result<Loaded, Memory>
+    requires table { IsSome (access_of tables.old handle) }
+    requires count { ForSome parsed (λ file. length image.now ≡ file.now.count) }
+    requires few { ForSome (access_of tables.old handle) (λ a. a.table.count < 2 ^ 32 - 1) }
+    requires kit { ForSome (access_of tables.old handle) (λ a. ForSome a.table.validator (MayAsk C.asked 1 kit.old)) }
+    ensures effect { IfOk result (λ loaded. let file = option_map (λ (file : Bor File). with_image file.now image.now) parsed.entry in (s : State) (name : List ℕ) (given : Given) → s.tables ≡ tables.old → given.verdicts ≡ loaded.verdict ∷ None ∷ [] → ForSome (access_of tables.old handle) (λ a. app_load_of s name given a.row a.table image.now file ≡ app_load_answered s name a.row a.table image.now file loaded tables.new)) }
+    ensures asked { IfOk result (λ loaded. let file = option_map (λ (file : Bor File). with_image file.now image.now) parsed.entry in (s : State) (name : List ℕ) (given : Given) → s.tables ≡ tables.old → given.verdicts ≡ loaded.verdict ∷ None ∷ [] → ForSome (access_of tables.old handle) (λ a. WasAsked C.verdict C.asked kit.old kit.new (app_load_of s name given a.row a.table image.now file).asked (loaded.verdict ∷ None ∷ []))) }
+    ensures err { OnErr result (tables.new ≡ tables.old) }
+    ensures not_asked { OnErr result (kit.new ≡ kit.old) }
+{
+    let row = row_behind(tables, handle);
+    let Some(parsed) = parsed else {
+        let loaded = load_image(alloc, tables, kit, row, image)?;
+        return Ok(loaded);
+    };
+    if let Some(answer) = closed_refusal(tables, row) {
+        return Ok(refused(answer));
+    }
+    let loaded = load_part(alloc, tables, kit, row, parsed, image)?;
+    Ok(loaded)
 }

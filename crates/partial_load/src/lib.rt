@@ -4,10 +4,12 @@
 
 mod ground;
 mod images;
+mod making;
 mod refusals;
 
 pub use ground::{ground_load, load_into};
-pub use images::image_load;
+pub use images::{Loaded, app_load, load_image, load_part};
+pub use refusals::closed_refusal;
 
 #[cfg(test)]
 mod tests;

@@ -1,12 +1,14 @@
 ghost use Rattle.std.specs.Prelude.{◌≤◌, length};
 
-use super::{ground_load, image_load};
+use super::{ground_load, load_image};
 use bitflags::Flags;
 use std::alloc::Global;
 use std::test::Fail;
 use table_files::TableFile;
+use tbl_fakes::FirstByte;
 use tbl_kinds::{Answer, Memory, Name, Name64, Options, Status};
 use tbl_registry::{AddFault, NewTable, Tables};
+use validation::Kit;
 
 /// Registers a table of this size under the name `A.T` for application 1, as a layer above would.
 fn register(tables: &mut Tables, size: u32) -> Result<u16, AddFault> {
@@ -22,10 +24,13 @@ fn register(tables: &mut Tables, size: u32) -> Result<u16, AddFault> {
     tables.add(1, plan)
 }
 
-/// Loads an image of the table that was registered first.
+/// Loads an image of the table that was registered first, which has no validation function.
 fn take(alloc: Global, tables: &mut Tables, image: &[u8]) -> Result<Answer, Memory> {
+    let mut kit: Kit<FirstByte> = Kit::make(alloc, vec![in alloc;]?)?;
     match tables.row(0) {
-        Some(view) if view.count < u32::MAX => image_load(alloc, tables, 0, image),
+        Some(view) if view.count < u32::MAX && view.validator.is_none() => {
+            Ok(load_image(alloc, tables, &mut kit, 0, image)?.answer)
+        }
         _ => Ok(Answer::plain(Status::ERR_UNREGISTERED)),
     }
 }

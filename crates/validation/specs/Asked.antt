@@ -1,6 +1,6 @@
 -- What a kit does when it is asked: it gives the verdicts of its functions, and each of them counts.
 use Rattle.std.specs.Prelude.{◌≡◌, ℕ, ◌+◌, ◌==◌, List, [], ◌∷◌, length, Bool, count_by, Option, Some, None, IsSome}
-use Rattle.std.specs.Option.{ForSome}
+use Rattle.std.specs.Option.{option_map_or, ForSome}
 use Rattle.std.proofs.Common.{ℤ}
 use Rattle.tbl_model.specs.Deeds.{Question}
 use Rattle.tbl_outside.specs.declared.validator.KitEntry.{KitEntry}
@@ -31,3 +31,7 @@ pub record WasAsked {C : Type 0} (verdict : C → List ℕ → ℤ) (asked : C �
   pub gives : GivesEach verdict old questions verdicts
   pub each : (number : ℕ) → Stays verdict asked (count_by (is_for number) questions) (entry_at old number) (entry_at new number)
   pub numbers : length new ≡ length old
+
+-- the function of this number, if there is one, is asked about the image
+abbrev pub asks : Option ℕ → List ℕ → List Question
+asks number image = option_map_or (λ n. record { number = n; image = image } ∷ []) number []

@@ -1,7 +1,7 @@
 -- A kit of validation functions: which application's stands under each number.
-use Rattle.std.specs.Prelude.{◌≡◌, ℕ, ◌+◌, ◌==◌, List, map, Bool, false, if◌then◌else◌, slice_index_or, Option, None}
+use Rattle.std.specs.Prelude.{◌≡◌, ℕ, ◌+◌, ◌≤◌, ◌^◌, ◌==◌, List, map, Bool, false, if◌then◌else◌, slice_index_or, Option, None, IsSome}
 use Rattle.std.proofs.Common.{ℤ}
-use Rattle.std.specs.Option.{option_map, option_map_or}
+use Rattle.std.specs.Option.{option_map, option_map_or, ForSome}
 use Rattle.tbl_outside.specs.declared.validator.KitEntry.{KitEntry}
 
 -- what stands under a number: none where there is no such number, or where its application's functions were dropped
@@ -28,3 +28,7 @@ pub record AskedOnce {C : Type 0} (verdict : C → List ℕ → ℤ) (asked : C 
   pub owner : new.app ≡ old.app
   pub steady : (image : List ℕ) → verdict new.check image ≡ verdict old.check image
   pub once : asked new.check ≡ asked old.check + 1
+
+-- the function of this number stands in the kit, and can be asked so many times
+abbrev pub MayAsk : {C : Type 0} → (C → ℕ) → ℕ → List (Option (KitEntry C)) → ℕ → Type 0
+MayAsk asked times kit number = IsSome (entry_at kit number) × ForSome (entry_at kit number) (λ entry. asked entry.check + times ≤ 2 ^ 63)

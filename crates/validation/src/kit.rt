@@ -1,7 +1,7 @@
-ghost use Rattle.std.specs.Prelude.{◌≡◌, ◌≢◌, ◌<◌, ◌^◌, ℕ, List, [], ◌∷◌, Option, Some, None, map, length, IsSome, IfOk};
+ghost use Rattle.std.specs.Prelude.{◌≡◌, ◌≢◌, ◌<◌, ◌^◌, ℕ, List, [], ◌∷◌, Option, Some, None, is_some, map, length, IsSome, IfOk};
 ghost use Rattle.std.specs.Option.{ForSome};
-ghost use Rattle.validation.specs.Kits.{entry_at, is_of, dropped, AskedOnce};
-ghost use Rattle.validation.specs.Asked.{WasAsked};
+ghost use Rattle.validation.specs.Kits.{entry_at, is_of, dropped, AskedOnce, MayAsk};
+ghost use Rattle.validation.specs.Asked.{WasAsked, asks};
 ghost use Rattle.tbl_outside.specs.declared.validator.KitEntry.{KitEntry as Entry};
 
 use std::alloc::Global;
@@ -18,7 +18,6 @@ pub struct Kit<C: Validator> {
 
 impl<C: Validator> Model for Kit<C> {
     ghost use Rattle.std.specs.Prelude.{List, Option};
-    ghost use Rattle.validation.specs.Asked.{WasAsked};
     ghost use Rattle.tbl_outside.specs.declared.validator.KitEntry.{KitEntry};
 
     ghost Value = { List (Option (KitEntry C)) };
@@ -91,6 +90,17 @@ impl<C: Validator> Kit<C> {
             unreachable!();
         };
         ask(entry, image)
+    }
+
+    /// The verdict of the function of this number on an image, where there is a number.
+    #[tactic(auto, using(crate::proofs::Asking::asked_nothing))]
+    pub fn judge(&mut self, number: Option<u8>, image: &[u8]) -> Option<i32>
+        requires { ForSome number (MayAsk C.asked 1 self.old) }
+        ensures told { is_some result ≡ is_some number }
+        ensures answers { WasAsked C.verdict C.asked self.old self.new (asks number image.now) (result ∷ None ∷ []) }
+    {
+        let number = number?;
+        Some(self.perform(number, image))
     }
 
     /// Drops the functions of an application, which ended.
