@@ -21,7 +21,7 @@ fn tell_entry(core: &Core, place: usize, out: &mut Bytes) -> Result<(), CaseFaul
     }
     let entry = &entries[place];
     match write_entry(out, place as u32, entry) {
-        Ok(()) if entry.note.outcome == Outcome::Untouched => Ok(()),
+        Ok(()) if entry.note.outcome() == Outcome::Untouched => Ok(()),
         Ok(()) => Err(CaseFault::Unreadable),
         Err(Memory) => Err(CaseFault::Memory),
     }

@@ -7,7 +7,7 @@ ghost use Rattle.tbl_core.specs.Effects.{given_of};
 
 use crate::asked::most_deeds;
 use std::alloc::Global;
-use tbl_kinds::{Answer, BankNote, Bytes, Memory, Outcome, Request, Slots};
+use tbl_kinds::{Answer, Bytes, Memory, Note, Request};
 use tbl_model::{Deed, Named, Shown};
 
 /// What a request did, once it is done.
@@ -22,7 +22,7 @@ pub(crate) struct Effect {
     /// The packet behind the events.
     pub shown: Shown,
     /// How the calls of the Critical Data Store went.
-    pub note: BankNote,
+    pub note: Note,
     /// What validation functions answered.
     pub verdicts: [Option<i32>; 2],
 }
@@ -33,21 +33,6 @@ pub(crate) fn room_for_deeds(alloc: Global, request: &Request) -> Result<Vec<Dee
     ensures room { IfOk result (λ deeds. vec_capacity deeds ≡ most_deeds request.now) }
 {
     Ok(Vec::with_capacity(alloc, most_deeds(request))?)
-}
-
-/// The note of a request that made no call of the Critical Data Store.
-pub(crate) fn untouched() -> BankNote
-    ensures { result ≡ nothing_given.note }
-{
-    BankNote {
-        outcome: Outcome::Untouched,
-        done: 0,
-        gate: false,
-        old: false,
-        ended: false,
-        restored: None,
-        found: Slots::make(),
-    }
 }
 
 impl Effect {
@@ -67,7 +52,7 @@ impl Effect {
             table: None,
             deeds,
             shown: Shown::Nothing,
-            note: untouched(),
+            note: Note::untouched(),
             verdicts: [None, None],
         }
     }

@@ -13,12 +13,12 @@ ghost use Rattle.tbl_core.specs.Effects.{IsEffect, IsWithin, given_of};
 ghost use Rattle.tbl_core.specs.Service.{HasFewImages};
 
 use crate::checks::{BUFFERS, answered_load, check};
-use crate::effect::{Effect, untouched};
+use crate::effect::Effect;
 use crate::parts::Clock;
 use partial_load::image_load;
 use sharing::Apps;
 use std::alloc::Global;
-use tbl_kinds::{Answer, Bytes, Memory, Status};
+use tbl_kinds::{Answer, Bytes, Memory, Note, Status};
 use tbl_model::{Deed, Named, Shown};
 use tbl_registry::Tables;
 
@@ -55,7 +55,7 @@ fn activated(tables: &Tables, row: u8, mut deeds: Vec<Deed>, empty: Bytes) -> Ef
         }),
         deeds,
         shown: Shown::Nothing,
-        note: untouched(),
+        note: Note::untouched(),
         verdicts: [None, None],
     }
 }

@@ -1,4 +1,5 @@
 pub mod Buffers
+pub mod Items
 pub mod Limits
 pub mod Names
 pub mod Numbers
@@ -19,5 +20,6 @@ pub mod Blocks
 pub mod StoreSteps
 pub mod StoreCalls
 pub mod Drawer
+pub mod Notes
 pub mod Check
 pub mod Vectors

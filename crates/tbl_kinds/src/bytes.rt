@@ -1,5 +1,6 @@
-ghost use Rattle.std.specs.Prelude.{◌≡◌, ℕ, ◌+◌, ◌≤◌, [], ◌++◌, length, take, drop, IfOk, OnOk, OnErr};
+ghost use Rattle.std.specs.Prelude.{◌≡◌, ℕ, ◌+◌, ◌≤◌, [], ◌++◌, length, take, drop, vec_capacity, IfOk, OnOk, OnErr};
 
+use crate::few::{FEW, Few};
 use std::alloc::{AllocError, AllocFailed, Global};
 use std::marker::Model;
 
@@ -19,19 +20,28 @@ impl<T: Drop> From<AllocFailed<T>> for Memory {
     }
 }
 
+/// Where bytes stand: few of them in the value itself, more of them in memory of their own.
+#[derive(Debug, Drop)]
+enum Items {
+    Few(Few),
+    Many(Vec<u8>),
+}
+
 /// Bytes in memory, with reserved room after them.
 #[derive(Debug, Drop)]
 pub struct Bytes {
-    items: Vec<u8>,
+    alloc: Global,
+    items: Items,
 }
 
 impl Model for Bytes {
-    ghost use Rattle.std.specs.Prelude.{◌-◌, vec_capacity, vec_len};
     ghost use Rattle.tbl_kinds.specs.Buffers.{Buffer};
 
     ghost Value = { Buffer };
 
-    ghost view = { λ b. record { list = b.items.items; spare = vec_capacity b.items - vec_len b.items } };
+    ghost use Rattle.tbl_kinds.specs.Items.{buffer_of};
+
+    ghost view = { λ b. buffer_of b.items };
 }
 
 impl Bytes {
@@ -40,29 +50,40 @@ impl Bytes {
         ensures empty { IfOk result (λ b. b.list ≡ []) }
         ensures room { IfOk result (λ b. b.spare ≡ room) }
     {
-        Ok(Bytes {
-            items: Vec::with_capacity(alloc, room)?,
-        })
+        let items = if room <= FEW {
+            Items::Few(Few::make(room))
+        } else {
+            Items::Many(Vec::with_capacity(alloc, room)?)
+        };
+        Ok(Bytes { alloc, items })
     }
 
     /// The bytes.
     pub fn bytes(&self) -> &[u8]
         ensures { result.now ≡ self.now.list }
     {
-        self.items.as_slice()
+        match &self.items {
+            Items::Few(few) => few.bytes(),
+            Items::Many(many) => many.as_slice(),
+        }
     }
 
     /// Where the memory of the bytes comes from.
     pub fn allocator(&self) -> Global {
-        *self.items.allocator()
+        self.alloc
     }
 
     /// The same bytes in memory of their own.
     pub fn copy(&self) -> Result<Bytes, Memory>
         ensures { IfOk result (λ b. b.list ≡ self.now.list) }
     {
+        let items = match &self.items {
+            Items::Few(few) => Items::Few(few.copy()),
+            Items::Many(many) => Items::Many(many.clone()?),
+        };
         Ok(Bytes {
-            items: self.items.clone()?,
+            alloc: self.alloc,
+            items,
         })
     }
 
@@ -72,7 +93,12 @@ impl Bytes {
         ensures bytes { self.new.list ≡ self.old.list ++ piece.now }
         ensures room { self.old.spare ≤ self.new.spare + length piece.now }
     {
-        let _ = self.items.extend_from_slice(piece);
+        match &mut self.items {
+            Items::Few(few) => few.append(piece),
+            Items::Many(many) => {
+                let _ = many.extend_from_slice(piece);
+            }
+        }
     }
 
     /// Writes a piece over the bytes from a place on.
@@ -81,7 +107,10 @@ impl Bytes {
         ensures bytes { self.new.list ≡ take at self.old.list ++ piece.now ++ drop (at + length piece.now) self.old.list }
         ensures room { self.new.spare ≡ self.old.spare }
     {
-        self.items[at..at + piece.len()].copy_from_slice(piece);
+        match &mut self.items {
+            Items::Few(few) => few.write_over(at, piece),
+            Items::Many(many) => many[at..at + piece.len()].copy_from_slice(piece),
+        }
     }
 
     /// Reserves room for this many further bytes.
@@ -90,7 +119,15 @@ impl Bytes {
         ensures room { OnOk result (more ≤ self.new.spare) }
         ensures err { OnErr result (self.new ≡ self.old) }
     {
-        self.items.reserve(more)?;
+        match &mut self.items {
+            Items::Few(few) => {
+                if !few.reserve(more) {
+                    let many = moved_out(self.alloc, few, more)?;
+                    self.items = Items::Many(many);
+                }
+            }
+            Items::Many(many) => many.reserve(more)?,
+        }
         Ok(())
     }
 
@@ -99,6 +136,23 @@ impl Bytes {
         ensures bytes { self.new.list ≡ [] }
         ensures room { self.old.spare + length self.old.list ≤ self.new.spare }
     {
-        self.items.clear();
+        match &mut self.items {
+            Items::Few(few) => few.clear(),
+            Items::Many(many) => many.clear(),
+        }
     }
+}
+
+/// The bytes in memory of their own, with reserved room for this many further ones.
+fn moved_out(alloc: Global, few: &Few, more: usize) -> Result<Vec<u8>, Memory>
+    ensures bytes { IfOk result (λ many. many.items ≡ few.now.list) }
+    ensures room { IfOk result (λ many. length few.now.list + more ≤ vec_capacity many) }
+{
+    let bytes = few.bytes();
+    let Some(room) = bytes.len().checked_add(more) else {
+        return Err(Memory);
+    };
+    let mut many = Vec::with_capacity(alloc, room)?;
+    let _ = many.extend_from_slice(bytes);
+    Ok(many)
 }

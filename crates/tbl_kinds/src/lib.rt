@@ -4,6 +4,7 @@
 mod block;
 mod bytes;
 mod entry;
+mod few;
 mod name;
 mod note;
 mod number;
@@ -17,7 +18,7 @@ pub use block::{Block, BlockKind};
 pub use bytes::{Bytes, Memory};
 pub use entry::{Answer, Entry, Reply};
 pub use name::{Name, Name16, Name20, Name40, Name64};
-pub use note::{BankNote, Outcome};
+pub use note::{BankNote, Note, Outcome};
 pub use number::{u16_at, u32_at};
 pub use options::Options;
 pub use request::{Actor, Request, ResetKind, fits};

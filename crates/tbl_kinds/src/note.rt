@@ -1,5 +1,9 @@
+ghost use Rattle.std.specs.Prelude.{◌≡◌, IfSome, IfNone};
+ghost use Rattle.tbl_kinds.specs.Notes.{untouched};
+
 use crate::bytes::Bytes;
 use crate::slots::Slots;
+use std::marker::Model;
 
 /// How a request's calls of the store went, before any boot in it.
 #[derive(Clone, Copy, Debug, PartialEq, Eq)]
@@ -30,4 +34,62 @@ pub struct BankNote {
     pub restored: Option<Bytes>,
     /// The doubtful slots that a boot in this request found open.
     pub found: Slots,
+}
+
+/// The note of an entry. Nearly every request makes no call of the store, and its note takes no memory of its own.
+#[derive(Debug, Drop)]
+pub struct Note {
+    touched: Option<Box<BankNote>>,
+}
+
+impl Model for Note {
+    ghost use Rattle.tbl_kinds.specs.declared.note.BankNote.{BankNote};
+
+    ghost Value = { BankNote };
+
+    ghost use Rattle.tbl_kinds.specs.Notes.{note_in};
+
+    ghost view = { λ n. note_in n.touched };
+}
+
+impl Note {
+    /// The note of a request that made no call of the store.
+    pub fn untouched() -> Note
+        ensures { result ≡ untouched }
+    {
+        Note { touched: None }
+    }
+
+    /// Any note, in memory that was taken before.
+    pub fn of(note: Box<BankNote>) -> Note
+        ensures { result ≡ note.value }
+    {
+        Note {
+            touched: Some(note),
+        }
+    }
+
+    /// How the calls of the store went.
+    pub fn outcome(&self) -> Outcome
+        ensures { result ≡ self.now.outcome }
+    {
+        match &self.touched {
+            None => Outcome::Untouched,
+            Some(note) => note.outcome,
+        }
+    }
+
+    /// The whole note; none where it says that nothing was done.
+    pub fn touched(&self) -> Option<&BankNote>
+        ensures some { IfSome result (λ note. note.now ≡ self.now) }
+        ensures none { IfNone result (self.now ≡ untouched) }
+    {
+        match &self.touched {
+            None => None,
+            Some(note) => {
+                let note: &BankNote = note;
+                Some(note)
+            }
+        }
+    }
 }

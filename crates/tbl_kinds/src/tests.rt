@@ -21,6 +21,20 @@ fn bytes_grow_in_reserved_room(rt: HostRuntime) -> Result<(), Fail> {
 }
 
 #[test]
+fn many_bytes_stand_behind_few(rt: HostRuntime) -> Result<(), Fail> {
+    let mut bytes = Bytes::make(rt.alloc(), 2)?;
+    bytes.append(b"ab");
+    bytes.reserve(30)?;
+    bytes.append(b"cdefghijklmnopqrstuvwxyz012345");
+    bytes.write_over(1, b"BC");
+    assert_eq!(rt;
+        bytes.bytes(),
+        b"aBCdefghijklmnopqrstuvwxyz012345".as_slice()
+    );
+    Ok(())
+}
+
+#[test]
 fn a_piece_is_written_over(rt: HostRuntime) -> Result<(), Fail> {
     let mut bytes = Bytes::make(rt.alloc(), 5)?;
     bytes.append(b"abcde");

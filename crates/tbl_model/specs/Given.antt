@@ -1,10 +1,10 @@
 -- What the outside gives in a request.
-use Rattle.std.specs.Prelude.{◌≡◌, ℕ, List, [], ◌∷◌, false, Option, Some, None, unwrap_or, slice_index_or}
+use Rattle.std.specs.Prelude.{◌≡◌, ℕ, List, [], ◌∷◌, Option, Some, None, unwrap_or, slice_index_or}
 use Rattle.std.proofs.Common.{ℤ, pos}
 use Rattle.tbl_model.specs.Deeds.{Question}
 use Rattle.tbl_model.specs.Effects.{Effect}
 use Rattle.tbl_kinds.specs.declared.note.BankNote.{BankNote}
-use Rattle.tbl_kinds.specs.declared.note.Outcome.TheVariants.{Untouched}
+use Rattle.tbl_kinds.specs.Notes.{untouched}
 
 -- how the calls of the store went, and the verdicts of validation functions
 pub record Given : Type 0 where
@@ -14,10 +14,6 @@ pub record Given : Type 0 where
 -- the verdict at this place
 abbrev pub verdict_at : ℕ → Given → ℤ
 verdict_at n given = unwrap_or (slice_index_or given.verdicts n None) (pos 0)
-
--- no call of the store was made
-abbrev pub untouched : BankNote
-untouched = record { outcome = Untouched; done = 0; gate = false; old = false; ended = false; restored = None; found = [] }
 
 abbrev pub nothing_given : Given
 nothing_given = record { note = untouched; verdicts = None ∷ None ∷ [] }

@@ -15,7 +15,7 @@ use Rattle.tbl_model.specs.Effects.{answered}
 use Rattle.tbl_model.specs.Commands.{command_effect, housekeeping_effect}
 use Rattle.tbl_model.specs.Counts.{Told, counts_of}
 use Rattle.tbl_model.specs.Replies.{head_at, packets_of}
-use Rattle.tbl_model.specs.Given.{untouched}
+use Rattle.tbl_kinds.specs.Notes.{untouched}
 use Rattle.tbl_model.specs.History.{Run, begins_at, onward, run_from, IsAnswered, IsLegal, told}
 
 -- ---- a session of the two commands

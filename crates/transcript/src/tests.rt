@@ -3,7 +3,7 @@ ghost use Rattle.std.specs.Prelude.{◌≡◌, IfOk};
 use super::*;
 use std::alloc::Global;
 use std::test::Fail;
-use tbl_kinds::{Actor, BankNote, Bytes, Entry, Memory, Outcome, Reply, Request, Slots, Status};
+use tbl_kinds::{Actor, Bytes, Entry, Memory, Note, Reply, Request, Status};
 
 /// The entry of a NOOP that was accepted, and the end record of a session of it and a housekeeping request.
 const ENTRY: [u8; 45] = [
@@ -35,15 +35,7 @@ fn writes_an_entry_and_an_end(rt: HostRuntime) -> Result<(), Fail> {
             bytes: bytes_of(rt.alloc(), &[])?,
             packets: bytes_of(rt.alloc(), &ENTRY[21..])?,
         },
-        note: BankNote {
-            outcome: Outcome::Untouched,
-            done: 0,
-            gate: false,
-            old: false,
-            ended: false,
-            restored: None,
-            found: Slots::make(),
-        },
+        note: Note::untouched(),
         verdicts: [None, None],
     };
     let mut out = Bytes::make(rt.alloc(), 0)?;
