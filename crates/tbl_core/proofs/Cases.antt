@@ -14,15 +14,21 @@ use Rattle.tbl_model.specs.State.{State, Table, Handle, Tables}
 use Rattle.tbl_model.specs.Tables.{table_at}
 use Rattle.tbl_model.specs.TableSteps.{handle_at, access_of, Access, find, is_that, locker, image_of, check_row, check_handle, stays, pin_last, get_address_of, release_of, read_of}
 use Rattle.tbl_model.specs.Effects.{Effect, answered, named}
-use Rattle.tbl_model.specs.Applications.{name_of, has_dot, full_name, start_effect, by_app, by_check, if_handle, stepped, duplicate_effect, add_effect, by_name_effect, register_effect, activate_effect, load_image_of, load_image_effect, get_effect, release_effect, read_answer, read_effect}
-use Rattle.tbl_model.specs.Refusals.{by_answer, by_refusal, plan_refusal, image_refusal, load_refusal}
-use Rattle.tbl_model.specs.GroundLoads.{loaded_effect, load_into, load_found, load_file_effect, load_by, load_from, load_effect}
+use Rattle.tbl_model.specs.Deeds.{is_good}
+use Rattle.tbl_model.specs.Given.{Given, verdict_at}
+use Rattle.tbl_model.specs.Subjects.{name_of, by_app, by_check, if_handle, if_its_table, if_owner, if_table, if_file}
+use Rattle.tbl_model.specs.Subjects as on
+use Rattle.tbl_model.specs.Applications.{has_dot, full_name, start_effect, duplicate_effect, add_effect, by_name_effect, register_effect}
+use Rattle.tbl_model.specs.Addresses.{stepped, get_effect, release_effect, read_answer, read_effect}
+use Rattle.tbl_model.specs.AppLoads.{activate_effect, by_function, load_image_effect}
+use Rattle.tbl_model.specs.Refusals.{may_use, by_answer, by_refusal, plan_refusal, image_refusal, load_refusal}
+use Rattle.tbl_model.specs.GroundLoads.{loaded_effect, load_into, load_file_effect, load_effect}
 use Rattle.tbl_model.specs.Uplinks.{file_effect}
 use Rattle.tbl_model.specs.Commands.{housekeeping_effect, effect_by, command_effect}
 use Rattle.tbl_kinds.specs.declared.entry.Answer.{Answer}
 use Rattle.tbl_kinds.specs.declared.status.Status.{Status}
 use Rattle.tbl_kinds.specs.declared.status.TheConstants.Status.{SUCCESS, INFO_TABLE_LOCKED, WARN_DUPLICATE, ERR_BAD_APP, ERR_INVALID_HANDLE, ERR_NO_ACCESS, ERR_UNREGISTERED, ERR_INVALID_NAME, ERR_INVALID_SIZE, ERR_INVALID_OPTIONS, ERR_NO_VALIDATOR, ERR_DUPLICATE_NOT_OWNED, ERR_DUPLICATE_DIFF_SIZE, ERR_REGISTRY_FULL, ERR_HANDLES_FULL, ERR_DUMP_ONLY, ERR_LOAD_IN_PROGRESS, ERR_ALREADY_PINNED, ERR_NEVER_LOADED, ERR_NOT_PINNED, ERR_OUT_OF_RANGE, ERR_APP_RUNNING, ERR_BAD_CODE, ERR_IMAGE_SIZE, ERR_BAD_NAME, ERR_FILE_TOO_LARGE, ERR_DRAWER_FULL, ERR_FILE_NOT_FOUND, ERR_NO_SUCH_TABLE, ERR_UPDATE_PENDING, ERR_ZERO_LOAD, ERR_PAST_END, ERR_PARTIAL_LOAD}
-use Rattle.tbl_model.proofs.RefusalLaws.{is_refusal, Refuses, plan_refused, image_refused, image_taken, load_refused}
+use Rattle.tbl_model.proofs.RefusalLaws.{is_refusal, Refuses, plan_taken, plan_refused, image_refused, image_taken, load_refused}
 use Rattle.tbl_core.proofs.CommandAnswers.{CommandRefuses, command_refuses}
 
 -- this holds of the effect, if the request has one
@@ -59,8 +65,8 @@ module _ (s : State) (P : Effect → Type 0) (refusal : (e : Effect) → e.next 
   unless true status detail rest is p = no status detail is
   unless false status detail rest is p = p
 
-  by_plan : (r : Option Answer) (effect : Effect) → Refuses r → P effect → P (by_answer s r effect)
-  by_plan None effect refuses done = done
+  by_plan : (r : Option Answer) (effect : Effect) → Refuses r → (r ≡ None → P effect) → P (by_answer s r effect)
+  by_plan None effect refuses done = done refl
   by_plan (Some answer) effect refuses done = no answer.status answer.detail refuses
 
   -- ---- a running application, and its handle
@@ -86,6 +92,15 @@ module _ (s : State) (P : Effect → Type 0) (refusal : (e : Effect) → e.next 
 
   by_handle : (app m : ℕ) (owner_only : Bool) (effect : ℕ → Effect) → ((h : Handle) (row : ℕ) → handle_at s.tables m ≡ Some h → h.app ≡ app → h.row ≡ Some row → P (effect row)) → P (if_handle s app m owner_only effect)
   by_handle app m owner_only effect done = by_name (name_of s app) _ (λ name. by_place app owner_only (handle_at s.tables m) effect done)
+
+  -- and its table is there
+  at_row : (status : Status) → is_refusal status ≡ true → (row : ℕ) (effect : Table → Effect) (found : Option Table) → table_at s.tables row ≡ found → ((t : Table) → table_at s.tables row ≡ Some t → P (effect t))
+      → P (on.by_table s status found effect)
+  at_row status is row effect None at done = no status 0 is
+  at_row status is row effect (Some t) at done = done t at
+
+  by_its_table : (app m : ℕ) (owner_only : Bool) (effect : ℕ → Table → Effect) → ((row : ℕ) (t : Table) → table_at s.tables row ≡ Some t → P (effect row t)) → P (if_its_table s app m owner_only effect)
+  by_its_table app m owner_only effect done = by_handle app m owner_only _ (λ h row place own of. at_row ERR_UNREGISTERED refl row (effect row) (table_at s.tables row) refl (done row))
 
   by_table : {Y : Type 0} (f : Access → Y) (gone : Y) (answer : Y → Effect) (h : Handle) (row : ℕ) (o : Option Table) → P (answer gone) → ((t : Table) → o ≡ Some t → P (answer (f (access_at h row t))))
       → P (answer (option_map_or f (option_map (access_at h row) o) gone))
@@ -131,24 +146,24 @@ module _ (s : State) (P : Effect → Type 0) (refusal : (e : Effect) → e.next 
   by_start app name done = unless (is_some (name_of s app)) ERR_APP_RUNNING 0 _ refl (unless (not (is_name name) || has_dot name) ERR_INVALID_NAME 0 _ refl done)
 
   module _ (app : ℕ) (short : List ℕ) (size flags : ℕ) (validator : Option ℕ)
-      (done : (name : List ℕ) (row handle : ℕ) → least_free s.tables.rows ≡ Some row → P (add_effect s app name size flags validator (Some row) (Some handle))) where
-    by_places : (name : List ℕ) (row handle : Option ℕ) → least_free s.tables.rows ≡ row → P (add_effect s app name size flags validator row handle)
-    by_places name None handle free = no ERR_REGISTRY_FULL 0 refl
-    by_places name (Some row) None free = no ERR_HANDLES_FULL 0 refl
-    by_places name (Some row) (Some handle) free = done name row handle free
+      (done : (name : List ℕ) (row handle : ℕ) → may_use s.kit app validator ≡ true → least_free s.tables.rows ≡ Some row → P (add_effect s app name size flags validator (Some row) (Some handle))) where
+    by_places : (name : List ℕ) (row handle : Option ℕ) → may_use s.kit app validator ≡ true → least_free s.tables.rows ≡ row → P (add_effect s app name size flags validator row handle)
+    by_places name None handle may free = no ERR_REGISTRY_FULL 0 refl
+    by_places name (Some row) None may free = no ERR_HANDLES_FULL 0 refl
+    by_places name (Some row) (Some handle) may free = done name row handle may free
 
     by_duplicate : (found : Option Table) → P (duplicate_effect s app size found)
     by_duplicate None = no ERR_REGISTRY_FULL 0 refl
     by_duplicate (Some t) = unless (not (eqb t.owner app)) ERR_DUPLICATE_NOT_OWNED 0 _ refl (unless (not (eqb t.size size)) ERR_DUPLICATE_DIFF_SIZE 0 _ refl (no WARN_DUPLICATE t.handle refl))
 
-    by_full_name : (name : List ℕ) (row : Option ℕ) → P (by_name_effect s app name size flags validator row)
-    by_full_name name (Some row) = by_duplicate (table_at s.tables row)
-    by_full_name name None = by_places name (least_free s.tables.rows) (least_free s.tables.handles) refl
+    by_full_name : (name : List ℕ) (row : Option ℕ) → may_use s.kit app validator ≡ true → P (by_name_effect s app name size flags validator row)
+    by_full_name name (Some row) may = by_duplicate (table_at s.tables row)
+    by_full_name name None may = by_places name (least_free s.tables.rows) (least_free s.tables.handles) may refl
 
     pub by_register : P (register_effect s app short size flags validator)
     unfolding register_effect
-    by_register = by_name (name_of s app) _ (λ name. by_plan (plan_refusal s.kit app short size flags validator) _ (plan_refused s.kit app short size flags validator)
-        (by_full_name (full_name name short) (find (full_name name short) s.tables)))
+    by_register = by_name (name_of s app) _ (λ name. by_plan (plan_refusal s.kit app short size flags validator) _ (plan_refused s.kit app short size flags validator) (λ none.
+        by_full_name (full_name name short) (find (full_name name short) s.tables) (plan_taken s.kit app short size flags validator none).may))
 
   -- ---- loads
 
@@ -156,20 +171,19 @@ module _ (s : State) (P : Effect → Type 0) (refusal : (e : Effect) → e.next 
   by_ladder None effect refuses done = done refl
   by_ladder (Some answer) effect refuses done = refusal _ refl refuses
 
-  module _ (app m : ℕ) (image : List ℕ) (done : (row : ℕ) (t : Table) → table_at s.tables row ≡ Some t → length image ≡ t.size → locker s.tables row t ≡ None → P (activate_effect s row t image)) where
-    by_image : (row : ℕ) (found : Option Table) → table_at s.tables row ≡ found → P (load_image_of s row found image)
-    by_image row None there = no ERR_UNREGISTERED 0 refl
-    by_image row (Some t) there = by_ladder (image_refusal s.tables row t (length image)) _ (image_refused s.tables row t (length image)) (λ none.
-        let takes = image_taken s.tables row t (length image) none in
-        done row t there takes.size takes.unlocked)
+  -- where the table has a function, what is done is done with its verdict 0 alone
+  by_verdict : (row : ℕ) (image : List ℕ) (validator : Option ℕ) (given : Given) (effect : Effect) → ((e : Effect) → e.next ≡ effect.next → e.status ≡ effect.status → P e) → P (by_function s row image validator given effect)
+  by_verdict row image None given effect done = done effect refl refl
+  by_verdict row image (Some number) given effect done = cond_both (is_good (verdict_at 0 given)) _ _ P (λ _. done _ refl refl) (λ _. refusal _ refl refl)
 
-    pub by_load_image : P (load_image_effect s app m image)
-    unfolding load_image_effect
-    by_load_image = by_handle app m true _ (λ h row place own of. by_image row (table_at s.tables row) refl)
-
-  by_into : (name : List ℕ) (file : TableFile) (row : ℕ) (found : Option Table) → P (loaded_effect s name file row) → P (load_into s name file row found)
-  by_into name file row None done = no ERR_NO_SUCH_TABLE 0 refl
-  by_into name file row (Some t) done = by_ladder (load_refusal s.tables row t file.offset (length file.image)) _ (load_refused s.tables row t file.offset (length file.image)) (λ none. done)
+  pub by_load_image : (app m : ℕ) (image : List ℕ) (given : Given)
+      → ((row : ℕ) (t : Table) (e : Effect) → table_at s.tables row ≡ Some t → length image ≡ t.size → locker s.tables row t ≡ None → e.next ≡ (activate_effect s row t image).next → e.status ≡ SUCCESS → P e)
+      → P (load_image_effect s app m image given)
+  unfolding load_image_effect
+  by_load_image app m image given done = by_its_table app m true _ (λ row t there.
+      by_ladder (image_refusal s.tables row t (length image)) _ (image_refused s.tables row t (length image)) (λ none.
+      let takes = image_taken s.tables row t (length image) none in
+      by_verdict row image t.validator given (activate_effect s row t image) (λ e next ok. done row t e there takes.size takes.unlocked next ok)))
 
   -- ---- files of the ground
 
@@ -187,23 +201,27 @@ flaw_refuses incomplete = refl
 flaw_refuses too_big = refl
 
 module _ (s : State) (P : Effect → Type 0) (refusal : (e : Effect) → e.next ≡ s → is_refusal e.status ≡ true → P e) where
-  module _ (name : List ℕ) (done : (file : TableFile) (row : ℕ) → P (record (loaded_effect s name file row) { table = named file.name (Some row) })) where
-    by_found : (file : TableFile) (row : Option ℕ) → P (load_found s name file row)
-    by_found file None = refusal _ refl refl
-    by_found file (Some row) = by_into s (λ e. P (record e { table = named file.name (Some row) })) (λ e same is. refusal _ same is) name file row (table_at s.tables row) (done file row)
+  -- ---- files, and tables by their names
 
-    by_contents : (contents : List ℕ) (flaw : Option FileFlaw) → P (load_by s name contents flaw)
-    unfolding load_file_effect
-    by_contents contents (Some flaw) = refusal _ refl (flaw_refuses flaw)
-    by_contents contents None = by_found (table_file_in contents) (find (table_file_in contents).name s.tables)
+  by_contents : (contents : Option (List ℕ)) (effect : TableFile → Effect) → ((file : TableFile) → P (effect file)) → P (on.by_contents s contents effect)
+  by_contents None effect done = refusal _ refl refl
+  by_contents (Some contents) effect done = here (file_flaw contents) where
+    here : (flaw : Option FileFlaw) → P (on.by_flaw s contents flaw effect)
+    here (Some flaw) = refusal _ refl (flaw_refuses flaw)
+    here None = done (table_file_in contents)
 
-    by_drawer : (contents : Option (List ℕ)) → P (load_from s name contents)
-    by_drawer None = refusal _ refl refl
-    by_drawer (Some contents) = by_contents contents (file_flaw contents)
+  by_found : (name : List ℕ) (row : Option ℕ) (effect : ℕ → Table → Effect) → ((row : ℕ) (t : Table) → table_at s.tables row ≡ Some t → P (record (effect row t) { table = named name (Some row) })) → P (on.by_row s name row effect)
+  by_found name None effect done = refusal _ refl refl
+  by_found name (Some row) effect done = here (table_at s.tables row) refl where
+    here : (found : Option Table) → table_at s.tables row ≡ found → P (record (on.by_table s ERR_NO_SUCH_TABLE found (effect row)) { table = named name (Some row) })
+    here None at = refusal _ refl refl
+    here (Some t) at = done row t at
 
-    by_load : P (load_effect s name)
-    unfolding load_effect
-    by_load = by_drawer (contents_of s.drawer name)
+  by_load : (name : List ℕ) → ((file : TableFile) (row : ℕ) → P (record (loaded_effect s name file row) { table = named file.name (Some row) })) → P (load_effect s name)
+  unfolding load_effect load_file_effect
+  by_load name done = by_contents (contents_of s.drawer name) _ (λ file. by_found file.name (find file.name s.tables) _ (λ row t there.
+      by_ladder s (λ e. P (record e { table = named file.name (Some row) })) (λ e same is. refusal _ same is) (load_refusal s.tables row t file.offset (length file.image)) _
+      (load_refused s.tables row t file.offset (length file.image)) (λ none. done file row)))
 
   module _ (accepted : (e : Effect) → e.next ≡ s → e.status ≡ SUCCESS → P e) (loaded : (name : List ℕ) (file : TableFile) (row : ℕ) → P (record (loaded_effect s name file row) { table = named file.name (Some row) })) where
     by_asked : (asked : Result GroundCommand Answer) → CommandRefuses asked → P (effect_by s asked)

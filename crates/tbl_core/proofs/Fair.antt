@@ -8,7 +8,7 @@ use Rattle.tbl_model.specs.State.{State, Table, Handle, Tables}
 use Rattle.tbl_model.specs.Tables.{table_at}
 use Rattle.tbl_model.specs.TableSteps.{handle_at, access_of, Access, pin_last, new_table}
 use Rattle.tbl_model.specs.Effects.{Effect}
-use Rattle.tbl_model.specs.Applications.{stepped}
+use Rattle.tbl_model.specs.Addresses.{stepped}
 use Rattle.tbl_model.specs.Given.{Given}
 use Rattle.tbl_model.specs.Dispatch.{effect_of}
 use Rattle.tbl_model.specs.Counts.{is_reset}
@@ -170,13 +170,13 @@ request_fair s (App app) (ask.Start name) given =
     by_start s (Fair s (App app) request) (fair_refused s (App app) request) app name (fair_unnamed s (App app) request _ (stays_keeps s.tables) refl refl)
 request_fair s (App app) (ask.Register short size flags validator) given =
     let request : Request = ask.Register short size flags validator in
-    by_register s (Fair s (App app) request) (fair_refused s (App app) request) app short size flags validator (λ name row handle free.
+    by_register s (Fair s (App app) request) (fair_refused s (App app) request) app short size flags validator (λ name row handle may free.
     let empty : table_at s.tables row ≡ None = none_there _ (position-Some is_none s.tables.rows row None free).1 in
     fair_unnamed s (App app) request _ (add_keeps s.tables row handle app (new_table name app size flags validator handle) empty refl refl) refl refl)
 request_fair s (App app) (ask.LoadImage handle image) given =
     let request : Request = ask.LoadImage handle image in
-    by_load_image s (Fair s (App app) request) (fair_refused s (App app) request) app handle image.list (λ row t there size free.
-    fair_unnamed s (App app) request _ (put_keeps s.tables row t image.list s.seconds s.sub there free size) refl refl)
+    by_load_image s (Fair s (App app) request) (fair_refused s (App app) request) app handle image.list given (λ row t e there size free next ok.
+    fair_unnamed s (App app) request e (rw next (put_keeps s.tables row t image.list s.seconds s.sub there free size)) (rw ok refl) refl)
 request_fair s (App app) (ask.Get handle) given = by_get s (Fair s (App app) (ask.Get handle)) (fair_refused s (App app) (ask.Get handle)) app handle (pin_fair s app handle)
 request_fair s (App app) (ask.Read handle offset len) given =
     let request : Request = ask.Read handle offset len in

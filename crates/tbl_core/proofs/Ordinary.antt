@@ -1,4 +1,5 @@
--- What each request leaves: the service goes on, and no table has had more images than there are entries.
+-- What each request leaves: the service goes on, no table has had more images than there are entries, and the function of
+-- each is one of its owner's in the kit.
 use Rattle.std.proofs.Common.{◌≡◌, ℕ, suc, Bool, true, false, List, Option, Some, None, refl, subst, if◌then◌else◌, arith, ◌≤◌, ◌+◌}
 use Rattle.std.specs.Option.{option_map}
 use Rattle.std.specs.Prelude.{option_and_then}
@@ -15,84 +16,92 @@ use Rattle.tbl_kinds.specs.declared.request.Actor.TheVariants.{Ground, App}
 use Rattle.tbl_kinds.specs.declared.request.Request.{Request}
 use Rattle.tbl_kinds.specs.declared.request.Request.TheVariants as ask
 use Rattle.tbl_registry.proofs.Places.{AtEachPlace-set, get_or-replicate_None}
-use Rattle.tbl_core.specs.Service.{HasFewImages}
+use Rattle.tbl_core.specs.Service.{IsUsual, AreUsual}
 use Rattle.tbl_model.proofs.RefusalLaws.{is_refusal}
 use Rattle.tbl_core.proofs.Cases.{OfEffect, Leads, by_get, by_release, by_read, by_start, by_register, by_load_image, by_file, by_command}
 
--- ---- how many images tables have had
+-- ---- what each table keeps
 
 -- one entry more leaves room for one image more
-pub few_more : (tables : Tables) (n : ℕ) → HasFewImages tables n → HasFewImages tables (suc n)
-few_more tables n few row t there = let h = few row t there in omega arith
+usual_more : (n : ℕ) (kit : List (Option ℕ)) (t : Table) → IsUsual n kit t → IsUsual (suc n) kit t
+usual_more n kit t is = record { few = omega (arith, is.few); function = is.function }
+
+more_usual : (n : ℕ) (kit : List (Option ℕ)) (tables : Tables) → AreUsual n kit tables → AreUsual (suc n) kit tables
+more_usual n kit tables are row t there = usual_more n kit t (are row t there)
 
 -- more than enough is enough
-pub few_below : (tables : Tables) (n m : ℕ) → n ≤ m → HasFewImages tables n → HasFewImages tables m
-few_below tables n m low few row t there = let h = few row t there in omega arith
+pub usual_below : (n m : ℕ) (kit : List (Option ℕ)) (tables : Tables) → n ≤ m → AreUsual n kit tables → AreUsual m kit tables
+usual_below n m kit tables low are row t there = let is = are row t there in record { few = omega (arith, is.few, low); function = is.function }
 
 -- and at first there is no table
-pub few_at_first : (tables : Tables) (n : ℕ) → tables ≡ no_tables → HasFewImages tables n
-few_at_first tables n is row t there =
+pub usual_at_first : (n : ℕ) (kit : List (Option ℕ)) (tables : Tables) → tables ≡ no_tables → AreUsual n kit tables
+usual_at_first n kit tables is row t there =
     let none : table_at tables row ≡ None = rw is (get_or-replicate_None {X = Table} 128 row) in
     absurd (cc (none, there))
 
-few_with : (tables : Tables) (n row : ℕ) (t : Table) → HasFewImages tables n → t.count ≤ n → HasFewImages (with_table row t tables) n
-few_with tables n row t few low = AtEachPlace-set (λ (u : Table). u.count ≤ n) tables.rows row (Some t) few (λ u is. subst (λ (v : Table). v.count ≤ n) (same_Some t u is) low)
+usual_with : (n : ℕ) (kit : List (Option ℕ)) (tables : Tables) (row : ℕ) (t : Table) → AreUsual n kit tables → IsUsual n kit t → AreUsual n kit (with_table row t tables)
+usual_with n kit tables row t are is = AtEachPlace-set (IsUsual n kit) tables.rows row (Some t) are (λ u same. subst (IsUsual n kit) (same_Some t u same) is)
 
-module _ (tables : Tables) (n : ℕ) (few : HasFewImages tables n) where
-  put_few : (row : ℕ) (image : List ℕ) → HasFewImages (put row image tables) (suc n)
-  put_few row image = here (table_at tables row) refl where
-    here : (found : Option Table) → table_at tables row ≡ found → HasFewImages (put_in tables row image found) (suc n)
-    here None at = few_more tables n few
-    here (Some t) at = few_with tables (suc n) row (with_image tables.handles row image t) (few_more tables n few) (let h = few row t at in omega arith)
+module _ (n : ℕ) (kit : List (Option ℕ)) (tables : Tables) (are : AreUsual n kit tables) where
+  put_usual : (row : ℕ) (image : List ℕ) → AreUsual (suc n) kit (put row image tables)
+  put_usual row image = here (table_at tables row) refl where
+    here : (found : Option Table) → table_at tables row ≡ found → AreUsual (suc n) kit (put_in tables row image found)
+    here None at = more_usual n kit tables are
+    here (Some t) at =
+        let is = are row t at in
+        usual_with (suc n) kit tables row (with_image tables.handles row image t) (more_usual n kit tables are) (record { few = omega (arith, is.few); function = is.function })
 
-  time_few : (row seconds sub : ℕ) → HasFewImages (set_time row seconds sub tables) n
-  time_few row seconds sub = here (table_at tables row) refl where
-    here : (found : Option Table) → table_at tables row ≡ found → HasFewImages (set_time_in tables row seconds sub found) n
-    here None at = few
-    here (Some t) at = few_with tables n row (record t { seconds = seconds; sub = sub }) few (few row t at)
+  time_usual : (row seconds sub : ℕ) → AreUsual n kit (set_time row seconds sub tables)
+  time_usual row seconds sub = here (table_at tables row) refl where
+    here : (found : Option Table) → table_at tables row ≡ found → AreUsual n kit (set_time_in tables row seconds sub found)
+    here None at = are
+    here (Some t) at = let is = are row t at in usual_with n kit tables row (record t { seconds = seconds; sub = sub }) are (record { few = is.few; function = is.function })
 
-  -- a change of a table that takes no image
-  changed_few : (row : ℕ) (change : Table → Table) → ((t : Table) → (change t).count ≡ t.count) → HasFewImages (changed row change tables) n
-  changed_few row change same = here (table_at tables row) refl where
-    here : (found : Option Table) → table_at tables row ≡ found → HasFewImages (changed_in tables row change found) n
-    here None at = few
-    here (Some t) at = few_with tables n row (change t) few (rw (same t) (few row t at))
+  -- a change of a table that takes no image, and leaves its owner and its function
+  changed_usual : (row : ℕ) (change : Table → Table) → ((t : Table) → IsUsual n kit t → IsUsual n kit (change t)) → AreUsual n kit (changed row change tables)
+  changed_usual row change same = here (table_at tables row) refl where
+    here : (found : Option Table) → table_at tables row ≡ found → AreUsual n kit (changed_in tables row change found)
+    here None at = are
+    here (Some t) at = usual_with n kit tables row (change t) are (same t (are row t at))
 
 -- ---- requests
 
 pub record IsOrdinary (n : ℕ) (e : Effect) : Type 0 where
-  pub few : HasFewImages e.next.tables (suc n)
+  pub usual : AreUsual (suc n) e.next.kit e.next.tables
   pub live : e.next.ended ≡ false
 
-module _ (s : State) (n : ℕ) (live : s.ended ≡ false) (few : HasFewImages s.tables n) where
+module _ (s : State) (n : ℕ) (live : s.ended ≡ false) (usual : AreUsual n s.kit s.tables) where
   -- an effect that leaves the tables
   same : (e : Effect) → e.next ≡ s → IsOrdinary n e
-  same e is = rw is (record { few = few_more s.tables n few; live = live })
+  same e is = rw is (record { usual = more_usual n s.kit s.tables usual; live = live })
 
   refused : (e : Effect) → e.next ≡ s → is_refusal e.status ≡ true → IsOrdinary n e
   refused e is refuses = same e is
 
   pub ordinary : (actor : Actor) (request : Request) (given : Given) → OfEffect (IsOrdinary n) (effect_of s actor request given)
   ordinary Ground (ask.Command bytes) given = by_command s (IsOrdinary n) refused (λ e is ok. same e is) (λ name file row. record {
-    few = few_more (set_file row name (patch row file.offset file.image s.tables)) n
-        (changed_few (patch row file.offset file.image s.tables) n (changed_few s.tables n few row (λ t. record t { load = unchecked (patched (base t) file.offset file.image) }) (λ t. refl)) row (λ t. record t { file = name }) (λ t. refl));
+    usual = more_usual n s.kit (set_file row name (patch row file.offset file.image s.tables))
+        (changed_usual n s.kit (patch row file.offset file.image s.tables)
+        (changed_usual n s.kit s.tables usual row (λ t. record t { load = unchecked (patched (base t) file.offset file.image) }) (λ t is. record { few = is.few; function = is.function }))
+        row (λ t. record t { file = name }) (λ t is. record { few = is.few; function = is.function }));
     live = live;
   }) bytes.list
-  ordinary Ground (ask.File name bytes) given = by_file s (IsOrdinary n) refused name bytes.list (record { few = few_more s.tables n few; live = live })
+  ordinary Ground (ask.File name bytes) given = by_file s (IsOrdinary n) refused name bytes.list (record { usual = more_usual n s.kit s.tables usual; live = live })
   ordinary Ground request given = tt
-  ordinary (App app) (ask.Start name) given = by_start s (IsOrdinary n) refused app name (record { few = few_more s.tables n few; live = live })
-  ordinary (App app) (ask.Register name size flags validator) given = by_register s (IsOrdinary n) refused app name size flags validator (λ full row handle free. record {
-    few = few_with s.tables (suc n) row (new_table full app size flags validator handle) (few_more s.tables n few) (omega arith);
+  ordinary (App app) (ask.Start name) given = by_start s (IsOrdinary n) refused app name (record { usual = more_usual n s.kit s.tables usual; live = live })
+  ordinary (App app) (ask.Register name size flags validator) given = by_register s (IsOrdinary n) refused app name size flags validator (λ full row handle may free. record {
+    usual = usual_with (suc n) s.kit s.tables row (new_table full app size flags validator handle) (more_usual n s.kit s.tables usual) (record { few = omega arith; function = may });
     live = live;
   })
-  ordinary (App app) (ask.LoadImage handle image) given = by_load_image s (IsOrdinary n) refused app handle image.list (λ row t there size free. record {
-    few = time_few (put row image.list s.tables) (suc n) (put_few s.tables n few row image.list) row s.seconds s.sub;
+  ordinary (App app) (ask.LoadImage handle image) given = by_load_image s (IsOrdinary n) refused app handle image.list given (λ row t e there size free next ok. rw next (record {
+    usual = time_usual (suc n) s.kit (put row image.list s.tables) (put_usual n s.kit s.tables usual row image.list) row s.seconds s.sub;
     live = live;
-  })
-  ordinary (App app) (ask.Get handle) given = by_get s (IsOrdinary n) refused app handle (λ a leads some. record { few = few_more s.tables n few; live = live })
-  ordinary (App app) (ask.Read handle offset len) given = by_read s (IsOrdinary n) refused app handle offset len (λ a leads pinned inside. record { few = few_more s.tables n few; live = live })
+  }))
+  ordinary (App app) (ask.Get handle) given = by_get s (IsOrdinary n) refused app handle (λ a leads some. record { usual = more_usual n s.kit s.tables usual; live = live })
+  ordinary (App app) (ask.Read handle offset len) given = by_read s (IsOrdinary n) refused app handle offset len (λ a leads pinned inside. record { usual = more_usual n s.kit s.tables usual; live = live })
   ordinary (App app) (ask.Release handle) given = by_release s (IsOrdinary n) refused app handle (λ a leads pinned.
       let freed = with_handle handle (record a.handle { pin = None }) s.tables in
       let left = with_table a.row (let_go freed.handles a.row a.table) freed in
-      rw pinned (record { few = few_more left n (few_with freed n a.row (let_go freed.handles a.row a.table) few (few a.row a.table leads.there)); live = live }))
+      let is = usual a.row a.table leads.there in
+      rw pinned (record { usual = more_usual n s.kit left (usual_with n s.kit freed a.row (let_go freed.handles a.row a.table) usual (record { few = is.few; function = is.function })); live = live }))
   ordinary (App app) request given = tt

@@ -13,7 +13,7 @@ use Rattle.tbl_model.specs.TableSteps.{handle_at, image_of}
 use Rattle.tbl_model.specs.Effects.{Effect}
 use Rattle.tbl_model.specs.Given.{Given}
 use Rattle.tbl_model.specs.Dispatch.{effect_of}
-use Rattle.tbl_model.specs.Applications.{read_effect}
+use Rattle.tbl_model.specs.Addresses.{read_effect}
 use Rattle.tbl_model.specs.History.{Run, begins_at, onward_by, run_from, given_in, IsAnswered, AreAnswered, IsLegal}
 use Rattle.tbl_model.specs.Whole.{is_done, is_get, ends_pin, IsWholeRead, IsWholeBy, IsWholeEntry, IsWhole}
 use Rattle.tbl_model.proofs.HistoryLaws.{run_push}

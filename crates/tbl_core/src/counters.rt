@@ -89,6 +89,10 @@ pub(crate) struct Tally {
     pub events: u8,
     /// A housekeeping packet was sent.
     pub housekeeping: bool,
+    /// A registry packet was sent.
+    pub registry: bool,
+    /// A notice was sent to an application.
+    pub notice: bool,
     /// The latest validation that came to its end.
     pub validation: Option<Validation>,
     /// The latest image that went active.
@@ -149,6 +153,8 @@ pub(crate) struct Counters {
     pub requests: u8,
     pub events: u16,
     pub housekeepings: u16,
+    pub registries: u16,
+    pub notices: u16,
     pub validation: Validation,
     pub update: Update,
     pub loaded: Name40,
@@ -156,6 +162,8 @@ pub(crate) struct Counters {
     pub dumped_file: Name64,
     ghost events_fit: { events < 16384 },
     ghost housekeepings_fit: { housekeepings < 16384 },
+    ghost registries_fit: { registries < 16384 },
+    ghost notices_fit: { notices < 16384 },
 }
 
 impl Counters {
@@ -174,6 +182,8 @@ impl Counters {
             requests: 0,
             events: 0,
             housekeepings: 0,
+            registries: 0,
+            notices: 0,
             validation: Validation {
                 check: 0,
                 verdict: 0,
@@ -198,6 +208,8 @@ impl Counters {
         let none = Counters::make();
         self.events = none.events;
         self.housekeepings = none.housekeepings;
+        self.registries = none.registries;
+        self.notices = none.notices;
         self.validation = none.validation;
         self.update = none.update;
         self.loaded = none.loaded;
@@ -221,6 +233,8 @@ impl Counters {
         }
         self.events = sequence(self.events, tally.events);
         self.housekeepings = sequence(self.housekeepings, u8::from(tally.housekeeping));
+        self.registries = sequence(self.registries, u8::from(tally.registry));
+        self.notices = sequence(self.notices, u8::from(tally.notice));
         self.validation.renew(tally.validation);
         self.update.renew(tally.update);
         renew_name(&mut self.loaded, tally.loaded);

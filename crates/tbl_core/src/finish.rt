@@ -13,6 +13,7 @@ use crate::effect::Effect;
 use crate::parts::Parts;
 use crate::telemetry::{EVENT_LENGTH, HOUSEKEEPING_LENGTH, head_at, put_events, put_shown, tally};
 use tbl_kinds::{Actor, Bytes, Entry, Reply, Request, Status};
+use tbl_outside::Validator;
 
 /// How many bytes of packets a request can send.
 pub(crate) fn packets_room(request: &Request, asked: &Asked) -> usize
@@ -27,7 +28,7 @@ pub(crate) fn packets_room(request: &Request, asked: &Asked) -> usize
     own + EVENT_LENGTH * most_deeds(request) + shown
 }
 
-impl Parts {
+impl<C: Validator> Parts<C> {
     /// Appends the packets of a request, and counts it.
     #[tactic(auto, using(crate::proofs::Few::few_deeds))]
     fn tell(&mut self, request: &Request, asked: &Asked, effect: &Effect, packets: &mut Bytes)
