@@ -6,7 +6,8 @@ use Rattle.std.proofs.lemmas.Bool.Decides.{nat_tests}
 use Rattle.tbl_model.specs.State.{State}
 use Rattle.tbl_model.specs.TableSteps.{find}
 use Rattle.tbl_model.specs.Effects.{Effect}
-use Rattle.tbl_model.specs.Applications.{full_name, by_app, by_name_effect, register_effect}
+use Rattle.tbl_model.specs.Applications.{full_name, by_name_effect, register_effect}
+use Rattle.tbl_model.specs.Subjects.{by_app}
 use Rattle.tbl_model.specs.Refusals.{plan_refusal}
 use Rattle.tbl_model.proofs.RefusalLaws.{plan_taken}
 use Rattle.sharing.specs.Apps.{app_name}
@@ -16,10 +17,10 @@ runs : (s : State) (found : Option (List ℕ)) (short full : List ℕ) (effect :
 runs s None short full effect other h step = absurd (cc h)
 runs s (Some name) short full effect other h step = step name (sym (same_Some _ _ h))
 
-module _ (s : State) (apps : List (Option (List ℕ))) (app : ℕ) (short full : List ℕ) (size flags : ℕ) (validator : Option ℕ)
-    (same : s.apps ≡ apps) (kit : s.kit ≡ []) (running : Some full ≡ option_map (λ name. full_name name short) (app_name apps app)) where
-  pub registers : None ≡ plan_refusal [] app short size flags validator → register_effect s app short size flags validator ≡ by_name_effect s app full size 0 None (find full s.tables)
+module _ (s : State) (kit : List (Option ℕ)) (apps : List (Option (List ℕ))) (app : ℕ) (short full : List ℕ) (size flags : ℕ) (validator : Option ℕ)
+    (same : s.apps ≡ apps) (given : s.kit ≡ kit) (running : Some full ≡ option_map (λ name. full_name name short) (app_name apps app)) where
+  pub registers : None ≡ plan_refusal kit app short size flags validator → register_effect s app short size flags validator ≡ by_name_effect s app full size 0 validator (find full s.tables)
   unfolding register_effect
   registers first =
-      let taken = plan_taken app short size flags validator (sym first) in
-      runs s (app_name s.apps app) short full _ _ (rw same running) (λ name is. rw (is, kit, ← first, taken.no_flag, taken.no_validator) refl)
+      let taken = plan_taken kit app short size flags validator (sym first) in
+      runs s (app_name s.apps app) short full _ _ (rw same running) (λ name is. rw (is, given, ← first, taken.no_flag) refl)

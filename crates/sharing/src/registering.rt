@@ -1,17 +1,20 @@
-ghost use Rattle.std.specs.Prelude.{◌≡◌, ◌<◌, ◌≤◌, [], None, Some, IfOk, OnErr};
+ghost use Rattle.std.specs.Prelude.{◌≡◌, ◌<◌, ◌≤◌, Some, IfOk, OnErr};
 ghost use Rattle.tbl_model.specs.State.{State};
 ghost use Rattle.tbl_model.specs.Tables.{option_bits, table_at};
 ghost use Rattle.tbl_kinds.specs.Free.{least_free};
 ghost use Rattle.tbl_model.specs.TableSteps.{find};
 ghost use Rattle.tbl_kinds.specs.Limits.{table_limit};
 ghost use Rattle.tbl_model.specs.Applications.{duplicate_effect, add_effect, by_name_effect, register_effect};
-ghost use Rattle.tbl_model.specs.Refusals.{refusal, plan_refusal};
+ghost use Rattle.tbl_model.specs.Refusals.{refusal, may_use, plan_refusal};
+ghost use Rattle.validation.specs.Kits.{owners};
 ghost use Rattle.sharing.specs.Registering.{answered_with};
 
 use crate::apps::{Apps, plan_name};
 use bitflags::Flags;
 use tbl_kinds::{Answer, Memory, Name16, Name40, Options, Status};
+use tbl_outside::Validator;
 use tbl_registry::{AddFault, NewTable, RowView, Tables};
+use validation::Kit;
 
 /// The largest table (`CFE_PLATFORM_TBL_MAX_SNGL_TABLE_SIZE`), in bytes.
 const TABLE_LIMIT: u32 = 16_384;
@@ -23,16 +26,27 @@ fn refusal(status: Status) -> Option<Answer>
     Some(Answer { status, detail: 0 })
 }
 
-/// The first thing that can't be asked for: the name, the size, the options, the validation function, of which none stands
-/// in the kit.
-fn plan_refusal(
+/// Whether the application may have its table judged by this function of the kit, if it asks for one.
+#[tactic(auto, using(crate::proofs::Functions::may_use_at))]
+fn may_use<C: Validator>(kit: &Kit<C>, app: u8, validator: Option<u8>) -> bool
+    ensures { result ≡ may_use (owners kit.now) app validator }
+{
+    match validator {
+        Some(number) => kit.may_use(app, number),
+        None => true,
+    }
+}
+
+/// The first thing that can't be asked for: the name, the size, the options, the validation function.
+fn plan_refusal<C: Validator>(
+    kit: &Kit<C>,
     app: u8,
     short: &Name16,
     size: u32,
     flags: u16,
     validator: Option<u8>,
 ) -> Option<Answer>
-    ensures { result ≡ plan_refusal [] app short.now size flags validator }
+    ensures { result ≡ plan_refusal (owners kit.now) app short.now size flags validator }
 {
     if !short.is_name() {
         return refusal(Status::ERR_INVALID_NAME);
@@ -43,7 +57,7 @@ fn plan_refusal(
     if flags != 0 {
         return refusal(Status::ERR_INVALID_OPTIONS);
     }
-    if validator.is_some() {
+    if !may_use(kit, app, validator) {
         return refusal(Status::ERR_NO_VALIDATOR);
     }
     None
@@ -69,18 +83,24 @@ fn duplicate(tables: &Tables, row: u8, app: u8, size: u32) -> Answer
 }
 
 /// Adds a table whose name is new.
-fn add(tables: &mut Tables, app: u8, name: Name40, size: u32) -> Result<Answer, Memory>
+fn add(
+    tables: &mut Tables,
+    app: u8,
+    name: Name40,
+    size: u32,
+    validator: Option<u8>,
+) -> Result<Answer, Memory>
     requires new { find name tables.old ≡ None }
     requires some_bytes { 0 < size }
     requires within { size ≤ table_limit }
-    ensures effect { IfOk result (λ answer. (s : State) → s.tables ≡ tables.old → add_effect s app name size 0 None (least_free tables.old.rows) (least_free tables.old.handles) ≡ answered_with s answer tables.new) }
+    ensures effect { IfOk result (λ answer. (s : State) → s.tables ≡ tables.old → add_effect s app name size 0 validator (least_free tables.old.rows) (least_free tables.old.handles) ≡ answered_with s answer tables.new) }
     ensures err { OnErr result (tables.new ≡ tables.old) }
 {
     let plan = NewTable {
         name,
         size,
         flags: Options::from_bits_retain(0),
-        validator: None,
+        validator,
     };
     match tables.add(app, plan) {
         Ok(handle) => Ok(Answer {
@@ -94,25 +114,32 @@ fn add(tables: &mut Tables, app: u8, name: Name40, size: u32) -> Result<Answer, 
 }
 
 /// Registers a table under its full name.
-fn by_name(tables: &mut Tables, app: u8, name: Name40, size: u32) -> Result<Answer, Memory>
+fn by_name(
+    tables: &mut Tables,
+    app: u8,
+    name: Name40,
+    size: u32,
+    validator: Option<u8>,
+) -> Result<Answer, Memory>
     requires some_bytes { 0 < size }
     requires within { size ≤ table_limit }
-    ensures effect { IfOk result (λ answer. (s : State) → s.tables ≡ tables.old → by_name_effect s app name size 0 None (find name s.tables) ≡ answered_with s answer tables.new) }
+    ensures effect { IfOk result (λ answer. (s : State) → s.tables ≡ tables.old → by_name_effect s app name size 0 validator (find name s.tables) ≡ answered_with s answer tables.new) }
     ensures err { OnErr result (tables.new ≡ tables.old) }
 {
     match tables.find(name.bytes()) {
         Some(row) => Ok(duplicate(tables, row, app, size)),
-        None => add(tables, app, name, size),
+        None => add(tables, app, name, size, validator),
     }
 }
 
-/// Registers a table for an application, under its name, a dot and the short name (`CFE_TBL_Register`), where no
-/// validation function stands in the kit. A new table's handle is the detail, and also that of a table which
+/// Registers a table for an application, under its name, a dot and the short name (`CFE_TBL_Register`). Where it asks for
+/// a validation function, that is one of its own in the kit. A new table's handle is the detail, and also that of a table which
 /// the application has registered already under this name and with this size (`WARN_DUPLICATE`).
 /// After want of memory nothing was changed.
 #[tactic(auto, unfolding(tbl_model::specs::Applications::register_effect))]
-pub fn register(
+pub fn register<C: Validator>(
     tables: &mut Tables,
+    kit: &Kit<C>,
     apps: &Apps,
     app: u8,
     short: &Name16,
@@ -120,14 +147,14 @@ pub fn register(
     flags: u16,
     validator: Option<u8>,
 ) -> Result<Answer, Memory>
-    ensures effect { IfOk result (λ answer. (s : State) → s.tables ≡ tables.old → s.apps ≡ apps.now → s.kit ≡ [] → register_effect s app short.now size flags validator ≡ answered_with s answer tables.new) }
+    ensures effect { IfOk result (λ answer. (s : State) → s.tables ≡ tables.old → s.apps ≡ apps.now → s.kit ≡ owners kit.now → register_effect s app short.now size flags validator ≡ answered_with s answer tables.new) }
     ensures err { OnErr result (tables.new ≡ tables.old) }
 {
     let Some(name) = plan_name(apps, app, short) else {
         return Ok(Answer::plain(Status::ERR_BAD_APP));
     };
-    if let Some(answer) = plan_refusal(app, short, size, flags, validator) {
+    if let Some(answer) = plan_refusal(kit, app, short, size, flags, validator) {
         return Ok(answer);
     }
-    by_name(tables, app, name, size)
+    by_name(tables, app, name, size, validator)
 }

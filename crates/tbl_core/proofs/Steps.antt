@@ -1,12 +1,15 @@
 -- From what a step did to the core to the legal history.
-use Rattle.std.proofs.Common.{◌≡◌, ℕ, suc, false, List, [], ◌∷◌, ◌++◌, length, Option, Some, None, Result, Ok, Err, refl, sym, ap, subst, ◌∙◌, length-append, arith}
+use Rattle.std.proofs.Common.{◌≡◌, ℕ, suc, false, List, [], ◌∷◌, ◌++◌, length, Option, Some, None, Result, Ok, Err, ℤ, refl, sym, ap, subst, ◌∙◌, length-append, arith}
 use Rattle.std.specs.Prelude.{OnOk}
 use Rattle.std.proofs.lemmas.List.{append-nil}
 use Rattle.tbl_model.specs.State.{State, Tables, first_state}
 use Rattle.tbl_kinds.specs.Requests.{Fits}
 use Rattle.tbl_kinds.specs.Records.{IsBuilt}
 use Rattle.tbl_model.specs.Effects as model
-use Rattle.tbl_model.specs.Given.{nothing_given}
+use Rattle.tbl_model.specs.Deeds.{Question}
+use Rattle.tbl_model.specs.Given.{MayBeGiven}
+use Rattle.tbl_kinds.specs.Notes.{untouched}
+use Rattle.validation.specs.Kits.{owners}
 use Rattle.tbl_model.specs.Dispatch.{effect_of}
 use Rattle.tbl_model.specs.Counts.{Told, Counts, counts_of}
 use Rattle.tbl_model.specs.CountsAfter.{tally_of, counts_after}
@@ -16,7 +19,9 @@ use Rattle.tbl_model.proofs.CountsLaws.{counts_push}
 use Rattle.tbl_model.proofs.HistoryLaws.{run_push, answered_push}
 use Rattle.tbl_core.specs.Log.{Logged, entry_of}
 use Rattle.tbl_core.specs.Effects.{IsEffect, given_of, without_images, seen_at, told_at}
-use Rattle.tbl_core.specs.Service.{Held, CoreView, Stands, Shows, StandsFor, Leaves, Finishes, Plays, HasFewImages}
+use Rattle.tbl_core.specs.Service.{Held, CoreView, Stands, Shows, StandsFor, Leaves, Asks, Finishes, Plays, IsReady}
+use Rattle.tbl_core.specs.Verdicts.{Judged, questions_in}
+use Rattle.tbl_core.proofs.Verdicts.{answers_each, few_more}
 use Rattle.tbl_core.proofs.Cases.{OfEffect}
 use Rattle.tbl_core.proofs.Ordinary.{IsOrdinary, ordinary}
 use Rattle.tbl_core.specs.declared.effect.Effect.{Effect}
@@ -24,11 +29,12 @@ use Rattle.tbl_core.specs.declared.parts.Clock.{Clock}
 use Rattle.tbl_kinds.specs.declared.request.Actor.{Actor}
 use Rattle.tbl_kinds.specs.declared.request.Request.{Request}
 use Rattle.tbl_kinds.specs.declared.entry.Entry.{Entry}
+use Rattle.tbl_outside.specs.declared.validator.KitEntry.{KitEntry}
 
 -- ---- one effect
 
--- but for its images it is what the code has of it
-same_but_images : (done : Effect) (e : model.Effect) → IsEffect done e.next e → e ≡ record (without_images done e.next) { images = e.images }
+-- but for its images and questions it is what the code has of it
+same_but_images : (done : Effect) (e : model.Effect) → IsEffect done e.asked e.next e → e ≡ record (without_images done e.next) { images = e.images; asked = e.asked }
 same_but_images done e is = λ i. record {
   status = is.status i;
   detail = is.detail i;
@@ -36,13 +42,14 @@ same_but_images done e is = λ i. record {
   table = is.table i;
   deeds = is.deeds i;
   images = e.images;
+  asked = e.asked;
   shown = is.shown i;
   notice = is.notice i;
   next = e.next;
 }
 
--- telemetry doesn't tell images, nor more of the state than the time and the tables
-module _ (done : Effect) (clock : Clock) (actor : Actor) (request : Request) (s : State) (e : model.Effect) (is : IsEffect done e.next e) (seconds : s.seconds ≡ clock.seconds) (sub : s.sub ≡ clock.sub) where
+-- telemetry doesn't tell images and questions, nor more of the state than the time and the tables
+module _ (done : Effect) (clock : Clock) (actor : Actor) (request : Request) (s : State) (e : model.Effect) (is : IsEffect done e.asked e.next e) (seconds : s.seconds ≡ clock.seconds) (sub : s.sub ≡ clock.sub) where
   tally_same : (tables : Tables) → tally_of (told s actor request e) ≡ tally_of (told_at clock.seconds clock.sub tables request done)
   tally_same tables = rw (same_but_images done e is, ← seconds, ← sub) refl
 
@@ -52,36 +59,43 @@ module _ (done : Effect) (clock : Clock) (actor : Actor) (request : Request) (s 
 -- ---- one request
 
 -- a state for which the parts stand
-abbrev state_in : Held → State
+abbrev state_in : {C : Type 0} → Held C → State
 state_in held = record {
   tables = held.tables;
   pending = held.pending;
   store = [];
   drawer = held.drawer;
   apps = held.apps;
-  kit = held.kit;
+  kit = owners held.kit;
   seconds = held.seconds;
   sub = held.sub;
   ended = held.ended;
 }
 
-stands_in : (held : Held) → Stands held (state_in held)
+stands_in : {C : Type 0} (held : Held C) → Stands held (state_in held)
 stands_in held = record { tables = refl; pending = refl; store = refl; drawer = refl; apps = refl; kit = refl; seconds = refl; sub = refl; ended = refl }
 
 -- the effect that the parts stand behind
-effect_left : (done : Effect) (held : Held) (found : Option model.Effect) → Leaves done held found → (e : model.Effect) × (found ≡ Some e) × (IsEffect done e.next e) × (Stands held e.next)
+effect_left : {C : Type 0} (done : Effect) (held : Held C) (found : Option model.Effect) → Leaves done held found → (e : model.Effect) × (found ≡ Some e) × (IsEffect done e.asked e.next e) × (Stands held e.next)
 effect_left done held None leaves = absurd leaves
 effect_left done held (Some e) leaves = (e, refl, leaves.0, leaves.1)
 
+-- what its effect asks
+asked_there : {C : Type 0} (verdict : C → List ℕ → ℤ) (asked : C → ℕ) (old new : List (Option (KitEntry C))) (verdicts : List (Option ℤ)) (found : Option model.Effect) (e : model.Effect)
+    → found ≡ Some e → Asks verdict asked old new verdicts found → Judged verdict asked old new e.asked verdicts
+asked_there verdict asked old new verdicts found e is asks = subst (Asks verdict asked old new verdicts) is asks
+
 -- what a request did
-pub record Did (old new : CoreView) (actor : Actor) (request : Request) (clock : Clock) (done : Effect) : Type 0 where
+pub record Did {C : Type 0} (verdict : C → List ℕ → ℤ) (asked : C → ℕ) (old new : CoreView C) (actor : Actor) (request : Request) (clock : Clock) (done : Effect) : Type 0 where
   pub fits : Fits actor request
   pub built : IsBuilt request
   pub live : old.state.ended ≡ false
-  pub few : HasFewImages old.state.tables (length old.entries)
+  pub ready : IsReady asked old
   pub seconds : old.state.seconds ≡ clock.seconds
   pub sub : old.state.sub ≡ clock.sub
-  pub given : given_of done ≡ nothing_given
+  pub note : done.note ≡ untouched
+  pub two : length done.verdicts ≡ 2
+  pub asks : (s : State) → Stands old.state s → Asks verdict asked old.state.kit new.state.kit done.verdicts (effect_of s actor request (given_of done))
   pub effect : (s : State) → Stands old.state s → Leaves done new.state (effect_of s actor request (given_of done))
   pub before : Logged
   pub after : Logged
@@ -91,7 +105,7 @@ pub record Did (old new : CoreView) (actor : Actor) (request : Request) (clock :
   pub counted : new.counts ≡ after.counts
   pub finishes : Finishes before after clock new.state.tables actor request done
 
-module _ (old new : CoreView) (actor : Actor) (request : Request) (clock : Clock) (done : Effect) (did : Did old new actor request clock done) where
+module _ {C : Type 0} (verdict : C → List ℕ → ℤ) (asked : C → ℕ) (old new : CoreView C) (actor : Actor) (request : Request) (clock : Clock) (done : Effect) (did : Did verdict asked old new actor request clock done) where
   entry : Entry
   entry = entry_of actor request did.finishes.reply (given_of done)
 
@@ -99,8 +113,11 @@ module _ (old new : CoreView) (actor : Actor) (request : Request) (clock : Clock
   unfolding entry
   added = did.entered ∙ did.finishes.entries ∙ ap (λ es. es ++ entry ∷ []) did.entries
 
-  left : (r : Run) → Shows old r → (e : model.Effect) × (effect_of r.state actor request (given_of done) ≡ Some e) × (IsEffect done e.next e) × (Stands new.state e.next)
+  left : (r : Run) → Shows old r → (e : model.Effect) × (effect_of r.state actor request (given_of done) ≡ Some e) × (IsEffect done e.asked e.next e) × (Stands new.state e.next)
   left r shown = effect_left done new.state _ (did.effect r.state shown.state)
+
+  asked_of : (r : Run) (shown : Shows old r) → Judged verdict asked old.state.kit new.state.kit (left r shown).0.asked done.verdicts
+  asked_of r shown = asked_there verdict asked old.state.kit new.state.kit done.verdicts _ (left r shown).0 (left r shown).1 (did.asks r.state shown.state)
 
   counted_on : (r : Run) (shown : Shows old r) → counts_of (r.past ++ told r.state actor request (left r shown).0 ∷ []) ≡ new.counts
   counted_on r shown =
@@ -118,7 +135,7 @@ module _ (old new : CoreView) (actor : Actor) (request : Request) (clock : Clock
         live = shown.state.ended ∙ did.live;
         built = did.built;
         fits = did.fits;
-        given = did.given;
+        given = record { note = did.note; verdicts = answers_each verdict old.state.kit e.0.asked done.verdicts did.two (asked_of r shown).gives };
         effect = e.0;
         effect_is = e.1;
         status = done_by.status ∙ sym e.2.status;
@@ -140,12 +157,29 @@ module _ (old new : CoreView) (actor : Actor) (request : Request) (clock : Clock
   ordinary_left =
       let s = state_in old.state in
       let e = effect_left done new.state _ (did.effect s (stands_in old.state)) in
-      (e.0, subst (OfEffect (IsOrdinary (length old.entries))) e.1 (ordinary s (length old.entries) did.live did.few actor request (given_of done)), e.3)
+      (e.0, subst (OfEffect (IsOrdinary (length old.entries))) e.1 (ordinary s (length old.entries) did.live did.ready.tables actor request (given_of done)), e.3)
+
+  -- and what it asked, in the same state
+  asked_left : (questions : List Question) × Judged verdict asked old.state.kit new.state.kit questions done.verdicts
+  asked_left =
+      let s = state_in old.state in
+      let e = effect_left done new.state _ (did.effect s (stands_in old.state)) in
+      (e.0.asked, asked_there verdict asked old.state.kit new.state.kit done.verdicts _ e.0 e.1 (did.asks s (stands_in old.state)))
 
   one_more : length new.entries ≡ suc (length old.entries)
   one_more = ap length added ∙ omega (arith, length-append old.entries (entry ∷ []))
 
-  pub did_play : Plays old new actor request
+  judged : (r : Run) → Shows old r → Judged verdict asked old.state.kit new.state.kit (questions_in r entry) entry.verdicts
+  unfolding entry
+  judged r shown = rw (left r shown).1 (asked_of r shown)
+
+  ready : IsReady asked new
+  ready = record {
+    tables = rw (one_more, ← ordinary_left.2.tables, ← ordinary_left.2.kit) ordinary_left.1.usual;
+    kit = rw one_more (few_more verdict asked old.state.kit new.state.kit asked_left.0 done.verdicts (length old.entries) did.two asked_left.1 did.ready.kit);
+  }
+
+  pub did_play : Plays verdict asked old new actor request
   unfolding entry
   did_play = record {
     entry = entry;
@@ -155,14 +189,15 @@ module _ (old new : CoreView) (actor : Actor) (request : Request) (clock : Clock
     answered = answered;
     shows = shows;
     live = sym ordinary_left.2.ended ∙ ordinary_left.1.live;
-    few = rw (one_more, ← ordinary_left.2.tables) ordinary_left.1.few;
+    ready = ready;
+    judged = judged;
   }
 
 -- ---- the history
 
 -- a step that played a request leads from each opening that the core stood for to one that it stands for
-pub plays_on : (old new : CoreView) (actor : Actor) (request : Request) → Plays old new actor request → (opening : State) → StandsFor opening old → StandsFor opening new
-plays_on old new actor request p opening stood =
+pub plays_on : {C : Type 0} (verdict : C → List ℕ → ℤ) (asked : C → ℕ) (old new : CoreView C) (actor : Actor) (request : Request) → Plays verdict asked old new actor request → (opening : State) → StandsFor opening old → StandsFor opening new
+plays_on verdict asked old new actor request p opening stood =
     let run = run_from (begins_at opening) old.entries in
     let all : AreAnswered (begins_at opening) (old.entries ++ p.entry ∷ []) = answered_push (begins_at opening) old.entries p.entry stood.legal.answered (p.answered run stood.shows) in
     let shown : Shows new (run_from (begins_at opening) (old.entries ++ p.entry ∷ [])) = subst (λ (r : Run). Shows new r) (sym (run_push (begins_at opening) old.entries p.entry)) (p.shows run stood.shows) in

@@ -20,5 +20,5 @@ asked_of asked = option_map read_of asked
 
 -- the most deeds of a request
 abbrev pub most_deeds : Request → ℕ
-most_deeds (LoadImage handle image) = 1
+most_deeds (LoadImage handle image) = 2
 most_deeds _ = 0

@@ -2,10 +2,11 @@
 use Rattle.std.specs.Prelude.{◌≡◌, ℕ, ◌≤◌, List, [], ◌∷◌, ◌++◌, length, map, Bool, false, Option, None, Some}
 use Rattle.tbl_model.specs.State.{State, Tables, first_state}
 use Rattle.tbl_model.specs.Effects as model
+use Rattle.tbl_model.specs.Deeds.{Question}
 use Rattle.tbl_model.specs.Given.{Given, nothing_given}
 use Rattle.tbl_model.specs.Commands.{Asked}
 use Rattle.tbl_model.specs.Events.{deed_event, command_events}
-use Rattle.tbl_model.specs.Counts.{Told}
+use Rattle.tbl_model.specs.Counts.{Told, is_registry}
 use Rattle.tbl_model.specs.History.{told}
 use Rattle.tbl_model.specs.declared.deeds.Shown.{Shown}
 use Rattle.tbl_model.specs.declared.deeds.Shown.TheVariants.{Nothing}
@@ -16,15 +17,16 @@ use Rattle.tbl_core.specs.declared.effect.Effect.{Effect}
 
 -- ---- what it stands for
 
--- it is this effect, which leaves this state
-pub record IsEffect (done : Effect) (after : State) (e : model.Effect) : Type 0 where
+-- it is this effect, which asks validation functions these questions and leaves this state
+pub record IsEffect (done : Effect) (questions : List Question) (after : State) (e : model.Effect) : Type 0 where
   pub status : e.status ≡ done.answer.status
   pub detail : e.detail ≡ done.answer.detail
   pub bytes : e.bytes ≡ done.bytes.list
   pub table : e.table ≡ done.table
   pub deeds : e.deeds ≡ done.deeds.items
   pub shown : e.shown ≡ done.shown
-  pub notice : e.notice ≡ None
+  pub asked : e.asked ≡ questions
+  pub notice : e.notice ≡ done.notice
   pub next : e.next ≡ after
 
 -- what came from the outside in it
@@ -33,7 +35,7 @@ given_of done = record { note = done.note; verdicts = done.verdicts }
 
 -- ---- what is told of it
 
--- the same without images, which telemetry doesn't tell
+-- the same without images and questions, which telemetry doesn't tell
 abbrev pub without_images : Effect → State → model.Effect
 without_images done next = record {
   status = done.answer.status;
@@ -42,8 +44,9 @@ without_images done next = record {
   table = done.table;
   deeds = done.deeds.items;
   images = [];
+  asked = [];
   shown = done.shown;
-  notice = None;
+  notice = done.notice;
   next = next;
 }
 
@@ -68,13 +71,17 @@ listed (Some event) = event ∷ []
 
 -- ---- how much it tells
 
--- it has so many deeds at most, and shows a packet only where this is true
+-- it has so many deeds at most, and shows a housekeeping packet only where this is true. No request that is built shows
+-- a registry packet or gives notice
 pub record IsWithin (most : ℕ) (shows : Bool) (done : Effect) : Type 0 where
   pub deeds : length done.deeds.items ≤ most
   pub shown : shows ≡ false → done.shown ≡ Nothing
+  pub no_registry : is_registry done.shown ≡ false
+  pub notice : done.notice ≡ None
 
 -- it answers, and no more is told of it
 pub record IsQuiet (done : Effect) : Type 0 where
   pub deeds : done.deeds.items ≡ []
   pub shown : done.shown ≡ Nothing
+  pub notice : done.notice ≡ None
   pub given : given_of done ≡ nothing_given

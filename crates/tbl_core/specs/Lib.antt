@@ -2,6 +2,8 @@ pub mod Asked
 pub mod Counters
 pub mod Effects
 pub mod Finish
+pub mod Loads
 pub mod Log
 pub mod Rows
 pub mod Service
+pub mod Verdicts

@@ -1,93 +1,120 @@
 -- What the core keeps, and which histories it stands for.
-use Rattle.std.specs.Prelude.{◌≡◌, ℕ, ◌≤◌, List, [], ◌∷◌, ◌++◌, length, Bool, false, Option, Some, None}
+use Rattle.std.specs.Prelude.{◌≡◌, ℕ, ◌+◌, ◌*◌, ◌^◌, ◌≤◌, ◌<◌, List, [], ◌∷◌, ◌++◌, length, Bool, true, false, Option, Some, None}
 use Rattle.std.specs.Option.{ForSome}
-use Rattle.tbl_model.specs.State.{State, Tables, first_state}
+use Rattle.std.proofs.Common.{ℤ}
+use Rattle.tbl_model.specs.State.{State, Table, Tables}
 use Rattle.tbl_model.specs.Tables.{table_at}
+use Rattle.tbl_model.specs.Refusals.{may_use}
 use Rattle.tbl_kinds.specs.Drawer.{File}
 use Rattle.tbl_model.specs.Effects as model
 use Rattle.tbl_model.specs.Counts.{Counts, counts_of}
 use Rattle.tbl_model.specs.CountsAfter.{tally_of, counts_after}
 use Rattle.tbl_model.specs.Replies.{packets_by}
 use Rattle.tbl_model.specs.History.{Run, begins_at, onward, run_from, IsAnswered, IsLegal}
+use Rattle.tbl_outside.specs.declared.validator.KitEntry.{KitEntry}
+use Rattle.validation.specs.Kits.{entry_at, owners}
 use Rattle.tbl_kinds.specs.declared.entry.Entry.{Entry}
 use Rattle.tbl_kinds.specs.declared.entry.Reply.{Reply}
 use Rattle.tbl_kinds.specs.declared.request.Actor.{Actor}
 use Rattle.tbl_kinds.specs.declared.request.Request.{Request}
 use Rattle.tbl_core.specs.Log.{Logged, entry_of}
 use Rattle.tbl_core.specs.Effects.{IsEffect, given_of, told_at}
+use Rattle.tbl_core.specs.Verdicts.{Judged, questions_in}
 use Rattle.tbl_core.specs.declared.effect.Effect.{Effect}
 use Rattle.tbl_core.specs.declared.parts.Clock.{Clock}
 use Rattle.tbl_core.specs.declared.parts.Parts.{Parts}
 
 -- ---- what is kept
 
--- the parts of the service, as far as a state tells of them
-pub record Held : Type 0 where
+-- the parts of the service, as far as a state tells of them, with the validation functions themselves
+pub record Held (C : Type 0) : Type 0 where
   pub tables : Tables
   pub pending : List (ℕ × Bool)
   pub drawer : List File
   pub apps : List (Option (List ℕ))
-  pub kit : List (Option ℕ)
+  pub kit : List (Option (KitEntry C))
   pub seconds : ℕ
   pub sub : ℕ
   pub ended : Bool
 
 -- the history, the parts, and the running numbers of telemetry
-pub record CoreView : Type 0 where
+pub record CoreView (C : Type 0) : Type 0 where
   pub entries : List Entry
-  pub state : Held
+  pub state : Held C
   pub counts : Counts
 
--- no validation is pending, no function stands in the kit, and no boot has failed: no request that is built does that
-abbrev pub held_of : Parts → Held
+-- no boot has failed: no request that is built boots
+abbrev pub held_of : {C : Type 0} → Parts C → Held C
 held_of parts = record {
   tables = parts.tables;
-  pending = [];
+  pending = parts.pending;
   drawer = parts.drawer;
   apps = parts.apps;
-  kit = [];
+  kit = parts.kit;
   seconds = parts.clock.seconds;
   sub = parts.clock.sub;
   ended = false;
 }
 
-abbrev pub view_of : Parts → CoreView
+abbrev pub view_of : {C : Type 0} → Parts C → CoreView C
 view_of parts = record { entries = parts.log.entries; state = held_of parts; counts = parts.log.counts }
 
 -- ---- what the parts stand for
 
 -- they stand for this state. No request that is built uses the store
-pub record Stands (held : Held) (s : State) : Type 0 where
+pub record Stands {C : Type 0} (held : Held C) (s : State) : Type 0 where
   pub tables : s.tables ≡ held.tables
   pub pending : s.pending ≡ held.pending
   pub store : s.store ≡ []
   pub drawer : s.drawer ≡ held.drawer
   pub apps : s.apps ≡ held.apps
-  pub kit : s.kit ≡ held.kit
+  pub kit : s.kit ≡ owners held.kit
   pub seconds : s.seconds ≡ held.seconds
   pub sub : s.sub ≡ held.sub
   pub ended : s.ended ≡ held.ended
 
 -- the core stands for a run: its state, and what is counted over what was told
-pub record Shows (core : CoreView) (r : Run) : Type 0 where
+pub record Shows {C : Type 0} (core : CoreView C) (r : Run) : Type 0 where
   pub state : Stands core.state r.state
   pub counts : counts_of r.past ≡ core.counts
 
 -- from the opening state on the core's history is legal, and the core stands for what it leads to
-pub record StandsFor (opening : State) (core : CoreView) : Type 0 where
+pub record StandsFor {C : Type 0} (opening : State) (core : CoreView C) : Type 0 where
   pub legal : IsLegal opening core.entries (run_from (begins_at opening) core.entries).state
   pub shows : Shows core (run_from (begins_at opening) core.entries)
 
--- no table has had more images than this
-abbrev pub HasFewImages : Tables → ℕ → Type 0
-HasFewImages tables most = (row : ℕ) → ForSome (table_at tables row) (λ t. t.count ≤ most)
+-- ---- what is kept of it
+
+-- a table that has had so many images at most, and whose validation function, if it has one, is its owner's in the kit
+pub record IsUsual (most : ℕ) (kit : List (Option ℕ)) (t : Table) : Type 0 where
+  pub few : t.count ≤ most
+  pub function : may_use kit t.owner t.validator ≡ true
+
+-- each table is such a one
+abbrev pub AreUsual : ℕ → List (Option ℕ) → Tables → Type 0
+AreUsual most kit tables = (row : ℕ) → ForSome (table_at tables row) (IsUsual most kit)
+
+-- each function of the kit was asked fewer times than this
+abbrev pub FewAsked : {C : Type 0} → (C → ℕ) → ℕ → List (Option (KitEntry C)) → Type 0
+FewAsked asked most kit = (number : ℕ) → ForSome (entry_at kit number) (λ entry. asked entry.check < most)
+
+-- no table has had more images than there are entries, and no function was asked more than twice for each of them
+-- since it was given
+pub record IsReady {C : Type 0} (asked : C → ℕ) (core : CoreView C) : Type 0 where
+  pub tables : AreUsual (length core.entries) (owners core.state.kit) core.state.tables
+  pub kit : FewAsked asked (2 ^ 62 + 2 * length core.entries) core.state.kit
 
 -- ---- one request
 
 -- the request has this effect, and the parts stand for the state that it leaves
-abbrev pub Leaves : Effect → Held → Option model.Effect → Type 0
+abbrev pub Leaves : {C : Type 0} → Effect → Held C → Option model.Effect → Type 0
 Leaves done held None = ⊥
-Leaves done held (Some e) = IsEffect done e.next e × Stands held e.next
+Leaves done held (Some e) = IsEffect done e.asked e.next e × Stands held e.next
+
+-- in it the kit was asked what the request asks, and gave these verdicts
+abbrev pub Asks : {C : Type 0} → (C → List ℕ → ℤ) → (C → ℕ) → List (Option (KitEntry C)) → List (Option (KitEntry C)) → List (Option ℤ) → Option model.Effect → Type 0
+Asks verdict asked old new verdicts None = ⊥
+Asks verdict asked old new verdicts (Some e) = Judged verdict asked old new e.asked verdicts
 
 -- an entry tells the effect, and it is counted
 pub record Finishes (old new : Logged) (clock : Clock) (tables : Tables) (actor : Actor) (request : Request) (done : Effect) : Type 0 where
@@ -100,7 +127,7 @@ pub record Finishes (old new : Logged) (clock : Clock) (tables : Tables) (actor 
   pub entries : new.entries ≡ old.entries ++ entry_of actor request reply (given_of done) ∷ []
 
 -- one request was played: one entry more, answered rightly whatever run the core stood for
-pub record Plays (old new : CoreView) (actor : Actor) (request : Request) : Type 0 where
+pub record Plays {C : Type 0} (verdict : C → List ℕ → ℤ) (asked : C → ℕ) (old new : CoreView C) (actor : Actor) (request : Request) : Type 0 where
   pub entry : Entry
   pub actor_is : entry.actor ≡ actor
   pub request_is : entry.request ≡ request
@@ -108,4 +135,5 @@ pub record Plays (old new : CoreView) (actor : Actor) (request : Request) : Type
   pub answered : (r : Run) → Shows old r → IsAnswered r entry
   pub shows : (r : Run) → Shows old r → Shows new (onward r entry)
   pub live : new.state.ended ≡ false
-  pub few : HasFewImages new.state.tables (length new.entries)
+  pub ready : IsReady asked new
+  pub judged : (r : Run) → Shows old r → Judged verdict asked old.state.kit new.state.kit (questions_in r entry) entry.verdicts

@@ -3,7 +3,7 @@
 ghost use Rattle.std.specs.Prelude.{◌≡◌, ◌≤◌, [], length, IfOk, IfErr};
 ghost use Rattle.tbl_model.specs.State.{State};
 ghost use Rattle.tbl_model.specs.Effects.{answered};
-ghost use Rattle.tbl_model.specs.Applications.{get_effect, release_effect, read_effect};
+ghost use Rattle.tbl_model.specs.Addresses.{get_effect, release_effect, read_effect};
 ghost use Rattle.tbl_kinds.specs.Limits.{table_limit};
 ghost use Rattle.tbl_core.specs.Effects.{IsEffect, IsQuiet};
 
@@ -14,11 +14,10 @@ use tbl_kinds::{Answer, Bytes, Memory, Status};
 use tbl_registry::Tables;
 
 /// An application gets the address of a table (`CFE_TBL_GetAddress`): its handle pins the last image.
-#[tactic(auto, unfolding(tbl_model::specs::Applications::get_effect))]
-#[inline(never)]
+#[tactic(auto, unfolding(tbl_model::specs::Addresses::get_effect))]
 pub(crate) fn get(tables: &mut Tables, apps: &Apps, app: u8, handle: u16, empty: Bytes) -> Effect
     requires { empty.list ≡ [] }
-    ensures effect { (s : State) → s.tables ≡ tables.old → s.apps ≡ apps.now → IsEffect result (record s { tables = tables.new }) (get_effect s app handle) }
+    ensures effect { (s : State) → s.tables ≡ tables.old → s.apps ≡ apps.now → IsEffect result [] (record s { tables = tables.new }) (get_effect s app handle) }
     ensures quiet { IsQuiet result }
     ensures bytes { result.bytes ≡ empty }
 {
@@ -29,8 +28,7 @@ pub(crate) fn get(tables: &mut Tables, apps: &Apps, app: u8, handle: u16, empty:
 }
 
 /// An application gives the address of a table back (`CFE_TBL_ReleaseAddress`): the pin ends.
-#[tactic(auto, unfolding(tbl_model::specs::Applications::release_effect))]
-#[inline(never)]
+#[tactic(auto, unfolding(tbl_model::specs::Addresses::release_effect))]
 pub(crate) fn release(
     tables: &mut Tables,
     apps: &Apps,
@@ -39,7 +37,7 @@ pub(crate) fn release(
     empty: Bytes,
 ) -> Effect
     requires { empty.list ≡ [] }
-    ensures effect { (s : State) → s.tables ≡ tables.old → s.apps ≡ apps.now → IsEffect result (record s { tables = tables.new }) (release_effect s app handle) }
+    ensures effect { (s : State) → s.tables ≡ tables.old → s.apps ≡ apps.now → IsEffect result [] (record s { tables = tables.new }) (release_effect s app handle) }
     ensures quiet { IsQuiet result }
     ensures bytes { result.bytes ≡ empty }
 {
@@ -50,7 +48,7 @@ pub(crate) fn release(
 }
 
 /// The bytes that a handle's image has there, or why they aren't given.
-#[tactic(auto, unfolding(tbl_model::specs::Applications::read_effect))]
+#[tactic(auto, unfolding(tbl_model::specs::Addresses::read_effect))]
 fn piece<'a>(
     tables: &'a Tables,
     apps: &Apps,
@@ -70,7 +68,6 @@ fn piece<'a>(
 }
 
 /// An application reads bytes of the image that its handle pins.
-#[inline(never)]
 pub(crate) fn read(
     tables: &Tables,
     apps: &Apps,
@@ -81,7 +78,7 @@ pub(crate) fn read(
     mut empty: Bytes,
 ) -> Result<Effect, Memory>
     requires { empty.list ≡ [] }
-    ensures effect { IfOk result (λ done. (s : State) → s.tables ≡ tables.now → s.apps ≡ apps.now → IsEffect done s (read_effect s app handle offset len)) }
+    ensures effect { IfOk result (λ done. (s : State) → s.tables ≡ tables.now → s.apps ≡ apps.now → IsEffect done [] s (read_effect s app handle offset len)) }
     ensures quiet { IfOk result IsQuiet }
     ensures bytes { IfOk result (λ done. length done.bytes.list ≤ table_limit) }
 {

@@ -120,7 +120,7 @@ pub(crate) fn most_deeds(request: &Request) -> usize
     ensures { result ≡ most_deeds request.now }
 {
     match request {
-        Request::LoadImage { .. } => 1,
+        Request::LoadImage { .. } => 2,
         _ => 0,
     }
 }

@@ -5,7 +5,7 @@ ghost use Rattle.tbl_model.specs.State.{State};
 ghost use Rattle.tbl_model.specs.Tables.{table_at, in_use};
 ghost use Rattle.tbl_model.specs.TableSteps.{access_of};
 ghost use Rattle.tbl_model.specs.Effects.{Effect as Model, answered};
-ghost use Rattle.tbl_model.specs.Applications.{if_handle};
+ghost use Rattle.tbl_model.specs.Subjects.{if_handle};
 ghost use Rattle.tbl_core.specs.Effects.{IsQuiet};
 ghost use Rattle.tbl_core.specs.Rows.{rows_in};
 

@@ -29,7 +29,6 @@ fn not_built(code: u8) -> Answer
 }
 
 /// Plays a command, by what its packet was read as.
-#[inline(never)]
 pub(crate) fn command(
     alloc: Global,
     tables: &mut Tables,
@@ -38,7 +37,7 @@ pub(crate) fn command(
     empty: Bytes,
 ) -> Result<Effect, Memory>
     requires { empty.list ≡ [] }
-    ensures effect { IfOk result (λ done. (s : State) → s.tables ≡ tables.old → s.drawer ≡ drawer.now → IsEffect done (record s { tables = tables.new }) (effect_by s (read_of asked.now))) }
+    ensures effect { IfOk result (λ done. (s : State) → s.tables ≡ tables.old → s.drawer ≡ drawer.now → IsEffect done [] (record s { tables = tables.new }) (effect_by s (read_of asked.now))) }
     ensures within { IfOk result (IsWithin 0 (asks_housekeeping (Some (read_of asked.now)))) }
     ensures given { IfOk result (λ done. given_of done ≡ nothing_given) }
     ensures bytes { IfOk result (λ done. length done.bytes.list ≤ 4) }

@@ -93,6 +93,10 @@ pub(crate) struct Tally {
     pub events: u8,
     /// A housekeeping packet was sent.
     pub housekeeping: bool,
+    /// A registry packet was sent.
+    pub registry: bool,
+    /// A notice was sent to an application.
+    pub notice: bool,
 }
 
 /// A counter of one byte: 0 where it was cleared, else so many more.
@@ -143,6 +147,8 @@ pub(crate) struct Counters {
     pub requests: u8,
     pub events: u16,
     pub housekeepings: u16,
+    pub registries: u16,
+    pub notices: u16,
     pub validation: Validation,
     pub update: Update,
     pub loaded: Name40,
@@ -150,6 +156,8 @@ pub(crate) struct Counters {
     pub dumped_file: Name64,
     ghost events_fit: { events < 16384 },
     ghost housekeepings_fit: { housekeepings < 16384 },
+    ghost registries_fit: { registries < 16384 },
+    ghost notices_fit: { notices < 16384 },
 }
 
 impl Counters {
@@ -168,6 +176,8 @@ impl Counters {
             requests: 0,
             events: 0,
             housekeepings: 0,
+            registries: 0,
+            notices: 0,
             validation: Validation {
                 check: 0,
                 verdict: 0,
@@ -192,6 +202,8 @@ impl Counters {
         let none = Counters::make();
         self.events = none.events;
         self.housekeepings = none.housekeepings;
+        self.registries = none.registries;
+        self.notices = none.notices;
         self.validation = none.validation;
         self.update = none.update;
         self.loaded = none.loaded;
@@ -201,7 +213,6 @@ impl Counters {
 
     /// The latest of what deeds tell. It isn't inlined: few requests have deeds, and whoever calls it would clear the
     /// memory of its names for each.
-    #[inline(never)]
     fn renew(&mut self, clock: Clock, deeds: &[Deed])
         ensures { counts_view self.new ≡ renewed (counts_view self.old) clock deeds.now }
     {
@@ -235,6 +246,8 @@ impl Counters {
         }
         self.events = sequence(self.events, tally.events);
         self.housekeepings = sequence(self.housekeepings, u8::from(tally.housekeeping));
+        self.registries = sequence(self.registries, u8::from(tally.registry));
+        self.notices = sequence(self.notices, u8::from(tally.notice));
         renew_name(&mut self.loaded, loaded);
         renew_name(&mut self.loaded_file, loaded_file);
         if !deeds.is_empty() {

@@ -8,7 +8,7 @@ ghost use Rattle.tbl_core.specs.Effects.{given_of};
 use crate::asked::most_deeds;
 use std::alloc::Global;
 use tbl_kinds::{Answer, Bytes, Memory, Note, Request};
-use tbl_model::{Deed, Named, Shown};
+use tbl_model::{Deed, Named, Notice, Shown};
 
 /// What a request did, once it is done.
 #[derive(Drop)]
@@ -21,6 +21,8 @@ pub(crate) struct Effect {
     pub deeds: Vec<Deed>,
     /// The packet behind the events.
     pub shown: Shown,
+    /// The command packet that tells an application of pending work.
+    pub notice: Option<Notice>,
     /// How the calls of the Critical Data Store went.
     pub note: Note,
     /// What validation functions answered.
@@ -43,6 +45,7 @@ impl Effect {
         ensures table { result.table ≡ None }
         ensures deeds { result.deeds.items ≡ [] }
         ensures shown { result.shown ≡ Shown.Nothing }
+        ensures notice { result.notice ≡ None }
         ensures given { given_of result ≡ nothing_given }
     {
         let deeds = Vec::new(bytes.allocator());
@@ -52,6 +55,7 @@ impl Effect {
             table: None,
             deeds,
             shown: Shown::Nothing,
+            notice: None,
             note: Note::untouched(),
             verdicts: [None, None],
         }

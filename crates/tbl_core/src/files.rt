@@ -32,7 +32,6 @@ fn put(drawer: &mut Drawer, name: &Name64, bytes: &Bytes) -> Result<Status, Memo
 }
 
 /// The ground uplinks a file. The history keeps the request with its bytes, and the drawer a copy of them.
-#[inline(never)]
 pub(crate) fn file(
     drawer: &mut Drawer,
     name: &Name64,
@@ -40,7 +39,7 @@ pub(crate) fn file(
     empty: Bytes,
 ) -> Result<Effect, Memory>
     requires { empty.list ≡ [] }
-    ensures effect { IfOk result (λ done. (s : State) → s.drawer ≡ drawer.old → IsEffect done (record s { drawer = drawer.new }) (file_effect s name.now bytes.now.list)) }
+    ensures effect { IfOk result (λ done. (s : State) → s.drawer ≡ drawer.old → IsEffect done [] (record s { drawer = drawer.new }) (file_effect s name.now bytes.now.list)) }
     ensures quiet { IfOk result IsQuiet }
     ensures bytes { IfOk result (λ done. done.bytes ≡ empty) }
     ensures err { OnErr result (drawer.new ≡ drawer.old) }

@@ -18,6 +18,7 @@ use crate::telemetry::{
     tally,
 };
 use tbl_kinds::{Actor, Bytes, Entry, Reply, Request, Status};
+use tbl_outside::Validator;
 
 /// How many bytes of packets a request can send.
 pub(crate) fn packets_room(request: &Request, asked: &Asked) -> usize
@@ -32,7 +33,7 @@ pub(crate) fn packets_room(request: &Request, asked: &Asked) -> usize
     own + EVENT_LENGTH * most_deeds(request) + shown
 }
 
-impl Parts {
+impl<C: Validator> Parts<C> {
     /// Counts a request.
     fn count(&mut self, request: &Request, asked: &Asked, effect: &Effect)
         requires asked { asked_of asked.now ≡ asked_in request.now }

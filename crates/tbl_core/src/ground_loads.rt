@@ -3,7 +3,8 @@
 ghost use Rattle.std.specs.Prelude.{◌≡◌, ◌≤◌, [], length, IsSome, IfSome, IfOk, OnErr};
 ghost use Rattle.tbl_model.specs.State.{State};
 ghost use Rattle.tbl_model.specs.Tables.{table_at};
-ghost use Rattle.tbl_model.specs.GroundLoads.{load_found, load_file_effect, load_effect};
+ghost use Rattle.tbl_model.specs.Subjects.{by_row};
+ghost use Rattle.tbl_model.specs.GroundLoads.{load_into, load_file_effect, load_effect};
 ghost use Rattle.table_files.specs.Files.{with_image};
 ghost use Rattle.tbl_core.specs.Effects.{IsEffect, IsQuiet};
 
@@ -34,7 +35,7 @@ fn load_found(
     requires count { length image.now ≡ parsed.now.count }
     requires empty { empty.list ≡ [] }
     requires room { 4 ≤ empty.spare }
-    ensures effect { IfOk result (λ done. (s : State) → s.tables ≡ tables.old → IsEffect done (record s { tables = tables.new }) (load_found s file.now (with_image parsed.now image.now) row)) }
+    ensures effect { IfOk result (λ done. (s : State) → s.tables ≡ tables.old → IsEffect done [] (record s { tables = tables.new }) (by_row s parsed.now.name row (load_into s file.now (with_image parsed.now image.now)))) }
     ensures quiet { IfOk result IsQuiet }
     ensures bytes { IfOk result (λ done. length done.bytes.list ≤ 4) }
     ensures err { OnErr result (tables.new ≡ tables.old) }
@@ -65,7 +66,7 @@ fn load_parsed(
     requires count { length image.now ≡ parsed.now.count }
     requires empty { empty.list ≡ [] }
     requires room { 4 ≤ empty.spare }
-    ensures effect { IfOk result (λ done. (s : State) → s.tables ≡ tables.old → IsEffect done (record s { tables = tables.new }) (load_file_effect s file.now (with_image parsed.now image.now))) }
+    ensures effect { IfOk result (λ done. (s : State) → s.tables ≡ tables.old → IsEffect done [] (record s { tables = tables.new }) (load_file_effect s file.now (with_image parsed.now image.now))) }
     ensures quiet { IfOk result IsQuiet }
     ensures bytes { IfOk result (λ done. length done.bytes.list ≤ 4) }
     ensures err { OnErr result (tables.new ≡ tables.old) }
@@ -76,7 +77,6 @@ fn load_parsed(
 
 /// Fills the load of a table from a file in the drawer, or answers why not.
 #[tactic(auto, unfolding(tbl_model::specs::GroundLoads::load_effect))]
-#[inline(never)]
 pub(crate) fn load(
     alloc: Global,
     tables: &mut Tables,
@@ -85,7 +85,7 @@ pub(crate) fn load(
     mut empty: Bytes,
 ) -> Result<Effect, Memory>
     requires { empty.list ≡ [] }
-    ensures effect { IfOk result (λ done. (s : State) → s.tables ≡ tables.old → s.drawer ≡ drawer.now → IsEffect done (record s { tables = tables.new }) (load_effect s file.now)) }
+    ensures effect { IfOk result (λ done. (s : State) → s.tables ≡ tables.old → s.drawer ≡ drawer.now → IsEffect done [] (record s { tables = tables.new }) (load_effect s file.now)) }
     ensures quiet { IfOk result IsQuiet }
     ensures bytes { IfOk result (λ done. length done.bytes.list ≤ 4) }
     ensures err { OnErr result (tables.new ≡ tables.old) }

@@ -1,71 +1,171 @@
 //! Images that applications load.
 
-ghost use Rattle.std.specs.Prelude.{◌≡◌, ◌-◌, ◌^◌, ◌≤◌, ◌<◌, ◌∷◌, [], length, false, vec_capacity, None, Some, IsSome, OnErr, IfOk};
+ghost use Rattle.std.specs.Prelude.{◌≡◌, ◌-◌, ◌^◌, ◌≤◌, ◌<◌, ◌∷◌, [], ◌++◌, length, false, if◌then◌else◌, vec_capacity, None, Some, IsSome, OnErr, IfOk};
 ghost use Rattle.std.specs.Option.{ForSome};
 ghost use Rattle.tbl_model.specs.State.{State};
-ghost use Rattle.tbl_model.specs.Tables.{table_at};
+ghost use Rattle.tbl_model.specs.Tables.{table_at, in_use};
+ghost use Rattle.tbl_model.specs.TableSteps.{set_time};
 ghost use Rattle.tbl_kinds.specs.Records.{record_limit};
-ghost use Rattle.tbl_model.specs.Effects.{named};
 ghost use Rattle.tbl_model.specs.Deeds.{activated};
-ghost use Rattle.tbl_model.specs.Given.{nothing_given};
-ghost use Rattle.tbl_model.specs.Applications.{load_image_effect};
+ghost use Rattle.tbl_kinds.specs.Notes.{untouched};
+ghost use Rattle.tbl_model.specs.AppLoads.{load_image_of, load_image_effect};
+ghost use Rattle.validation.specs.Kits.{owners};
+ghost use Rattle.validation.specs.Asked.{WasAsked};
 ghost use Rattle.tbl_core.specs.Effects.{IsEffect, IsWithin, given_of};
-ghost use Rattle.tbl_core.specs.Service.{HasFewImages};
+ghost use Rattle.tbl_core.specs.Loads.{verdict_deeds, IsLoaded};
+ghost use Rattle.tbl_core.specs.Service.{AreUsual, FewAsked};
 
 use crate::checks::{BUFFERS, answered_load, check};
 use crate::effect::Effect;
 use crate::parts::Clock;
-use partial_load::image_load;
+use partial_load::Loaded;
 use sharing::Apps;
 use std::alloc::Global;
 use tbl_kinds::{Answer, Bytes, Memory, Note, Status};
 use tbl_model::{Deed, Named, Shown};
+use tbl_outside::Validator;
 use tbl_registry::Tables;
+use validation::Kit;
 
-/// The effect of an image that goes active, as the next one of the table in a row.
-fn activated(tables: &Tables, row: u8, mut deeds: Vec<Deed>, empty: Bytes) -> Effect
-    requires no_deeds { deeds.items ≡ [] }
-    requires room { 1 ≤ vec_capacity deeds }
+/// The table of a row.
+fn named(tables: &Tables, row: u8) -> Named
+    requires { IsSome (table_at tables.now row) }
+    ensures { ForSome (table_at tables.now row) (λ t. result ≡ record { row = row; name = t.name }) }
+{
+    let Some(name) = tables.name(row) else {
+        unreachable!();
+    };
+    Named {
+        row,
+        name: name.copy(),
+    }
+}
+
+/// That the next image of the table of a row goes active.
+fn activated(tables: &Tables, row: u8) -> Deed
     requires table { IsSome (table_at tables.now row) }
     requires few { ForSome (table_at tables.now row) (λ t. t.count < 2 ^ 32 - 1) }
-    ensures answer { result.answer ≡ record { status = Status.SUCCESS; detail = 0 } }
-    ensures bytes { result.bytes ≡ empty }
-    ensures table { ForSome (table_at tables.now row) (λ t. result.table ≡ named t.name (Some row)) }
-    ensures deeds { ForSome (table_at tables.now row) (λ t. result.deeds.items ≡ activated row t ∷ []) }
-    ensures shown { result.shown ≡ Shown.Nothing }
-    ensures given { given_of result ≡ nothing_given }
+    ensures { ForSome (table_at tables.now row) (λ t. result ≡ activated row t) }
 {
     let Some(table) = tables.row(row) else {
         unreachable!();
     };
-    let Some(name) = tables.name(row) else {
-        unreachable!();
-    };
-    deeds.push_reserved(Deed::Activated {
+    let Named { name, .. } = named(tables, row);
+    Deed::Activated {
         row,
         count: table.count + 1,
-        name: name.copy(),
-    });
-    Effect {
-        answer: Answer::plain(Status::SUCCESS),
-        bytes: empty,
-        table: Some(Named {
-            row,
-            name: name.copy(),
-        }),
-        deeds,
-        shown: Shown::Nothing,
-        note: Note::untouched(),
-        verdicts: [None, None],
+        name,
     }
 }
 
-/// The owner of a table loads an image of it (`CFE_TBL_Load` from an address).
-#[tactic(auto, unfolding(tbl_model::specs::Applications::load_image_effect))]
-#[inline(never)]
-pub(crate) fn load_image(
+/// Appends that a verdict came, if one did.
+fn put_verdict(deeds: &mut Vec<Deed>, row: u8, verdict: Option<i32>)
+    requires { length deeds.old.items < vec_capacity deeds.old }
+    ensures deeds { deeds.new.items ≡ deeds.old.items ++ verdict_deeds row verdict }
+    ensures room { vec_capacity deeds.new ≡ vec_capacity deeds.old }
+{
+    if let Some(verdict) = verdict {
+        deeds.push_reserved(Deed::Judged { row, verdict });
+    }
+}
+
+/// The effect of a load that the owner of the table in a row asked for. Where the table took the image, this is the table,
+/// and this the deed.
+fn told(
+    tables: &Tables,
+    row: u8,
+    taken: bool,
+    loaded: Loaded,
+    table: Named,
+    active: Deed,
+    mut deeds: Vec<Deed>,
+    empty: Bytes,
+) -> Effect
+    requires no_deeds { deeds.items ≡ [] }
+    requires two { 2 ≤ vec_capacity deeds }
+    requires empty { empty.list ≡ [] }
+    requires room { 4 ≤ empty.spare }
+    ensures loaded { IsLoaded taken row loaded table active (in_use tables.now) result }
+    ensures len { length result.bytes.list ≤ 4 }
+    ensures few { length result.deeds.items ≤ 2 }
+{
+    put_verdict(&mut deeds, row, loaded.verdict);
+    let verdicts = [loaded.verdict, None];
+    if !taken {
+        return Effect {
+            deeds,
+            verdicts,
+            ..answered_load(tables, loaded.answer, empty)
+        };
+    }
+    deeds.push_reserved(active);
+    Effect {
+        answer: Answer::plain(Status::SUCCESS),
+        bytes: empty,
+        table: Some(table),
+        deeds,
+        shown: Shown::Nothing,
+        notice: None,
+        note: Note::untouched(),
+        verdicts,
+    }
+}
+
+/// The table of a row has the service's time as that of its last update, if it was updated.
+fn stamp(tables: &mut Tables, row: u8, updated: bool, clock: Clock)
+    requires { IsSome (table_at tables.old row) }
+    ensures { tables.new ≡ (if updated then set_time row clock.seconds clock.sub tables.old else tables.old) }
+{
+    if updated {
+        tables.set_time(row, clock.seconds, clock.sub);
+    }
+}
+
+/// An image for the table of a row, which its owner loads.
+fn load_row<C: Validator>(
     alloc: Global,
     tables: &mut Tables,
+    kit: &mut Kit<C>,
+    clock: Clock,
+    row: u8,
+    image: &[u8],
+    deeds: Vec<Deed>,
+    empty: Bytes,
+) -> Result<Effect, Memory>
+    requires table { IsSome (table_at tables.old row) }
+    requires no_deeds { deeds.items ≡ [] }
+    requires two { 2 ≤ vec_capacity deeds }
+    requires empty { empty.list ≡ [] }
+    requires room { 4 ≤ empty.spare }
+    requires tables { AreUsual record_limit (owners kit.old) tables.old }
+    requires kit { FewAsked C.asked (2 ^ 63 - 1) kit.old }
+    ensures effect { IfOk result (λ done. (s : State) → s.tables ≡ tables.old → s.seconds ≡ clock.seconds → s.sub ≡ clock.sub
+        → ForSome (table_at tables.old row) (λ t. IsEffect done (load_image_of s image.now (given_of done) row t).asked (record s { tables = tables.new }) (load_image_of s image.now (given_of done) row t))) }
+    ensures asks { IfOk result (λ done. (s : State) → s.tables ≡ tables.old
+        → ForSome (table_at tables.old row) (λ t. WasAsked C.verdict C.asked kit.old kit.new (load_image_of s image.now (given_of done) row t).asked done.verdicts)) }
+    ensures owners { owners kit.new ≡ owners kit.old }
+    ensures within { IfOk result (IsWithin 2 false) }
+    ensures note { IfOk result (λ done. done.note ≡ untouched) }
+    ensures two { IfOk result (λ done. length done.verdicts ≡ 2) }
+    ensures bytes { IfOk result (λ done. length done.bytes.list ≤ 4) }
+    ensures err { OnErr result (tables.new ≡ tables.old) }
+    ensures not_asked { OnErr result (kit.new ≡ kit.old) }
+{
+    let table = named(tables, row);
+    let active = activated(tables, row);
+    let loaded = partial_load::load_image(alloc, tables, kit, row, image)?;
+    let taken = loaded.answer.status == Status::SUCCESS;
+    let done = told(tables, row, taken, loaded, table, active, deeds, empty);
+    stamp(tables, row, taken, clock);
+    Ok(done)
+}
+
+/// The owner of a table loads an image of it (`CFE_TBL_Load` from an address).
+#[tactic(auto, unfolding(tbl_model::specs::AppLoads::load_image_effect))]
+pub(crate) fn load_image<C: Validator>(
+    alloc: Global,
+    tables: &mut Tables,
+    kit: &mut Kit<C>,
     apps: &Apps,
     clock: Clock,
     app: u8,
@@ -75,25 +175,25 @@ pub(crate) fn load_image(
     mut empty: Bytes,
 ) -> Result<Effect, Memory>
     requires no_deeds { deeds.items ≡ [] }
-    requires room { 1 ≤ vec_capacity deeds }
+    requires two { 2 ≤ vec_capacity deeds }
     requires empty { empty.list ≡ [] }
-    requires few { HasFewImages tables.old record_limit }
-    ensures effect { IfOk result (λ done. (s : State) → s.tables ≡ tables.old → s.apps ≡ apps.now → s.seconds ≡ clock.seconds → s.sub ≡ clock.sub → IsEffect done (record s { tables = tables.new }) (load_image_effect s app handle image.now)) }
-    ensures within { IfOk result (IsWithin 1 false) }
-    ensures given { IfOk result (λ done. given_of done ≡ nothing_given) }
+    requires tables { AreUsual record_limit (owners kit.old) tables.old }
+    requires kit { FewAsked C.asked (2 ^ 63 - 1) kit.old }
+    ensures effect { IfOk result (λ done. (s : State) → s.tables ≡ tables.old → s.apps ≡ apps.now → s.seconds ≡ clock.seconds → s.sub ≡ clock.sub
+        → IsEffect done (load_image_effect s app handle image.now (given_of done)).asked (record s { tables = tables.new }) (load_image_effect s app handle image.now (given_of done))) }
+    ensures asks { IfOk result (λ done. (s : State) → s.tables ≡ tables.old → s.apps ≡ apps.now
+        → WasAsked C.verdict C.asked kit.old kit.new (load_image_effect s app handle image.now (given_of done)).asked done.verdicts) }
+    ensures owners { owners kit.new ≡ owners kit.old }
+    ensures within { IfOk result (IsWithin 2 false) }
+    ensures note { IfOk result (λ done. done.note ≡ untouched) }
+    ensures two { IfOk result (λ done. length done.verdicts ≡ 2) }
     ensures bytes { IfOk result (λ done. length done.bytes.list ≤ 4) }
     ensures err { OnErr result (tables.new ≡ tables.old) }
+    ensures not_asked { OnErr result (kit.new ≡ kit.old) }
 {
     empty.reserve(BUFFERS)?;
-    let row = match check(tables, apps, app, handle, true) {
-        Ok(row) => row,
-        Err(status) => return Ok(Effect::of(Answer::plain(status), empty)),
-    };
-    let accepted = activated(tables, row, deeds, Bytes::make(alloc, 0)?);
-    let answer = image_load(alloc, tables, row, image)?;
-    if answer.status != Status::SUCCESS {
-        return Ok(answered_load(tables, answer, empty));
+    match check(tables, apps, app, handle, true) {
+        Err(status) => Ok(Effect::of(Answer::plain(status), empty)),
+        Ok(row) => load_row(alloc, tables, kit, clock, row, image, deeds, empty),
     }
-    tables.set_time(row, clock.seconds, clock.sub);
-    Ok(accepted)
 }

@@ -5,7 +5,7 @@ ghost use Rattle.tbl_model.specs.State.{no_tables};
 ghost use Rattle.tbl_kinds.specs.Requests.{Fits};
 ghost use Rattle.tbl_kinds.specs.Records.{IsBuilt, record_limit};
 ghost use Rattle.tbl_model.specs.Counts.{no_counts};
-ghost use Rattle.tbl_core.specs.Service.{Plays, HasFewImages, held_of, view_of};
+ghost use Rattle.tbl_core.specs.Service.{Plays, IsReady, held_of, view_of};
 
 use crate::asked::asked_in;
 use crate::finish::packets_room;
@@ -15,7 +15,9 @@ use file_drawer::Drawer;
 use sharing::Apps;
 use std::alloc::Global;
 use tbl_kinds::{Actor, Bytes, Memory, Request};
+use tbl_outside::Validator;
 use tbl_registry::Tables;
+use validation::{Kit, Pending};
 
 /// The service's time.
 #[derive(Clone, Copy, Debug)]
@@ -26,23 +28,27 @@ pub(crate) struct Clock {
 }
 
 /// The parts of the service, of which a request changes several in one go.
-#[derive(Debug, Drop)]
-pub(crate) struct Parts {
+#[derive(Drop)]
+pub(crate) struct Parts<C: Validator> {
     pub alloc: Global,
     pub log: Log,
     pub tables: Tables,
     pub apps: Apps,
+    pub kit: Kit<C>,
+    pub pending: Pending,
     pub drawer: Drawer,
     pub clock: Clock,
 }
 
-impl Parts {
-    /// Nothing runs, nothing is registered, no file is there, the history is empty, and the time is 0.
-    pub(crate) fn make(alloc: Global) -> Result<Parts, Memory>
+impl<C: Validator> Parts<C> {
+    /// Nothing runs, nothing is registered, no validation is pending, no file is there, the history is empty, and the time is 0.
+    pub(crate) fn make(alloc: Global, kit: Kit<C>) -> Result<Parts<C>, Memory>
         ensures entries { IfOk result (λ parts. parts.log.entries ≡ []) }
         ensures counts { IfOk result (λ parts. parts.log.counts ≡ no_counts) }
         ensures tables { IfOk result (λ parts. parts.tables ≡ no_tables) }
         ensures apps { IfOk result (λ parts. parts.apps ≡ replicate 16 None) }
+        ensures kit { IfOk result (λ parts. parts.kit ≡ kit) }
+        ensures pending { IfOk result (λ parts. parts.pending ≡ []) }
         ensures drawer { IfOk result (λ parts. parts.drawer ≡ []) }
         ensures seconds { IfOk result (λ parts. parts.clock.seconds ≡ 0) }
         ensures sub { IfOk result (λ parts. parts.clock.sub ≡ 0) }
@@ -52,6 +58,8 @@ impl Parts {
             log: Log::make(alloc),
             tables: Tables::make(alloc)?,
             apps: Apps::make(),
+            kit,
+            pending: Pending::make(),
             drawer: Drawer::make(alloc)?,
             clock: Clock { seconds: 0, sub: 0 },
         })
@@ -71,8 +79,8 @@ impl Parts {
         requires fits { Fits actor request }
         requires built { IsBuilt request }
         requires room { length self.old.log.entries < record_limit }
-        requires few { HasFewImages self.old.tables (length self.old.log.entries) }
-        ensures plays { OnOk result (Plays (view_of self.old) (view_of self.new) actor request) }
+        requires ready { IsReady C.asked (view_of self.old) }
+        ensures plays { OnOk result (Plays C.verdict C.asked (view_of self.old) (view_of self.new) actor request) }
         ensures err { OnErr result (view_of self.new ≡ view_of self.old) }
     {
         self.log.reserve()?;

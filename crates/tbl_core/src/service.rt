@@ -1,18 +1,23 @@
 //! The core, and one step of it.
 
-ghost use Rattle.std.specs.Prelude.{◌≡◌, false, ◌+◌, ◌<◌, ◌↔◌, [], ◌∷◌, ◌++◌, length, IsTrue, OnOk, OnErr, All, IfOk, IsOkUnless};
+ghost use Rattle.std.specs.Prelude.{◌≡◌, false, ◌+◌, ◌^◌, ◌<◌, ◌↔◌, [], ◌∷◌, ◌++◌, length, IsTrue, OnOk, OnErr, All, IfOk, IsOkUnless};
 ghost use Rattle.tbl_model.specs.State.{State, first_state, no_tables};
 ghost use Rattle.tbl_model.specs.Whole.{IsWhole};
 ghost use Rattle.tbl_kinds.specs.Requests.{Fits};
 ghost use Rattle.tbl_kinds.specs.Records.{IsBuilt, record_limit};
 ghost use Rattle.tbl_core.specs.Log.{IsSmall};
-ghost use Rattle.tbl_core.specs.Service.{StandsFor};
+ghost use Rattle.tbl_model.specs.History.{begins_at, run_from};
+ghost use Rattle.validation.specs.Kits.{owners};
+ghost use Rattle.tbl_core.specs.Service.{StandsFor, FewAsked};
+ghost use Rattle.tbl_core.specs.Verdicts.{Judged, questions_in};
 ghost use Rattle.tbl_kinds.specs.declared.entry.Entry.{Entry};
 
 use crate::parts::Parts;
 use std::alloc::Global;
 use std::marker::Model;
 use tbl_kinds::{Actor, Entry, Memory, Request};
+use tbl_outside::Validator;
+use validation::Kit;
 
 /// Why a step played no request, or was the last one.
 #[derive(Clone, Copy, Debug, PartialEq, Eq)]
@@ -27,35 +32,37 @@ impl From<Memory> for StepFault {
     }
 }
 
-/// The table service: its state and the history of all that was asked and answered.
-#[derive(Debug, Drop)]
-pub struct Core {
-    parts: Parts,
+/// The table service: its state, the validation functions of its applications, and the history of all that was asked and
+/// answered.
+#[derive(Drop)]
+pub struct Core<C: Validator> {
+    parts: Parts<C>,
 }
 
-impl Model for Core {
+impl<C: Validator> Model for Core<C> {
     ghost use Rattle.tbl_core.specs.Service.{CoreView};
 
-    ghost Value = { CoreView };
+    ghost Value = { CoreView C };
 
-    ghost use Rattle.std.specs.Prelude.{length};
-    ghost use Rattle.tbl_core.specs.Service.{view_of, HasFewImages};
+    ghost use Rattle.tbl_core.specs.Service.{view_of, IsReady};
 
     ghost view = { λ c. view_of c.parts };
 
-    ghost invariant = { λ c. HasFewImages c.parts.tables (length c.parts.log.entries) };
+    ghost invariant = { λ c. IsReady C.asked (view_of c.parts) };
 }
 
-impl Core {
-    /// The service at its start, with an empty history.
+impl<C: Validator> Core<C> {
+    /// The service at its start, with an empty history and these validation functions.
     #[tactic(auto, unfolding(tbl_model::specs::Counts::counts_of))]
-    pub fn start(alloc: Global) -> Result<Core, Memory>
-        ensures stands { IfOk result (StandsFor (first_state [] [])) }
+    pub fn start(alloc: Global, kit: Kit<C>) -> Result<Core<C>, Memory>
+        requires { FewAsked C.asked (2 ^ 62) kit }
+        ensures stands { IfOk result (StandsFor (first_state [] (owners kit))) }
+        ensures kit { IfOk result (λ core. core.state.kit ≡ kit) }
         ensures empty { IfOk result (λ core. core.entries ≡ []) }
         ensures live { IfOk result (λ core. core.state.ended ≡ false) }
     {
         Ok(Core {
-            parts: Parts::make(alloc)?,
+            parts: Parts::make(alloc, kit)?,
         })
     }
 
@@ -83,6 +90,9 @@ impl Core {
         ensures adds { OnOk result ((e : Entry) × (self.new.entries ≡ self.old.entries ++ e ∷ []) × (e.actor ≡ actor) × (e.request ≡ request)) }
         ensures legal { OnOk result ((opening : State) → StandsFor opening self.old → StandsFor opening self.new) }
         ensures whole { OnOk result ((opening : State) → opening.tables ≡ no_tables → StandsFor opening self.old → IsWhole opening self.new.entries) }
+        // The functions were asked what the request asks, and the entry has their verdicts.
+        ensures judged { OnOk result ((e : Entry) × (self.new.entries ≡ self.old.entries ++ e ∷ []) × ((opening : State) → StandsFor opening self.old
+            → Judged C.verdict C.asked self.old.state.kit self.new.state.kit (questions_in (run_from (begins_at opening) self.old.entries) e) e.verdicts)) }
         ensures live { OnOk result (self.new.state.ended ≡ false) }
         ensures memory { IsOkUnless result StepFault.Memory }
         ensures err { OnErr result (self.new ≡ self.old) }

@@ -1,6 +1,6 @@
 //! What an effect adds to telemetry: its events, what it counts as, and the packet behind the events.
 
-ghost use Rattle.std.specs.Prelude.{◌≡◌, ◌+◌, ◌*◌, ◌<◌, ◌≤◌, ◌++◌, ◌&&◌, ◌||◌, map, length, count_by, is_none, if◌then◌else◌, None};
+ghost use Rattle.std.specs.Prelude.{◌≡◌, ◌+◌, ◌*◌, ◌<◌, ◌≤◌, ◌++◌, ◌&&◌, ◌||◌, map, length, count_by, false, is_none, if◌then◌else◌, None};
 ghost use Rattle.std.specs.Option.{option_map, option_copied};
 ghost use Rattle.tbl_kinds.specs.Statuses.{is_success};
 ghost use Rattle.tbl_kinds.specs.Packets.{telemetry_packet, event_id};
@@ -8,8 +8,9 @@ ghost use Rattle.tbl_kinds.specs.Telemetry.{event_body};
 ghost use Rattle.tbl_model.specs.Tables.{free_buffers};
 ghost use Rattle.tbl_model.specs.State.{no_tables};
 ghost use Rattle.tbl_model.specs.Commands.{asked_in, asks_housekeeping, asks_reset_counters, asks_validate, asked_file, asked_code};
-ghost use Rattle.tbl_model.specs.Events.{row_field, table_field, is_good, verdict_event, deed_event, command_events};
-ghost use Rattle.tbl_model.specs.Counts.{is_reset, is_stopped, resets_counters, adds_accepted, adds_refused, adds_request, is_housekeeping, asks_load, load_file_of, latest, is_finished, is_finished_well, is_finished_badly, validation_of, updated_name, dump_of, loaded_in, loaded_file_in};
+ghost use Rattle.tbl_model.specs.Deeds.{is_good};
+ghost use Rattle.tbl_model.specs.Events.{row_field, table_field, verdict_event, deed_event, command_events};
+ghost use Rattle.tbl_model.specs.Counts.{is_reset, is_stopped, resets_counters, adds_accepted, adds_refused, adds_request, is_housekeeping, is_registry, asks_load, load_file_of, latest, is_finished, is_finished_well, is_finished_badly, validation_of, updated_name, dump_of, loaded_in, loaded_file_in};
 ghost use Rattle.tbl_model.specs.CountsAfter.{tally_of};
 ghost use Rattle.tbl_model.specs.Replies.{head_at, event_packets, housekeeping_of, shown_packet};
 ghost use Rattle.tbl_core.specs.Asked.{asked_of};
@@ -204,6 +205,12 @@ fn is_housekeeping(shown: Shown) -> bool
     ensures { result ≡ is_housekeeping shown }
 {
     matches!(shown, Shown::Housekeeping)
+}
+
+fn is_registry(shown: Shown) -> bool
+    ensures { result ≡ is_registry shown }
+{
+    matches!(shown, Shown::Registry { .. })
 }
 
 fn is_finished(deed: &Deed) -> bool
@@ -443,6 +450,8 @@ pub(crate) fn tally(request: &Request, asked: &Asked, effect: &Effect) -> Tally
         request: adds_request(asked, effect),
         events: event_count(asked, effect),
         housekeeping: is_housekeeping(effect.shown),
+        registry: is_registry(effect.shown),
+        notice: effect.notice.is_some(),
     }
 }
 
@@ -491,7 +500,6 @@ fn housekeeping(counters: &Counters, tables: &Tables) -> Housekeeping
 
 /// Appends a housekeeping packet. It isn't inlined, since whoever calls it would clear the memory of its fields for each
 /// request.
-#[inline(never)]
 fn put_housekeeping(packets: &mut Bytes, head: &TlmHead, counters: &Counters, tables: &Tables)
     requires count { head.now.count < 16384 }
     requires room { 290 ≤ packets.old.spare }
@@ -510,6 +518,7 @@ pub(crate) fn put_shown(
     shown: Shown,
 )
     requires count { head.count < 16384 }
+    requires no_registry { is_registry shown ≡ false }
     requires room { shown ≡ Shown.Housekeeping → 290 ≤ packets.old.spare }
     ensures bytes { packets.new.list ≡ packets.old.list ++ shown_packet head (counts_view counters.now) tables.now shown }
     ensures len { length packets.new.list ≤ length packets.old.list + 290 }
@@ -517,5 +526,6 @@ pub(crate) fn put_shown(
     match shown {
         Shown::Nothing => {}
         Shown::Housekeeping => put_housekeeping(packets, &head, counters, tables),
+        Shown::Registry { .. } => unreachable!(),
     }
 }

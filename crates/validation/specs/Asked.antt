@@ -14,9 +14,11 @@ is_for number q = q.number == number
 abbrev pub Gives : {C : Type 0} → (C → List ℕ → ℤ) → List (Option (KitEntry C)) → Question → ℤ → Type 0
 Gives verdict kit q v = IsSome (entry_at kit q.number) × ForSome (entry_at kit q.number) (λ entry. v ≡ verdict entry.check q.image)
 
--- and so for each question, in order
+-- and so for each question, in order; behind them there is no verdict
 abbrev pub GivesEach : {C : Type 0} → (C → List ℕ → ℤ) → List (Option (KitEntry C)) → List Question → List (Option ℤ) → Type 0
-GivesEach verdict kit [] verdicts = Unit {0}
+GivesEach verdict kit [] [] = Unit {0}
+GivesEach verdict kit [] (None ∷ verdicts) = GivesEach verdict kit [] verdicts
+GivesEach verdict kit [] (Some v ∷ verdicts) = ⊥
 GivesEach verdict kit (q ∷ more) [] = ⊥
 GivesEach verdict kit (q ∷ more) (None ∷ verdicts) = ⊥
 GivesEach verdict kit (q ∷ more) (Some v ∷ verdicts) = Gives verdict kit q v × GivesEach verdict kit more verdicts

@@ -1,31 +1,39 @@
 use Rattle.std.proofs.Common.{refl, sym, ap, subst, ◌∙◌, length, arith}
 use Rattle.tbl_kinds.specs.Records.{record_limit}
-use Rattle.tbl_core.specs.Service.{Held, Finishes, held_of}
+use Rattle.validation.specs.Kits.{owners}
+use Rattle.tbl_model.specs.Dispatch.{effect_of}
+use Rattle.tbl_core.specs.Effects.{given_of}
+use Rattle.tbl_core.specs.Service.{Held, Asks, Finishes, held_of}
 use Rattle.tbl_core.specs.declared.parts.Clock.{Clock}
 use Rattle.tbl_core.specs.Log.{Logged}
-use Rattle.tbl_core.proofs.Ordinary.{few_below}
+use Rattle.tbl_core.proofs.Ordinary.{usual_below}
 use Rattle.tbl_core.proofs.Steps.{did_play}
 use Rattle.tbl_core.proofs.parts.Parts.play.Goals as goal
 
-pub effect-requires-clause-few : goal.effect-requires-clause-few
-effect-requires-clause-few c = few_below c.args.self.now.tables (length c.args.self.now.log.entries) record_limit (omega arith) c.requires.few
+pub effect-requires-clause-tables : goal.effect-requires-clause-tables
+effect-requires-clause-tables g c = usual_below (length c.args.self.now.log.entries) record_limit (owners c.args.self.now.kit) c.args.self.now.tables (omega arith) c.requires.ready.tables
+
+pub effect-requires-clause-kit : goal.effect-requires-clause-kit
+effect-requires-clause-kit g c number entry there = let low = c.requires.ready.kit number entry there in omega arith
 
 pub returns-clause-plays : goal.returns-clause-plays
-returns-clause-plays c =
+returns-clause-plays g c =
     let did = c.in_ok-effect.ensures in
     let stays = c.finish.ensures.stays in
     let before = c.effect.new.self.log in
     let after = c.finish.new.self.log in
     let clock = c.effect.new.self.clock in
     let done = c.in_ok-effect.effect in
-    did_play _ _ c.args.actor c.args.request clock done (record {
+    did_play g.C.Validator.verdict g.C.Validator.asked _ _ c.args.actor c.args.request clock done (record {
       fits = c.requires.fits;
       built = c.requires.built;
       live = refl;
-      few = c.requires.few;
+      ready = c.requires.ready;
       seconds = ap (λ (k : Clock). k.seconds) (sym did.clock);
       sub = ap (λ (k : Clock). k.sub) (sym did.clock);
-      given = did.given;
+      note = did.note;
+      two = did.two;
+      asks = λ s stands. subst (λ kit. Asks g.C.Validator.verdict g.C.Validator.asked c.args.self.now.kit kit done.verdicts (effect_of s c.args.actor c.args.request (given_of done))) (ap (λ (h : Held _). h.kit) (sym stays)) (did.asks s stands);
       effect = λ s stands. rw stays (did.effect s stands);
       before = before;
       after = after;
@@ -33,5 +41,5 @@ returns-clause-plays c =
       counts = ap (λ (l : Logged). l.counts) did.log ∙ c.in_ok-reserve.ensures.counts;
       entered = refl;
       counted = refl;
-      finishes = subst (λ (h : Held). Finishes before after clock h.tables c.args.actor c.args.request done) (sym stays) c.finish.ensures.finishes;
+      finishes = subst (λ (h : Held _). Finishes before after clock h.tables c.args.actor c.args.request done) (sym stays) c.finish.ensures.finishes;
     })

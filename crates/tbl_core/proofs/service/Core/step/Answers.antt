@@ -3,8 +3,11 @@ use Rattle.tbl_core.proofs.WholeLaws.{whole}
 use Rattle.tbl_core.proofs.service.Core.step.Goals as goal
 
 pub returns-clause-legal : goal.returns-clause-legal
-returns-clause-legal c = rw (← c.self.view_is) (on_ok c.play.result (λ p opening stood. plays_on _ _ c.args.actor c.args.request p opening stood) c.play.ensures.plays)
+returns-clause-legal g c = rw (← c.self.view_is) (on_ok c.play.result (λ p opening stood. plays_on _ _ _ _ c.args.actor c.args.request p opening stood) c.play.ensures.plays)
 
 pub returns-clause-whole : goal.returns-clause-whole
-returns-clause-whole c = rw (← c.self.view_is)
-    (on_ok c.play.result (λ p opening none stood. whole opening _ _ none (plays_on _ _ c.args.actor c.args.request p opening stood).legal) c.play.ensures.plays)
+returns-clause-whole g c = rw (← c.self.view_is)
+    (on_ok c.play.result (λ p opening none stood. whole opening _ _ none (plays_on _ _ _ _ c.args.actor c.args.request p opening stood).legal) c.play.ensures.plays)
+
+pub returns-clause-judged : goal.returns-clause-judged
+returns-clause-judged g c = rw (← c.self.view_is) (on_ok c.play.result (λ p. (p.entry, p.added, λ opening stood. p.judged _ stood.shows)) c.play.ensures.plays)

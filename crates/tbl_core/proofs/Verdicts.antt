@@ -1,0 +1,101 @@
+-- What is known of the kit of validation functions after an entry.
+use Rattle.std.proofs.Common.{◌≡◌, ◌<◌, ◌≤◌, ◌+◌, ◌*◌, ◌-◌, ◌^◌, ℕ, zero, suc, eqb, List, [], ◌∷◌, length, count_by, Bool, true, false, cond, Option, Some, None, IsSome, ℤ, refl, sym, ap, subst, ◌∙◌, arith}
+use Rattle.std.specs.Option.{ForSome, option_map}
+use Rattle.std.proofs.lemmas.List.Sums.{count_by-le-length}
+use Rattle.tbl_model.specs.Deeds.{Question}
+use Rattle.tbl_model.specs.Given.{Given, AnswersEach, nothing_given}
+use Rattle.tbl_kinds.specs.declared.note.BankNote.{BankNote}
+use Rattle.tbl_model.specs.State.{Tables}
+use Rattle.tbl_model.specs.Tables.{table_at}
+use Rattle.tbl_model.specs.Refusals.{may_use}
+use Rattle.tbl_outside.specs.declared.validator.KitEntry.{KitEntry}
+use Rattle.validation.specs.Kits.{entry_at, is_of, owners, MayAsk}
+use Rattle.validation.specs.Asked.{is_for, GivesEach, Stays, WasAsked}
+use Rattle.validation.proofs.Asking.{asked_nothing}
+use Rattle.sharing.proofs.Functions.{may_use_at}
+use Rattle.tbl_core.specs.Service.{AreUsual, FewAsked}
+use Rattle.tbl_core.specs.Verdicts.{Stood, StoodThere, Judged}
+
+module _ {C : Type 0} (verdict : C → List ℕ → ℤ) where
+  -- as many verdicts as questions
+  pub answers_each : (kit : List (Option (KitEntry C))) (questions : List Question) (verdicts : List (Option ℤ)) → length verdicts ≡ 2 → GivesEach verdict kit questions verdicts → AnswersEach questions verdicts
+  answers_each kit questions [] two gives = absurd (cc two)
+  answers_each kit questions (v ∷ []) two gives = absurd (cc two)
+  answers_each kit questions (v ∷ w ∷ x ∷ more) two gives = absurd (omega (arith, two))
+  answers_each kit [] (None ∷ None ∷ []) two gives = refl
+  answers_each kit [] (Some v ∷ w ∷ []) two gives = absurd gives
+  answers_each kit [] (None ∷ Some w ∷ []) two gives = absurd gives
+  answers_each kit (q ∷ more) (None ∷ w ∷ []) two gives = absurd gives
+  answers_each kit (q ∷ []) (Some v ∷ None ∷ []) two gives = (v, refl)
+  answers_each kit (q ∷ []) (Some v ∷ Some w ∷ []) two gives = absurd gives.1
+  answers_each kit (q ∷ r ∷ more) (Some v ∷ None ∷ []) two gives = absurd gives.1
+  answers_each kit (q ∷ r ∷ more) (Some v ∷ Some w ∷ []) two gives = (v, w, refl)
+
+  -- there are no more questions than verdicts
+  few_questions : (kit : List (Option (KitEntry C))) (questions : List Question) (verdicts : List (Option ℤ)) → GivesEach verdict kit questions verdicts → length questions ≤ length verdicts
+  few_questions kit [] verdicts gives = omega arith
+  few_questions kit (q ∷ more) [] gives = absurd gives
+  few_questions kit (q ∷ more) (None ∷ verdicts) gives = absurd gives
+  few_questions kit (q ∷ more) (Some v ∷ verdicts) gives = let rest = few_questions kit more verdicts gives.1 in omega (arith, rest)
+
+module _ {C : Type 0} (verdict : C → List ℕ → ℤ) (asked : C → ℕ) where
+  -- an entry asks each function twice at most
+  pub few_more : (old new : List (Option (KitEntry C))) (questions : List Question) (verdicts : List (Option ℤ)) (n : ℕ) → length verdicts ≡ 2 → Judged verdict asked old new questions verdicts
+      → FewAsked asked (2 ^ 62 + 2 * n) old → FewAsked asked (2 ^ 62 + 2 * suc n) new
+  few_more old new questions verdicts n two judged few number entry there =
+      let least = count_by-le-length (is_for number) questions in
+      let most = few_questions verdict old questions verdicts judged.gives in
+      by (entry_at old number) refl (subst (StoodThere verdict asked (count_by (is_for number) questions) (entry_at old number)) there (judged.each number)) least most
+    where
+      by : (found : Option (KitEntry C)) → entry_at old number ≡ found → StoodThere verdict asked (count_by (is_for number) questions) (entry_at old number) (Some entry)
+          → count_by (is_for number) questions ≤ length questions → length questions ≤ length verdicts → asked entry.check < 2 ^ 62 + 2 * suc n
+      by None at stood least most = absurd (subst (λ (o : Option (KitEntry C)). StoodThere verdict asked (count_by (is_for number) questions) o (Some entry)) at stood)
+      by (Some before) at stood least most =
+          let is : Stood verdict asked (count_by (is_for number) questions) before entry = subst (λ (o : Option (KitEntry C)). StoodThere verdict asked (count_by (is_for number) questions) o (Some entry)) at stood in
+          let low = few number before at in
+          omega (arith, is.counted, low, least, most, two)
+
+  -- a kit that was asked, and kept its functions
+  stood_there : (times : ℕ) (old new : Option (KitEntry C)) → Stays verdict asked times old new → StoodThere verdict asked times old new
+  stood_there times old None stays = tt
+  stood_there times None (Some new) stays = absurd (cc stays)
+  stood_there times (Some old) (Some new) stays = let is = stays.1 new refl in record { owner = is.0; steady = is.1; counted = is.2 }
+
+  pub was_judged : (old new : List (Option (KitEntry C))) (questions : List Question) (verdicts : List (Option ℤ)) → WasAsked verdict asked old new questions verdicts → Judged verdict asked old new questions verdicts
+  was_judged old new questions verdicts was = record { gives = was.gives; each = λ number. stood_there _ (entry_at old number) (entry_at new number) (was.each number) }
+
+  owner_stays : (times : ℕ) (old new : Option (KitEntry C)) → Stays verdict asked times old new → option_map (λ (e : KitEntry C). e.app) new ≡ option_map (λ (e : KitEntry C). e.app) old
+  owner_stays times None new stays = rw stays refl
+  owner_stays times (Some old) None stays = absurd (cc stays.0)
+  owner_stays times (Some old) (Some new) stays = ap (λ (app : ℕ). Some app) (stays.1 new refl).0
+
+  owners_stay : (times : ℕ → ℕ) (old new : List (Option (KitEntry C))) → length new ≡ length old → ((number : ℕ) → Stays verdict asked (times number) (entry_at old number) (entry_at new number)) → owners new ≡ owners old
+  owners_stay times [] [] same each = refl
+  owners_stay times [] (y ∷ new) same each = absurd (cc same)
+  owners_stay times (x ∷ old) [] same each = absurd (cc same)
+  owners_stay times (x ∷ old) (y ∷ new) same each =
+      rw (owner_stays (times 0) x y (each 0), owners_stay (λ n. times (suc n)) old new (omega (arith, same)) (λ n. each (suc n))) refl
+
+  -- whoever is asked stays whose it is
+  pub same_owners : (old new : List (Option (KitEntry C))) (questions : List Question) (verdicts : List (Option ℤ)) → WasAsked verdict asked old new questions verdicts → owners new ≡ owners old
+  same_owners old new questions verdicts was = owners_stay (λ number. count_by (is_for number) questions) old new was.numbers was.each
+
+  -- a request that asks nothing leaves the kit as it is
+  pub none_judged : (kit : List (Option (KitEntry C))) (questions : List Question) (note : BankNote) (verdicts : List (Option ℤ)) → questions ≡ [] → record { note = note; verdicts = verdicts } ≡ nothing_given
+      → Judged verdict asked kit kit questions verdicts
+  none_judged kit questions note verdicts none given =
+      let unsaid : verdicts ≡ None ∷ None ∷ [] = ap (λ (g : Given). g.verdicts) given in
+      rw (none, unsaid) (was_judged kit kit [] (None ∷ None ∷ []) (asked_nothing verdict asked kit))
+
+module _ {C : Type 0} (asked : C → ℕ) where
+  -- the function of a table may be asked
+  pub may_ask : (kit : List (Option (KitEntry C))) (app : ℕ) (validator : Option ℕ) → may_use (owners kit) app validator ≡ true → FewAsked asked (2 ^ 63 - 1) kit → ForSome validator (MayAsk asked 1 kit)
+  may_ask kit app validator may few number is = by (entry_at kit number) refl where
+    there : is_of app (entry_at kit number) ≡ true
+    there = sym (may_use_at kit app number) ∙ subst (λ v. may_use (owners kit) app v ≡ true) is may
+    by : (found : Option (KitEntry C)) → entry_at kit number ≡ found → MayAsk asked 1 kit number
+    by None at = absurd (cc (there, at))
+    by (Some entry) at = (rw at cc, λ other same. let low = few number other same in omega (arith, low))
+
+  pub may_ask_there : (kit : List (Option (KitEntry C))) (tables : Tables) (row most : ℕ) → AreUsual most (owners kit) tables → FewAsked asked (2 ^ 63 - 1) kit → ForSome (table_at tables row) (λ t. ForSome t.validator (MayAsk asked 1 kit))
+  may_ask_there kit tables row most are few t there = may_ask kit t.owner t.validator (are row t there).function few

@@ -1,0 +1,33 @@
+-- What validation functions are asked in an entry, and what they answer.
+use Rattle.std.specs.Prelude.{◌≡◌, ℕ, ◌+◌, List, [], ◌∷◌, count_by, Option, Some, None}
+use Rattle.std.specs.Option.{option_map_or}
+use Rattle.std.proofs.Common.{ℤ}
+use Rattle.tbl_model.specs.Deeds.{Question}
+use Rattle.tbl_model.specs.Effects as model
+use Rattle.tbl_model.specs.History.{Run, effect_in}
+use Rattle.tbl_kinds.specs.declared.entry.Entry.{Entry}
+use Rattle.tbl_outside.specs.declared.validator.KitEntry.{KitEntry}
+use Rattle.validation.specs.Kits.{entry_at}
+use Rattle.validation.specs.Asked.{is_for, GivesEach}
+
+-- the same function of the same application, asked so many times more
+pub record Stood {C : Type 0} (verdict : C → List ℕ → ℤ) (asked : C → ℕ) (times : ℕ) (old new : KitEntry C) : Type 0 where
+  pub owner : new.app ≡ old.app
+  pub steady : (image : List ℕ) → verdict new.check image ≡ verdict old.check image
+  pub counted : asked new.check ≡ asked old.check + times
+
+-- what stands under a number stood there before
+abbrev pub StoodThere : {C : Type 0} → (C → List ℕ → ℤ) → (C → ℕ) → ℕ → Option (KitEntry C) → Option (KitEntry C) → Type 0
+StoodThere verdict asked times old None = Unit {0}
+StoodThere verdict asked times None (Some new) = ⊥
+StoodThere verdict asked times (Some old) (Some new) = Stood verdict asked times old new
+
+-- the functions were asked these questions and gave these verdicts: each that stands in the kit then stood there before, and
+-- counts those that were for it
+pub record Judged {C : Type 0} (verdict : C → List ℕ → ℤ) (asked : C → ℕ) (old new : List (Option (KitEntry C))) (questions : List Question) (verdicts : List (Option ℤ)) : Type 0 where
+  pub gives : GivesEach verdict old questions verdicts
+  pub each : (number : ℕ) → StoodThere verdict asked (count_by (is_for number) questions) (entry_at old number) (entry_at new number)
+
+-- what the request of an entry asks
+abbrev pub questions_in : Run → Entry → List Question
+questions_in r e = option_map_or (λ (effect : model.Effect). effect.asked) (effect_in r e) []
