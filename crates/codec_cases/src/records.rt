@@ -42,13 +42,11 @@ fn text_of_request(alloc: Global, request: &Request) -> Result<String, AllocErro
             offset,
             bytes,
         } => format!(in alloc; "Edit {handle} {offset} {}", digits(alloc, bytes)?),
-        Request::Get { handle } => format!(in alloc; "Get {handle}"),
         Request::Read {
             handle,
             offset,
             len,
         } => format!(in alloc; "Read {handle} {offset} {len}"),
-        Request::Release { handle } => format!(in alloc; "Release {handle}"),
         Request::GetInfo { name } => format!(in alloc; "GetInfo {}", text_of(name.bytes())),
         request => format!(in alloc; "{request:?}"),
     }

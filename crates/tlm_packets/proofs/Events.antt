@@ -1,6 +1,6 @@
 -- Event packets are read exactly.
-use Rattle.std.proofs.Common.{◌≡◌, ℕ, true, List, [], ◌++◌, length, drop, refl, sym, ap, subst, ◌∙◌, lit<, lit≤, arith}
-use Rattle.std.proofs.lemmas.List.{append-nil, length-drop, nil_from_length}
+use Rattle.std.proofs.Common.{◌≡◌, ℕ, true, List, [], ◌++◌, length, drop, refl, ap, subst, ◌∙◌, lit<, lit≤, arith}
+use Rattle.std.proofs.lemmas.List.{length-drop, nil_from_length}
 use Rattle.std.proofs.lemmas.Nat.{from_be_bytes-to_be_bytes_2, from_be_bytes-to_be_bytes_4}
 use Rattle.tbl_kinds.specs.Fields.{AreBytes}
 use Rattle.tbl_kinds.specs.Numbers.{two, four, two_at, four_at}
@@ -10,7 +10,7 @@ use Rattle.tbl_kinds.specs.declared.telemetry.Event.{Event}
 use Rattle.cfe_headers.proofs.Pieces.{two_below, four_below, split_two, split_four}
 use Rattle.tlm_packets.specs.Spellings.{IsEvent, IsPacket, SpellsEvent}
 use Rattle.tlm_packets.specs.Reading.{has_head, body_in, event_in}
-use Rattle.tlm_packets.proofs.Headers.{Read, read, told, bytes_behind}
+use Rattle.tlm_packets.proofs.Headers.{read, told, bytes_behind}
 
 again : (e : Event) → IsEvent e → event_in (event_body e) ≡ e
 unfolding event_body

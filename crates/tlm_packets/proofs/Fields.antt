@@ -1,5 +1,5 @@
 -- Name fields in a body, and a body as the fields one behind the other.
-use Rattle.std.proofs.Common.{◌≡◌, ℕ, ◌+◌, ◌≤◌, true, List, [], ◌++◌, length, take, drop, refl, sym, ap, ◌∙◌, arith}
+use Rattle.std.proofs.Common.{◌≡◌, ℕ, ◌+◌, ◌≤◌, true, List, [], ◌++◌, length, take, drop, sym, ap, ◌∙◌, arith}
 use Rattle.std.proofs.lemmas.List.{append-nil, drop-drop, take_at, drop_at, length-drop, length-take, nil_from_length}
 use Rattle.tbl_kinds.specs.Numbers.{piece}
 use Rattle.tbl_kinds.specs.Names.{is_zero, name_in, name_field}

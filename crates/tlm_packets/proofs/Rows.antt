@@ -1,5 +1,5 @@
 -- Registry packets are read exactly.
-use Rattle.std.proofs.Common.{◌≡◌, ℕ, true, ◌&&◌, List, [], ◌∷◌, ◌++◌, length, drop, refl, sym, ap, subst, ◌∙◌, append_assoc, lit<, lit≤, arith}
+use Rattle.std.proofs.Common.{◌≡◌, ℕ, true, List, [], ◌∷◌, ◌++◌, length, refl, sym, ap, subst, ◌∙◌, append_assoc, lit<, lit≤, arith}
 use Rattle.std.proofs.lemmas.Bool.{and_parts}
 use Rattle.std.proofs.lemmas.List.{length-append}
 use Rattle.std.proofs.lemmas.Nat.{from_be_bytes-to_be_bytes_2, from_be_bytes-to_be_bytes_4}
@@ -14,8 +14,8 @@ use Rattle.tbl_kinds.proofs.NameFields.{length-name_field}
 use Rattle.cfe_headers.proofs.Pieces.{two_below, four_below, split_two, split_four, split_byte}
 use Rattle.tlm_packets.specs.Spellings.{IsRow, IsPacket, SpellsRow}
 use Rattle.tlm_packets.specs.Reading.{has_head, body_in, name_at, is_row, row_in}
-use Rattle.tlm_packets.proofs.Headers.{Read, read, told, bytes_behind}
-use Rattle.tlm_packets.proofs.Fields.{Written, written, written_last, split_name, split_last, name_fits}
+use Rattle.tlm_packets.proofs.Headers.{read, told, bytes_behind}
+use Rattle.tlm_packets.proofs.Fields.{written, written_last, split_name, split_last, name_fits}
 
 -- ---- a record that was written
 

@@ -1,5 +1,5 @@
 -- Housekeeping packets are read exactly.
-use Rattle.std.proofs.Common.{◌≡◌, ℕ, ◌+◌, ◌≤◌, true, ◌&&◌, List, [], ◌∷◌, ◌++◌, length, drop, refl, sym, ap, subst, ◌∙◌, append_assoc, lit<, lit≤, arith}
+use Rattle.std.proofs.Common.{◌≡◌, ℕ, ◌+◌, ◌≤◌, true, List, ◌∷◌, ◌++◌, length, drop, refl, sym, ap, subst, ◌∙◌, append_assoc, lit<, lit≤, arith}
 use Rattle.std.specs.Prelude.{◌==◌}
 use Rattle.std.specs.Int.{w32, cast_signed, cast_unsigned, from_be_bytes}
 use Rattle.std.proofs.Math.Facts.{sfits_to_z, Fits-of_z, Fits-of_lt}
@@ -18,8 +18,8 @@ use Rattle.tbl_kinds.proofs.NameFields.{length-name_field}
 use Rattle.cfe_headers.proofs.Pieces.{two_below, four_below, split_two, split_four, split_byte}
 use Rattle.tlm_packets.specs.Spellings.{IsHousekeeping, IsPacket, SpellsHousekeeping}
 use Rattle.tlm_packets.specs.Reading.{has_head, body_in, name_at, is_housekeeping, housekeeping_in}
-use Rattle.tlm_packets.proofs.Headers.{Read, read, told, bytes_behind}
-use Rattle.tlm_packets.proofs.Fields.{Written, written, written_last, split_name, split_last, name_fits}
+use Rattle.tlm_packets.proofs.Headers.{read, told, bytes_behind}
+use Rattle.tlm_packets.proofs.Fields.{written, written_last, split_name, split_last, name_fits}
 
 -- ---- a body that was written
 

@@ -1,6 +1,6 @@
 use Rattle.std.proofs.Common.{◌≡◌, true, false, Some, length, sym, ap, ◌∙◌, arith}
 use Rattle.tbl_kinds.specs.declared.telemetry.Event.{Event}
-use Rattle.tlm_packets.specs.Reading.{body_in, event_in}
+use Rattle.tlm_packets.specs.Reading.{event_in}
 use Rattle.tlm_packets.proofs.Events.{read_event, spells_event}
 use Rattle.tlm_packets.proofs.reading.read_event.Goals as goal
 
