@@ -9,4 +9,5 @@ pub mod Pins
 pub mod Places
 pub mod Steps
 pub mod Verdicts
+pub mod Vouching
 pub mod WholeLaws

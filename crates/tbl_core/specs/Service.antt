@@ -19,7 +19,7 @@ use Rattle.tbl_kinds.specs.declared.request.Actor.{Actor}
 use Rattle.tbl_kinds.specs.declared.request.Request.{Request}
 use Rattle.tbl_core.specs.Log.{Logged, entry_of}
 use Rattle.tbl_core.specs.Effects.{IsEffect, given_of, told_at}
-use Rattle.tbl_core.specs.Verdicts.{Judged, questions_in}
+use Rattle.tbl_core.specs.Verdicts.{Judged, questions_in, AreGiven, AreOf}
 use Rattle.tbl_core.specs.declared.effect.Effect.{Effect}
 use Rattle.tbl_core.specs.declared.parts.Clock.{Clock}
 use Rattle.tbl_core.specs.declared.parts.Parts.{Parts}
@@ -82,6 +82,12 @@ pub record Shows {C : Type 0} (core : CoreView C) (r : Run) : Type 0 where
 pub record StandsFor {C : Type 0} (opening : State) (core : CoreView C) : Type 0 where
   pub legal : IsLegal opening core.entries (run_from (begins_at opening) core.entries).state
   pub shows : Shows core (run_from (begins_at opening) core.entries)
+
+-- and the verdicts in it are those of these functions, of which each that stands in the kit is one
+pub record Vouches {C : Type 0} (verdict : C → List ℕ → ℤ) (given : List (Option (KitEntry C))) (opening : State) (core : CoreView C) : Type 0 where
+  pub stands : StandsFor opening core
+  pub verdicts : AreGiven verdict given (begins_at opening) core.entries
+  pub functions : AreOf verdict given core.state.kit
 
 -- ---- what is kept of it
 

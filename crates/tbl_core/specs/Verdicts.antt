@@ -4,7 +4,7 @@ use Rattle.std.specs.Option.{option_map_or}
 use Rattle.std.proofs.Common.{ℤ}
 use Rattle.tbl_model.specs.Deeds.{Question}
 use Rattle.tbl_model.specs.Effects as model
-use Rattle.tbl_model.specs.History.{Run, effect_in}
+use Rattle.tbl_model.specs.History.{Run, onward, effect_in}
 use Rattle.tbl_kinds.specs.declared.entry.Entry.{Entry}
 use Rattle.tbl_outside.specs.declared.validator.KitEntry.{KitEntry}
 use Rattle.validation.specs.Kits.{entry_at}
@@ -31,3 +31,19 @@ pub record Judged {C : Type 0} (verdict : C → List ℕ → ℤ) (asked : C →
 -- what the request of an entry asks
 abbrev pub questions_in : Run → Entry → List Question
 questions_in r e = option_map_or (λ (effect : model.Effect). effect.asked) (effect_in r e) []
+
+-- ---- over a history
+
+-- the verdicts of the entries, which follow this run, are those that these functions give
+abbrev pub AreGiven : {C : Type 0} → (C → List ℕ → ℤ) → List (Option (KitEntry C)) → Run → List Entry → Type 0
+AreGiven verdict given r [] = Unit {0}
+AreGiven verdict given r (e ∷ es) = GivesEach verdict given (questions_in r e) e.verdicts × AreGiven verdict given (onward r e) es
+
+-- a function with the same verdicts stood there at first
+abbrev pub IsOf : {C : Type 0} → (C → List ℕ → ℤ) → Option (KitEntry C) → Option (KitEntry C) → Type 0
+IsOf verdict first None = Unit {0}
+IsOf verdict None (Some entry) = ⊥
+IsOf verdict (Some first) (Some entry) = (image : List ℕ) → verdict entry.check image ≡ verdict first.check image
+
+abbrev pub AreOf : {C : Type 0} → (C → List ℕ → ℤ) → List (Option (KitEntry C)) → List (Option (KitEntry C)) → Type 0
+AreOf verdict given kit = (number : ℕ) → IsOf verdict (entry_at given number) (entry_at kit number)

@@ -1,6 +1,6 @@
 //! The core, and one step of it.
 
-ghost use Rattle.std.specs.Prelude.{◌≡◌, false, ◌+◌, ◌^◌, ◌<◌, ◌↔◌, [], ◌∷◌, ◌++◌, length, IsTrue, OnOk, OnErr, All, IfOk, IsOkUnless};
+ghost use Rattle.std.specs.Prelude.{◌≡◌, false, ◌+◌, ◌^◌, ◌<◌, ◌↔◌, Option, List, [], ◌∷◌, ◌++◌, length, IsTrue, OnOk, OnErr, All, IfOk, IsOkUnless};
 ghost use Rattle.tbl_model.specs.State.{State, first_state, no_tables};
 ghost use Rattle.tbl_model.specs.Whole.{IsWhole};
 ghost use Rattle.tbl_kinds.specs.Requests.{Fits};
@@ -8,7 +8,8 @@ ghost use Rattle.tbl_kinds.specs.Records.{IsBuilt, record_limit};
 ghost use Rattle.tbl_core.specs.Log.{IsSmall};
 ghost use Rattle.tbl_model.specs.History.{begins_at, run_from};
 ghost use Rattle.validation.specs.Kits.{owners};
-ghost use Rattle.tbl_core.specs.Service.{StandsFor, FewAsked};
+ghost use Rattle.tbl_outside.specs.declared.validator.KitEntry.{KitEntry as Function};
+ghost use Rattle.tbl_core.specs.Service.{StandsFor, Vouches, FewAsked};
 ghost use Rattle.tbl_core.specs.Verdicts.{Judged, questions_in};
 ghost use Rattle.tbl_kinds.specs.declared.entry.Entry.{Entry};
 
@@ -93,6 +94,8 @@ impl<C: Validator> Core<C> {
         // The functions were asked what the request asks, and the entry has their verdicts.
         ensures judged { OnOk result ((e : Entry) × (self.new.entries ≡ self.old.entries ++ e ∷ []) × ((opening : State) → StandsFor opening self.old
             → Judged C.verdict C.asked self.old.state.kit self.new.state.kit (questions_in (run_from (begins_at opening) self.old.entries) e) e.verdicts)) }
+        // Whatever functions it was given at first, the history's verdicts are still theirs.
+        ensures vouched { OnOk result ((opening : State) (given : List (Option (Function C))) → Vouches C.verdict given opening self.old → Vouches C.verdict given opening self.new) }
         ensures live { OnOk result (self.new.state.ended ≡ false) }
         ensures memory { IsOkUnless result StepFault.Memory }
         ensures err { OnErr result (self.new ≡ self.old) }

@@ -92,7 +92,7 @@ joined_bound (p ∷ pairs) each =
     omega (arith, length-append (spelling p) (joined pairs), length-spelling p, each.0.within, joined_bound pairs each.1)
 
 -- the offset fits four bytes, and with one record more
-pub offset_bound : (core : CoreView) → IsSession core → offset_of core.entries ≤ 32836 * 32768
+pub offset_bound : {C : Type 0} (core : CoreView C) → IsSession core → offset_of core.entries ≤ 32836 * 32768
 offset_bound core session =
     omega (arith, offset_is core.entries, joined_bound (pairs_of core.entries) session.each, length-map core.entries pair_of, session.few)
 

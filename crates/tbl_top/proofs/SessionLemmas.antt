@@ -200,7 +200,7 @@ not_sink Unwritten failed whole is = λ e. omega (arith, e)
 
 -- ---- the session
 
-module _ (opening : State) (p : Playing) (read : List ℕ) (failed : Bool) (at_end read_failed : Type 0) (result : ℕ) (before mid after : Option (List ℕ)) (faults faults_then : ℕ)
+module _ {C : Type 0} (opening : State) (p : Playing C) (read : List ℕ) (failed : Bool) (at_end read_failed : Type 0) (result : ℕ) (before mid after : Option (List ℕ)) (faults faults_then : ℕ)
     (at_first : opening.tables ≡ no_tables) (stands : StandsFor opening p.core) (session : IsSession p.core) (ends : EndsReading p read failed at_end) (cause : failed ≡ true → read_failed) where
   made : IsStatus result → EndsAs result (length p.core.entries) ends.feeds.behind at_end read_failed
       → Tells result p.core.entries (λ other. WouldEnd other (length p.core.entries) ends.feeds.behind at_end read_failed) before after → Session opening read at_end read_failed result before after

@@ -23,7 +23,7 @@ IsKept Open behind kept = kept ≡ behind
 IsKept _ behind kept = Unit {0}
 
 -- what was fed is the spellings of what was played, and behind them what this standing says
-pub record Feeds (standing : Standing) (fed : List ℕ) (most : ℕ) (core : CoreView) (kept : List ℕ) : Type 0 where
+pub record Feeds {C : Type 0} (standing : Standing) (fed : List ℕ) (most : ℕ) (core : CoreView C) (kept : List ℕ) : Type 0 where
   pub behind : List ℕ
   pub parts : fed ≡ played_before core behind
   pub near : length behind ≤ most

@@ -10,17 +10,17 @@ use Rattle.tbl_core.specs.Service.{CoreView}
 use Rattle.tbl_kinds.specs.declared.entry.Entry.{Entry}
 use Rattle.tbl_top.specs.declared.playback.Standing.{Standing}
 
-pub record Playing : Type 0 where
-  pub core : CoreView
+pub record Playing (C : Type 0) : Type 0 where
+  pub core : CoreView C
   pub rest : List ℕ
   pub standing : Standing
 
 -- the spellings of what was played, and these bytes behind them
-abbrev pub played_before : CoreView → List ℕ → List ℕ
+abbrev pub played_before : {C : Type 0} → CoreView C → List ℕ → List ℕ
 played_before core behind = joined (pairs_of core.entries) ++ behind
 
 -- all bytes that were fed, as long as the session is open
-abbrev pub bytes_fed : Playing → List ℕ
+abbrev pub bytes_fed : {C : Type 0} → Playing C → List ℕ
 bytes_fed p = played_before p.core p.rest
 
 -- behind so many played records stands nothing, or the beginning of one that a session may still have
@@ -28,7 +28,7 @@ abbrev pub IsBeginning : ℕ → List ℕ → Type 0
 IsBeginning played rest = (rest ≡ []) ⊎ (IsShort rest × (played < record_limit))
 
 -- what was played are records, no more than a session may have, and the core goes on
-pub record IsSession (core : CoreView) : Type 0 where
+pub record IsSession {C : Type 0} (core : CoreView C) : Type 0 where
   pub each : AllByRecursion IsRecord (pairs_of core.entries)
   pub few : length core.entries ≤ record_limit
   pub live : core.state.ended ≡ false

@@ -4,7 +4,7 @@ ghost use Rattle.std.specs.Prelude.{◌≡◌, ◌≤◌, length};
 ghost use Rattle.tbl_top.specs.Finishing.{Finishes, status_of};
 
 use crate::playback::{Playback, Standing};
-use tbl_outside::{Failed, Sink};
+use tbl_outside::{Failed, Sink, Validator};
 
 /// The input was read to its end, and all of it was played.
 const DONE: u8 = 0;
@@ -46,8 +46,8 @@ fn end_status(standing: Standing, read_failed: bool, is_whole: bool) -> u8
 }
 
 /// Writes the end record, unless an entry before it wasn't written whole, and answers the status of the session.
-pub(crate) fn finish<K: Sink>(
-    playback: &mut Playback,
+pub(crate) fn finish<C: Validator, K: Sink>(
+    playback: &mut Playback<C>,
     standing: Standing,
     read_failed: bool,
     is_whole: bool,

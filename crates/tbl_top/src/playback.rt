@@ -4,7 +4,8 @@ ghost use Rattle.std.specs.Prelude.{◌≡◌, ⊤, ℕ, ◌<◌, ◌≤◌, Opt
 ghost use Rattle.tbl_model.specs.State.{State};
 ghost use Rattle.tbl_kinds.specs.Records.{IsRecord, spelling, joined, record_limit};
 ghost use Rattle.tbl_core.specs.Log.{IsSmall};
-ghost use Rattle.tbl_core.specs.Service.{StandsFor};
+ghost use Rattle.tbl_core.specs.Service.{StandsFor, Vouches};
+ghost use Rattle.tbl_outside.specs.declared.validator.KitEntry.{KitEntry as Function};
 ghost use Rattle.std.specs.Io.KnownBytes.{append_known};
 ghost use Rattle.tbl_kinds.specs.Transcript.{pairs_of, end_bytes, offset_of};
 ghost use Rattle.tbl_outside.specs.Counts.{Rose};
@@ -18,7 +19,7 @@ use std::alloc::Global;
 use std::marker::Model;
 use tbl_core::Core;
 use tbl_kinds::{Actor, Bytes, Entry, Memory, Request};
-use tbl_outside::{Failed, Sink};
+use tbl_outside::{Failed, Sink, Validator};
 use transcript::write_end;
 
 /// The most records of a session.
@@ -45,10 +46,10 @@ pub(crate) enum Standing {
 }
 
 /// The core, and the room that the transcript needs.
-#[derive(Debug, Drop)]
-pub(crate) struct Playback {
+#[derive(Drop)]
+pub(crate) struct Playback<C: Validator> {
     alloc: Global,
-    core: Core,
+    core: Core<C>,
     /// The number of bytes of the records that were played.
     offset: u32,
     /// Room for the spelling of one entry.
@@ -57,10 +58,10 @@ pub(crate) struct Playback {
     end: Bytes,
 }
 
-impl Model for Playback {
+impl<C: Validator> Model for Playback<C> {
     ghost use Rattle.tbl_core.specs.Service.{CoreView};
 
-    ghost Value = { CoreView };
+    ghost Value = { CoreView C };
 
     ghost use Rattle.std.specs.Prelude.{◌≡◌, ◌≤◌, []};
     ghost use Rattle.tbl_kinds.specs.Transcript.{offset_of};
@@ -71,9 +72,9 @@ impl Model for Playback {
     ghost invariant = { λ p. (13 ≤ p.end.spare) × (p.end.list ≡ []) × IsSession p.core × (p.offset ≡ offset_of p.core.entries) };
 }
 
-impl Playback {
+impl<C: Validator> Playback<C> {
     /// A session in which nothing was played yet; the core again where memory ran out.
-    pub(crate) fn make(alloc: Global, core: Core) -> Result<Playback, Core>
+    pub(crate) fn make(alloc: Global, core: Core<C>) -> Result<Playback<C>, Core<C>>
         requires live { core.state.ended ≡ false }
         requires empty { core.entries ≡ [] }
         ensures core { IfOk result (λ p. p ≡ core) }
@@ -95,7 +96,7 @@ impl Playback {
     }
 
     /// The core as it is.
-    pub(crate) fn end(self) -> Core
+    pub(crate) fn end(self) -> Core<C>
         ensures { result ≡ self }
     {
         self.core
@@ -103,7 +104,7 @@ impl Playback {
 
     /// Plays a record. `Ok(None)` where its entry was written, `Ok(Some(..))` where it was played and the entry wasn't
     /// written whole.
-    fn play_record<K: Sink>(
+    fn play_record<C: Validator, K: Sink>(
         &mut self,
         actor: Actor,
         request: Request,
@@ -115,6 +116,7 @@ impl Playback {
         requires room { length self.old.entries < record_limit }
         ensures plays { OnOk result (joined (pairs_of self.new.entries) ≡ joined (pairs_of self.old.entries) ++ spelling (record { actor = actor; request = request })) }
         ensures stands { (opening : State) → StandsFor opening self.old → StandsFor opening self.new }
+        ensures vouched { (opening : State) (given : List (Option (Function C))) → Vouches C.verdict given opening self.old → Vouches C.verdict given opening self.new }
         ensures written { (first : Option (List ℕ)) → IsWritten first self.old.entries (K.taken sink.old)
             → IfOk result (λ stop. MatchOption stop (IsWritten first self.new.entries (K.taken sink.new)) (λ _. IsFrontWritten first self.new.entries (K.taken sink.new))) }
         ensures why { IfOk result (λ stop. TellsWhy stop (K.faults sink.old) (K.faults sink.new)) }
@@ -134,13 +136,14 @@ impl Playback {
 
     /// Plays the record at a place where one is whole, and answers None once its entry was written; else what stands in
     /// its way.
-    fn play_next<K: Sink>(&mut self, bytes: &[u8], at: &mut usize, sink: &mut K) -> Option<Standing>
+    fn play_next<C: Validator, K: Sink>(&mut self, bytes: &[u8], at: &mut usize, sink: &mut K) -> Option<Standing>
         requires within { at.old ≤ length bytes.now }
         ensures within { at.new ≤ length bytes.now }
         ensures stream { played_before self.new (drop at.new bytes.now) ≡ played_before self.old (drop at.old bytes.now) }
         ensures further { MatchOption result (at.old < at.new) (λ _. at.old ≤ at.new) }
         ensures leaves { MatchOption result ⊤ (λ standing. Leaves standing (length self.new.entries) (drop at.new bytes.now)) }
         ensures stands { (opening : State) → StandsFor opening self.old → StandsFor opening self.new }
+        ensures vouched { (opening : State) (given : List (Option (Function C))) → Vouches C.verdict given opening self.old → Vouches C.verdict given opening self.new }
         ensures written { (first : Option (List ℕ)) → IsWritten first self.old.entries (K.taken sink.old)
             → MatchOption result (IsWritten first self.new.entries (K.taken sink.new)) (λ standing. TellsWritten standing first self.new.entries (K.taken sink.new)) }
         ensures why { MatchOption result ⊤ (λ standing. TellsCause standing (K.faults sink.old) (K.faults sink.new)) }
@@ -178,7 +181,7 @@ impl Playback {
     }
 
     /// Plays each record that is whole, from a place on.
-    pub(crate) fn play_whole<K: Sink>(
+    pub(crate) fn play_whole<C: Validator, K: Sink>(
         &mut self,
         bytes: &[u8],
         at: &mut usize,
@@ -190,6 +193,7 @@ impl Playback {
         ensures stream { played_before self.new (drop at.new bytes.now) ≡ played_before self.old (drop at.old bytes.now) }
         ensures leaves { Leaves result (length self.new.entries) (drop at.new bytes.now) }
         ensures stands { (opening : State) → StandsFor opening self.old → StandsFor opening self.new }
+        ensures vouched { (opening : State) (given : List (Option (Function C))) → Vouches C.verdict given opening self.old → Vouches C.verdict given opening self.new }
         ensures written { (first : Option (List ℕ)) → IsWritten first self.old.entries (K.taken sink.old) → TellsWritten result first self.new.entries (K.taken sink.new) }
         ensures cause { TellsCause result (K.faults sink.old) (K.faults sink.new) }
         ensures count { K.faults sink.old ≤ K.faults sink.new }
@@ -203,7 +207,7 @@ impl Playback {
     }
 
     /// Writes the end record.
-    pub(crate) fn tell_end<K: Sink>(&mut self, status: u8, sink: &mut K) -> Result<(), Failed>
+    pub(crate) fn tell_end<C: Validator, K: Sink>(&mut self, status: u8, sink: &mut K) -> Result<(), Failed>
         ensures same { self.new ≡ self.old }
         ensures ok { OnOk result (K.taken sink.new ≡ append_known (K.taken sink.old) (end_bytes status (length self.old.entries) (offset_of self.old.entries))) }
         ensures err { OnErr result (TakesFront (K.taken sink.old) (K.taken sink.new) (end_bytes status (length self.old.entries) (offset_of self.old.entries))) }

@@ -6,7 +6,8 @@ ghost use Rattle.tbl_model.specs.Whole.{IsWhole as HasWholeReads};
 ghost use Rattle.tbl_kinds.specs.Records.{AreRecords, BeginsWith};
 ghost use Rattle.tbl_kinds.specs.Heads.{IsShort};
 ghost use Rattle.tbl_kinds.specs.Transcript.{pairs_of};
-ghost use Rattle.tbl_core.specs.Service.{StandsFor};
+ghost use Rattle.tbl_core.specs.Service.{StandsFor, Vouches};
+ghost use Rattle.tbl_outside.specs.declared.validator.KitEntry.{KitEntry as Function};
 ghost use Rattle.tbl_top.specs.Playing.{played_before, bytes_fed, IsBeginning, IsSession, IsWritten};
 ghost use Rattle.tbl_top.specs.Standing.{Leaves, HasPlayedAll, TellsWritten, TellsCause};
 ghost use Rattle.tbl_top.specs.Feeding.{answer_of, Feeds};
@@ -19,7 +20,7 @@ use session_records::bytes_lacking;
 use std::alloc::Global;
 use std::marker::Model;
 use tbl_core::Core;
-use tbl_outside::Sink;
+use tbl_outside::{Sink, Validator};
 
 /// What a session answers to a piece of its input.
 #[derive(Clone, Copy, Debug, PartialEq, Eq)]
@@ -34,18 +35,18 @@ pub enum Fed {
 
 /// A session that is played as its bytes come in. It holds the beginning of one record at most, and each entry goes to
 /// the sink before the next record is looked for.
-#[derive(Debug, Drop)]
-pub struct Player {
-    playback: Playback,
+#[derive(Drop)]
+pub struct Player<C: Validator> {
+    playback: Playback<C>,
     /// The beginning of a record that isn't whole yet.
     kept: Vec<u8>,
     standing: Standing,
 }
 
-impl Model for Player {
+impl<C: Validator> Model for Player<C> {
     ghost use Rattle.tbl_top.specs.Playing.{Playing};
 
-    ghost Value = { Playing };
+    ghost Value = { Playing C };
 
     ghost use Rattle.std.specs.Prelude.{◌≡◌, length};
     ghost use Rattle.tbl_top.specs.Playing.{IsBeginning, IsSession};
@@ -56,10 +57,10 @@ impl Model for Player {
     ghost invariant = { λ p. IsSession p.playback × (p.standing ≡ Open → IsBeginning (length p.playback.entries) p.kept.items) };
 }
 
-impl Player {
+impl<C: Validator> Player<C> {
     /// A session over a service with an empty history, of which nothing was fed yet. An Err is want of memory, and gives
     /// the core back.
-    pub fn make(alloc: Global, core: Core) -> Result<Player, Core>
+    pub fn make(alloc: Global, core: Core<C>) -> Result<Player<C>, Core<C>>
         requires live { core.state.ended ≡ false }
         requires empty { core.entries ≡ [] }
         ensures core { IfOk result (λ player. player.core ≡ core) }
@@ -76,7 +77,7 @@ impl Player {
 
     /// Plays the records that are whole with this piece of the input, and tells their entries. It doesn't matter where
     /// the input is cut.
-    pub fn feed<K: Sink>(&mut self, piece: &[u8], sink: &mut K) -> Fed
+    pub fn feed<C: Validator, K: Sink>(&mut self, piece: &[u8], sink: &mut K) -> Fed
         requires is_open { self.old.standing ≡ Open }
         ensures answer { result ≡ answer_of self.new.standing }
 
@@ -90,6 +91,8 @@ impl Player {
         ensures records { HasPlayedAll self.new.standing → AreRecords (bytes_fed self.old ++ piece.now) (pairs_of self.new.core.entries) }
 
         ensures stands { (opening : State) → StandsFor opening self.old.core → StandsFor opening self.new.core }
+
+        ensures vouched { (opening : State) (given : List (Option (Function C))) → Vouches C.verdict given opening self.old.core → Vouches C.verdict given opening self.new.core }
         ensures whole { (opening : State) → opening.tables ≡ no_tables → StandsFor opening self.old.core → HasWholeReads opening self.new.core.entries }
         ensures session { IsSession self.new.core }
 
@@ -109,7 +112,7 @@ impl Player {
 
     /// Ends the session: writes the end record, unless an entry before it wasn't written whole, and answers the status.
     /// The input is at its end, or a read of it failed.
-    pub fn finish<K: Sink>(&mut self, read_failed: bool, sink: &mut K) -> u8
+    pub fn finish<C: Validator, K: Sink>(&mut self, read_failed: bool, sink: &mut K) -> u8
         ensures finishes { Finishes self.old.standing (status_of self.old.standing read_failed (length self.old.rest == 0)) result self.old.core.entries (K.taken sink.old) (K.taken sink.new) (K.faults sink.old) (K.faults sink.new) }
         ensures same { self.new ≡ self.old }
         ensures count { K.faults sink.old ≤ K.faults sink.new }
@@ -125,7 +128,7 @@ impl Player {
     }
 
     /// The core as it is.
-    pub fn end(self) -> Core
+    pub fn end(self) -> Core<C>
         ensures { result ≡ self.core }
     {
         self.playback.end()
@@ -143,8 +146,8 @@ fn answer(standing: Standing) -> Fed
 }
 
 /// Plays a piece, and notes how the session stands then.
-fn feed_fields<K: Sink>(
-    playback: &mut Playback,
+fn feed_fields<C: Validator, K: Sink>(
+    playback: &mut Playback<C>,
     kept: &mut Vec<u8>,
     standing: &mut Standing,
     piece: &[u8],
@@ -155,6 +158,7 @@ fn feed_fields<K: Sink>(
     ensures answer { result ≡ answer_of standing.new }
     ensures feeds { Feeds standing.new (played_before playback.old (kept.old.items ++ piece.now)) (length kept.old.items + length piece.now) playback.new kept.new.items }
     ensures stands { (opening : State) → StandsFor opening playback.old → StandsFor opening playback.new }
+    ensures vouched { (opening : State) (given : List (Option (Function C))) → Vouches C.verdict given opening playback.old → Vouches C.verdict given opening playback.new }
     ensures session { IsSession playback.new }
     ensures written { (first : Option (List ℕ)) → IsWritten first playback.old.entries (K.taken sink.old) → TellsWritten standing.new first playback.new.entries (K.taken sink.new) }
     ensures cause { TellsCause standing.new (K.faults sink.old) (K.faults sink.new) }
@@ -165,8 +169,8 @@ fn feed_fields<K: Sink>(
 }
 
 /// Completes the record whose beginning is kept, and plays what is whole behind it.
-fn play_piece<K: Sink>(
-    playback: &mut Playback,
+fn play_piece<C: Validator, K: Sink>(
+    playback: &mut Playback<C>,
     kept: &mut Vec<u8>,
     piece: &[u8],
     sink: &mut K,
@@ -175,6 +179,7 @@ fn play_piece<K: Sink>(
     requires begun { IsBeginning (length playback.old.entries) kept.old.items }
     ensures feeds { Feeds result (played_before playback.old (kept.old.items ++ piece.now)) (length kept.old.items + length piece.now) playback.new kept.new.items }
     ensures stands { (opening : State) → StandsFor opening playback.old → StandsFor opening playback.new }
+    ensures vouched { (opening : State) (given : List (Option (Function C))) → Vouches C.verdict given opening playback.old → Vouches C.verdict given opening playback.new }
     ensures session { IsSession playback.new }
     ensures written { (first : Option (List ℕ)) → IsWritten first playback.old.entries (K.taken sink.old) → TellsWritten result first playback.new.entries (K.taken sink.new) }
     ensures cause { TellsCause result (K.faults sink.old) (K.faults sink.new) }
@@ -195,8 +200,8 @@ fn play_piece<K: Sink>(
 
 /// Moves bytes of the piece behind the kept ones, as many as the record's head or its body lacks, and plays the record
 /// where it is whole.
-fn complete<K: Sink>(
-    playback: &mut Playback,
+fn complete<C: Validator, K: Sink>(
+    playback: &mut Playback<C>,
     kept: &mut Vec<u8>,
     piece: &[u8],
     at: &mut usize,
@@ -211,6 +216,7 @@ fn complete<K: Sink>(
     ensures stream { played_before playback.new (kept.new.items ++ drop at.new piece.now) ≡ played_before playback.old (kept.old.items ++ drop at.old piece.now) }
     ensures leaves { Leaves result (length playback.new.entries) kept.new.items }
     ensures stands { (opening : State) → StandsFor opening playback.old → StandsFor opening playback.new }
+    ensures vouched { (opening : State) (given : List (Option (Function C))) → Vouches C.verdict given opening playback.old → Vouches C.verdict given opening playback.new }
     ensures session { IsSession playback.new }
     ensures written { (first : Option (List ℕ)) → IsWritten first playback.old.entries (K.taken sink.old) → TellsWritten result first playback.new.entries (K.taken sink.new) }
     ensures cause { TellsCause result (K.faults sink.old) (K.faults sink.new) }
@@ -229,11 +235,12 @@ fn complete<K: Sink>(
 }
 
 /// Plays what is whole of the kept bytes, and drops it.
-fn play_kept<K: Sink>(playback: &mut Playback, kept: &mut Vec<u8>, sink: &mut K) -> Standing
+fn play_kept<C: Validator, K: Sink>(playback: &mut Playback<C>, kept: &mut Vec<u8>, sink: &mut K) -> Standing
     ensures bound { length kept.new.items ≤ length kept.old.items }
     ensures stream { played_before playback.new kept.new.items ≡ played_before playback.old kept.old.items }
     ensures leaves { Leaves result (length playback.new.entries) kept.new.items }
     ensures stands { (opening : State) → StandsFor opening playback.old → StandsFor opening playback.new }
+    ensures vouched { (opening : State) (given : List (Option (Function C))) → Vouches C.verdict given opening playback.old → Vouches C.verdict given opening playback.new }
     ensures session { IsSession playback.new }
     ensures written { (first : Option (List ℕ)) → IsWritten first playback.old.entries (K.taken sink.old) → TellsWritten result first playback.new.entries (K.taken sink.new) }
     ensures cause { TellsCause result (K.faults sink.old) (K.faults sink.new) }
@@ -246,8 +253,8 @@ fn play_kept<K: Sink>(playback: &mut Playback, kept: &mut Vec<u8>, sink: &mut K)
 }
 
 /// Plays what is whole of a piece from a place on, and keeps the beginning of a record behind it.
-fn play_rest<K: Sink>(
-    playback: &mut Playback,
+fn play_rest<C: Validator, K: Sink>(
+    playback: &mut Playback<C>,
     kept: &mut Vec<u8>,
     piece: &[u8],
     from: usize,
@@ -257,6 +264,7 @@ fn play_rest<K: Sink>(
     requires within { from ≤ length piece.now }
     ensures feeds { Feeds result (played_before playback.old (drop from piece.now)) (length piece.now - from) playback.new kept.new.items }
     ensures stands { (opening : State) → StandsFor opening playback.old → StandsFor opening playback.new }
+    ensures vouched { (opening : State) (given : List (Option (Function C))) → Vouches C.verdict given opening playback.old → Vouches C.verdict given opening playback.new }
     ensures session { IsSession playback.new }
     ensures written { (first : Option (List ℕ)) → IsWritten first playback.old.entries (K.taken sink.old) → TellsWritten result first playback.new.entries (K.taken sink.new) }
     ensures cause { TellsCause result (K.faults sink.old) (K.faults sink.new) }

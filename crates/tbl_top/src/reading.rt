@@ -3,7 +3,8 @@
 ghost use Rattle.std.specs.Prelude.{◌≡◌, ℕ, ◌+◌, ◌<◌, ◌≤◌, Option, List, [], ◌++◌, length, true, IfSome, IfNone, Some};
 ghost use Rattle.std.specs.Io.KnownBytes.{prepend_known, IsAtEnd};
 ghost use Rattle.tbl_model.specs.State.{State};
-ghost use Rattle.tbl_core.specs.Service.{StandsFor};
+ghost use Rattle.tbl_core.specs.Service.{StandsFor, Vouches};
+ghost use Rattle.tbl_outside.specs.declared.validator.KitEntry.{KitEntry as Function};
 ghost use Rattle.tbl_outside.specs.Counts.{Rose};
 ghost use Rattle.tbl_top.specs.Playing.{bytes_fed, IsBeginning, IsSession, IsWritten};
 ghost use Rattle.tbl_top.specs.Standing.{TellsWritten, TellsCause};
@@ -11,7 +12,7 @@ ghost use Rattle.tbl_top.specs.Reading.{ReadsOn, EndsReading, piece_limit};
 ghost use Rattle.tbl_top.specs.declared.playback.Standing.TheVariants.{Open};
 
 use crate::player::{Fed, Player};
-use tbl_outside::{Failed, Sink, Source};
+use tbl_outside::{Failed, Sink, Source, Validator};
 
 /// How many bytes are asked for at a time.
 const PIECE_LENGTH: usize = 4096;
@@ -21,8 +22,8 @@ const PIECE_LENGTH: usize = 4096;
 const MOST_READS: u32 = 1_076_100_000;
 
 /// Reads one piece of the input and feeds it; None where the session goes on, and else whether a read failed.
-fn read_piece<S: Source, K: Sink>(
-    player: &mut Player,
+fn read_piece<C: Validator, S: Source, K: Sink>(
+    player: &mut Player<C>,
     piece: &mut [u8],
     source: &mut S,
     sink: &mut K,
@@ -34,6 +35,7 @@ fn read_piece<S: Source, K: Sink>(
     ensures room { length piece.new ≡ piece_limit }
     ensures reads { (read : List ℕ) × (S.left source.old ≡ prepend_known read (S.left source.new)) × ReadsOn result player.old player.new read (IsAtEnd (S.left source.new)) }
     ensures stands { (opening : State) → StandsFor opening player.old.core → StandsFor opening player.new.core }
+    ensures vouched { (opening : State) (given : List (Option (Function C))) → Vouches C.verdict given opening player.old.core → Vouches C.verdict given opening player.new.core }
     ensures written { (first : Option (List ℕ)) → IsWritten first player.old.core.entries (K.taken sink.old) → TellsWritten player.new.standing first player.new.core.entries (K.taken sink.new) }
     ensures source_failed { result ≡ Some true → Rose (S.faults source.old) (S.faults source.new) }
     ensures cause { TellsCause player.new.standing (K.faults sink.old) (K.faults sink.new) }
@@ -56,8 +58,8 @@ fn read_piece<S: Source, K: Sink>(
 }
 
 /// Reads the input to its end, or to what ends the session before, and answers whether a read failed.
-pub(crate) fn read_all<S: Source, K: Sink>(
-    player: &mut Player,
+pub(crate) fn read_all<C: Validator, S: Source, K: Sink>(
+    player: &mut Player<C>,
     source: &mut S,
     sink: &mut K,
 ) -> bool
@@ -66,6 +68,7 @@ pub(crate) fn read_all<S: Source, K: Sink>(
     requires session { IsSession player.old.core }
     ensures reads { (read : List ℕ) × (S.left source.old ≡ prepend_known read (S.left source.new)) × EndsReading player.new read result (IsAtEnd (S.left source.new)) }
     ensures stands { (opening : State) → StandsFor opening player.old.core → StandsFor opening player.new.core }
+    ensures vouched { (opening : State) (given : List (Option (Function C))) → Vouches C.verdict given opening player.old.core → Vouches C.verdict given opening player.new.core }
     ensures written { (first : Option (List ℕ)) → IsWritten first player.old.core.entries (K.taken sink.old) → TellsWritten player.new.standing first player.new.core.entries (K.taken sink.new) }
     ensures source_failed { result ≡ true → Rose (S.faults source.old) (S.faults source.new) }
     ensures cause { TellsCause player.new.standing (K.faults sink.old) (K.faults sink.new) }

@@ -16,7 +16,7 @@ use crate::words::is_play;
 use std::alloc::Global;
 use tbl_core::Core;
 use tbl_kinds::{Bytes, Memory};
-use tbl_outside::{Sink, Source};
+use tbl_outside::{Sink, Source, Validator};
 
 /// The words aren't those that the program knows.
 const USAGE: u8 = 2;
@@ -36,7 +36,7 @@ fn begin(alloc: Global) -> Result<Player, Memory>
 }
 
 /// Plays a session from its start.
-fn play<S: Source, K: Sink>(player: &mut Player, source: &mut S, sink: &mut K) -> u8
+fn play<C: Validator, S: Source, K: Sink>(player: &mut Player<C>, source: &mut S, sink: &mut K) -> u8
     requires is_open { player.old.standing ≡ Open }
     requires none { bytes_fed player.old ≡ [] }
     requires empty { player.old.core.entries ≡ [] }
@@ -53,7 +53,7 @@ fn play<S: Source, K: Sink>(player: &mut Player, source: &mut S, sink: &mut K) -
 }
 
 /// Plays a session: reads records from the source, and writes the transcript to the sink.
-pub fn run<S: Source, K: Sink>(alloc: Global, words: &[Bytes], source: &mut S, sink: &mut K) -> u8
+pub fn run<C: Validator, S: Source, K: Sink>(alloc: Global, words: &[Bytes], source: &mut S, sink: &mut K) -> u8
     // 2 exactly where the words aren't `play` alone; then nothing is read or written.
     ensures usage { (result ≡ 2) ↔ (¬ IsPlay words.now) }
     ensures untouched { (¬ IsPlay words.now) → (source.new ≡ source.old) × (sink.new ≡ sink.old) }

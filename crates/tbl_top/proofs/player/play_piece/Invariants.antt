@@ -1,6 +1,7 @@
 use Rattle.std.proofs.Common.{◌≡◌, ◌+◌, ◌-◌, ℕ, ◌≤◌, List, ◌++◌, length, drop, Option}
 use Rattle.tbl_model.specs.State.{State}
-use Rattle.tbl_core.specs.Service.{StandsFor}
+use Rattle.tbl_outside.specs.declared.validator.KitEntry.{KitEntry}
+use Rattle.tbl_core.specs.Service.{StandsFor, Vouches}
 use Rattle.tbl_top.specs.Playing.{played_before, IsBeginning, IsSession, IsWritten}
 use Rattle.tbl_top.proofs.player.play_piece.Given as goal
 
@@ -12,6 +13,7 @@ invariant-completes g l = record {
   begun : IsBeginning (length l.playback.entries) l.kept.items;
   session : IsSession l.playback;
   stands : (opening : State) → StandsFor opening l.fn.playback → StandsFor opening l.playback;
+  vouched : (opening : State) (given : List (Option (KitEntry g.row.C.Denot))) → Vouches g.C.Validator.verdict given opening l.fn.playback → Vouches g.C.Validator.verdict given opening l.playback;
   written : (first : Option (List ℕ)) → IsWritten first l.fn.playback.entries (g.K.Sink.taken l.fn.sink) → IsWritten first l.playback.entries (g.K.Sink.taken l.sink);
   count : g.K.Sink.faults l.fn.sink ≤ g.K.Sink.faults l.sink;
 }

@@ -13,6 +13,7 @@ reads-init g c = record {
   begun = begins_empty c.args.player.now c.requires.none;
   session = c.requires.session;
   stands = λ opening stood. stood;
+  vouched = λ opening given vouched. vouched;
   written = λ first written. written;
   source_count = omega arith;
   sink_count = omega arith;

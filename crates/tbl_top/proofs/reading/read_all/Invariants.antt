@@ -1,7 +1,8 @@
 use Rattle.std.proofs.Common.{◌≡◌, ℕ, ◌≤◌, List, length, Option}
 use Rattle.std.specs.Io.KnownBytes.{prepend_known}
 use Rattle.tbl_model.specs.State.{State}
-use Rattle.tbl_core.specs.Service.{StandsFor}
+use Rattle.tbl_outside.specs.declared.validator.KitEntry.{KitEntry}
+use Rattle.tbl_core.specs.Service.{StandsFor, Vouches}
 use Rattle.tbl_top.specs.Playing.{IsBeginning, bytes_fed, IsSession, IsWritten}
 use Rattle.tbl_top.specs.Reading.{piece_limit}
 use Rattle.tbl_top.specs.declared.playback.Standing.TheVariants.{Open}
@@ -16,6 +17,7 @@ invariant-reads g l = record {
   begun : IsBeginning (length l.player.core.entries) l.player.rest;
   session : IsSession l.player.core;
   stands : (opening : State) → StandsFor opening l.fn.player.core → StandsFor opening l.player.core;
+  vouched : (opening : State) (given : List (Option (KitEntry g.row.C.Denot))) → Vouches g.C.Validator.verdict given opening l.fn.player.core → Vouches g.C.Validator.verdict given opening l.player.core;
   written : (first : Option (List ℕ)) → IsWritten first l.fn.player.core.entries (g.K.Sink.taken l.fn.sink) → IsWritten first l.player.core.entries (g.K.Sink.taken l.sink);
   source_count : g.S.Source.faults l.fn.source ≤ g.S.Source.faults l.source;
   sink_count : g.K.Sink.faults l.fn.sink ≤ g.K.Sink.faults l.sink;

@@ -1,4 +1,5 @@
 use Rattle.tbl_core.proofs.Steps.{on_ok, plays_on}
+use Rattle.tbl_core.proofs.Vouching.{vouches_on}
 use Rattle.tbl_core.proofs.WholeLaws.{whole}
 use Rattle.tbl_core.proofs.service.Core.step.Goals as goal
 
@@ -11,3 +12,6 @@ returns-clause-whole g c = rw (← c.self.view_is)
 
 pub returns-clause-judged : goal.returns-clause-judged
 returns-clause-judged g c = rw (← c.self.view_is) (on_ok c.play.result (λ p. (p.entry, p.added, λ opening stood. p.judged _ stood.shows)) c.play.ensures.plays)
+
+pub returns-clause-vouched : goal.returns-clause-vouched
+returns-clause-vouched g c = rw (← c.self.view_is) (on_ok c.play.result (λ p opening given vouched. vouches_on g.C.Validator.verdict g.C.Validator.asked _ _ c.args.actor c.args.request p opening given vouched) c.play.ensures.plays)

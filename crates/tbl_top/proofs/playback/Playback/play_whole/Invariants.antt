@@ -1,6 +1,7 @@
 use Rattle.std.proofs.Common.{◌≡◌, ◌-◌, ℕ, ◌≤◌, List, length, drop, Option}
 use Rattle.tbl_model.specs.State.{State}
-use Rattle.tbl_core.specs.Service.{StandsFor}
+use Rattle.tbl_outside.specs.declared.validator.KitEntry.{KitEntry}
+use Rattle.tbl_core.specs.Service.{StandsFor, Vouches}
 use Rattle.tbl_top.specs.Playing.{played_before, IsWritten}
 use Rattle.tbl_top.proofs.playback.Playback.play_whole.Given as goal
 
@@ -10,6 +11,7 @@ invariant-records g l = record {
   further : l.fn.at ≤ l.at;
   stream : played_before l.self (drop l.at l.fn.bytes) ≡ played_before l.fn.self (drop l.fn.at l.fn.bytes);
   stands : (opening : State) → StandsFor opening l.fn.self → StandsFor opening l.self;
+  vouched : (opening : State) (given : List (Option (KitEntry g.row.C.Denot))) → Vouches g.C.Validator.verdict given opening l.fn.self → Vouches g.C.Validator.verdict given opening l.self;
   written : (first : Option (List ℕ)) → IsWritten first l.fn.self.entries (g.K.Sink.taken l.fn.sink) → IsWritten first l.self.entries (g.K.Sink.taken l.sink);
   count : g.K.Sink.faults l.fn.sink ≤ g.K.Sink.faults l.sink;
 }

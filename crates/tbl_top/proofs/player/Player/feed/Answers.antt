@@ -24,4 +24,4 @@ returns-clause-records g c =
 pub returns-clause-whole : goal.returns-clause-whole
 returns-clause-whole g c = λ opening at_first stood.
     let f = c.feed_fields in
-    whole opening f.new.playback.entries _ at_first (f.ensures.stands opening (subst (λ (p : Playing). StandsFor opening p.core) (sym c.self.view_is) stood)).legal
+    whole opening f.new.playback.entries _ at_first (f.ensures.stands opening (subst (λ (p : Playing _). StandsFor opening p.core) (sym c.self.view_is) stood)).legal

@@ -1,0 +1,64 @@
+-- The verdicts of a history are those of the functions that it began with.
+use Rattle.std.proofs.Common.{◌≡◌, ◌∙◌, ℕ, List, [], ◌∷◌, ◌++◌, Option, Some, None, IsSome, ℤ, refl, sym, subst}
+use Rattle.std.specs.Option.{ForSome}
+use Rattle.tbl_model.specs.Deeds.{Question}
+use Rattle.tbl_model.specs.State.{State}
+use Rattle.tbl_model.specs.History.{Run, begins_at, onward, run_from}
+use Rattle.tbl_kinds.specs.declared.entry.Entry.{Entry}
+use Rattle.tbl_kinds.specs.declared.request.Actor.{Actor}
+use Rattle.tbl_kinds.specs.declared.request.Request.{Request}
+use Rattle.tbl_outside.specs.declared.validator.KitEntry.{KitEntry}
+use Rattle.validation.specs.Kits.{entry_at}
+use Rattle.validation.specs.Asked.{Gives, GivesEach}
+use Rattle.tbl_core.specs.Service.{CoreView, StandsFor, Vouches, Plays}
+use Rattle.tbl_core.specs.Verdicts.{StoodThere, Judged, questions_in, AreGiven, IsOf, AreOf}
+use Rattle.tbl_core.proofs.Steps.{plays_on}
+
+module _ {C : Type 0} (verdict : C → List ℕ → ℤ) where
+  -- what stands in the kit gives what the first function gives
+  gives_first : (first entry : Option (KitEntry C)) (image : List ℕ) (v : ℤ) → IsOf verdict first entry → IsSome entry × ForSome entry (λ e. v ≡ verdict e.check image) → IsSome first × ForSome first (λ e. v ≡ verdict e.check image)
+  gives_first first None image v of gives = absurd (cc gives.0)
+  gives_first None (Some entry) image v of gives = absurd of
+  gives_first (Some first) (Some entry) image v of gives = (cc, λ e same. let is : e ≡ first = cc same in rw is (gives.1 entry refl ∙ of image))
+
+  each_first : (given kit : List (Option (KitEntry C))) → AreOf verdict given kit → (questions : List Question) (verdicts : List (Option ℤ)) → GivesEach verdict kit questions verdicts → GivesEach verdict given questions verdicts
+  each_first given kit of [] [] gives = tt
+  each_first given kit of [] (None ∷ verdicts) gives = each_first given kit of [] verdicts gives
+  each_first given kit of [] (Some v ∷ verdicts) gives = absurd gives
+  each_first given kit of (q ∷ more) [] gives = absurd gives
+  each_first given kit of (q ∷ more) (None ∷ verdicts) gives = absurd gives
+  each_first given kit of (q ∷ more) (Some v ∷ verdicts) gives = (gives_first (entry_at given q.number) (entry_at kit q.number) q.image v (of q.number) gives.0, each_first given kit of more verdicts gives.1)
+
+  -- one entry more
+  given_push : (given : List (Option (KitEntry C))) (r : Run) (es : List Entry) (e : Entry) → AreGiven verdict given r es → GivesEach verdict given (questions_in (run_from r es) e) e.verdicts → AreGiven verdict given r (es ++ e ∷ [])
+  given_push given r [] e before gives = (gives, tt)
+  given_push given r (x ∷ es) e before gives = (before.0, given_push given (onward r x) es e before.1 gives)
+
+  -- a kit is of itself
+  same_function : (entry : Option (KitEntry C)) → IsOf verdict entry entry
+  same_function None = tt
+  same_function (Some entry) = λ image. refl
+
+  -- whoever stands for an opening vouches for the functions that it began with
+  pub vouch_first : (given : List (Option (KitEntry C))) (opening : State) (core : CoreView C) → core.entries ≡ [] → core.state.kit ≡ given → StandsFor opening core → Vouches verdict given opening core
+  vouch_first given opening core none same stands = record {
+    stands = stands;
+    verdicts = rw none tt;
+    functions = rw same (λ number. same_function (entry_at given number));
+  }
+
+module _ {C : Type 0} (verdict : C → List ℕ → ℤ) (asked : C → ℕ) where
+  of_before : (times : ℕ) (first old new : Option (KitEntry C)) → IsOf verdict first old → StoodThere verdict asked times old new → IsOf verdict first new
+  of_before times first old None of stood = tt
+  of_before times first None (Some new) of stood = absurd stood
+  of_before times None (Some old) (Some new) of stood = absurd of
+  of_before times (Some first) (Some old) (Some new) of stood = λ image. stood.steady image ∙ of image
+
+  pub vouches_on : (old new : CoreView C) (actor : Actor) (request : Request) → Plays verdict asked old new actor request → (opening : State) (given : List (Option (KitEntry C))) → Vouches verdict given opening old → Vouches verdict given opening new
+  vouches_on old new actor request p opening given vouched =
+      let judged = p.judged (run_from (begins_at opening) old.entries) vouched.stands.shows in record {
+        stands = plays_on verdict asked old new actor request p opening vouched.stands;
+        verdicts = subst (λ (es : List Entry). AreGiven verdict given (begins_at opening) es) (sym p.added)
+            (given_push verdict given (begins_at opening) old.entries p.entry vouched.verdicts (each_first verdict given old.state.kit vouched.functions _ p.entry.verdicts judged.gives));
+        functions = λ number. of_before _ (entry_at given number) (entry_at old.state.kit number) (entry_at new.state.kit number) (vouched.functions number) (judged.each number);
+      }
