@@ -19,11 +19,12 @@ use Rattle.tbl_model.proofs.CountsLaws.{counts_push}
 use Rattle.tbl_model.proofs.HistoryLaws.{run_push, answered_push}
 use Rattle.tbl_core.specs.Log.{Logged, entry_of}
 use Rattle.tbl_core.specs.Effects.{IsEffect, given_of, without_images, seen_at, told_at}
-use Rattle.tbl_core.specs.Service.{Held, CoreView, Stands, Shows, StandsFor, Leaves, Asks, Finishes, Plays, IsReady}
+use Rattle.tbl_core.specs.Service.{Held, CoreView, Stands, state_of, Shows, StandsFor, Leaves, Asks, Finishes, Plays, IsReady}
 use Rattle.tbl_core.specs.Verdicts.{Judged, questions_in}
 use Rattle.tbl_core.proofs.Verdicts.{answers_each, few_more}
-use Rattle.tbl_core.proofs.Cases.{OfEffect}
-use Rattle.tbl_core.proofs.Ordinary.{IsOrdinary, ordinary}
+use Rattle.tbl_laws.proofs.Cases.{OfEffect}
+use Rattle.tbl_laws.specs.Fit.{AreFit}
+use Rattle.tbl_laws.proofs.Ordinary.{IsOrdinary, ordinary}
 use Rattle.tbl_core.specs.declared.effect.Effect.{Effect}
 use Rattle.tbl_core.specs.declared.parts.Clock.{Clock}
 use Rattle.tbl_kinds.specs.declared.request.Actor.{Actor}
@@ -58,22 +59,23 @@ module _ (done : Effect) (clock : Clock) (actor : Actor) (request : Request) (s 
 
 -- ---- one request
 
--- a state for which the parts stand
-abbrev state_in : {C : Type 0} → Held C → State
-state_in held = record {
-  tables = held.tables;
-  pending = held.pending;
-  store = [];
-  drawer = held.drawer;
-  apps = held.apps;
-  kit = owners held.kit;
-  seconds = held.seconds;
-  sub = held.sub;
-  ended = held.ended;
-}
-
-stands_in : {C : Type 0} (held : Held C) → Stands held (state_in held)
+-- the parts stand for it
+stands_in : {C : Type 0} (held : Held C) → Stands held (state_of held)
 stands_in held = record { tables = refl; pending = refl; store = refl; drawer = refl; apps = refl; kit = refl; seconds = refl; sub = refl; ended = refl }
+
+-- and for no other
+state_is : {C : Type 0} (held : Held C) (s : State) → Stands held s → s ≡ state_of held
+state_is held s stands = λ i. record {
+  tables = stands.tables i;
+  pending = stands.pending i;
+  store = stands.store i;
+  drawer = stands.drawer i;
+  apps = stands.apps i;
+  kit = stands.kit i;
+  seconds = stands.seconds i;
+  sub = stands.sub i;
+  ended = stands.ended i;
+}
 
 -- the effect that the parts stand behind
 effect_left : {C : Type 0} (done : Effect) (held : Held C) (found : Option model.Effect) → Leaves done held found → (e : model.Effect) × (found ≡ Some e) × (IsEffect done e.asked e.next e) × (Stands held e.next)
@@ -155,14 +157,14 @@ module _ {C : Type 0} (verdict : C → List ℕ → ℤ) (asked : C → ℕ) (ol
 
   ordinary_left : (e : model.Effect) × (IsOrdinary (length old.entries) e) × (Stands new.state e.next)
   ordinary_left =
-      let s = state_in old.state in
+      let s = state_of old.state in
       let e = effect_left done new.state _ (did.effect s (stands_in old.state)) in
-      (e.0, subst (OfEffect (IsOrdinary (length old.entries))) e.1 (ordinary s (length old.entries) did.live did.ready.tables actor request (given_of done)), e.3)
+      (e.0, subst (OfEffect (IsOrdinary (length old.entries))) e.1 (ordinary s (length old.entries) did.live did.ready.fit actor request (given_of done)), e.3)
 
   -- and what it asked, in the same state
   asked_left : (questions : List Question) × Judged verdict asked old.state.kit new.state.kit questions done.verdicts
   asked_left =
-      let s = state_in old.state in
+      let s = state_of old.state in
       let e = effect_left done new.state _ (did.effect s (stands_in old.state)) in
       (e.0.asked, asked_there verdict asked old.state.kit new.state.kit done.verdicts _ e.0 e.1 (did.asks s (stands_in old.state)))
 
@@ -175,7 +177,7 @@ module _ {C : Type 0} (verdict : C → List ℕ → ℤ) (asked : C → ℕ) (ol
 
   ready : IsReady asked new
   ready = record {
-    tables = rw (one_more, ← ordinary_left.2.tables, ← ordinary_left.2.kit) ordinary_left.1.usual;
+    fit = rw (one_more, ← state_is new.state ordinary_left.0.next ordinary_left.2) ordinary_left.1.fit;
     kit = rw one_more (few_more verdict asked old.state.kit new.state.kit asked_left.0 done.verdicts (length old.entries) did.two asked_left.1 did.ready.kit);
   }
 

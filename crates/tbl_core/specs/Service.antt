@@ -2,9 +2,9 @@
 use Rattle.std.specs.Prelude.{◌≡◌, ℕ, ◌+◌, ◌*◌, ◌^◌, ◌≤◌, ◌<◌, List, [], ◌∷◌, ◌++◌, length, Bool, true, false, Option, Some, None}
 use Rattle.std.specs.Option.{ForSome}
 use Rattle.std.proofs.Common.{ℤ}
-use Rattle.tbl_model.specs.State.{State, Table, Tables}
+use Rattle.tbl_model.specs.State.{State, Tables}
 use Rattle.tbl_model.specs.Tables.{table_at}
-use Rattle.tbl_model.specs.Refusals.{may_use}
+use Rattle.tbl_laws.specs.Fit.{AreFit}
 use Rattle.tbl_kinds.specs.Drawer.{File}
 use Rattle.tbl_model.specs.Effects as model
 use Rattle.tbl_model.specs.Counts.{Counts, counts_of}
@@ -12,7 +12,8 @@ use Rattle.tbl_model.specs.CountsAfter.{tally_of, counts_after}
 use Rattle.tbl_model.specs.Replies.{packets_by}
 use Rattle.tbl_model.specs.History.{Run, begins_at, onward, run_from, IsAnswered, IsLegal}
 use Rattle.tbl_outside.specs.declared.validator.KitEntry.{KitEntry}
-use Rattle.validation.specs.Kits.{entry_at, owners}
+use Rattle.validation.specs.Kits.{entry_at, owners, FewAsked}
+use Rattle.validation.specs.Ready.{ArePending, HaveFunctions, HaveLoads}
 use Rattle.tbl_kinds.specs.declared.entry.Entry.{Entry}
 use Rattle.tbl_kinds.specs.declared.entry.Reply.{Reply}
 use Rattle.tbl_kinds.specs.declared.request.Actor.{Actor}
@@ -73,6 +74,20 @@ pub record Stands {C : Type 0} (held : Held C) (s : State) : Type 0 where
   pub sub : s.sub ≡ held.sub
   pub ended : s.ended ≡ held.ended
 
+-- such a state
+abbrev pub state_of : {C : Type 0} → Held C → State
+state_of held = record {
+  tables = held.tables;
+  pending = held.pending;
+  store = [];
+  drawer = held.drawer;
+  apps = held.apps;
+  kit = owners held.kit;
+  seconds = held.seconds;
+  sub = held.sub;
+  ended = held.ended;
+}
+
 -- the core stands for a run: its state, and what is counted over what was told
 pub record Shows {C : Type 0} (core : CoreView C) (r : Run) : Type 0 where
   pub state : Stands core.state r.state
@@ -91,24 +106,27 @@ pub record Vouches {C : Type 0} (verdict : C → List ℕ → ℤ) (given : List
 
 -- ---- what is kept of it
 
--- a table that has had so many images at most, and whose validation function, if it has one, is its owner's in the kit
-pub record IsUsual (most : ℕ) (kit : List (Option ℕ)) (t : Table) : Type 0 where
-  pub few : t.count ≤ most
-  pub function : may_use kit t.owner t.validator ≡ true
-
--- each table is such a one
-abbrev pub AreUsual : ℕ → List (Option ℕ) → Tables → Type 0
-AreUsual most kit tables = (row : ℕ) → ForSome (table_at tables row) (IsUsual most kit)
-
 -- each function of the kit was asked fewer times than this
-abbrev pub FewAsked : {C : Type 0} → (C → ℕ) → ℕ → List (Option (KitEntry C)) → Type 0
-FewAsked asked most kit = (number : ℕ) → ForSome (entry_at kit number) (λ entry. asked entry.check < most)
+abbrev pub AskedFewer : {C : Type 0} → (C → ℕ) → ℕ → List (Option (KitEntry C)) → Type 0
+AskedFewer asked most kit = (number : ℕ) → ForSome (entry_at kit number) (λ entry. asked entry.check < most)
 
--- no table has had more images than there are entries, and no function was asked more than twice for each of them
--- since it was given
+-- no table has had more images than there are entries, what is pending can be done, and no function was asked more than
+-- twice for each entry since it was given
 pub record IsReady {C : Type 0} (asked : C → ℕ) (core : CoreView C) : Type 0 where
-  pub tables : AreUsual (length core.entries) (owners core.state.kit) core.state.tables
-  pub kit : FewAsked asked (2 ^ 62 + 2 * length core.entries) core.state.kit
+  pub fit : AreFit (length core.entries) (state_of core.state)
+  pub kit : AskedFewer asked (2 ^ 62 + 2 * length core.entries) core.state.kit
+
+-- the next image of each table can be counted in 32 bits
+abbrev pub AreCounted : Tables → Type 0
+AreCounted tables = (row : ℕ) → ForSome (table_at tables row) (λ t. t.count < 2 ^ 32 - 1)
+
+-- what each request may rely on
+pub record MayPlay {C : Type 0} (asked : C → ℕ) (held : Held C) : Type 0 where
+  pub counted : AreCounted held.tables
+  pub functions : HaveFunctions held.tables held.kit
+  pub few : FewAsked asked 2 held.kit
+  pub pending : ArePending held.tables held.pending
+  pub loads : HaveLoads held.tables
 
 -- ---- one request
 
