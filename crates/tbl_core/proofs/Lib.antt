@@ -1,13 +1,8 @@
 pub mod Buffers
-pub mod Cases
-pub mod CommandAnswers
 pub mod CommandReadings
-pub mod Fair
 pub mod Few
-pub mod Ordinary
-pub mod Pins
 pub mod Places
+pub mod Ready
 pub mod Steps
 pub mod Verdicts
 pub mod Vouching
-pub mod WholeLaws

@@ -99,12 +99,12 @@ pub(crate) fn asks_load(request: &Request, asked: &Asked) -> bool
 }
 
 /// The file that a load names.
-pub(crate) fn load_file_of(request: &Request, asked: &Asked) -> Option<Name64>
-    ensures { result ≡ load_file_of request.now (asked_of asked.now) }
+pub(crate) fn load_file_of<'a>(request: &'a Request, asked: &'a Asked) -> Option<&'a Name64>
+    ensures { option_copied result ≡ load_file_of request.now (asked_of asked.now) }
 {
     match request {
-        Request::LoadFile { name, .. } => Some(name.copy()),
-        _ => Some(asked_file(asked)?.copy()),
+        Request::LoadFile { name, .. } => Some(name),
+        _ => asked_file(asked),
     }
 }
 

@@ -1,8 +1,8 @@
 //! Which request is played by what.
 
-ghost use Rattle.std.specs.Prelude.{◌≡◌, ◌-◌, ◌^◌, ◌≤◌, length, IfOk, OnErr};
+ghost use Rattle.std.specs.Prelude.{◌≡◌, ◌≤◌, length, IfOk, OnErr};
 ghost use Rattle.tbl_kinds.specs.Requests.{Fits};
-ghost use Rattle.tbl_kinds.specs.Records.{IsBuilt, record_limit};
+ghost use Rattle.tbl_kinds.specs.Records.{IsBuilt};
 ghost use Rattle.tbl_model.specs.State.{State};
 ghost use Rattle.tbl_model.specs.Commands.{asked_in, asks_housekeeping};
 ghost use Rattle.tbl_kinds.specs.Notes.{untouched};
@@ -10,8 +10,7 @@ ghost use Rattle.tbl_model.specs.Dispatch.{effect_of};
 ghost use Rattle.tbl_core.specs.Asked.{asked_of, most_deeds};
 ghost use Rattle.tbl_core.specs.Effects.{IsWithin, given_of};
 ghost use Rattle.tbl_core.specs.Log.{reply_limit};
-ghost use Rattle.validation.specs.Kits.{owners};
-ghost use Rattle.tbl_core.specs.Service.{AreUsual, FewAsked, Stands, Leaves, Asks, held_of};
+ghost use Rattle.tbl_core.specs.Service.{MayPlay, Stands, Leaves, Asks, held_of};
 
 use crate::addresses::{get, read, release};
 use crate::applications::{register, start};
@@ -37,8 +36,7 @@ impl<C: Validator> Parts<C> {
         requires fits { Fits actor request.now }
         requires built { IsBuilt request.now }
         requires asked { asked_of asked.now ≡ asked_in request.now }
-        requires tables { AreUsual record_limit (owners self.old.kit) self.old.tables }
-        requires kit { FewAsked C.asked (2 ^ 63 - 1) self.old.kit }
+        requires ready { MayPlay C.asked (held_of self.old) }
         ensures effect { IfOk result (λ done. (s : State) → Stands (held_of self.old) s → Leaves done (held_of self.new) (effect_of s actor request.now (given_of done))) }
         ensures asks { IfOk result (λ done. (s : State) → Stands (held_of self.old) s → Asks C.verdict C.asked self.old.kit self.new.kit done.verdicts (effect_of s actor request.now (given_of done))) }
         ensures note { IfOk result (λ done. done.note ≡ untouched) }

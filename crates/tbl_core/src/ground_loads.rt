@@ -13,13 +13,10 @@ use crate::effect::Effect;
 use file_drawer::Drawer;
 use partial_load::load_into;
 use std::alloc::Global;
-use table_files::{TableFile, read_table_file};
+use table_files::{IMAGE_PLACE, TableFile, read_table_file};
 use tbl_kinds::{Answer, Bytes, Memory, Name64, Status};
 use tbl_model::Named;
 use tbl_registry::Tables;
-
-/// Where the image bytes of a table file begin.
-const IMAGE_PLACE: usize = 116;
 
 /// Fills the load of the table in the row where it was found, or answers why not.
 fn load_found(

@@ -9,7 +9,7 @@ ghost use Rattle.tbl_core.specs.Log.{IsSmall};
 ghost use Rattle.tbl_model.specs.History.{begins_at, run_from};
 ghost use Rattle.validation.specs.Kits.{owners};
 ghost use Rattle.tbl_outside.specs.declared.validator.KitEntry.{KitEntry as Function};
-ghost use Rattle.tbl_core.specs.Service.{StandsFor, Vouches, FewAsked};
+ghost use Rattle.tbl_core.specs.Service.{StandsFor, Vouches, AskedFewer};
 ghost use Rattle.tbl_core.specs.Verdicts.{Judged, questions_in};
 ghost use Rattle.tbl_kinds.specs.declared.entry.Entry.{Entry};
 
@@ -56,7 +56,7 @@ impl<C: Validator> Core<C> {
     /// The service at its start, with an empty history and these validation functions.
     #[tactic(auto, unfolding(tbl_model::specs::Counts::counts_of))]
     pub fn start(alloc: Global, kit: Kit<C>) -> Result<Core<C>, Memory>
-        requires { FewAsked C.asked (2 ^ 62) kit }
+        requires { AskedFewer C.asked (2 ^ 62) kit }
         ensures stands { IfOk result (StandsFor (first_state [] (owners kit))) }
         ensures kit { IfOk result (λ core. core.state.kit ≡ kit) }
         ensures empty { IfOk result (λ core. core.entries ≡ []) }
@@ -90,7 +90,7 @@ impl<C: Validator> Core<C> {
         requires room { length self.old.entries < record_limit }
         ensures adds { OnOk result ((e : Entry) × (self.new.entries ≡ self.old.entries ++ e ∷ []) × (e.actor ≡ actor) × (e.request ≡ request)) }
         ensures legal { OnOk result ((opening : State) → StandsFor opening self.old → StandsFor opening self.new) }
-        ensures whole { OnOk result ((opening : State) → opening.tables ≡ no_tables → StandsFor opening self.old → IsWhole opening self.new.entries) }
+        ensures whole { OnOk result ((opening : State) → opening.tables ≡ no_tables → opening.pending ≡ [] → StandsFor opening self.old → IsWhole opening self.new.entries) }
         // The functions were asked what the request asks, and the entry has their verdicts.
         ensures judged { OnOk result ((e : Entry) × (self.new.entries ≡ self.old.entries ++ e ∷ []) × ((opening : State) → StandsFor opening self.old
             → Judged C.verdict C.asked self.old.state.kit self.new.state.kit (questions_in (run_from (begins_at opening) self.old.entries) e) e.verdicts)) }

@@ -9,7 +9,7 @@ use Rattle.tbl_core.proofs.Verdicts.{may_ask_there, same_owners}
 use Rattle.tbl_core.proofs.loads.load_row.Goals as goal
 
 pub load_image-requires-clause-kit : goal.load_image-requires-clause-kit
-load_image-requires-clause-kit g c = may_ask_there g.C.Validator.asked c.args.kit.now c.args.tables.now c.args.row record_limit c.requires.tables c.requires.kit
+load_image-requires-clause-kit g c = may_ask_there g.C.Validator.asked c.args.kit.now c.args.tables.now c.args.row c.requires.functions c.requires.kit
 
 pub returns-clause-owners : goal.returns-clause-owners
 returns-clause-owners g c =

@@ -1,20 +1,15 @@
-use Rattle.std.proofs.Common.{refl, sym, ap, subst, ◌∙◌, length, arith}
-use Rattle.tbl_kinds.specs.Records.{record_limit}
-use Rattle.validation.specs.Kits.{owners}
+use Rattle.std.proofs.Common.{refl, sym, ap, subst, ◌∙◌}
 use Rattle.tbl_model.specs.Dispatch.{effect_of}
 use Rattle.tbl_core.specs.Effects.{given_of}
-use Rattle.tbl_core.specs.Service.{Held, Asks, Finishes, held_of}
+use Rattle.tbl_core.specs.Service.{Held, Asks, Finishes, held_of, view_of}
 use Rattle.tbl_core.specs.declared.parts.Clock.{Clock}
 use Rattle.tbl_core.specs.Log.{Logged}
-use Rattle.tbl_core.proofs.Ordinary.{usual_below}
+use Rattle.tbl_core.proofs.Ready.{may_play}
 use Rattle.tbl_core.proofs.Steps.{did_play}
 use Rattle.tbl_core.proofs.parts.Parts.play.Goals as goal
 
-pub effect-requires-clause-tables : goal.effect-requires-clause-tables
-effect-requires-clause-tables g c = usual_below (length c.args.self.now.log.entries) record_limit (owners c.args.self.now.kit) c.args.self.now.tables (omega arith) c.requires.ready.tables
-
-pub effect-requires-clause-kit : goal.effect-requires-clause-kit
-effect-requires-clause-kit g c number entry there = let low = c.requires.ready.kit number entry there in omega arith
+pub effect-requires-clause-ready : goal.effect-requires-clause-ready
+effect-requires-clause-ready g c = may_play g.C.Validator.asked (view_of c.args.self.now) c.requires.ready c.requires.room
 
 pub returns-clause-plays : goal.returns-clause-plays
 returns-clause-plays g c =

@@ -1,6 +1,7 @@
 use Rattle.tbl_core.proofs.Steps.{on_ok, plays_on}
 use Rattle.tbl_core.proofs.Vouching.{vouches_on}
-use Rattle.tbl_core.proofs.WholeLaws.{whole}
+use Rattle.tbl_laws.proofs.WholeLaws.{whole}
+use Rattle.tbl_laws.proofs.VouchedLaws.{vouched as history_vouched}
 use Rattle.tbl_core.proofs.service.Core.step.Goals as goal
 
 pub returns-clause-legal : goal.returns-clause-legal
@@ -8,7 +9,7 @@ returns-clause-legal g c = rw (← c.self.view_is) (on_ok c.play.result (λ p op
 
 pub returns-clause-whole : goal.returns-clause-whole
 returns-clause-whole g c = rw (← c.self.view_is)
-    (on_ok c.play.result (λ p opening none stood. whole opening _ _ none (plays_on _ _ _ _ c.args.actor c.args.request p opening stood).legal) c.play.ensures.plays)
+    (on_ok c.play.result (λ p opening none unasked stood. whole opening _ _ none unasked (plays_on _ _ _ _ c.args.actor c.args.request p opening stood).legal) c.play.ensures.plays)
 
 pub returns-clause-judged : goal.returns-clause-judged
 returns-clause-judged g c = rw (← c.self.view_is) (on_ok c.play.result (λ p. (p.entry, p.added, λ opening stood. p.judged _ stood.shows)) c.play.ensures.plays)

@@ -1,0 +1,70 @@
+-- What each request may rely on follows from what is kept between two of them.
+use Rattle.std.proofs.Common.{◌≡◌, ◌<◌, ℕ, suc, zero, List, [], ◌∷◌, length, Bool, true, false, Option, Some, None, IsSome, is_some, IfSome, refl, sym, ap, subst, ◌∙◌, arith}
+use Rattle.std.specs.Option.{option_map}
+use Rattle.tbl_kinds.specs.Records.{record_limit}
+use Rattle.tbl_model.specs.State.{Table, Load}
+use Rattle.tbl_model.specs.Tables.{table_at}
+use Rattle.tbl_model.specs.TableSteps.{is_checked}
+use Rattle.tbl_model.specs.Pending.{is_pending}
+use Rattle.tbl_laws.specs.Fit.{IsFit, FitAt, AreFit, CanValidate, owner_at}
+use Rattle.tbl_outside.specs.declared.validator.KitEntry.{KitEntry}
+use Rattle.validation.specs.Kits.{entry_at, owners, FewAsked}
+use Rattle.validation.specs.Ready.{HasImage, CanBeJudged, ArePending, HaveFunctions, HaveLoads}
+use Rattle.tbl_core.specs.Service.{CoreView, IsReady, AreCounted, MayPlay}
+
+-- whose function it is stands at its number
+owner_of_entry : {C : Type 0} (kit : List (Option (KitEntry C))) (number : ℕ) → owner_at (owners kit) number ≡ option_map (λ (e : KitEntry C). e.app) (entry_at kit number)
+owner_of_entry [] number = refl
+owner_of_entry (x ∷ kit) zero = refl
+owner_of_entry (x ∷ kit) (suc number) = owner_of_entry kit number
+
+there : {C : Type 0} (found : Option (KitEntry C)) (owner : ℕ) → option_map (λ (e : KitEntry C). e.app) found ≡ Some owner → IsSome found
+there None owner is = absurd (cc is)
+there (Some entry) owner is = cc
+
+some : {X : Type 0} (o : Option X) → is_some o ≡ true → IsSome o
+some None is = absurd (cc is)
+some (Some x) is = cc
+
+-- an image that may be judged is there
+has_image : (t : Table) (active : Bool) → CanValidate t active → HasImage t active
+has_image t true can = let loaded = can.loaded refl in by t.count refl loaded where
+  by : (count : ℕ) → t.count ≡ count → (t.count ≡ 0 → ⊥) → 0 < t.count
+  by zero is loaded = absurd (loaded is)
+  by (suc n) is loaded = omega (arith, is)
+has_image t false can = (some t.load (can.open_load refl), can.unasked refl)
+
+-- a checked load is open
+open_load : (t : Table) → is_checked t ≡ true → IsSome t.load
+open_load t checked = by t.load refl where
+  by : (found : Option Load) → t.load ≡ found → IsSome t.load
+  by None at = absurd (cc (checked, at))
+  by (Some load) at = rw at cc
+
+module _ {C : Type 0} (asked : C → ℕ) (core : CoreView C) (ready : IsReady asked core) (room : length core.entries < record_limit) where
+  of_row : (row : ℕ) (t : Table) → table_at core.state.tables row ≡ Some t → IsFit (length core.entries) (owners core.state.kit) core.state.pending core.state.tables.handles row t
+  of_row row t is = subst (FitAt (length core.entries) (owners core.state.kit) core.state.pending core.state.tables.handles row) is (ready.fit.each row)
+
+  counted : AreCounted core.state.tables
+  counted row t is = let few = (of_row row t is).few in omega (arith, few, room)
+
+  functions : HaveFunctions core.state.tables core.state.kit
+  functions row t is number at = there (entry_at core.state.kit number) t.owner (sym (owner_of_entry core.state.kit number) ∙ owner number at) where
+    owner : (n : ℕ) → t.validator ≡ Some n → owner_at (owners core.state.kit) n ≡ Some t.owner
+    owner n is_n = subst (λ v. IfSome v (λ m. owner_at (owners core.state.kit) m ≡ Some t.owner)) is_n (of_row row t is).function
+
+  few : FewAsked asked 2 core.state.kit
+  few number entry at = let low = ready.kit number entry at in omega (arith, low, room)
+
+  can : (row : ℕ) (active : Bool) (found : Option Table) → table_at core.state.tables row ≡ found → is_pending row active core.state.pending ≡ true → CanBeJudged core.state.tables row active
+  can row active None at pending = absurd (cc (pending, subst (FitAt (length core.entries) (owners core.state.kit) core.state.pending core.state.tables.handles row) at (ready.fit.each row) active))
+  can row active (Some t) at pending = (rw at cc, λ u is. let same : t ≡ u = cc (at, is) in let c = (of_row row u is).pends active pending in (some u.validator c.function, has_image u active c))
+
+  pub may_play : MayPlay asked core.state
+  may_play = record {
+    counted = counted;
+    functions = functions;
+    few = few;
+    pending = λ row active pending. can row active (table_at core.state.tables row) refl pending;
+    loads = λ row t is asks. open_load t ((of_row row t is).checked asks);
+  }
