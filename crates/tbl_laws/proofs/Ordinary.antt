@@ -139,7 +139,7 @@ module _ (s : State) (n : ℕ) (live : s.ended ≡ false) (fit : AreFit n s) whe
   commands = record {
     about = λ e table p. record { fit = p.fit; live = p.live };
     accepted = same _ refl;
-    housekeeping = housekept;
+    housekeeping = same _ refl;
     loaded = λ name file row t there none. record { fit = loads n s fit row t there file.offset file.image name (load_taken s.tables row t file.offset (length file.image) none).unasked; live = live };
     pends = λ row t active there none function. record { fit = pends n s fit row t there active none function; live = live };
     at_once = λ row t active there none no_function. record { fit = grown n _ (mark n s fit row t there active (pos 0) (validation_taken s.pending row t active none).unasked); live = live };
@@ -177,33 +177,23 @@ module _ (s : State) (n : ℕ) (live : s.ended ≡ false) (fit : AreFit n s) whe
   pub ordinary : (actor : Actor) (request : Request) (given : Given) → OfEffect (IsOrdinary n) (effect_of s actor request given)
   ordinary Ground (ask.Command bytes) given = by_command s (IsOrdinary n) refused commands bytes.list
   ordinary Ground (ask.File name bytes) given = by_file s (IsOrdinary n) refused name bytes.list (record { fit = elsewhere _ refl refl refl; live = live })
-  ordinary Ground (ask.Time seconds sub) given = record { fit = elsewhere _ refl refl refl; live = live }
+  ordinary Ground (ask.Time seconds sub) given = refused _ refl refl refl
   ordinary Ground request given = tt
   ordinary (App app) (ask.Start name) given = by_start s (IsOrdinary n) refused app name (record { fit = elsewhere _ refl refl refl; live = live })
   ordinary (App app) (ask.Register name size flags validator) given = by_register s (IsOrdinary n) refused app name size flags validator (λ full row handle plan free_row free_handle. record {
     fit = new_row full row handle app size flags validator free_row free_handle (plan_taken s.kit app name size flags validator plan).may;
     live = live;
   })
-  ordinary (App app) (ask.Share name) given = by_share s (IsOrdinary n) refused app name (λ row handle free. record {
-    fit = grown n _ (with_this_handle handle (new_handle app row) (λ g at. absurd (cc (at, (free_place s.tables.handles handle free).1))));
-    live = live;
-  })
-  ordinary (App app) (ask.Unregister handle) given = by_unregister s (IsOrdinary n) refused app handle (λ h place own. record { fit = grown n _ (given_up n handle s fit); live = (fewer_handles s handle).ended ∙ live })
+  ordinary (App app) (ask.Share name) given = refused _ refl refl refl
+  ordinary (App app) (ask.Unregister handle) given = refused _ refl refl refl
   ordinary (App app) (ask.LoadImage handle image) given = by_load_image s (IsOrdinary n) refused (λ row t bytes number verdict there is bad. record { fit = grown n s fit; live = live }) app handle image.list given
       (λ row t there none plain. record { fit = imaged n s fit row t there image.list s.seconds s.sub; live = live }) (λ row t number verdict there none is good. record { fit = imaged n s fit row t there image.list s.seconds s.sub; live = live })
-  ordinary (App app) (ask.LoadFile handle name) given = by_load_file s (IsOrdinary n) refused (λ row t bytes number verdict there is bad. record { fit = grown n s fit; live = live }) app handle name given
-      (λ row t file there open_to none plain. record { fit = imaged_from n s fit row t there _ s.seconds s.sub name; live = live }) (λ row t file number verdict there open_to none is good. record { fit = imaged_from n s fit row t there _ s.seconds s.sub name; live = live })
-  ordinary (App app) (ask.Update handle) given = by_update s (IsOrdinary n) refused app handle (λ row t there none. record { fit = updates n s fit row t there s.seconds s.sub (update_taken s.tables row t none).0; live = live })
-  ordinary (App app) (ask.Validate handle) given = by_app_validate s (IsOrdinary n) refused app handle given (λ row t active there first. record {
-    fit = grown n _ (mark n s fit row t there active (verdict_at 0 given) ((was n s fit row t there).pends active (pending_first s.pending row active first)).unasked);
-    live = live;
-  })
-  ordinary (App app) (ask.Manage handle) given = by_manage s (IsOrdinary n) refused app handle given (λ row t there. record { fit = managed n row given s fit; live = goes_on n row given s ∙ live })
-  ordinary (App app) (ask.DumpToBuffer handle) given = by_dump_to_buffer s (IsOrdinary n) refused app handle (λ row t there is. record {
-    fit = told n s fit row t there (suc n) (λ u. record u { dump = filled_with (last_image u) u.dump }) (omega arith) refl refl refl refl refl refl;
-    live = live;
-  })
-  ordinary (App app) (ask.Edit handle offset bytes) given = by_edit s (IsOrdinary n) refused app handle offset bytes.list (λ row t there none. record { fit = put_alone n s fit row t there _; live = live })
+  ordinary (App app) (ask.LoadFile handle name) given = refused _ refl refl refl
+  ordinary (App app) (ask.Update handle) given = refused _ refl refl refl
+  ordinary (App app) (ask.Validate handle) given = refused _ refl refl refl
+  ordinary (App app) (ask.Manage handle) given = refused _ refl refl refl
+  ordinary (App app) (ask.DumpToBuffer handle) given = refused _ refl refl refl
+  ordinary (App app) (ask.Edit handle offset bytes) given = refused _ refl refl refl
   ordinary (App app) (ask.Get handle) given = by_get s (IsOrdinary n) refused app handle (λ a leads some. record {
     fit = grown n _ (with_this_handle handle (record a.handle { pin = Some a.table.count; told = a.table.count }) (λ g at. same_handle_of handle a.handle g leads.place at));
     live = live;
@@ -213,11 +203,8 @@ module _ (s : State) (n : ℕ) (live : s.ended ≡ false) (fit : AreFit n s) whe
     fit = released app handle a leads;
     live = live;
   }))
-  ordinary (App app) (ask.GetStatus handle) given = by_get_status s (IsOrdinary n) refused app handle (λ row t. same _ refl)
-  ordinary (App app) (ask.GetInfo name) given = by_info s (IsOrdinary n) refused app name (λ t. same _ refl)
-  ordinary (App app) (ask.Notify handle msg code parameter) given = by_notify s (IsOrdinary n) refused app handle msg code parameter (λ row t there. record {
-    fit = told n s fit row t there (suc n) (λ u. record u { notice = Some (record { msg = msg; code = code; parameter = parameter }) }) (omega arith) refl refl refl refl refl refl;
-    live = live;
-  })
-  ordinary (App app) ask.Exit given = by_exit s (IsOrdinary n) refused app (record { fit = grown n _ (exited app n s fit); live = still_live app n s fit ∙ live })
+  ordinary (App app) (ask.GetStatus handle) given = refused _ refl refl refl
+  ordinary (App app) (ask.GetInfo name) given = refused _ refl refl refl
+  ordinary (App app) (ask.Notify handle msg code parameter) given = refused _ refl refl refl
+  ordinary (App app) ask.Exit given = refused _ refl refl refl
   ordinary (App app) request given = tt
