@@ -4,5 +4,6 @@ pub mod Few
 pub mod Places
 pub mod Ready
 pub mod Steps
+pub mod Unplayed
 pub mod Verdicts
 pub mod Vouching

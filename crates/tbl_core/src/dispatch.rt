@@ -1,14 +1,14 @@
 //! Which request is played by what.
 
-ghost use Rattle.std.specs.Prelude.{◌≡◌, ◌≤◌, length, IfOk, OnErr};
+ghost use Rattle.std.specs.Prelude.{◌≡◌, ◌≤◌, [], length, IfOk, OnErr};
 ghost use Rattle.tbl_kinds.specs.Requests.{Fits};
 ghost use Rattle.tbl_kinds.specs.Records.{IsBuilt};
 ghost use Rattle.tbl_model.specs.State.{State};
 ghost use Rattle.tbl_model.specs.Commands.{asked_in, asks_housekeeping};
 ghost use Rattle.tbl_kinds.specs.Notes.{untouched};
-ghost use Rattle.tbl_model.specs.Dispatch.{effect_of};
+ghost use Rattle.tbl_model.specs.Dispatch.{is_played, effect_of, not_built};
 ghost use Rattle.tbl_core.specs.Asked.{asked_of, most_deeds};
-ghost use Rattle.tbl_core.specs.Effects.{IsWithin, given_of};
+ghost use Rattle.tbl_core.specs.Effects.{IsEffect, IsQuiet, IsWithin, given_of};
 ghost use Rattle.tbl_core.specs.Log.{reply_limit};
 ghost use Rattle.tbl_core.specs.Service.{MayPlay, Stands, Leaves, Asks, held_of};
 
@@ -21,12 +21,39 @@ use crate::files::file;
 use crate::loads::load_image;
 use crate::parts::Parts;
 use crate::service::StepFault;
-use tbl_kinds::{Actor, Bytes, Request};
+use tbl_kinds::{Actor, Answer, Bytes, Request, Status};
 use tbl_outside::Validator;
+
+/// Whether the service plays such a request yet.
+fn is_played(request: &Request) -> bool
+    ensures { result ≡ is_played request.now }
+{
+    matches!(
+        request,
+        Request::Command { .. }
+            | Request::File { .. }
+            | Request::Start { .. }
+            | Request::Register { .. }
+            | Request::LoadImage { .. }
+            | Request::Get { .. }
+            | Request::Read { .. }
+            | Request::Release { .. }
+    )
+}
+
+/// The refusal of a request that isn't built yet.
+fn not_built(empty: Bytes) -> Effect
+    requires { empty.list ≡ [] }
+    ensures effect { (s : State) → IsEffect result [] s (not_built s) }
+    ensures quiet { IsQuiet result }
+    ensures bytes { result.bytes ≡ empty }
+{
+    Effect::of(Answer::plain(Status::ERR_BAD_CODE), empty)
+}
 
 impl<C: Validator> Parts<C> {
     /// Does what a request asks. If memory runs out, nothing is changed.
-    #[tactic(auto, using(crate::proofs::Verdicts::none_judged, crate::proofs::Verdicts::was_judged))]
+    #[tactic(auto, using(crate::proofs::Verdicts::none_judged, crate::proofs::Verdicts::was_judged, crate::proofs::Unplayed::refused))]
     pub(crate) fn effect(
         &mut self,
         actor: Actor,
@@ -48,6 +75,9 @@ impl<C: Validator> Parts<C> {
         ensures err { OnErr result (held_of self.new ≡ held_of self.old) }
     {
         let empty = Bytes::make(self.alloc, 0)?;
+        if !is_played(request) {
+            return Ok(not_built(empty));
+        }
         let deeds = room_for_deeds(self.alloc, request)?;
         let tables = &mut self.tables;
         let apps = &mut self.apps;

@@ -1,5 +1,5 @@
 -- The effect of each request. Those of the Critical Data Store and a reset have none, and so have no legal answer.
-use Rattle.std.specs.Prelude.{ℕ, Option, Some, None}
+use Rattle.std.specs.Prelude.{ℕ, Bool, true, false, Option, Some, None}
 use Rattle.tbl_model.specs.State.{State}
 use Rattle.tbl_model.specs.Effects.{Effect, answered}
 use Rattle.tbl_model.specs.Given.{Given}
@@ -14,7 +14,18 @@ use Rattle.tbl_kinds.specs.declared.request.Actor.TheVariants.{Ground, App}
 use Rattle.tbl_kinds.specs.declared.request.Request.{Request}
 use Rattle.tbl_kinds.specs.declared.request.Request.TheVariants as ask
 
--- what isn't built yet is refused, and changes nothing
+-- what the service plays; what else is asked is refused, and changes nothing
+abbrev pub is_played : Request → Bool
+is_played (ask.Command bytes) = true
+is_played (ask.File name bytes) = true
+is_played (ask.Start name) = true
+is_played (ask.Register name size flags validator) = true
+is_played (ask.LoadImage handle image) = true
+is_played (ask.Get handle) = true
+is_played (ask.Read handle offset len) = true
+is_played (ask.Release handle) = true
+is_played _ = false
+
 abbrev pub not_built : State → Effect
 not_built s = answered s ERR_BAD_CODE 0
 

@@ -1,4 +1,5 @@
-use Rattle.std.proofs.Common.{rules}
+use Rattle.std.proofs.Common.{rules, sym, ◌∙◌}
+use Rattle.tbl_core.proofs.Unplayed.{refused}
 use Rattle.tbl_core.proofs.Verdicts.{none_judged, was_judged}
 use Rattle.tbl_core.proofs.parts.Parts.effect.Goals as goal
 use Rattle.tbl_core.proofs.parts.Parts.effect.Goals.{in-Ground-Command+in-Some+in_ok-effect-in-Some, in-Ground-File+in_ok-effect-in-Ground-File, in-App-Start, in-App-Register+in_ok-effect-in-App-Register, in-App-LoadImage+in_ok-effect-in-App-LoadImage, in-App-Get, in-App-Read+in_ok-effect-in-App-Read, in-App-Release}
@@ -17,3 +18,7 @@ returns-clause-asks g c s stands =
     | in-App-Read+in_ok-effect-in-App-Read w ↦ let is = w.in_ok-effect-in-App-Read.ensures.effect s stands.tables stands.apps in let given = w.in_ok-effect-in-App-Read.ensures.quiet.given in let none = none_judged v a in search rules
     | in-App-Release w ↦ let is = w.release-effect.ensures.effect s stands.tables stands.apps in let given = w.release-effect.ensures.quiet.given in let none = none_judged v a in search rules
     ]
+
+pub returns-then-not-is_played-clause-effect : goal.returns-then-not-is_played-clause-effect
+returns-then-not-is_played-clause-effect g c s stands =
+    rw (refused s c.args.actor c.args.request.now _ c.requires.fits c.requires.built (sym c.is_played.ensures ∙ c.if-not-is_played.true)) (c.not_built.ensures.effect s, stands)
