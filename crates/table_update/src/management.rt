@@ -1,16 +1,18 @@
 //! All that is pending for a table, done one thing after another.
 
-ghost use Rattle.std.specs.Prelude.{◌≡◌, ◌+◌, ◌≤◌, ◌^◌, ℕ, [], ◌∷◌, length, false, Some, None, IsSome, IfSome};
+ghost use Rattle.std.specs.Prelude.{◌≡◌, ◌<◌, ◌+◌, ◌-◌, ◌≤◌, ◌^◌, ℕ, [], ◌∷◌, ◌++◌, length, false, Some, None, IsSome, IfSome, IfNone};
 ghost use Rattle.std.specs.Option.{ForSome};
 ghost use Rattle.tbl_model.specs.Tables.{table_at};
 ghost use Rattle.tbl_model.specs.Given.{Given, verdict_at};
-ghost use Rattle.tbl_model.specs.Management.{Done, then_validate};
+ghost use Rattle.tbl_model.specs.State.{State};
+ghost use Rattle.tbl_model.specs.Management.{Done, then_validate, is_asked, all_done, manage_answer, managed_effect};
 ghost use Rattle.validation.specs.Kits.{FewAsked};
 ghost use Rattle.validation.specs.Asked.{WasAsked};
 ghost use Rattle.validation.specs.Ready.{ArePending, HaveFunctions, HaveLoads};
 ghost use Rattle.table_update.specs.Answers.{then_judged, with_tables, verdicts_of, asked_by, marked_by, bits_of, answer_by, managed};
 
 use crate::judging::{Judgement, finish};
+use crate::updates::take_update;
 use tbl_kinds::{Answer, Status};
 use tbl_outside::Validator;
 use tbl_registry::Tables;
@@ -42,7 +44,10 @@ fn validate_pending<C: Validator>(
     requires kit { HaveFunctions tables.old kit.old }
     requires few { FewAsked C.asked 1 kit.old }
     ensures step { (d : Done) (given : Given) → d.state.tables ≡ tables.old → d.state.pending ≡ pending.old → IfSome result (λ j. verdict_at (length d.asked) given ≡ j.verdict) → ForSome (table_at tables.old row) (λ t. then_validate row active given d ≡ with_tables tables.new pending.new (then_judged row t result d)) }
+    ensures image { IfSome result (λ j. j.active ≡ active) }
+    ensures function { IsSome result → ForSome (table_at tables.old row) (λ t. IsSome t.validator) }
     ensures asked { ForSome (table_at tables.old row) (λ t. WasAsked C.verdict C.asked kit.old kit.new (asked_by t result) (verdicts_of result None)) }
+    ensures none { IfNone result (kit.new ≡ kit.old) }
     ensures tables { tables.new ≡ marked_by row active result tables.old }
     ensures table { IsSome (table_at tables.new row) }
     ensures pending { ArePending tables.new pending.new }
@@ -73,5 +78,39 @@ fn update_answer(refusal: Option<Answer>) -> Answer
         Some(answer) if answer.status == Status::INFO_TABLE_LOCKED => answer,
         Some(_) => Answer::plain(Status::SUCCESS),
         None => Answer::plain(Status::INFO_UPDATED),
+    }
+}
+
+/// The owner of the table of a row has all done that is pending for it (`CFE_TBL_Manage`; cFE User's Guide, Table
+/// Services, "Managing tables"): the validation of its last image, that of its load, and the update. The time of the
+/// update stays for the caller to set. `INFO_UPDATED`: the update was made. `INFO_TABLE_LOCKED`: it was asked, and the
+/// detail is the handle that is in the way.
+pub fn manage<C: Validator>(
+    tables: &mut Tables,
+    kit: &mut Kit<C>,
+    pending: &mut Pending,
+    row: u8,
+) -> Managed
+    requires table { IsSome (table_at tables.old row) }
+    requires pending { ArePending tables.old pending.old }
+    requires kit { HaveFunctions tables.old kit.old }
+    requires loads { HaveLoads tables.old }
+    requires few_asked { FewAsked C.asked 2 kit.old }
+    requires few { ForSome (table_at tables.old row) (λ t. t.count < 2 ^ 32 - 1) }
+    ensures effect { (s : State) (given : Given) → s.tables ≡ tables.old → s.pending ≡ pending.old → given.verdicts ≡ verdicts_of result.first result.second → ForSome (table_at tables.old row) (λ t. is_asked t.dump ≡ false → managed_effect s (manage_answer s.tables row t) (all_done s given row) ≡ managed s row t result tables.new pending.new) }
+    ensures asked { ForSome (table_at tables.old row) (λ t. WasAsked C.verdict C.asked kit.old kit.new (asked_by t result.first ++ asked_by t result.second) (verdicts_of result.first result.second)) }
+    ensures table { IsSome (table_at tables.new row) }
+    ensures pending { ArePending tables.new pending.new }
+    ensures kit { HaveFunctions tables.new kit.new }
+    ensures loads { HaveLoads tables.new }
+{
+    let first = validate_pending(tables, kit, pending, row, true);
+    let second = validate_pending(tables, kit, pending, row, false);
+    let refusal = take_update(tables, row);
+    Managed {
+        answer: update_answer(refusal),
+        did: did(first, second, refusal.is_none()),
+        first,
+        second,
     }
 }

@@ -27,7 +27,7 @@ module _ (tables : Tables) (row : ℕ) (change : Table → Table) where
   pub changed_here : (t : Table) → table_at tables row ≡ Some t → table_at (changed row change tables) row ≡ Some (change t)
   changed_here t there = rw there (get_or-set_same tables.rows row (Some (change t)) None (within tables.rows row t there))
 
-  nothing_here : table_at tables row ≡ None → changed row change tables ≡ tables
+  pub nothing_here : table_at tables row ≡ None → changed row change tables ≡ tables
   nothing_here none = rw none refl
 
   changed_there : (r : ℕ) → r ≢ row → table_at (changed row change tables) r ≡ table_at tables r
