@@ -290,6 +290,10 @@ new_table name owner size options validator handle = record {
   file = [];
 }
 
+-- it begins with this image, or with none
+abbrev pub with_first : Option (List ℕ) → Table → Table
+with_first first t = record t { count = if is_some first then 1 else 0; last = first }
+
 -- a handle that was told of no image and pins none
 abbrev pub new_handle : ℕ → ℕ → Handle
 new_handle app row = record { app = app; row = Some row; told = 0; pin = None }

@@ -4,9 +4,9 @@ use Rattle.std.specs.Option.{option_map}
 use Rattle.std.proofs.lemmas.Bool.{cases_Bool}
 use Rattle.std.proofs.lemmas.List.{get_or-set_same, length-set, set-get_or}
 use Rattle.tbl_kinds.specs.Numbers.{patched}
-use Rattle.tbl_model.specs.State.{Table, Load}
-use Rattle.tbl_model.specs.Tables.{is_double, uses_buffer}
-use Rattle.tbl_model.specs.TableSteps.{with_table, locker, base, unchecked, patch}
+use Rattle.tbl_model.specs.State.{Table, Load, Dump, quiet, asked, filled}
+use Rattle.tbl_model.specs.Tables.{is_double, is_quiet, uses_buffer}
+use Rattle.tbl_model.specs.TableSteps.{with_table, locker, base, unchecked, patch, last_image, filled_with}
 use Rattle.access_desc.specs.declared.handle_view.HandleView.{HandleView}
 use Rattle.working_buffers.specs.Places.{Held}
 use Rattle.tbl_registry.specs.Rows.{IsTable}
@@ -104,3 +104,13 @@ module _ (rows : List (Option Table)) (handles : List (Option HandleView)) (buff
 
   pub checked_sound : (checked : Bool) → IsSound (slice_set rows n (Some (record t { load = option_map (λ (load : Load). record load { checked = checked }) t.load }))) handles buffers
   checked_sound checked = quiet_sound _ refl refl refl (λ none. rw none refl) (rw (same_open (λ (load : Load). record load { checked = checked }) t.load) refl)
+
+  -- ---- a dump is filled
+
+  same_quiet : (image : List ℕ) (dump : Dump) → is_quiet (filled_with image dump) ≡ is_quiet dump
+  same_quiet image quiet = refl
+  same_quiet image (asked file) = refl
+  same_quiet image (filled file earlier) = refl
+
+  pub filled_sound : IsSound (slice_set rows n (Some (record t { dump = filled_with (last_image t) t.dump }))) handles buffers
+  filled_sound = quiet_sound _ refl refl refl (λ none. none) (rw (same_quiet (last_image t) t.dump) refl)
