@@ -1,4 +1,4 @@
-ghost use Rattle.std.specs.Prelude.{◌≡◌, ◌<◌, ◌+◌, ◌-◌, ◌≤◌, ◌^◌, ℕ, List, [], true, false, None, Some, IsSome, IfSome, length, unwrap_or, if◌then◌else◌};
+ghost use Rattle.std.specs.Prelude.{◌≡◌, ◌<◌, ◌+◌, ◌-◌, ◌≤◌, ◌^◌, ℕ, List, [], true, false, None, Some, IsSome, IfSome, length, unwrap_or, bit_and, if◌then◌else◌};
 ghost use Rattle.std.specs.Option.{option_map, option_copied};
 ghost use Rattle.std.specs.Borrow.{Bor};
 ghost use Rattle.std.specs.Str.{bytes_eq};
@@ -352,6 +352,13 @@ impl Row {
         ensures { self.new ≡ record self.old { notice = Some notice } }
     {
         self.notice = Some(notice);
+    }
+
+    /// Takes the option CRITICAL away.
+    pub(crate) fn not_critical(&mut self)
+        ensures { self.new ≡ record self.old { options = bit_and self.old.options 0xFFF7 } }
+    {
+        self.flags.remove(Options::CRITICAL);
     }
 
     /// The activation of its open load is asked.

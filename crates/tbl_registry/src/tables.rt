@@ -1,4 +1,4 @@
-ghost use Rattle.std.specs.Prelude.{◌==◌, ◌≡◌, ◌≢◌, ◌<◌, ◌≤◌, ◌↔◌, ◌+◌, ◌-◌, ◌^◌, ℕ, List, None, Some, Ok, Err, IsTrue, IsSome, IfOk, OnOk, OnErr, IfSome, IfNone, length, count_by, is_some, option_and_then};
+ghost use Rattle.std.specs.Prelude.{◌==◌, ◌≡◌, ◌≢◌, ◌<◌, ◌≤◌, ◌↔◌, ◌+◌, ◌-◌, ◌^◌, ℕ, List, None, Some, Ok, Err, IsTrue, IsSome, IfOk, OnOk, OnErr, IfSome, IfNone, length, option_and_then};
 ghost use Rattle.std.specs.Option.{option_copied, option_map, ForSome};
 ghost use Rattle.std.specs.Borrow.{Bor};
 ghost use Rattle.tbl_kinds.specs.Free.{least_free};
@@ -59,19 +59,6 @@ impl Model for Tables {
     ghost view = { λ t. tables_of t.rows.items t.handles };
 
     ghost invariant = { λ t. IsSound t.rows.items t.handles t.working };
-}
-
-fn taken_in(places: &[Option<u8>]) -> usize
-    ensures { result ≡ count_by is_some places.now }
-{
-    places.iter().filter(|place| place.is_some()).count()
-}
-
-/// How many of the shared working buffers are out.
-fn buffers_out(working: &Working) -> usize
-    ensures { result ≡ count_by is_some working.now }
-{
-    taken_in(&working.rows())
 }
 
 impl Tables {
@@ -215,6 +202,6 @@ impl Tables {
         ensures all { result ≡ (length (in_use self.now) == 4) }
         ensures few { length (in_use self.now) ≤ 4 }
     {
-        buffers_out(&self.working) == 4
+        self.working.is_full()
     }
 }
