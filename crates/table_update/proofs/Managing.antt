@@ -79,7 +79,7 @@ module _ (row : ℕ) (t : Table) where
   same_load_image checked None = refl
   same_load_image checked (Some l) = refl
 
--- ---- the update
+  -- ---- the update
 
   -- the update after the validations, by what was in its way
   pub update_made : (d : Done) (u : Table) (new : Tables) → table_at d.state.tables row ≡ Some u → update_refusal d.state.tables row u ≡ None → new ≡ activate row d.state.tables
