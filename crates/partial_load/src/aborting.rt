@@ -6,7 +6,7 @@ ghost use Rattle.tbl_model.specs.State.{State};
 ghost use Rattle.tbl_model.specs.Tables.{table_at};
 ghost use Rattle.tbl_model.specs.Effects.{answered};
 ghost use Rattle.tbl_model.specs.Activations.{aborted_effect};
-ghost use Rattle.validation.specs.Ready.{ArePending, HaveLoads};
+ghost use Rattle.validation.specs.Ready.{ArePending, HaveLoads, HaveSameFunctions};
 
 use tbl_kinds::{Answer, Status};
 use tbl_registry::Tables;
@@ -20,6 +20,7 @@ pub fn abort(tables: &mut Tables, pending: &mut Pending, row: u8) -> Answer
     ensures effect { (s : State) → s.tables ≡ tables.old → s.pending ≡ pending.old → ForSome (table_at tables.old row) (λ t. (if is_some t.load then aborted_effect s row else answered s Status.ERR_NO_LOAD 0) ≡ record (answered s result.status result.detail) { next = record s { tables = tables.new; pending = pending.new } }) }
     ensures pending { ArePending tables.new pending.new }
     ensures loads { HaveLoads tables.old → HaveLoads tables.new }
+    ensures functions { HaveSameFunctions tables.old tables.new }
 {
     if tables.load(row).is_none() {
         return Answer::plain(Status::ERR_NO_LOAD);

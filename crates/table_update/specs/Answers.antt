@@ -109,8 +109,9 @@ then_updated row t made d =
     if made then record d { deeds = d.deeds ++ activated row t ∷ []; images = d.images ++ Some (load_image t) ∷ []; bits = d.bits + 4 } else d
 
 -- a bit for each thing that was done
-abbrev pub bits_of : Option Judgement → Option Judgement → Bool → ℕ
-bits_of first second made = (if is_some first then 1 else 0) + (if is_some second then 2 else 0) + (if made then 4 else 0)
+abbrev pub bits_of : Option Judgement → Option Judgement → Bool → Bool → ℕ
+bits_of first second made filled =
+    (if is_some first then 1 else 0) + (if is_some second then 2 else 0) + (if made then 4 else 0) + (if filled then 8 else 0)
 
 -- by what was in the way of the update
 abbrev pub answer_by : Option Answer → Answer

@@ -7,7 +7,7 @@ ghost use Rattle.tbl_model.specs.Tables.{table_at};
 ghost use Rattle.tbl_model.specs.TableSteps.{activate};
 ghost use Rattle.tbl_model.specs.Refusals.{by_answer, activation_refusal, update_refusal};
 ghost use Rattle.tbl_model.specs.Activations.{ask_effect, updated_effect};
-ghost use Rattle.validation.specs.Ready.{ArePending, HaveLoads, HasItsLoad};
+ghost use Rattle.validation.specs.Ready.{ArePending, HaveLoads, HasItsLoad, HaveSameFunctions};
 ghost use Rattle.table_update.specs.Answers.{activation_asked, updated};
 
 use bitflags::Flags;
@@ -49,6 +49,7 @@ pub fn request_activation(tables: &mut Tables, pending: &Pending, row: u8) -> An
     ensures effect { (s : State) → s.tables ≡ tables.old → s.pending ≡ pending.now → ForSome (table_at tables.old row) (λ t. by_answer s (activation_refusal s.pending row t) (ask_effect s row t) ≡ activation_asked s t result tables.new) }
     ensures pending { ArePending tables.new pending.now }
     ensures loads { HaveLoads tables.old → HaveLoads tables.new }
+    ensures functions { HaveSameFunctions tables.old tables.new }
 {
     if let Some(answer) = activation_refusal(tables, pending, row) {
         return answer;
@@ -88,6 +89,7 @@ pub(crate) fn take_update(tables: &mut Tables, row: u8) -> Option<Answer>
     ensures table { IsSome (table_at tables.new row) }
     ensures pending { (pending : List (ℕ × Bool)) → ArePending tables.old pending → ArePending tables.new pending }
     ensures loads { HaveLoads tables.old → HaveLoads tables.new }
+    ensures functions { HaveSameFunctions tables.old tables.new }
 {
     if let Some(answer) = update_refusal(tables, row) {
         return Some(answer);
@@ -107,6 +109,7 @@ pub fn update(tables: &mut Tables, row: u8) -> Answer
     ensures table { IsSome (table_at tables.new row) }
     ensures pending { (pending : List (ℕ × Bool)) → ArePending tables.old pending → ArePending tables.new pending }
     ensures loads { HaveLoads tables.old → HaveLoads tables.new }
+    ensures functions { HaveSameFunctions tables.old tables.new }
 {
     match take_update(tables, row) {
         Some(answer) => answer,

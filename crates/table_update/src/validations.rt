@@ -12,7 +12,7 @@ ghost use Rattle.tbl_model.specs.Validations.{validate_by, first_pending, do_val
 ghost use Rattle.tbl_kinds.specs.Check.{check16};
 ghost use Rattle.validation.specs.Asked.{WasAsked};
 ghost use Rattle.table_update.specs.Answers.{requested, validated, verdicts_of, missing_refusal, full_refusal};
-ghost use Rattle.validation.specs.Ready.{HasImage, ArePending, HaveFunctions, HaveLoads};
+ghost use Rattle.validation.specs.Ready.{HasImage, ArePending, HaveFunctions, HaveLoads, HaveSameFunctions};
 ghost use Rattle.validation.specs.Kits.{FewAsked};
 
 use crate::judging::{Judgement, checked, conclude, finish};
@@ -119,6 +119,7 @@ pub fn request_validation(
     ensures effect { (s : State) → s.tables ≡ tables.old → s.pending ≡ pending.old → ForSome (table_at tables.old row) (λ t. validate_by s row t (Some active) ≡ requested s row t result tables.new pending.new) }
     ensures pending { ArePending tables.new pending.new }
     ensures loads { HaveLoads tables.old → HaveLoads tables.new }
+    ensures functions { HaveSameFunctions tables.old tables.new }
 {
     if let Some(answer) = missing(tables, row, active) {
         return Requested::Refused(answer);

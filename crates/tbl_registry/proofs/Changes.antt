@@ -3,23 +3,51 @@ use Rattle.std.proofs.Common.{◌≡◌, ◌<◌, ℕ, List, length, slice_index
 use Rattle.std.specs.Option.{option_map}
 use Rattle.std.proofs.lemmas.Bool.{cases_Bool}
 use Rattle.std.proofs.lemmas.List.{get_or-set_same, length-set, set-get_or}
+use Rattle.std.specs.Prelude.{bit_and}
+use Rattle.std.proofs.lemmas.Nat.{and_assoc}
 use Rattle.tbl_kinds.specs.Numbers.{patched}
-use Rattle.tbl_model.specs.State.{Table, Load}
-use Rattle.tbl_model.specs.Tables.{is_double, uses_buffer}
-use Rattle.tbl_model.specs.TableSteps.{with_table, locker, base, unchecked, patch}
+use Rattle.tbl_model.specs.State.{Table, Tables, Load, Dump, quiet, asked, filled}
+use Rattle.tbl_model.specs.Tables.{table_at, has_option, is_double, is_quiet, uses_buffer}
+use Rattle.tbl_model.specs.TableSteps.{with_table, locker, base, unchecked, patch, last_image, filled_with}
 use Rattle.access_desc.specs.declared.handle_view.HandleView.{HandleView}
 use Rattle.working_buffers.specs.Places.{Held}
 use Rattle.tbl_registry.specs.Rows.{IsTable}
 use Rattle.tbl_registry.specs.Pins.{AtEachPlace, Leads}
-use Rattle.tbl_registry.specs.Lent.{IsSettled}
+use Rattle.tbl_registry.specs.Lent.{IsSettled, HasItsBuffer}
 use Rattle.tbl_registry.specs.Seen.{tables_of}
 use Rattle.tbl_registry.specs.Sound.{IsSound}
 use Rattle.tbl_registry.proofs.Named.{named_kept}
-use Rattle.tbl_registry.proofs.Places.{within_places}
+use Rattle.tbl_registry.proofs.Places.{within_places, at_place-read}
 use Rattle.tbl_registry.proofs.Pins.{PinsOf, pins_of, pins_here, leads_on, change_seen, no_old_pin}
-use Rattle.tbl_registry.proofs.Lent.{lent_settled, settled_same}
+use Rattle.tbl_registry.proofs.Lent.{lent_settled, settled_same, its_buffer}
 
-module _ (rows : List (Option Table)) (handles : List (Option HandleView)) (buffers : List (Option Held)) (n : ℕ) (t : Table) (there : slice_index_or rows n None ≡ Some t) (sound : IsSound rows handles buffers) where
+-- an option that doesn't go
+pub other_option : (options bit : ℕ) → bit_and 0xFFF7 bit ≡ bit → has_option bit (bit_and options 0xFFF7) ≡ has_option bit options
+other_option options bit stays = rw (and_assoc bit options 0xFFF7, stays) refl
+
+-- this table stands in the row, in what the registry keeps
+pub record Stands (rows : List (Option Table)) (handles : List (Option HandleView)) (buffers : List (Option Held)) (n : ℕ) (t : Table) : Type 0 where
+  pub there : slice_index_or rows n None ≡ Some t
+  pub sound : IsSound rows handles buffers
+
+-- as a call finds it
+pub stands : {rows : List (Option Table)} {handles : List (Option HandleView)} {buffers : List (Option Held)} {found : Option Table} {t : Table} (n : ℕ) → IsSound rows handles buffers → found ≡ slice_index_or rows n found → found ≡ Some t → IsSome (slice_index_or rows n None) → Stands rows handles buffers n t
+stands {rows = rows} {found = found} {t = t} n sound read is there = record { there = at_place-read rows n found t read is there; sound = sound }
+
+module _ {rows : List (Option Table)} {handles : List (Option HandleView)} {buffers : List (Option Held)} {n : ℕ} {t : Table} (row : Stands rows handles buffers n t) where
+  there : slice_index_or rows n None ≡ Some t
+  there = row.there
+
+  sound : IsSound rows handles buffers
+  sound = row.sound
+
+  pub seen_there : (tables : Tables) → tables_of rows handles ≡ tables → table_at tables n ≡ Some t
+  seen_there tables seen = rw (← seen) there
+
+  -- its buffer is out to it
+  pub has_its_buffer : HasItsBuffer buffers n t
+  has_its_buffer = its_buffer buffers rows n t sound.lent there
+
   within : n < length rows
   within = within_places rows n t there
 
@@ -104,3 +132,18 @@ module _ (rows : List (Option Table)) (handles : List (Option HandleView)) (buff
 
   pub checked_sound : (checked : Bool) → IsSound (slice_set rows n (Some (record t { load = option_map (λ (load : Load). record load { checked = checked }) t.load }))) handles buffers
   checked_sound checked = quiet_sound _ refl refl refl (λ none. rw none refl) (rw (same_open (λ (load : Load). record load { checked = checked }) t.load) refl)
+
+  -- ---- a dump is filled
+
+  same_quiet : (image : List ℕ) (dump : Dump) → is_quiet (filled_with image dump) ≡ is_quiet dump
+  same_quiet image quiet = refl
+  same_quiet image (asked file) = refl
+  same_quiet image (filled file earlier) = refl
+
+  pub filled_sound : IsSound (slice_set rows n (Some (record t { dump = filled_with (last_image t) t.dump }))) handles buffers
+  filled_sound = quiet_sound _ refl refl refl (λ none. none) (rw (same_quiet (last_image t) t.dump) refl)
+
+  -- ---- an option goes, and the others stay
+
+  pub uncritical_sound : IsSound (slice_set rows n (Some (record t { options = bit_and t.options 0xFFF7 }))) handles buffers
+  uncritical_sound = quiet_sound _ refl refl refl (λ none. none) (rw (other_option t.options 0x0001 refl, other_option t.options 0x0002 refl) refl)

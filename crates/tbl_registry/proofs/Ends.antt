@@ -16,8 +16,15 @@ use Rattle.tbl_registry.proofs.Places.{within_places, AtEachPlace-map}
 use Rattle.tbl_registry.proofs.Named.{named_removed}
 use Rattle.tbl_registry.proofs.Pins.{tables_with, handle_other, that_is, here_of}
 use Rattle.tbl_registry.proofs.Lent.{lent_settled}
+use Rattle.tbl_registry.proofs.Changes.{Stands}
 
-module _ (rows : List (Option Table)) (handles : List (Option HandleView)) (buffers : List (Option Held)) (row : ℕ) (t : Table) (there : slice_index_or rows row None ≡ Some t) (sound : IsSound rows handles buffers) where
+module _ {rows : List (Option Table)} {handles : List (Option HandleView)} {buffers : List (Option Held)} {row : ℕ} {t : Table} (stood : Stands rows handles buffers row t) where
+  there : slice_index_or rows row None ≡ Some t
+  there = stood.there
+
+  sound : IsSound rows handles buffers
+  sound = stood.sound
+
   abbrev rows' : List (Option Table)
   rows' = slice_set rows row None
 

@@ -124,6 +124,9 @@ room_for_load rows handles buffers row t lent opens uses single =
     none_open None dump _ = refl
     none_open (Some x) dump is = absurd (cc is)
 
+pub room_for_dump : (buffers : List (Option Held)) (rows : List (Option Table)) → AreLent buffers rows → length (rows_from 0 rows) < 4 → count_by is_some buffers < 4
+room_for_dump buffers rows lent few = let count = rows_count rows 0 in let same = lent.as_many in omega (arith, few, count, same)
+
 pub lent_start : (buffers : List (Option Held)) (rows : List (Option Table)) → buffers ≡ replicate 4 None → rows ≡ replicate 128 None → AreLent buffers rows
 lent_start buffers rows b r = rw (b, r) record {
   four = refl;

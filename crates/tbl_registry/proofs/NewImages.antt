@@ -20,11 +20,16 @@ use Rattle.tbl_registry.specs.Sound.{IsSound}
 use Rattle.tbl_registry.proofs.Places.{within_places, position-seen, any-seen, any_is_found, map-through, AtEachPlace-map}
 use Rattle.tbl_kinds.proofs.PositionLaws.{position-None}
 use Rattle.tbl_registry.proofs.Pins.{PinsOf, pins_of, leads_on, tables_with, handle_other, pins_last, of_row, no_old_pin, no_pin, pins_here}
-use Rattle.tbl_registry.proofs.Changes.{changed_sound}
+use Rattle.tbl_registry.proofs.Changes.{Stands, changed_sound}
 use Rattle.tbl_registry.proofs.Lent.{settled_same}
 
-module _ (rows : List (Option Table)) (handles : List (Option HandleView)) (buffers : List (Option Held)) (row : ℕ) (t : Table) (there : slice_index_or rows row None ≡ Some t) (sound : IsSound rows handles buffers)
-    (free : locker (tables_of rows handles) row t ≡ None) where
+module _ {rows : List (Option Table)} {handles : List (Option HandleView)} {buffers : List (Option Held)} {row : ℕ} {t : Table} (stood : Stands rows handles buffers row t) (free : locker (tables_of rows handles) row t ≡ None) where
+  there : slice_index_or rows row None ≡ Some t
+  there = stood.there
+
+  sound : IsSound rows handles buffers
+  sound = stood.sound
+
   pinned : PinsOf row t handles
   pinned = pins_of rows handles row t there sound.leads
 
@@ -141,7 +146,7 @@ module _ (rows : List (Option Table)) (handles : List (Option HandleView)) (buff
         each false isnt = leads n h at
 
       moved_sound : (buffers' : List (Option Held)) → u.name ≡ t.name → IsSettled buffers buffers' row (uses_buffer (Some t)) (uses_buffer (Some u)) → IsSound rows' moved buffers'
-      moved_sound buffers' name settled = changed_sound rows handles buffers row t there sound u moved buffers' name (AtEachPlace-map (Leads rows') (after_new_image row) handles moved_leads) settled
+      moved_sound buffers' name settled = changed_sound stood u moved buffers' name (AtEachPlace-map (Leads rows') (after_new_image row) handles moved_leads) settled
 
   -- ---- put, and the load that goes active
 

@@ -62,17 +62,7 @@ within_places xs n x there =
 pub count_set : {X : Type 0} (p : X → Bool) (xs : List X) (n : ℕ) (v d : X) → n < length xs → count_by p (slice_set xs n v) + one_if (p (slice_index_or xs n d)) ≡ count_by p xs + one_if (p v)
 count_set p xs n v d within = sum_by-set (λ x. one_if (p x)) xs n v d within
 
--- a count of a list that is seen otherwise
-pub count_map : {X Y : Type 0} (p : Y → Bool) (q : X → Bool) (f : X → Y) → ((x : X) → p (f x) ≡ q x) → (xs : List X) → count_by p (map f xs) ≡ count_by q xs
-count_map p q f same [] = refl
-count_map p q f same (x ∷ xs) =
-    let a : count_by p (map f (x ∷ xs)) ≡ cond (p (f x)) 1 0 + count_by p (map f xs) = sum_by-cons (λ y. cond (p y) 1 0) (f x) (map f xs) in
-    let b : count_by q (x ∷ xs) ≡ cond (q x) 1 0 + count_by q xs = sum_by-cons (λ y. cond (q y) 1 0) x xs in
-    let e : cond (p (f x)) 1 0 ≡ cond {A = ℕ} (q x) 1 0 = rw (same x) refl in
-    let i : count_by p (map f xs) ≡ count_by q xs = count_map p q f same xs in
-    omega (arith, a, b, e, i)
-
--- and after one element more
+-- a count after one element more
 pub counted_more : {X : Type 0} (p : X → Bool) (xs : List X) (n count : ℕ) (d : X) (b : Bool) → n < length xs → count ≡ count_by p (take n xs) → b ≡ p (slice_index_or xs n d) → cond b (count + 1) count ≡ count_by p (take (n + 1) xs)
 counted_more p xs n count d true within is here = rw is (sym (count_by_more_yes p xs n d within (sym here)))
 counted_more p xs n count d false within is here = rw is (sym (count_by_more_no p xs n d within (sym here)))

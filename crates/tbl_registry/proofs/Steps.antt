@@ -17,7 +17,7 @@ use Rattle.tbl_registry.specs.Sound.{IsSound}
 use Rattle.tbl_registry.specs.Seen.{tables_of, handle_of, with_last, let_go_unless}
 use Rattle.tbl_registry.proofs.Places.{AtEachPlace-set, map-changed_at, none_passes}
 use Rattle.tbl_registry.proofs.Pins.{PinsOf, pins_of, pins_here, tables_with, before_is_pinned}
-use Rattle.tbl_registry.proofs.Changes.{pins_sound, row_seen}
+use Rattle.tbl_registry.proofs.Changes.{Stands, pins_sound, row_seen}
 use Rattle.tbl_registry.proofs.Lent.{settled_same}
 
 not_zero : (n : ℕ) → (n ≡ 0 → ⊥) → (n == 0) ≡ false
@@ -29,7 +29,13 @@ leads_nowhere tables other n same none some = cc (rw (← same, none) at some)
 
 -- ---- the image before the last stays where a handle of the row pins it
 
-module _ (rows : List (Option Table)) (handles : List (Option HandleView)) (buffers : List (Option Held)) (row : ℕ) (t : Table) (there : slice_index_or rows row None ≡ Some t) (sound : IsSound rows handles buffers) where
+module _ {rows : List (Option Table)} {handles : List (Option HandleView)} {buffers : List (Option Held)} {row : ℕ} {t : Table} (stood : Stands rows handles buffers row t) where
+  there : slice_index_or rows row None ≡ Some t
+  there = stood.there
+
+  sound : IsSound rows handles buffers
+  sound = stood.sound
+
   abbrev stays : Bool
   stays = is_some (position (has (pins_old row)) handles)
 
@@ -47,11 +53,11 @@ module _ (rows : List (Option Table)) (handles : List (Option HandleView)) (buff
     }
 
   pub let_go_sound : IsSound (slice_set rows row (Some (let_go_unless stays t))) handles buffers
-  let_go_sound = pins_sound rows handles buffers row t there sound (let_go_unless stays t) buffers refl kept_pins (settled_same buffers row (uses_buffer (Some t)))
+  let_go_sound = pins_sound stood (let_go_unless stays t) buffers refl kept_pins (settled_same buffers row (uses_buffer (Some t)))
 
   pub let_go_seen : tables_of (slice_set rows row (Some (let_go_unless stays t))) handles ≡ with_table row (let_go (tables_of rows handles).handles row t) (tables_of rows handles)
   let_go_seen =
-      row_seen rows handles buffers row t there sound (let_go_unless stays t) refl
+      row_seen stood (let_go_unless stays t) refl
       ∙ ap (λ (b : Bool). with_table row (let_go_unless b t) (tables_of rows handles)) (sym (before_is_pinned rows row t there handles (pins_of rows handles row t there sound.leads)))
 
 -- ---- a handle is given, and taken back
@@ -92,7 +98,7 @@ module _ (rows : List (Option Table)) (handles : List (Option HandleView)) (buff
   pub taken_back_seen : (h : HandleView) (row : ℕ) (t : Table) → at_place handles n ≡ Some h → h.row ≡ Some row → slice_index_or rows row None ≡ Some t
       → tables_of (slice_set rows row (Some (let_go_unless (is_some (position (has (pins_old row)) (slice_set handles n None))) t))) (slice_set handles n None) ≡ give_back n (tables_of rows handles)
   taken_back_seen h row t place of there =
-      let_go_seen rows (slice_set handles n None) buffers row t there freed_sound
+      let_go_seen record { there = there; sound = freed_sound }
       ∙ ap (λ (freed : Tables). with_table row (let_go freed.handles row t) freed) freed_seen
       ∙ sym (ap (λ (at : Option Handle). give_back_by n (tables_of rows handles) (option_and_then (λ (g : Handle). g.row) at)) (handle_seen h place) ∙ rw (of, there) refl)
 
@@ -148,12 +154,12 @@ module _ (rows : List (Option Table)) (handles : List (Option HandleView)) (buff
   free_sound = step_sound with_no_pin record { table = (sound.leads n h l.place).table; pins = λ pinned. absurd (cc pinned) }
 
   pub released_sound : IsSound (slice_set rows row (Some (let_go_unless (is_some (position (has (pins_old row)) free)) t))) free buffers
-  released_sound = let_go_sound rows free buffers row t l.table free_sound
+  released_sound = let_go_sound record { there = l.table; sound = free_sound }
 
   pub released_seen : h.pinned ≡ true → tables_of (slice_set rows row (Some (let_go_unless (is_some (position (has (pins_old row)) free)) t))) free ≡ (release n (tables_of rows handles)).tables
   released_seen pinned =
       let after : Tables → Tables = λ ts. with_table row (let_go ts.handles row t) ts in
-      let_go_seen rows free buffers row t l.table free_sound ∙ ap after (step_seen with_no_pin) ∙ rw (access_is, pinned) refl
+      let_go_seen record { there = l.table; sound = free_sound } ∙ ap after (step_seen with_no_pin) ∙ rw (access_is, pinned) refl
 
   -- ---- it reads the image that it pins
 

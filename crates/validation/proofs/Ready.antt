@@ -1,5 +1,5 @@
 -- Pending validations can be done still, after what changes tables, the kit and the list.
-use Rattle.std.proofs.Common.{◌≡◌, ◌≢◌, ◌<◌, ◌≤◌, ◌+◌, ◌==◌, ◌∙◌, ℕ, List, [], ◌∷◌, ◌++◌, length, Bool, true, false, not, ◌&&◌, ◌||◌, cond, filter, slice_index_or, option_map, Option, Some, None, IsSome, is_some, refl, sym, ap, subst, ◌⊎◌, inl, inr, arith}
+use Rattle.std.proofs.Common.{◌≡◌, ◌≢◌, ◌<◌, ◌≤◌, ◌+◌, ◌==◌, ◌∙◌, ℕ, List, [], ◌∷◌, ◌++◌, length, Bool, true, false, not, ◌&&◌, ◌||◌, cond, filter, slice_index_or, slice_set, replicate, zero, suc, option_map, Option, Some, None, IsSome, is_some, refl, sym, ap, subst, ◌⊎◌, inl, inr, arith}
 use Rattle.std.proofs.Common.{ℤ}
 use Rattle.std.specs.Option.{ForSome}
 use Rattle.std.specs.List.{list_any}
@@ -7,15 +7,15 @@ use Rattle.std.proofs.lemmas.Bool.{cases_eq, cases_lt, eqb-true}
 use Rattle.std.proofs.lemmas.Bool.Decides.{nat_tests}
 use Rattle.std.proofs.lemmas.List.{get_or-set_same, get_or-set_other, get_or_past}
 use Rattle.std.proofs.lemmas.Option.{same_Some}
-use Rattle.tbl_model.specs.State.{Load, Table, Tables}
+use Rattle.tbl_model.specs.State.{Load, Table, Handle, Tables}
 use Rattle.tbl_model.specs.Tables.{table_at}
-use Rattle.tbl_model.specs.TableSteps.{changed, changed_in, set_checked}
+use Rattle.tbl_model.specs.TableSteps.{with_table, with_handle, changed, changed_in, set_checked}
 use Rattle.tbl_model.specs.Deeds.{is_good}
 use Rattle.tbl_model.specs.Pending.{is_pair, is_pending, without_pair}
 use Rattle.tbl_model.specs.Validations.{marked, first_pending}
 use Rattle.tbl_outside.specs.declared.validator.KitEntry.{KitEntry}
 use Rattle.validation.specs.Kits.{entry_at}
-use Rattle.validation.specs.Ready.{HasImage, CanBeJudged, ArePending, HaveFunctions, HasItsLoad, HaveLoads}
+use Rattle.validation.specs.Ready.{HasImage, CanBeJudged, ArePending, HaveFunctions, HasItsLoad, HaveLoads, HaveSameFunctions}
 
 -- ---- one table changes
 
@@ -27,7 +27,7 @@ module _ (tables : Tables) (row : ℕ) (change : Table → Table) where
   pub changed_here : (t : Table) → table_at tables row ≡ Some t → table_at (changed row change tables) row ≡ Some (change t)
   changed_here t there = rw there (get_or-set_same tables.rows row (Some (change t)) None (within tables.rows row t there))
 
-  nothing_here : table_at tables row ≡ None → changed row change tables ≡ tables
+  pub nothing_here : table_at tables row ≡ None → changed row change tables ≡ tables
   nothing_here none = rw none refl
 
   changed_there : (r : ℕ) → r ≢ row → table_at (changed row change tables) r ≡ table_at tables r
@@ -155,6 +155,63 @@ loads_keep tables row change keeps all = all_keep tables row change HasItsLoad k
 pub mark_keeps_loads : (tables : Tables) (row : ℕ) (active : Bool) (verdict : ℤ) → HaveLoads tables → HaveLoads (marked row active verdict tables)
 mark_keeps_loads tables row true verdict all = all
 mark_keeps_loads tables row false verdict all = loads_keep tables row _ (λ t there has asked. same_load (is_good verdict) t.load (has asked)) all
+
+-- ---- functions that stay
+
+-- a change of one table that leaves its function
+pub functions_stay : (tables : Tables) (row : ℕ) (change : Table → Table) → ((t : Table) → (change t).validator ≡ t.validator) → HaveSameFunctions tables (changed row change tables)
+functions_stay tables row change same r = elim (cases_eq r row) [
+    inl here ↦ rw here (by (table_at tables row) refl)
+  | inr other ↦ rw (changed_there tables row change r other) refl
+  ]
+  where
+    by : (o : Option Table) → table_at tables row ≡ o → option_map (λ (t : Table). t.validator) (table_at (changed row change tables) row) ≡ option_map (λ (t : Table). t.validator) (table_at tables row)
+    by None is = rw (nothing_here tables row change is) refl
+    by (Some t) is = rw (changed_here tables row change t is, is) (ap Some (same t))
+
+pub mark_leaves_functions : (tables : Tables) (row : ℕ) (active : Bool) (verdict : ℤ) → HaveSameFunctions tables (marked row active verdict tables)
+mark_leaves_functions tables row true verdict r = refl
+mark_leaves_functions tables row false verdict r = functions_stay tables row _ (λ t. refl) r
+
+followed : (old new : Option Table) (P : ℕ → Type 0) → option_map (λ (t : Table). t.validator) new ≡ option_map (λ (t : Table). t.validator) old → ForSome old (λ t. ForSome t.validator P) → ForSome new (λ t. ForSome t.validator P)
+followed old None P same all = λ t there. absurd (cc there)
+followed None (Some u) P same all = absurd (cc same)
+followed (Some t) (Some u) P same all = λ v there number is.
+    let one : u.validator ≡ t.validator = same_Some u.validator t.validator same in
+    let it : u ≡ v = same_Some u v there in
+    all t refl number (sym one ∙ ap (λ (w : Table). w.validator) it ∙ is)
+
+-- they stand in the kit still
+pub functions_follow : {C : Type 0} (old new : Tables) (kit : List (Option (KitEntry C))) → HaveSameFunctions old new → HaveFunctions old kit → HaveFunctions new kit
+functions_follow old new kit same all = λ row. followed (table_at old row) (table_at new row) (λ number. IsSome (entry_at kit number)) (same row) (all row)
+
+there_by : (old new : Option Table) → option_map (λ (t : Table). t.validator) new ≡ option_map (λ (t : Table). t.validator) old → IsSome old → IsSome new
+there_by None new same is = absurd (cc is)
+there_by (Some t) None same is = absurd (cc same)
+there_by (Some t) (Some u) same is = cc
+
+pub there_still : (old new : Tables) → HaveSameFunctions old new → (row : ℕ) → IsSome (table_at old row) → IsSome (table_at new row)
+there_still old new same row is = there_by (table_at old row) (table_at new row) (same row) is
+
+-- ---- new tables
+
+-- what stands at a place after something was put at one of them
+at_set : {X : Type 0} (xs : List (Option X)) (n k : ℕ) (x y : X) → slice_index_or (slice_set xs n (Some x)) k None ≡ Some y → (x ≡ y) ⊎ (slice_index_or xs k None ≡ Some y)
+at_set [] n k x y there = absurd (cc there)
+at_set (z ∷ zs) zero zero x y there = inl (same_Some x y there)
+at_set (z ∷ zs) zero (suc k) x y there = inr there
+at_set (z ∷ zs) (suc n) zero x y there = inr there
+at_set (z ∷ zs) (suc n) (suc k) x y there = at_set zs n k x y there
+
+-- what every table has, and a new one too
+pub all_have : (P : Table → Type 0) (tables : Tables) (row handle : ℕ) (h : Handle) (t : Table) → P t → ((r : ℕ) → ForSome (table_at tables r) P) → (r : ℕ) → ForSome (table_at (with_handle handle h (with_table row t tables)) r) P
+all_have P tables row handle h t new all r = λ u there. elim (at_set tables.rows row r t u there) [ inl here ↦ subst P here new | inr other ↦ all r u other ]
+
+-- where there is no table, every table has it
+pub none_has : (P : Table → Type 0) (n r : ℕ) → ForSome (slice_index_or (replicate {A = Option Table} n None) r None) P
+none_has P zero r = λ t there. absurd (cc there)
+none_has P (suc n) zero = λ t there. absurd (cc there)
+none_has P (suc n) (suc r) = none_has P n r
 
 -- ---- options
 

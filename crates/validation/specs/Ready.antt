@@ -1,6 +1,6 @@
 -- What holds of the pending validations and of the tables' validation functions, so that each that is pending can be done.
 use Rattle.std.specs.Prelude.{◌≡◌, ◌<◌, ℕ, List, Bool, true, false, Option, IsSome}
-use Rattle.std.specs.Option.{ForSome}
+use Rattle.std.specs.Option.{ForSome, option_map}
 use Rattle.tbl_model.specs.State.{Table, Tables}
 use Rattle.tbl_model.specs.Tables.{table_at}
 use Rattle.tbl_model.specs.Pending.{is_pending}
@@ -30,3 +30,7 @@ HasItsLoad t = t.activation ≡ true → IsSome t.load
 
 abbrev pub HaveLoads : Tables → Type 0
 HaveLoads tables = (row : ℕ) → ForSome (table_at tables row) HasItsLoad
+
+-- the tables stand in the rows where they stood, with the functions that they had
+abbrev pub HaveSameFunctions : Tables → Tables → Type 0
+HaveSameFunctions old new = (row : ℕ) → option_map (λ (t : Table). t.validator) (table_at new row) ≡ option_map (λ (t : Table). t.validator) (table_at old row)

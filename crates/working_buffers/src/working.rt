@@ -1,4 +1,4 @@
-ghost use Rattle.std.specs.Prelude.{◌≡◌, ◌<◌, ◌↔◌, None, is_some, is_none, IsSome, IsNone, IfOk, IfSome, IfNone, map, position, count_by, length, replicate, slice_set};
+ghost use Rattle.std.specs.Prelude.{◌==◌, ◌≡◌, ◌<◌, ◌↔◌, None, is_some, is_none, IsSome, IsNone, IfOk, IfSome, IfNone, map, position, count_by, length, replicate, slice_set};
 ghost use Rattle.std.specs.Option.{option_map};
 ghost use Rattle.working_buffers.specs.Buffers.{place_of};
 ghost use Rattle.working_buffers.specs.Places.{at_place, IsTaken};
@@ -110,6 +110,21 @@ impl Working {
         ensures size { length result.now ≡ 16384 }
     {
         self.buffers[buffer as usize].bytes_mut()
+    }
+
+    /// Whether all four are out.
+    pub fn is_full(&self) -> bool
+        ensures { result ≡ (count_by is_some self.now == 4) }
+    {
+        match self.buffers.as_slice() {
+            [first, second, third, fourth] => {
+                first.row().is_some()
+                    && second.row().is_some()
+                    && third.row().is_some()
+                    && fourth.row().is_some()
+            }
+            _ => unreachable!(),
+        }
     }
 
     /// Which row has each of the buffers, None for a free one.

@@ -4,7 +4,7 @@ ghost use Rattle.std.specs.Prelude.{◌≡◌, ◌<◌, ◌≤◌, ◌+◌, ◌-
 ghost use Rattle.std.specs.Option.{option_map, ForSome};
 ghost use Rattle.tbl_model.specs.State.{Load, Table};
 ghost use Rattle.tbl_model.specs.Tables.{table_at, is_double, is_dump_only, uses_buffer};
-ghost use Rattle.tbl_model.specs.TableSteps.{locker, put, set_time, set_file, set_load, patch, set_checked, unchecked, load_image, ask, close_load, activate, set_notice};
+ghost use Rattle.tbl_model.specs.TableSteps.{locker, put, set_time, set_file, set_load, patch, set_checked, unchecked, load_image, ask, close_load, activate, set_notice, not_critical};
 ghost use Rattle.tbl_model.specs.Refusals.{open_refusal};
 ghost use Rattle.access_desc.specs.Steps.{has, pins_old, after_new_image};
 ghost use Rattle.tbl_registry.specs.Lent.{HasItsBuffer, IsSettled};
@@ -193,6 +193,17 @@ impl Tables {
             unreachable!();
         };
         table.set_checked(checked);
+    }
+
+    /// The table of a row isn't critical any more.
+    pub fn not_critical(&mut self, row: u8)
+        requires { IsSome (table_at self.old row) }
+        ensures { self.new ≡ not_critical row self.old }
+    {
+        let Some(table) = &mut self.rows[row as usize] else {
+            unreachable!();
+        };
+        table.not_critical();
     }
 
     /// The time of the last update of the table of a row.

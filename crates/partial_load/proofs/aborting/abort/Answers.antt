@@ -1,6 +1,6 @@
-use Rattle.std.proofs.Common.{◌≡◌, false}
+use Rattle.std.proofs.Common.{◌≡◌, refl, false}
 use Rattle.tbl_model.specs.Pending.{without_pair}
-use Rattle.validation.proofs.Ready.{change_keeps, dropped_keeps, pair_gone, loads_keep}
+use Rattle.validation.proofs.Ready.{change_keeps, dropped_keeps, pair_gone, loads_keep, functions_stay}
 use Rattle.partial_load.proofs.aborting.abort.Goals as goal
 
 pub returns-clause-pending : goal.returns-clause-pending
@@ -11,3 +11,6 @@ returns-clause-pending c =
 
 pub returns-clause-loads : goal.returns-clause-loads
 returns-clause-loads c = λ all. rw c.close_load.ensures (loads_keep c.args.tables.now c.args.row _ (λ t there has asked. absurd (cc asked)) all)
+
+pub returns-clause-functions : goal.returns-clause-functions
+returns-clause-functions c = rw c.close_load.ensures (functions_stay c.args.tables.now c.args.row _ (λ t. refl))

@@ -1,6 +1,6 @@
-use Rattle.std.proofs.Common.{◌≡◌, sym, Some, None}
+use Rattle.std.proofs.Common.{◌≡◌, sym, refl, Some, None}
 use Rattle.tbl_model.specs.Tables.{table_at}
-use Rattle.validation.proofs.Ready.{some_is, change_keeps, loads_keep}
+use Rattle.validation.proofs.Ready.{some_is, change_keeps, loads_keep, functions_stay}
 use Rattle.table_update.proofs.Refusing.{may_ask}
 use Rattle.table_update.proofs.updates.request_activation.Goals as goal
 
@@ -13,3 +13,6 @@ returns-clause-pending c =
 pub returns-clause-loads : goal.returns-clause-loads
 returns-clause-loads c = λ all.
     rw c.ask.ensures (loads_keep c.args.tables.now c.args.row _ (λ t there has asked. (may_ask c.args.pending.now c.args.row t (sym (c.in_default.ensures t there))).0) all)
+
+pub returns-clause-functions : goal.returns-clause-functions
+returns-clause-functions c = rw c.ask.ensures (functions_stay c.args.tables.now c.args.row _ (λ t. refl))

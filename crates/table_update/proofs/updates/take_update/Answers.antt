@@ -1,6 +1,6 @@
-use Rattle.std.proofs.Common.{◌≡◌, ◌+◌, ◌<◌, sym, Some, None, arith}
+use Rattle.std.proofs.Common.{◌≡◌, ◌+◌, ◌<◌, sym, refl, Some, None, arith}
 use Rattle.tbl_model.specs.Tables.{table_at}
-use Rattle.validation.proofs.Ready.{some_is, change_keeps, none_pending, loads_keep}
+use Rattle.validation.proofs.Ready.{some_is, change_keeps, none_pending, loads_keep, functions_stay}
 use Rattle.table_update.proofs.Refusing.{may_update}
 use Rattle.table_update.proofs.updates.take_update.Goals as goal
 
@@ -19,3 +19,6 @@ returns-clause-pending c = λ pending all.
 
 pub returns-clause-loads : goal.returns-clause-loads
 returns-clause-loads c = λ all. rw c.activate.ensures.tables (loads_keep c.args.tables.now c.args.row _ (λ t there has asked. absurd (cc asked)) all)
+
+pub returns-clause-functions : goal.returns-clause-functions
+returns-clause-functions c = rw c.activate.ensures.tables (functions_stay c.args.tables.now c.args.row _ (λ t. refl))
