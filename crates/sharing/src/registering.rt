@@ -81,6 +81,7 @@ fn add(tables: &mut Tables, app: u8, name: Name40, size: u32) -> Result<Answer, 
         size,
         flags: Options::from_bits_retain(0),
         validator: None,
+        first: None,
     };
     match tables.add(app, plan) {
         Ok(handle) => Ok(Answer {
