@@ -8,7 +8,7 @@ use Rattle.std.proofs.lemmas.Bool.Decides.{nat_tests}
 use Rattle.std.proofs.lemmas.List.{length-map, get_or_past}
 use Rattle.std.proofs.lemmas.List.Sums.{sum_by-set, sum_by-cons}
 use Rattle.tbl_kinds.proofs.PositionLaws.{position-None}
-use Rattle.access_desc.specs.Steps.{at_place, changed_at}
+use Rattle.access_desc.specs.Steps.{changed_at}
 use Rattle.tbl_registry.specs.Pins.{AtEachPlace}
 use Rattle.tbl_registry.specs.Lent.{one_if}
 
