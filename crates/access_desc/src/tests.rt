@@ -23,6 +23,8 @@ fn least_free_number(rt: HostRuntime) -> Result<(), Fail> {
     handles.drop_handle(7);
     assert_eq!(rt; handles.view(7), None);
     assert_eq!(rt; handles.add(2, 3), Some(7));
+    handles.clear();
+    assert_eq!(rt; handles.view(7), None);
     Ok(())
 }
 

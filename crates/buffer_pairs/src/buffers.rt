@@ -154,8 +154,8 @@ impl Buffers {
     {
         match &self.kept {
             Kept::Nothing => None,
-            Kept::Last => self.last.as_ref(),
-            Kept::Before => self.before.as_ref(),
+            Kept::Last => self.active(),
+            Kept::Before => self.before(),
             Kept::Own(image) => Some(image),
         }
     }

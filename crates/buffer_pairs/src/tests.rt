@@ -29,3 +29,16 @@ fn buffers(rt: HostRuntime) -> Result<(), Fail> {
     assert!(rt; buffers.before().is_none());
     Ok(())
 }
+
+#[test]
+fn an_image_is_kept(rt: HostRuntime) -> Result<(), Fail> {
+    let mut buffers = Buffers::make(Some(Image::of(rt.alloc(), &[1])?), true);
+    buffers.keep();
+    buffers.put(Image::of(rt.alloc(), &[2])?);
+    buffers.let_go();
+    let kept = buffers.kept().ok_or("no image is kept")?;
+    assert_eq!(rt; kept.bytes(), [1].as_slice());
+    buffers.end_keep();
+    assert!(rt; buffers.kept().is_none());
+    Ok(())
+}

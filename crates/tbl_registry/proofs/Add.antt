@@ -1,5 +1,5 @@
 -- A new table.
-use Rattle.std.proofs.Common.{◌≡◌, ◌≢◌, ◌<◌, ◌↔◌, ◌∙◌, ℕ, List, length, count_by, position, slice_index_or, slice_set, is_some, false, IsSome, IsNone, Option, Some, None, refl, ap, sym}
+use Rattle.std.proofs.Common.{◌≡◌, ◌≢◌, ◌<◌, ℕ, List, length, position, slice_index_or, slice_set, false, IsSome, Option, Some, None, refl, ap}
 use Rattle.std.specs.Option.{option_map}
 use Rattle.std.proofs.lemmas.List.{map-set, get_or-set_same, length-set}
 use Rattle.tbl_kinds.specs.Free.{least_free}
@@ -46,7 +46,3 @@ module _ (rows : List (Option Table)) (handles : List (Option HandleView)) (buff
   add_seen =
       rw (map-set (option_map (handle_of (slice_set rows row (Some t)))) handles handle (Some (new_view app row)))
       (ap (λ (hs : List (Option Handle)). tables_with (slice_set rows row (Some t)) (slice_set hs handle (Some (new_handle app row)))) (handles_stay rows row (Some t) handles (λ n h at _ k of. apart_from_free n h at k of)))
-
--- where a row is free there are fewer than 128 tables
-pub not_full : (rows : List (Option Table)) (row : ℕ) → length rows ≡ 128 → IsNone (Some row) ↔ (count_by is_some rows ≡ length rows) → count_by is_some rows ≡ 128 → ⊥
-not_full rows row long full all = let none : IsNone (Some row) = full.1 (all ∙ sym long) in cc none

@@ -2,7 +2,7 @@
 use Rattle.std.proofs.Common.{◌≡◌, ◌<◌, ℕ, List, length, slice_index_or, slice_set, Bool, true, false, cond, is_some, IsSome, Option, Some, None, refl, ◌∙◌, inl, inr}
 use Rattle.std.specs.Option.{option_map}
 use Rattle.std.proofs.lemmas.Bool.{cases_Bool}
-use Rattle.std.proofs.lemmas.List.{get_or-set_same, length-set, set-get_or}
+use Rattle.std.proofs.lemmas.List.{length-set, set-get_or}
 use Rattle.std.specs.Prelude.{bit_and}
 use Rattle.std.proofs.lemmas.Nat.{and_assoc}
 use Rattle.tbl_kinds.specs.Numbers.{patched}
@@ -53,10 +53,6 @@ module _ {rows : List (Option Table)} {handles : List (Option HandleView)} {buff
 
   pinned : PinsOf n t handles
   pinned = pins_of rows handles n t there sound.leads
-
-  -- the table is there still
-  pub still_there : (u : Table) → IsSome (slice_index_or (slice_set rows n (Some u)) n None)
-  still_there u = rw (get_or-set_same rows n (Some u) None within) refl
 
   -- it changes under its name, and has a buffer where it uses one now
   pub changed_sound : (u : Table) (handles' : List (Option HandleView)) (buffers' : List (Option Held)) → u.name ≡ t.name → AtEachPlace (Leads (slice_set rows n (Some u))) handles'

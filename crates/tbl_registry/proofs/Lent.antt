@@ -1,5 +1,5 @@
 -- Who has the shared working buffers, where a row changes.
-use Rattle.std.proofs.Common.{◌≡◌, ◌<◌, ◌≤◌, ◌==◌, ℕ, List, length, count_by, slice_index_or, slice_set, Bool, true, false, not, ◌&&◌, ◌||◌, is_some, IsSome, map, position, Option, Some, None, refl, ap, sym, ◌∙◌, inl, inr, arith}
+use Rattle.std.proofs.Common.{◌≡◌, ◌<◌, ◌≤◌, ◌==◌, ℕ, List, length, count_by, slice_index_or, slice_set, Bool, true, false, ◌&&◌, ◌||◌, is_some, IsSome, map, position, Option, Some, None, refl, ap, sym, ◌∙◌, inl, inr, arith}
 use Rattle.std.specs.Prelude.{replicate}
 use Rattle.std.specs.Option.{option_map}
 use Rattle.std.proofs.lemmas.Bool.{cases_eq}
@@ -98,17 +98,6 @@ first_out buffers row b found =
     let seen = position-seen (is_row row) (is_out_to row) (λ (held : Held). held.row) buffers refl (λ n held at. refl) in
     let first = position-Some (is_out_to row) buffers b None (sym seen ∙ found) in
     (first.0, first.1, (out_row row row _ first.1).1)
-
--- a load that opens wants a buffer where the table is single-buffered, and one that closes wants none
-pub opens_single : (double dump_only pending : Bool) → dump_only ≡ false → (not double && true || dump_only && pending) ≡ true → double ≡ false
-opens_single false dump_only pending is uses = refl
-opens_single true true pending is uses = absurd (cc is)
-opens_single true false pending is uses = absurd (cc uses)
-
-pub closing_wants_none : (single loaded dump : Bool) → (single && loaded || dump) ≡ false → (single && false || dump) ≡ true → ⊥
-closing_wants_none true true dump had has = cc had
-closing_wants_none true false dump had has = cc (had, has)
-closing_wants_none false loaded dump had has = cc (had, has)
 
 -- a buffer is free where as many aren't in use, and so where a load may open
 pub room_for_load : (rows : List (Option Table)) (handles : List (Option HandleView)) (buffers : List (Option Held)) (row : ℕ) (t : Table) → AreLent buffers rows → (t.load ≡ None → open_refusal (tables_of rows handles) row t ≡ None)

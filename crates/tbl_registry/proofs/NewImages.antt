@@ -17,7 +17,7 @@ use Rattle.tbl_registry.specs.Pins.{AtEachPlace, Pins, Leads}
 use Rattle.tbl_registry.specs.Lent.{IsSettled}
 use Rattle.tbl_registry.specs.Seen.{tables_of, handle_of, with_next}
 use Rattle.tbl_registry.specs.Sound.{IsSound}
-use Rattle.tbl_registry.proofs.Places.{within_places, position-seen, any-seen, any_is_found, map-through, AtEachPlace-map}
+use Rattle.tbl_registry.proofs.Places.{within_places, position-seen, any_is_found, map-through, AtEachPlace-map}
 use Rattle.tbl_kinds.proofs.PositionLaws.{position-None}
 use Rattle.tbl_registry.proofs.Pins.{PinsOf, pins_of, leads_on, tables_with, handle_other, pins_last, of_row, no_old_pin, no_pin, pins_here}
 use Rattle.tbl_registry.proofs.Changes.{Stands, changed_sound}
@@ -63,10 +63,10 @@ module _ {rows : List (Option Table)} {handles : List (Option HandleView)} {buff
 
   stays_is : list_any (image_pins row t.count) (map (option_map (handle_of rows)) handles) ≡ stays
   stays_is =
-      any-seen (image_pins row t.count) (has (pins row)) (handle_of rows) handles refl
+      any_is_found (image_pins row t.count) _
+      ∙ ap (λ (found : Option ℕ). is_some found) (position-seen (image_pins row t.count) (has (pins row)) (handle_of rows) handles refl
       (λ n h at. pins_last rows row t there h (λ of is. (pinned n h at of is).loaded) ∙ and_not_old (is_of row h) h.pinned h.old (not_old n h at))
-      ∙ any_is_found (has (pins row)) handles
-      ∙ ap (λ (found : Option ℕ). is_some found) (sym found_after)
+      ∙ sym found_after)
 
   -- a single buffer has no image before the last, and nobody pins one
   before_is : (double : Bool) → is_double t ≡ double → cond stays (cond double t.last None) None ≡ cond stays t.last None

@@ -13,7 +13,7 @@ use Rattle.access_desc.specs.declared.handle_view.HandleView.{HandleView}
 use Rattle.access_desc.specs.Steps.{has, pins, pins_old, is_of}
 use Rattle.tbl_registry.specs.Pins.{AtEachPlace, Pins, Leads}
 use Rattle.tbl_registry.specs.Seen.{count_in, tables_of, handle_of}
-use Rattle.tbl_registry.proofs.Places.{map-agree, position-seen, any-seen, any_is_found, none_passes}
+use Rattle.tbl_registry.proofs.Places.{map-agree, position-seen, any_is_found, none_passes}
 
 abbrev pub tables_with : List (Option Table) → List (Option Handle) → Tables
 tables_with rows handles = record { rows = rows; handles = handles }
@@ -163,7 +163,7 @@ module _ (rows : List (Option Table)) (row : ℕ) (t : Table) (there : slice_ind
 
     -- the image before the last is pinned
     pub before_is_pinned : list_any (image_pins row (t.count - 1)) (map (option_map (handle_of rows)) handles) ≡ is_some (position (has (pins_old row)) handles)
-    before_is_pinned = any-seen (image_pins row (t.count - 1)) (has (pins_old row)) (handle_of rows) handles refl (λ n h at. pins_before h (some_image n h at)) ∙ any_is_found (has (pins_old row)) handles
+    before_is_pinned = any_is_found (image_pins row (t.count - 1)) _ ∙ ap (λ (found : Option ℕ). is_some found) (position-seen (image_pins row (t.count - 1)) (has (pins_old row)) (handle_of rows) handles refl (λ n h at. pins_before h (some_image n h at)))
 
     -- ---- of a table that isn't locked
 

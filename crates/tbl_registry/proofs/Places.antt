@@ -1,14 +1,14 @@
 -- Lists of places, seen by index.
-use Rattle.std.proofs.Common.{◌≡◌, ℕ, ◌+◌, ◌<◌, ◌≤◌, zero, suc, List, [], ◌∷◌, length, map, take, replicate, count_by, position, slice_index_or, slice_set, Bool, true, false, not, ◌||◌, cond, nat_lt, is_some, Option, Some, None, refl, ap, sym, ◌∙◌, subst, IsSome, inl, inr, arith}
+use Rattle.std.proofs.Common.{◌≡◌, ℕ, ◌+◌, ◌<◌, zero, suc, List, [], ◌∷◌, length, map, replicate, count_by, position, slice_index_or, slice_set, Bool, true, false, not, ◌||◌, cond, nat_lt, is_some, Option, Some, None, refl, ap, sym, ◌∙◌, subst, IsSome, inl, inr, arith}
 use Rattle.std.specs.List.{position_or_len, list_any}
 use Rattle.std.specs.Option.{option_map, ForSome}
 use Rattle.std.proofs.lemmas.Bool.{cases_lt}
 use Rattle.std.proofs.lemmas.Option.{same_Some}
 use Rattle.std.proofs.lemmas.Bool.Decides.{nat_tests}
-use Rattle.std.proofs.lemmas.List.{length-map, length-take-le, get_or_past}
-use Rattle.std.proofs.lemmas.List.Sums.{sum_by-set, sum_by-cons, count_by_more_yes, count_by_more_no, count_by-le-length}
+use Rattle.std.proofs.lemmas.List.{length-map, get_or_past}
+use Rattle.std.proofs.lemmas.List.Sums.{sum_by-set, sum_by-cons}
 use Rattle.tbl_kinds.proofs.PositionLaws.{position-None}
-use Rattle.access_desc.specs.Steps.{at_place, changed_at}
+use Rattle.access_desc.specs.Steps.{changed_at}
 use Rattle.tbl_registry.specs.Pins.{AtEachPlace}
 use Rattle.tbl_registry.specs.Lent.{one_if}
 
@@ -24,12 +24,6 @@ changed_at-twice f g [] n = refl
 changed_at-twice f g (None ∷ xs) zero = refl
 changed_at-twice f g (Some x ∷ xs) zero = refl
 changed_at-twice f g (x ∷ xs) (suc n) = ap (λ ys. x ∷ ys) (changed_at-twice f g xs n)
-
--- a change at one place, seen
-pub map-changed_at : {X Y : Type 0} (s : X → Y) (f : X → X) (xs : List (Option X)) (n : ℕ) (x : X) → at_place xs n ≡ Some x → map (option_map s) (changed_at f xs n) ≡ slice_set (map (option_map s) xs) n (Some (s (f x)))
-map-changed_at s f [] n x there = refl
-map-changed_at s f (y ∷ xs) zero x there = rw there refl
-map-changed_at s f (y ∷ xs) (suc n) x there = ap (λ ys. option_map s y ∷ ys) (map-changed_at s f xs n x there)
 
 -- what holds at each place still does where something of which it holds is put
 pub AtEachPlace-set : {X : Type 0} (P : X → Type 0) (xs : List (Option X)) (n : ℕ) (v : Option X) → AtEachPlace P xs → ForSome v P → (k : ℕ) → ForSome (slice_index_or (slice_set xs n v) k None) P
@@ -62,17 +56,6 @@ within_places xs n x there =
 pub count_set : {X : Type 0} (p : X → Bool) (xs : List X) (n : ℕ) (v d : X) → n < length xs → count_by p (slice_set xs n v) + one_if (p (slice_index_or xs n d)) ≡ count_by p xs + one_if (p v)
 count_set p xs n v d within = sum_by-set (λ x. one_if (p x)) xs n v d within
 
--- a count after one element more
-pub counted_more : {X : Type 0} (p : X → Bool) (xs : List X) (n count : ℕ) (d : X) (b : Bool) → n < length xs → count ≡ count_by p (take n xs) → b ≡ p (slice_index_or xs n d) → cond b (count + 1) count ≡ count_by p (take (n + 1) xs)
-counted_more p xs n count d true within is here = rw is (sym (count_by_more_yes p xs n d within (sym here)))
-counted_more p xs n count d false within is here = rw is (sym (count_by_more_no p xs n d within (sym here)))
-
-pub count_within : {X : Type 0} (p : X → Bool) (xs : List X) (n count : ℕ) → n < length xs → length xs ≤ 256 → count ≡ count_by p (take n xs) → count < 256
-count_within p xs n count within all is =
-    let a = count_by-le-length p (take n xs) in
-    let b : length (take n xs) ≡ n = length-take-le n xs (omega (arith, within)) in
-    omega (arith, a, b, is, within, all)
-
 -- ---- tests of what is seen
 
 -- the first place that passes, where the tests agree at each
@@ -83,19 +66,13 @@ position-seen {X} p q f xs none same = rw (first xs same, length-map xs (option_
   first (None ∷ xs) same = rw (none, first xs (λ k. same (suc k))) refl
   first (Some x ∷ xs) same = rw (same zero x refl, first xs (λ k. same (suc k))) refl
 
--- whether one passes
-pub any-seen : {X Y : Type 0} (p : Option Y → Bool) (q : Option X → Bool) (f : X → Y) (xs : List (Option X)) → p None ≡ q None → AtEachPlace (λ x. p (Some (f x)) ≡ q (Some x)) xs → list_any p (map (option_map f) xs) ≡ list_any q xs
-any-seen p q f [] none same = refl
-any-seen p q f (None ∷ xs) none same = rw (none, any-seen p q f xs none (λ k. same (suc k))) refl
-any-seen p q f (Some x ∷ xs) none same = rw (same zero x refl, any-seen p q f xs none (λ k. same (suc k))) refl
-
 found_at : (n all : ℕ) → is_some (cond (nat_lt n all) (Some n) None) ≡ nat_lt n all
 found_at n all = by (nat_lt n all) where
   by : (b : Bool) → is_some (cond b (Some n) None) ≡ b
   by true = refl
   by false = refl
 
--- and that is whether there is a first
+-- whether one passes is whether there is a first
 pub any_is_found : {X : Type 0} (q : X → Bool) (xs : List X) → list_any q xs ≡ is_some (position q xs)
 any_is_found {X} q xs = rw (found_at (position_or_len q xs) (length xs)) (by xs) where
   by : (xs : List X) → list_any q xs ≡ nat_lt (position_or_len q xs) (length xs)

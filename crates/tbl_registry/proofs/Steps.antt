@@ -6,7 +6,7 @@ use Rattle.std.proofs.lemmas.List.{map-set}
 use Rattle.std.proofs.lemmas.Option.{same_Some}
 use Rattle.std.proofs.lemmas.Bool.Decides.{nat_tests}
 use Rattle.tbl_model.specs.State.{Table, Handle, Tables}
-use Rattle.tbl_model.specs.TableSteps.{access_of, handle_at, new_handle, with_handle, with_table, without_handle, give_back, give_back_by, get_address, release, read, let_go}
+use Rattle.tbl_model.specs.TableSteps.{access_of, handle_at, new_handle, with_handle, with_table, give_back, give_back_by, get_address, release, read, let_go}
 use Rattle.tbl_model.specs.Tables.{uses_buffer}
 use Rattle.access_desc.specs.declared.handle_view.HandleView.{HandleView}
 use Rattle.access_desc.specs.Steps.{at_place, changed_at, has, pins_old, with_no_pin, new_handle as new_view}
@@ -15,7 +15,7 @@ use Rattle.std.proofs.Math.ListN.{get_or-map}
 use Rattle.tbl_registry.specs.Pins.{Pins, Leads}
 use Rattle.tbl_registry.specs.Sound.{IsSound}
 use Rattle.tbl_registry.specs.Seen.{tables_of, handle_of, with_last, let_go_unless}
-use Rattle.tbl_registry.proofs.Places.{AtEachPlace-set, map-changed_at, none_passes}
+use Rattle.tbl_registry.proofs.Places.{AtEachPlace-set, none_passes}
 use Rattle.tbl_registry.proofs.Pins.{PinsOf, pins_of, pins_here, tables_with, before_is_pinned}
 use Rattle.tbl_registry.proofs.Changes.{Stands, pins_sound, row_seen}
 use Rattle.tbl_registry.proofs.Lent.{settled_same}
@@ -63,6 +63,9 @@ module _ {rows : List (Option Table)} {handles : List (Option HandleView)} {buff
 -- ---- a handle is given, and taken back
 
 module _ (rows : List (Option Table)) (handles : List (Option HandleView)) (buffers : List (Option Held)) (sound : IsSound rows handles buffers) (n : ℕ) where
+  place_seen : (place : Option HandleView) → tables_of rows (slice_set handles n place) ≡ tables_with rows (slice_set (tables_of rows handles).handles n (option_map (handle_of rows) place))
+  place_seen place = ap (λ (hs : List (Option Handle)). tables_with rows hs) (map-set (option_map (handle_of rows)) handles n place)
+
   with_place : (place : Option HandleView) → ForSome place (Leads rows) → IsSound rows (slice_set handles n place) buffers
   with_place place leads = record { all_rows = sound.all_rows; named = sound.named; leads = AtEachPlace-set (Leads rows) handles n place sound.leads leads; lent = sound.lent }
 
@@ -73,13 +76,10 @@ module _ (rows : List (Option Table)) (handles : List (Option HandleView)) (buff
   })
 
   pub given_seen : (app row : ℕ) → tables_of rows (slice_set handles n (Some (new_view app row))) ≡ with_handle n (new_handle app row) (tables_of rows handles)
-  given_seen app row = ap (λ (hs : List (Option Handle)). tables_with rows hs) (map-set (option_map (handle_of rows)) handles n (Some (new_view app row)))
+  given_seen app row = place_seen (Some (new_view app row))
 
   pub freed_sound : IsSound rows (slice_set handles n None) buffers
   freed_sound = with_place None (λ h is. absurd (cc is))
-
-  freed_seen : tables_of rows (slice_set handles n None) ≡ without_handle n (tables_of rows handles)
-  freed_seen = ap (λ (hs : List (Option Handle)). tables_with rows hs) (map-set (option_map (handle_of rows)) handles n None)
 
   handle_seen : (h : HandleView) → at_place handles n ≡ Some h → handle_at (tables_of rows handles) n ≡ Some (handle_of rows h)
   handle_seen h place = get_or-map (option_map (handle_of rows)) handles n None ∙ rw place refl
@@ -93,13 +93,13 @@ module _ (rows : List (Option Table)) (handles : List (Option HandleView)) (buff
 
   -- of a handle without a table, and of one with a table
   pub alone_seen : (h : HandleView) → at_place handles n ≡ Some h → h.row ≡ None → tables_of rows (slice_set handles n None) ≡ give_back n (tables_of rows handles)
-  alone_seen h place none = freed_seen ∙ sym (ap (λ (at : Option Handle). give_back_by n (tables_of rows handles) (option_and_then (λ (g : Handle). g.row) at)) (handle_seen h place) ∙ rw none refl)
+  alone_seen h place none = place_seen None ∙ sym (ap (λ (at : Option Handle). give_back_by n (tables_of rows handles) (option_and_then (λ (g : Handle). g.row) at)) (handle_seen h place) ∙ rw none refl)
 
   pub taken_back_seen : (h : HandleView) (row : ℕ) (t : Table) → at_place handles n ≡ Some h → h.row ≡ Some row → slice_index_or rows row None ≡ Some t
       → tables_of (slice_set rows row (Some (let_go_unless (is_some (position (has (pins_old row)) (slice_set handles n None))) t))) (slice_set handles n None) ≡ give_back n (tables_of rows handles)
   taken_back_seen h row t place of there =
       let_go_seen record { there = there; sound = freed_sound }
-      ∙ ap (λ (freed : Tables). with_table row (let_go freed.handles row t) freed) freed_seen
+      ∙ ap (λ (freed : Tables). with_table row (let_go freed.handles row t) freed) (place_seen None)
       ∙ sym (ap (λ (at : Option Handle). give_back_by n (tables_of rows handles) (option_and_then (λ (g : Handle). g.row) at)) (handle_seen h place) ∙ rw (of, there) refl)
 
 -- a handle, its row and its table, as the registry keeps them
@@ -115,15 +115,10 @@ module _ (rows : List (Option Table)) (handles : List (Option HandleView)) (buff
   -- ---- the handle changes
 
   step_seen : (f : HandleView → HandleView) → tables_of rows (changed_at f handles n) ≡ with_handle n (handle_of rows (f h)) (tables_of rows handles)
-  step_seen f = ap (λ (hs : List (Option Handle)). let ts : Tables = record { rows = rows; handles = hs } in ts) (map-changed_at (handle_of rows) f handles n h l.place)
+  step_seen f = rw l.place (place_seen rows handles buffers sound n (Some (f h)))
 
   step_sound : (f : HandleView → HandleView) → Leads rows (f h) → IsSound rows (changed_at f handles n) buffers
-  step_sound f leads = rw l.place record {
-    all_rows = sound.all_rows;
-    named = sound.named;
-    leads = AtEachPlace-set (Leads rows) handles n (Some (f h)) sound.leads (λ g is. subst (Leads rows) (same_Some (f h) g is) leads);
-    lent = sound.lent;
-  }
+  step_sound f leads = rw l.place (with_place rows handles buffers sound n (Some (f h)) (λ g is. subst (Leads rows) (same_Some (f h) g is) leads))
 
   -- ---- it pins the last image
 

@@ -1,10 +1,11 @@
 ghost use Rattle.std.specs.Prelude.{◌≤◌, length};
 
-use super::{AddFault, NewTable, Tables};
+use super::{AddFault, Dump, NewTable, Tables};
 use bitflags::Flags;
 use buffer_pairs::Image;
 use std::test::Fail;
 use tbl_kinds::{Name, Name64, Options, Status};
+use tbl_model::Notice;
 
 /// Compiles only where the registry may be sent to a thread and shared by threads.
 fn may_go_to_threads<T: Send + Sync>(_value: &T) {}
@@ -13,14 +14,30 @@ fn may_go_to_threads<T: Send + Sync>(_value: &T) {}
 fn register(tables: &mut Tables, name: &[u8], size: u32, flags: u16) -> Result<u16, AddFault>
     requires { length name.now ≤ 40 }
 {
+    begin(tables, name, size, flags, None)
+}
+
+/// The same with a first image, where it has that size.
+fn begin(
+    tables: &mut Tables,
+    name: &[u8],
+    size: u32,
+    flags: u16,
+    first: Option<Image>,
+) -> Result<u16, AddFault>
+    requires { length name.now ≤ 40 }
+{
+    let fits = first
+        .as_ref()
+        .is_none_or(|image| image.bytes().len() == size as usize);
     let plan = NewTable {
         name: Name::of(name),
         size,
         flags: Options::from_bits_retain(flags),
         validator: None,
-        first: None,
+        first,
     };
-    if size == 0 || size > 16_384 || tables.find(plan.name.bytes()).is_some() {
+    if !fits || size == 0 || size > 16_384 || tables.find(plan.name.bytes()).is_some() {
         return Err(AddFault::Memory);
     }
     tables.add(1, plan)
@@ -138,5 +155,170 @@ fn a_load_takes_a_buffer(rt: HostRuntime) -> Result<(), Fail> {
     if tables.row(0).is_some() {
         tables.set_file(0, &Name64::of(b"/f"));
     }
+    Ok(())
+}
+
+/// Asks the activation of a load. Whether it did.
+fn ask(tables: &mut Tables, row: u8) -> bool {
+    match tables.row(row) {
+        Some(view) if view.load => {
+            tables.ask(row);
+            true
+        }
+        _ => false,
+    }
+}
+
+/// The load goes active, where the table isn't locked. Whether it did.
+fn activate(tables: &mut Tables, row: u8) -> bool {
+    if tables.locker(row).is_some() {
+        return false;
+    }
+    match tables.row(row) {
+        Some(view) if view.load && view.count < u32::MAX => {
+            tables.activate(row);
+            true
+        }
+        _ => false,
+    }
+}
+
+/// Closes a load. Whether it did.
+fn close(tables: &mut Tables, row: u8) -> bool {
+    match tables.row(row) {
+        Some(view) if view.load => {
+            tables.close_load(row);
+            true
+        }
+        _ => false,
+    }
+}
+
+fn status(tables: &Tables, handle: u16) -> Status {
+    match tables.check(1, handle, false) {
+        Ok(_) => tables.status(handle).status,
+        Err(status) => status,
+    }
+}
+
+#[test]
+fn a_load_goes_active(rt: HostRuntime) -> Result<(), Fail> {
+    let mut tables = Tables::make(rt.alloc())?;
+    let handle = register(&mut tables, b"A.T", 9, 8)?;
+    assert!(rt; open(&mut tables, 0, Image::of(rt.alloc(), b"123456789")?));
+    assert_eq!(rt; status(&tables, handle), Status::SUCCESS);
+    assert!(rt; ask(&mut tables, 0));
+    assert_eq!(rt; status(&tables, handle), Status::INFO_UPDATE_PENDING);
+    assert!(rt; activate(&mut tables, 0));
+    assert_eq!(rt; (tables.load_count(), tables.in_use()), (0, [None; 4]));
+    assert!(rt; open(&mut tables, 0, Image::of(rt.alloc(), b"987654321")?));
+    assert!(rt; close(&mut tables, 0));
+    assert_eq!(rt; tables.in_use(), [None; 4]);
+    if tables.row(0).is_some() {
+        let info = tables.info(0);
+        assert_eq!(rt; (info.check, info.count, info.bits), (0xBB3D, 1, 17));
+        assert_eq!(rt; info.owner.bytes(), b"A".as_slice());
+        tables.not_critical(0);
+    }
+    assert_eq!(rt; tables.row(0).ok_or("row")?.flags, Options::empty());
+    Ok(())
+}
+
+/// Gives an application a further handle on the table of a row.
+fn share(tables: &mut Tables, app: u8, row: u8) -> Option<u16> {
+    match tables.row(row) {
+        Some(_) => tables.new_handle(app, row),
+        None => None,
+    }
+}
+
+/// Takes a handle back. Whether there was one.
+fn give_up(tables: &mut Tables, handle: u16) -> bool {
+    match tables.handle(handle) {
+        Some(_) => {
+            tables.free_handle(handle);
+            true
+        }
+        None => false,
+    }
+}
+
+#[test]
+fn handles_and_tables_go(rt: HostRuntime) -> Result<(), Fail> {
+    let mut tables = Tables::make(rt.alloc())?;
+    let first = register(&mut tables, b"A.T", 4, 0)?;
+    let second = share(&mut tables, 2, 0).ok_or("handle")?;
+    assert_eq!(rt; (tables.app_of(second), tables.app_of(9)), (Some(2), None));
+    assert_eq!(rt;
+        (tables.registered_by(first), tables.registered_by(second)),
+        (Some(0), None)
+    );
+    assert!(rt; open(&mut tables, 0, Image::of(rt.alloc(), &[1, 2, 3, 4])?));
+    if tables.row(0).is_some() {
+        tables.remove(0);
+    }
+    assert_eq!(rt; (tables.count(), tables.in_use()), (0, [None; 4]));
+    assert_eq!(rt;
+        tables.check(2, second, false),
+        Err(Status::ERR_UNREGISTERED)
+    );
+    assert!(rt; give_up(&mut tables, second));
+    assert_eq!(rt; tables.app_of(second), None);
+    tables.clear();
+    assert_eq!(rt; tables.app_of(first), None);
+    Ok(())
+}
+
+/// Asks for a dump of a dump-only table. Whether it did.
+fn dump(tables: &mut Tables, row: u8) -> bool {
+    if tables.all_buffers_used() {
+        return false;
+    }
+    match tables.row(row) {
+        Some(view) if view.dump == Dump::Quiet && view.flags.contains(Options::DUMP_ONLY) => {
+            tables.ask_dump(row, &Name64::of(b"/d"));
+            true
+        }
+        _ => false,
+    }
+}
+
+#[test]
+fn a_dump_keeps_its_image(rt: HostRuntime) -> Result<(), Fail> {
+    let mut tables = Tables::make(rt.alloc())?;
+    let _handle = begin(
+        &mut tables,
+        b"A.T",
+        2,
+        2,
+        Some(Image::of(rt.alloc(), &[0, 0])?),
+    )?;
+    assert!(rt; dump(&mut tables, 0));
+    assert_eq!(rt; tables.in_use(), [Some(0), None, None, None]);
+    if tables.row(0).is_some() {
+        tables.fill_dump(0);
+    }
+    assert!(rt; put(&mut tables, 0, Image::of(rt.alloc(), &[1, 2])?));
+    assert_eq!(rt; tables.filled(0).ok_or("image")?, [0, 0].as_slice());
+    assert_eq!(rt;
+        tables.dump_name(0).ok_or("name")?.bytes(),
+        b"/d".as_slice()
+    );
+    if tables.row(0).is_some() {
+        tables.end_dump(0);
+    }
+    let notice = Notice {
+        msg: 0x1801,
+        code: 2,
+        parameter: 3,
+    };
+    if tables.row(0).is_some() {
+        tables.set_notice(0, notice);
+    }
+    let row = tables.row(0).ok_or("row")?;
+    assert_eq!(rt;
+        (row.dump, row.notice, row.count),
+        (Dump::Quiet, Some(notice), 2)
+    );
     Ok(())
 }

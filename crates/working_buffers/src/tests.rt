@@ -29,7 +29,9 @@ fn four_buffers(rt: HostRuntime) -> Result<(), Fail> {
     assert_eq!(rt; working.take(0), Some(3));
     assert_eq!(rt; working.rows(), [Some(7), Some(7), Some(127), Some(0)]);
     assert_eq!(rt; working.take(9), None);
-    assert_eq!(rt; working.rows(), [Some(7), Some(7), Some(127), Some(0)]);
+    assert!(rt; working.is_full());
+    working.clear();
+    assert_eq!(rt; working.rows(), [None; 4]);
     Ok(())
 }
 

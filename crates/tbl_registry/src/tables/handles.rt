@@ -8,7 +8,7 @@ ghost use Rattle.tbl_model.specs.Management.{pending_status};
 ghost use Rattle.tbl_kinds.specs.Free.{least_free};
 ghost use Rattle.tbl_model.specs.Tables.{table_at};
 ghost use Rattle.tbl_model.specs.TableSteps.{check, handle_at, access_of, get_address, release, read, locker, new_handle, with_handle, give_back, registered_by};
-ghost use Rattle.access_desc.specs.Steps.{at_place, changed_at, has, pins_old, with_no_pin};
+ghost use Rattle.access_desc.specs.Steps.{at_place, changed_at, has, pins, pins_old, with_no_pin};
 ghost use Rattle.tbl_registry.specs.Seen.{handle_of, tables_of, with_last, let_go_unless};
 
 use super::Tables;
@@ -60,6 +60,17 @@ fn unpin(table: &mut Row, handles: &mut Handles, handle: u16, row: u8)
 {
     handles.unpin(handle);
     let_go(table, handles, row);
+}
+
+/// The least handle that pins an image of this row's table, or one that isn't the last.
+fn first_in_way(handles: &Handles, row: u8, old_only: bool) -> Option<u16>
+    ensures { result ≡ position (λ place. if old_only then has (pins_old row) place else has (pins row) place) handles.now }
+{
+    if old_only {
+        handles.pinned_old(row)
+    } else {
+        handles.pinned_any(row)
+    }
 }
 
 /// Whether there is an image that was not told of yet.
@@ -239,10 +250,6 @@ impl Tables {
         ensures least { result ≡ option_and_then (λ (t : Table). locker self.now row t) (table_at self.now row) }
     {
         let table = table_in(&self.rows, row)?;
-        if table.is_double() {
-            self.handles.pinned_old(row)
-        } else {
-            self.handles.pinned_any(row)
-        }
+        first_in_way(&self.handles, row, table.is_double())
     }
 }

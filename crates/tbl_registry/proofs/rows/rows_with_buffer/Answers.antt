@@ -9,7 +9,7 @@ loop-row-preserved c =
     let next : c.loop-row.row - 1 + 1 ≡ c.loop-row.row = omega arith in (
       omega arith,
       c.put_front.ensures
-      ∙ collected c.args.rows.now (c.loop-row.row - 1) c.index-rows-row.result c.uses_buffer.result c.loop-row.found (omega arith) c.requires.few (c.uses_buffer.ensures ∙ ap uses_buffer c.index-rows-row.is) (rw next c.loop-row.invariant.1),
+          ∙ collected c.args.rows.now (c.loop-row.row - 1) c.index-rows-row.result c.uses_buffer.result c.loop-row.found (omega arith) c.requires.few (c.uses_buffer.ensures ∙ ap uses_buffer c.index-rows-row.is) (rw next c.loop-row.invariant.1),
     )
 
 pub loop-row-init : goal.loop-row-init

@@ -1,4 +1,4 @@
-use Rattle.std.proofs.Common.{◌≡◌, Some, None, sym, ◌∙◌, slice_index_or, rules}
+use Rattle.std.proofs.Common.{sym, ◌∙◌, rules}
 use Rattle.tbl_registry.proofs.Changes.{stands}
 use Rattle.tbl_registry.proofs.Steps.{its_table, not_given, freed_sound, let_go_sound, alone_seen, taken_back_seen}
 use Rattle.tbl_registry.proofs.tables.Tables.free_handle.Goals as goal
