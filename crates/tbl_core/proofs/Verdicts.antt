@@ -93,6 +93,7 @@ module _ {C : Type 0} (asked : C → ℕ) where
   may_ask kit app validator may few number is = by (entry_at kit number) refl where
     there : is_of app (entry_at kit number) ≡ true
     there = sym (may_use_at kit app number) ∙ subst (λ v. may_use (owners kit) app v ≡ true) is may
+
     by : (found : Option (KitEntry C)) → entry_at kit number ≡ found → MayAsk asked 1 kit number
     by None at = absurd (cc (there, at))
     by (Some entry) at = (rw at cc, λ other same. let low = few number other same in omega (arith, low))
