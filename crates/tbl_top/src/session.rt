@@ -64,8 +64,8 @@ fn play<C: Validator, S: Source, K: Sink>(
     player.finish(read_failed, sink)
 }
 
-/// `run` with validation functions of any type.
-fn run_with<C: Validator, S: Source, K: Sink>(
+/// `run` with validation functions of one type, which need no box.
+pub fn run_with<C: Validator, S: Source, K: Sink>(
     alloc: Global,
     words: &[Bytes],
     source: &mut S,
