@@ -13,6 +13,10 @@ at_place places n = slice_index_or places n None
 abbrev pub changed_at : {X : Type 0} → (X → X) → List (Option X) → ℕ → List (Option X)
 changed_at change places n = slice_set places n (option_map change (at_place places n))
 
+-- a place is freed
+abbrev pub nothing : {X : Type 0} → Option X → Option X
+nothing place = None
+
 -- something stands there, and it passes
 abbrev pub has : {X : Type 0} → (X → Bool) → Option X → Bool
 has test place = option_map_or test place false

@@ -96,6 +96,16 @@ fn end_table(places: &mut [Option<HandleView>], row: u8)
     }
 }
 
+/// Frees every place.
+fn free_all(places: &mut [Option<HandleView>])
+    requires { length places.old ≡ 256 }
+    ensures { places.new ≡ replicate 256 None }
+{
+    for place in places.iter_mut() {
+        *place = None;
+    }
+}
+
 fn free_places(alloc: Global) -> Result<Vec<Option<HandleView>>, AllocError>
     ensures { IfOk result (λ v. v.items ≡ replicate 256 None) }
 {
@@ -131,6 +141,13 @@ impl Handles {
             told: 0,
         });
         Some(free as u16)
+    }
+
+    /// Frees the numbers of all handles.
+    pub fn clear(&mut self)
+        ensures { self.new ≡ replicate 256 None }
+    {
+        free_all(&mut self.places);
     }
 
     /// Frees the number of a handle.

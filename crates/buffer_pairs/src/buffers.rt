@@ -1,6 +1,6 @@
-ghost use Rattle.std.specs.Prelude.{◌≡◌};
+ghost use Rattle.std.specs.Prelude.{◌≡◌, List, ℕ, Option, None};
 ghost use Rattle.std.specs.Option.{option_copied};
-ghost use Rattle.buffer_pairs.specs.Images.{at_first, with_last, without_before};
+ghost use Rattle.buffer_pairs.specs.Images.{at_first, with_last, without_before, keeping_last, keeping_none, kept_of};
 
 use crate::image::Image;
 use std::marker::Model;
@@ -12,6 +12,19 @@ pub struct Buffers {
     last: Option<Image>,
     before: Option<Image>,
     double: bool,
+    kept: Kept,
+}
+
+/// Where the image is that is kept whatever comes.
+#[derive(Debug, Drop)]
+enum Kept {
+    Nothing,
+    /// It is the last one.
+    Last,
+    /// It is the one before the last.
+    Before,
+    /// It is in neither place any more.
+    Own(Image),
 }
 
 impl Model for Buffers {
@@ -19,7 +32,58 @@ impl Model for Buffers {
 
     ghost Value = { Images };
 
-    ghost view = { λ b. record { double = b.double; last = b.last; before = b.before } };
+    ghost use Rattle.buffer_pairs.specs.Images.{kept_of};
+
+    ghost view = { λ b. record { double = b.double; last = b.last; before = b.before; kept = kept_of b.kept b.last b.before } };
+}
+
+/// An image that is in no other place.
+fn own(image: Option<Image>) -> Kept
+    ensures { (last before : Option (List ℕ)) → kept_of result last before ≡ image }
+{
+    match image {
+        Some(image) => Kept::Own(image),
+        None => Kept::Nothing,
+    }
+}
+
+/// Where it is once the image before the last has left its place.
+fn without_before(kept: Kept, before: Option<Image>) -> Kept
+    ensures { (last after : Option (List ℕ)) → kept_of result last after ≡ kept_of kept last before }
+{
+    match kept {
+        Kept::Before => own(before),
+        kept => kept,
+    }
+}
+
+/// Empties the place before the last, and tells where the kept image is then.
+fn take_kept(kept: &mut Kept, before: &mut Option<Image>) -> Kept
+    ensures kept { (last after : Option (List ℕ)) → kept_of result last after ≡ kept_of kept.old last before.old }
+    ensures before { before.new ≡ None }
+{
+    without_before(std::mem::replace(kept, Kept::Nothing), before.take())
+}
+
+/// Where it is once the last image has gone to the place before it, which was empty.
+fn moved_on(kept: Kept) -> Kept
+    ensures { (last new : Option (List ℕ)) → kept_of result new last ≡ kept_of kept last None }
+{
+    match kept {
+        Kept::Last => Kept::Before,
+        Kept::Before => Kept::Nothing,
+        kept => kept,
+    }
+}
+
+/// Where it is once the last image has left its place, with no place before it.
+fn without_last(kept: Kept, last: Option<Image>) -> Kept
+    ensures { (new : Option (List ℕ)) → kept_of result new None ≡ kept_of kept last None }
+{
+    match kept {
+        Kept::Last => own(last),
+        kept => kept,
+    }
 }
 
 impl Buffers {
@@ -31,6 +95,7 @@ impl Buffers {
             last: first,
             before: None,
             double,
+            kept: Kept::Nothing,
         }
     }
 
@@ -52,14 +117,46 @@ impl Buffers {
     pub fn put(&mut self, image: Image)
         ensures { self.new ≡ with_last image self.old }
     {
+        let kept = take_kept(&mut self.kept, &mut self.before);
         let last = self.last.replace(image);
-        self.before = if self.double { last } else { None };
+        if self.double {
+            self.kept = moved_on(kept);
+            self.before = last;
+        } else {
+            self.kept = without_last(kept, last);
+        }
     }
 
     /// Drops the image before the last.
     pub fn let_go(&mut self)
         ensures { self.new ≡ without_before self.old }
     {
-        self.before = None;
+        self.kept = take_kept(&mut self.kept, &mut self.before);
+    }
+
+    /// The last image is kept from now on, whatever comes. It takes no memory.
+    pub fn keep(&mut self)
+        ensures { self.new ≡ keeping_last self.old }
+    {
+        self.kept = Kept::Last;
+    }
+
+    /// No image is kept any more.
+    pub fn end_keep(&mut self)
+        ensures { self.new ≡ keeping_none self.old }
+    {
+        self.kept = Kept::Nothing;
+    }
+
+    /// The image that is kept, None where there is none.
+    pub fn kept(&self) -> Option<&Image>
+        ensures { option_copied result ≡ self.now.kept }
+    {
+        match &self.kept {
+            Kept::Nothing => None,
+            Kept::Last => self.last.as_ref(),
+            Kept::Before => self.before.as_ref(),
+            Kept::Own(image) => Some(image),
+        }
     }
 }

@@ -20,10 +20,6 @@ use Rattle.tbl_kinds.specs.declared.entry.Answer.{Answer}
 use Rattle.tbl_kinds.specs.declared.status.Status.{Status}
 use Rattle.tbl_kinds.specs.declared.status.TheConstants.Status.{SUCCESS, ERR_NO_SUCH_TABLE}
 
-pub some_is : {X : Type 0} (place : Option X) → IsSome place → (x : X) × (place ≡ Some x)
-some_is None there = absurd (cc there)
-some_is (Some x) there = (x, refl)
-
 -- ---- images
 
 first_passed : (a b : Bool) (x y : Answer) (p rest : Option Answer) → cond a (Some x) (cond b (Some y) (option_or p rest)) ≡ None → p ≡ None

@@ -2,11 +2,13 @@
 //! for the first reason in the order of the table services.
 #![tactic(auto)]
 
+mod aborting;
 mod ground;
 mod images;
 mod making;
 mod refusals;
 
+pub use aborting::abort;
 pub use ground::{ground_load, load_into};
 pub use images::{Loaded, app_load, load_image, load_part};
 pub use refusals::closed_refusal;

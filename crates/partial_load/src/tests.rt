@@ -17,6 +17,7 @@ fn register(tables: &mut Tables, size: u32) -> Result<u16, AddFault> {
         size,
         flags: Options::from_bits_retain(0),
         validator: None,
+        first: None,
     };
     if size == 0 || size > 16_384 || tables.find(plan.name.bytes()).is_some() {
         return Err(AddFault::Memory);

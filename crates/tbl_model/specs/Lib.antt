@@ -16,6 +16,7 @@ pub mod GroundLoads
 pub mod Validations
 pub mod Activations
 pub mod Management
+pub mod Dumps
 pub mod Sharing
 pub mod Commands
 pub mod Dispatch
@@ -25,4 +26,5 @@ pub mod CountsAfter
 pub mod Replies
 pub mod History
 pub mod Whole
+pub mod Vouched
 pub mod Vectors

@@ -8,9 +8,9 @@ use Rattle.tbl_model.specs.State.{Table}
 use Rattle.tbl_model.specs.Tables.{is_double, is_dump_only, is_critical}
 use Rattle.tbl_kinds.specs.declared.telemetry.RegistryRow.{RegistryRow}
 
--- the application's name stands before the first dot of a full name
+-- the application's name stands before the first dot of a full name, and has 20 bytes at most
 abbrev pub owner_name : List ℕ → List ℕ
-owner_name name = take (position_or_len (λ b. b == 46) name) name
+owner_name name = take 20 (take (position_or_len (λ b. b == 46) name) name)
 
 abbrev pub bit_at : ℕ → Bool → ℕ
 bit_at value b = if b then value else 0

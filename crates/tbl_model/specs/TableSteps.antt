@@ -1,5 +1,5 @@
 -- What is asked of the tables, and how they change: one function for each question and each change.
-use Rattle.std.specs.Prelude.{ℕ, ◌+◌, ◌-◌, ◌==◌, List, [], length, map, replicate, Bool, true, false, not, ◌&&◌, nat_lt, if◌then◌else◌, position, Option, Some, None, is_some, unwrap_or, option_and_then, slice_index_or, slice_set, Result, Ok, Err}
+use Rattle.std.specs.Prelude.{ℕ, ◌+◌, ◌-◌, ◌==◌, List, [], length, map, replicate, Bool, true, false, not, ◌&&◌, nat_lt, if◌then◌else◌, position, Option, Some, None, is_some, unwrap_or, option_and_then, slice_index_or, slice_set, bit_and, Result, Ok, Err}
 use Rattle.std.specs.List.{list_any}
 use Rattle.std.specs.Option.{option_map, option_map_or}
 use Rattle.std.specs.Str.{bytes_eq}
@@ -193,6 +193,10 @@ set_checked row checked tables = changed row (λ t. record t { load = option_map
 abbrev pub set_file : ℕ → List ℕ → Tables → Tables
 set_file row file tables = changed row (λ t. record t { file = file }) tables
 
+-- the option CRITICAL is taken away
+abbrev pub not_critical : ℕ → Tables → Tables
+not_critical row tables = changed row (λ t. record t { options = bit_and t.options 0xFFF7 }) tables
+
 -- ---- activation
 
 -- the last image
@@ -289,6 +293,10 @@ new_table name owner size options validator handle = record {
   sub = 0;
   file = [];
 }
+
+-- it begins with this image, or with none
+abbrev pub with_first : Option (List ℕ) → Table → Table
+with_first first t = record t { count = if is_some first then 1 else 0; last = first }
 
 -- a handle that was told of no image and pins none
 abbrev pub new_handle : ℕ → ℕ → Handle

@@ -53,9 +53,13 @@ abbrev pub uses_buffer : Option Table → Bool
 uses_buffer None = false
 uses_buffer (Some t) = not (is_double t) && is_some t.load || is_dump_only t && not (is_quiet t.dump)
 
+-- the rows that pass a test, ascending, of those from this one on
+abbrev pub rows_where : (Option Table → Bool) → ℕ → List (Option Table) → List ℕ
+rows_where test row [] = []
+rows_where test row (t ∷ ts) = (if test t then row ∷ rows_where test (row + 1) ts else rows_where test (row + 1) ts)
+
 abbrev pub rows_from : ℕ → List (Option Table) → List ℕ
-rows_from row [] = []
-rows_from row (t ∷ ts) = (if uses_buffer t then row ∷ rows_from (row + 1) ts else rows_from (row + 1) ts)
+rows_from row rows = rows_where uses_buffer row rows
 
 -- the rows that use them, ascending
 abbrev pub in_use : Tables → List ℕ

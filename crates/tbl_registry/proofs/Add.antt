@@ -1,8 +1,7 @@
 -- A new table.
-use Rattle.std.proofs.Common.{◌≡◌, ◌≢◌, ◌<◌, ◌↔◌, ◌∙◌, ℕ, List, length, count_by, position, slice_index_or, slice_set, is_some, IsSome, IsNone, Option, Some, None, refl, ap, sym, subst}
+use Rattle.std.proofs.Common.{◌≡◌, ◌≢◌, ◌<◌, ◌↔◌, ◌∙◌, ℕ, List, length, count_by, position, slice_index_or, slice_set, is_some, false, IsSome, IsNone, Option, Some, None, refl, ap, sym}
 use Rattle.std.specs.Option.{option_map}
 use Rattle.std.proofs.lemmas.List.{map-set, get_or-set_same, length-set}
-use Rattle.std.proofs.lemmas.Option.{same_Some}
 use Rattle.tbl_kinds.specs.Free.{least_free}
 use Rattle.tbl_model.specs.State.{Table, Handle}
 use Rattle.tbl_model.specs.Tables.{uses_buffer}
@@ -10,14 +9,14 @@ use Rattle.tbl_model.specs.TableSteps.{has_name, new_handle, with_table, with_ha
 use Rattle.access_desc.specs.declared.handle_view.HandleView.{HandleView}
 use Rattle.access_desc.specs.Steps.{new_handle as new_view}
 use Rattle.working_buffers.specs.Places.{Held}
-use Rattle.tbl_registry.specs.Pins.{AtEachPlace, Leads}
+use Rattle.tbl_registry.specs.Pins.{AtEachPlace}
 use Rattle.tbl_registry.specs.Seen.{tables_of, handle_of}
 use Rattle.tbl_registry.specs.Sound.{IsSound}
-use Rattle.tbl_registry.proofs.Lent.{lent_still}
+use Rattle.tbl_registry.proofs.Lent.{lent_settled, settled_same}
+use Rattle.tbl_registry.proofs.Steps.{given_sound}
 use Rattle.tbl_registry.proofs.Named.{named_added}
 use Rattle.tbl_registry.proofs.Pins.{leads_on, handles_stay, tables_with}
 use Rattle.tbl_kinds.proofs.FreeLaws.{least_free-None, least_free-within}
-use Rattle.tbl_registry.proofs.Places.{AtEachPlace-set}
 
 module _ (rows : List (Option Table)) (handles : List (Option HandleView)) (buffers : List (Option Held)) (row handle app : ℕ) (t : Table) (sound : IsSound rows handles buffers) (free : least_free rows ≡ Some row) where
   empty : slice_index_or rows row None ≡ None
@@ -32,21 +31,16 @@ module _ (rows : List (Option Table)) (handles : List (Option HandleView)) (buff
       let taken : IsSome (slice_index_or rows row None) = rw same at ((sound.leads n h at).table k of) in
       cc (rw empty at taken)
 
-  new_leads : Leads (slice_set rows row (Some t)) (new_view app row)
-  new_leads = record {
-    table = λ k of. subst (λ (at : ℕ). IsSome (slice_index_or (slice_set rows row (Some t)) at None)) (same_Some row k of) (rw (get_or-set_same rows row (Some t) None within) refl);
-    pins = λ pinned. absurd (cc pinned);
+  pub row_added : uses_buffer (Some t) ≡ uses_buffer None → position (has_name t.name) rows ≡ None → IsSound (slice_set rows row (Some t)) handles buffers
+  row_added uses new = record {
+    all_rows = simp length-set sound.all_rows;
+    named = named_added rows row t empty within new sound.named;
+    leads = leads_on rows row t within handles sound.leads (λ n h at of _. absurd (apart_from_free n h at row of refl));
+    lent = lent_settled buffers buffers rows row (Some t) within sound.lent (rw (empty, uses) (settled_same buffers row false));
   }
 
   pub add_sound : uses_buffer (Some t) ≡ uses_buffer None → position (has_name t.name) rows ≡ None → IsSound (slice_set rows row (Some t)) (slice_set handles handle (Some (new_view app row))) buffers
-  add_sound uses new = record {
-    all_rows = simp length-set sound.all_rows;
-    named = named_added rows row t empty within new sound.named;
-    leads = AtEachPlace-set (Leads (slice_set rows row (Some t))) handles handle (Some (new_view app row))
-        (leads_on rows row t within handles sound.leads (λ n h at of _. absurd (apart_from_free n h at row of refl)))
-        (λ h is. subst (Leads (slice_set rows row (Some t))) (same_Some (new_view app row) h is) new_leads);
-    lent = lent_still buffers rows row (Some t) within sound.lent (rw empty uses);
-  }
+  add_sound uses new = given_sound _ handles buffers (row_added uses new) handle app row (rw (get_or-set_same rows row (Some t) None within) refl)
 
   pub add_seen : tables_of (slice_set rows row (Some t)) (slice_set handles handle (Some (new_view app row))) ≡ with_handle handle (new_handle app row) (with_table row t (tables_of rows handles))
   add_seen =

@@ -1,26 +1,53 @@
 -- One table changes in what the registry keeps, and perhaps a handle or a buffer with it.
-use Rattle.std.proofs.Common.{◌≡◌, ◌==◌, ◌+◌, ◌<◌, not, ◌&&◌, ◌||◌, ℕ, List, length, slice_index_or, slice_set, Bool, true, false, cond, is_some, IsSome, Option, Some, None, refl, ◌∙◌, inl, inr, rules}
+use Rattle.std.proofs.Common.{◌≡◌, ◌<◌, ℕ, List, length, slice_index_or, slice_set, Bool, true, false, cond, is_some, IsSome, Option, Some, None, refl, ◌∙◌, inl, inr}
 use Rattle.std.specs.Option.{option_map}
 use Rattle.std.proofs.lemmas.Bool.{cases_Bool}
 use Rattle.std.proofs.lemmas.List.{get_or-set_same, length-set, set-get_or}
+use Rattle.std.specs.Prelude.{bit_and}
+use Rattle.std.proofs.lemmas.Nat.{and_assoc}
 use Rattle.tbl_kinds.specs.Numbers.{patched}
-use Rattle.tbl_model.specs.State.{Table, Load}
-use Rattle.tbl_model.specs.Tables.{is_double, is_dump_only, is_quiet, uses_buffer}
-use Rattle.tbl_model.specs.TableSteps.{with_table, locker, base, unchecked, patch, set_load, set_checked}
+use Rattle.tbl_model.specs.State.{Table, Tables, Load, Dump, quiet, asked, filled}
+use Rattle.tbl_model.specs.Tables.{table_at, has_option, is_double, is_quiet, uses_buffer}
+use Rattle.tbl_model.specs.TableSteps.{with_table, locker, base, unchecked, patch, last_image, filled_with}
 use Rattle.access_desc.specs.declared.handle_view.HandleView.{HandleView}
-use Rattle.access_desc.specs.Steps.{pins, pins_old}
 use Rattle.working_buffers.specs.Places.{Held}
 use Rattle.tbl_registry.specs.Rows.{IsTable}
 use Rattle.tbl_registry.specs.Pins.{AtEachPlace, Leads}
-use Rattle.tbl_registry.specs.Lent.{AreLent, IsGiven, one_if, wants_buffer}
+use Rattle.tbl_registry.specs.Lent.{IsSettled, HasItsBuffer}
 use Rattle.tbl_registry.specs.Seen.{tables_of}
 use Rattle.tbl_registry.specs.Sound.{IsSound}
 use Rattle.tbl_registry.proofs.Named.{named_kept}
-use Rattle.tbl_registry.proofs.Places.{within_places}
-use Rattle.tbl_registry.proofs.Pins.{PinsOf, pins_of, leads_on, change_seen, no_old_pin}
-use Rattle.tbl_registry.proofs.Lent.{lent_given, lent_still}
+use Rattle.tbl_registry.proofs.Places.{within_places, at_place-read}
+use Rattle.tbl_registry.proofs.Pins.{PinsOf, pins_of, pins_here, leads_on, change_seen, no_old_pin}
+use Rattle.tbl_registry.proofs.Lent.{lent_settled, settled_same, its_buffer}
 
-module _ (rows : List (Option Table)) (handles : List (Option HandleView)) (buffers : List (Option Held)) (n : ℕ) (t : Table) (there : slice_index_or rows n None ≡ Some t) (sound : IsSound rows handles buffers) where
+-- an option that doesn't go
+pub other_option : (options bit : ℕ) → bit_and 0xFFF7 bit ≡ bit → has_option bit (bit_and options 0xFFF7) ≡ has_option bit options
+other_option options bit stays = rw (and_assoc bit options 0xFFF7, stays) refl
+
+-- this table stands in the row, in what the registry keeps
+pub record Stands (rows : List (Option Table)) (handles : List (Option HandleView)) (buffers : List (Option Held)) (n : ℕ) (t : Table) : Type 0 where
+  pub there : slice_index_or rows n None ≡ Some t
+  pub sound : IsSound rows handles buffers
+
+-- as a call finds it
+pub stands : {rows : List (Option Table)} {handles : List (Option HandleView)} {buffers : List (Option Held)} {found : Option Table} {t : Table} (n : ℕ) → IsSound rows handles buffers → found ≡ slice_index_or rows n found → found ≡ Some t → IsSome (slice_index_or rows n None) → Stands rows handles buffers n t
+stands {rows = rows} {found = found} {t = t} n sound read is there = record { there = at_place-read rows n found t read is there; sound = sound }
+
+module _ {rows : List (Option Table)} {handles : List (Option HandleView)} {buffers : List (Option Held)} {n : ℕ} {t : Table} (row : Stands rows handles buffers n t) where
+  there : slice_index_or rows n None ≡ Some t
+  there = row.there
+
+  sound : IsSound rows handles buffers
+  sound = row.sound
+
+  pub seen_there : (tables : Tables) → tables_of rows handles ≡ tables → table_at tables n ≡ Some t
+  seen_there tables seen = rw (← seen) there
+
+  -- its buffer is out to it
+  pub has_its_buffer : HasItsBuffer buffers n t
+  has_its_buffer = its_buffer buffers rows n t sound.lent there
+
   within : n < length rows
   within = within_places rows n t there
 
@@ -31,107 +58,92 @@ module _ (rows : List (Option Table)) (handles : List (Option HandleView)) (buff
   pub still_there : (u : Table) → IsSome (slice_index_or (slice_set rows n (Some u)) n None)
   still_there u = rw (get_or-set_same rows n (Some u) None within) refl
 
-  -- it changes under its name
-  pub changed_sound : (u : Table) (handles' : List (Option HandleView)) (buffers' : List (Option Held)) → u.name ≡ t.name → AtEachPlace (Leads (slice_set rows n (Some u))) handles' → AreLent buffers' (slice_set rows n (Some u)) → IsSound (slice_set rows n (Some u)) handles' buffers'
-  changed_sound u handles' buffers' name leads lent = record {
+  -- it changes under its name, and has a buffer where it uses one now
+  pub changed_sound : (u : Table) (handles' : List (Option HandleView)) (buffers' : List (Option Held)) → u.name ≡ t.name → AtEachPlace (Leads (slice_set rows n (Some u))) handles'
+      → IsSettled buffers buffers' n (uses_buffer (Some t)) (uses_buffer (Some u)) → IsSound (slice_set rows n (Some u)) handles' buffers'
+  changed_sound u handles' buffers' name leads settled = record {
     all_rows = simp length-set sound.all_rows;
     named = named_kept rows n t u there name sound.named;
     leads = leads;
-    lent = lent;
+    lent = lent_settled buffers buffers' rows n (Some u) within sound.lent (rw there settled);
   }
 
-  pub same_buffer : (u : Table) → uses_buffer (Some u) ≡ uses_buffer (Some t) → AreLent buffers (slice_set rows n (Some u))
-  same_buffer u uses = lent_still buffers rows n (Some u) within sound.lent (rw there uses)
+  -- its handles pin images that it still has
+  pub pins_sound : (u : Table) (buffers' : List (Option Held)) → u.name ≡ t.name → PinsOf n u handles → IsSettled buffers buffers' n (uses_buffer (Some t)) (uses_buffer (Some u)) → IsSound (slice_set rows n (Some u)) handles buffers'
+  pins_sound u buffers' name pins settled = changed_sound u handles buffers' name (leads_on rows n u within handles sound.leads pins) settled
 
-  -- and keeps what pins see, and its buffer
-  pub row_sound : (u : Table) → u.name ≡ t.name → PinsOf n u handles → uses_buffer (Some u) ≡ uses_buffer (Some t) → IsSound (slice_set rows n (Some u)) handles buffers
-  row_sound u name pins uses = changed_sound u handles buffers name (leads_on rows n u within handles sound.leads pins) (same_buffer u uses)
+  -- it keeps its images, and opens no load: its handles see the same
+  pub row_sound : (u : Table) (buffers' : List (Option Held)) → u.name ≡ t.name → u.count ≡ t.count → u.before ≡ t.before → (t.load ≡ None → u.load ≡ None)
+      → IsSettled buffers buffers' n (uses_buffer (Some t)) (uses_buffer (Some u)) → IsSound (slice_set rows n (Some u)) handles buffers'
+  row_sound u buffers' name count before load settled = pins_sound u buffers' name (λ k h at of is. let p = pinned k h at of is in record {
+    loaded = rw count p.loaded;
+    kept = rw before p.kept;
+    closed = λ old. load (p.closed old);
+  }) settled
+
+  -- and its buffer
+  pub quiet_sound : (u : Table) → u.name ≡ t.name → u.count ≡ t.count → u.before ≡ t.before → (t.load ≡ None → u.load ≡ None) → uses_buffer (Some u) ≡ uses_buffer (Some t) → IsSound (slice_set rows n (Some u)) handles buffers
+  quiet_sound u name count before load uses = row_sound u buffers name count before load (rw uses (settled_same buffers n (uses_buffer (Some t))))
 
   pub row_seen : (u : Table) → u.count ≡ t.count → tables_of (slice_set rows n (Some u)) handles ≡ with_table n u (tables_of rows handles)
   row_seen u count = change_seen rows handles n t u there within count
 
-  -- a change that pins don't see
-  pub unpinned_sound : (u : Table) → u.name ≡ t.name → u.count ≡ t.count → u.before ≡ t.before → u.load ≡ t.load → uses_buffer (Some u) ≡ uses_buffer (Some t) → IsSound (slice_set rows n (Some u)) handles buffers
-  unpinned_sound u name count before load uses = row_sound u name (λ k h at of is. let p = pinned k h at of is in record {
-    loaded = rw count p.loaded;
-    kept = rw before p.kept;
-    closed = rw load p.closed;
-  }) uses
-
   -- ---- an open load changes
-
-  open_pins : IsSome t.load → (u : Table) → u.count ≡ t.count → PinsOf n u handles
-  open_pins loaded u count k h at of is =
-      let p = pinned k h at of is in record {
-        loaded = rw count p.loaded;
-        kept = λ old. let closed = p.closed old in absurd (cc (closed, loaded));
-        closed = λ old. let closed = p.closed old in absurd (cc (closed, loaded));
-      }
-
-  pub load_sound : IsSome t.load → (load : Option Load) → is_some load ≡ is_some t.load → IsSound (slice_set rows n (Some (record t { load = load }))) handles buffers
-  load_sound loaded load same = row_sound (record t { load = load }) refl (open_pins loaded (record t { load = load }) refl) (rw same refl)
 
   some_is : {X : Type 0} (o : Option X) → IsSome o → true ≡ is_some o
   some_is None some = absurd (cc some)
   some_is (Some x) some = refl
 
   -- bytes are written into it, or not
-  pub write_sound : IsSome t.load → (written : Bool) (image : List ℕ) → IsSound (slice_set rows n (Some (cond written (record t { load = unchecked image }) t))) handles buffers
-  write_sound loaded true image = load_sound loaded (unchecked image) (some_is t.load loaded)
-  write_sound loaded false image = rw (← there, set-get_or rows n None) sound
+  pub write_sound : IsSome t.load → (written : Bool) (image : List ℕ) → IsSound (slice_set rows n (Some (record t { load = cond written (unchecked image) t.load }))) handles buffers
+  write_sound loaded written image = quiet_sound (record t { load = cond written (unchecked image) t.load }) refl refl refl (λ none. absurd (cc (none, loaded))) (by written) where
+    by : (written : Bool) → uses_buffer (Some (record t { load = cond written (unchecked image) t.load })) ≡ uses_buffer (Some t)
+    by true = rw (some_is t.load loaded) refl
+    by false = refl
 
-  pub write_seen : (written : Bool) (offset : ℕ) (bytes : List ℕ) → tables_of (slice_set rows n (Some (cond written (record t { load = unchecked (patched (base t) offset bytes) }) t))) handles ≡ cond written (patch n offset bytes (tables_of rows handles)) (tables_of rows handles)
+  pub write_seen : (written : Bool) (offset : ℕ) (bytes : List ℕ) → tables_of (slice_set rows n (Some (record t { load = cond written (unchecked (patched (base t) offset bytes)) t.load }))) handles ≡ cond written (patch n offset bytes (tables_of rows handles)) (tables_of rows handles)
   write_seen true offset bytes = row_seen (record t { load = unchecked (patched (base t) offset bytes) }) refl ∙ rw there refl
   write_seen false offset bytes = rw (← there, set-get_or rows n None) refl
 
   -- ---- a load opens, or has another image
 
-  no_image_before : {X : Type 0} (before : Option X) → before ≡ None → IsSome before → ⊥
-  no_image_before before none some = cc (rw none at some)
-
   -- no handle pins the image before the last, where a load may open
-  none_is_old : is_double t ≡ false → t.before ≡ None → (h : HandleView) (k : ℕ) → slice_index_or handles k None ≡ Some h → h.row ≡ Some n → h.pinned ≡ true → h.old ≡ true → ⊥
-  none_is_old single none h k at of is old = no_image_before t.before none ((pinned k h at of is).kept old)
-
-  old_is_not : (h : HandleView) → pins_old n h ≡ false → h.row ≡ Some n → h.pinned ≡ true → h.old ≡ true → ⊥
-  old_is_not h free of is old = let here : (n == n) ≡ true = search rules in cc (rw (of, is, old, here) at free)
-
-  opening_pins : (image : List ℕ) → IsTable t → (t.load ≡ None → is_double t ≡ true → locker (tables_of rows handles) n t ≡ None) → PinsOf n (record t { load = unchecked image }) handles
-  opening_pins image table free k h at of is =
+  none_is_old : IsTable t → (t.load ≡ None → is_double t ≡ true → locker (tables_of rows handles) n t ≡ None) → (k : ℕ) (h : HandleView) → slice_index_or handles k None ≡ Some h → h.row ≡ Some n → h.pinned ≡ true → h.old ≡ true → ⊥
+  none_is_old table free k h at of is old =
       let p = pinned k h at of is in
-      let none_old : h.old ≡ true → ⊥ = λ old.
       elim (cases_Bool (is_double t)) [
-        | inl double ↦ old_is_not h (no_old_pin rows n t there handles pinned (free (p.closed old) double) double k h at) of is old
-        | inr single ↦ none_is_old single (table.single single) h k at of is old
-      ] in record {
-        loaded = p.loaded;
-        kept = p.kept;
-        closed = λ old. absurd (none_old old);
-      }
+        | inl double ↦ cc (rw (pins_here n h is of, old) at (no_old_pin rows n t there handles pinned (free (p.closed old) double) k h at))
+        | inr single ↦ cc (rw (table.single single) at (p.kept old))
+      ]
 
-  uses_more : (single dump_only loaded pending : Bool) → dump_only ≡ false → one_if (single && true || dump_only && pending) ≡ one_if (single && loaded || dump_only && pending) + one_if (single && not loaded)
-  uses_more true false true pending is = refl
-  uses_more true false false pending is = refl
-  uses_more false false loaded pending is = refl
-  uses_more single true loaded pending is = absurd (cc is)
-
-  pub set_load_sound : (image : List ℕ) (buffers' : List (Option Held)) → IsTable t → is_dump_only t ≡ false → (t.load ≡ None → is_double t ≡ true → locker (tables_of rows handles) n t ≡ None) → IsGiven buffers buffers' n (wants_buffer t) → IsSound (slice_set rows n (Some (record t { load = unchecked image }))) handles buffers'
-  set_load_sound image buffers' table dumps free given =
-      changed_sound (record t { load = unchecked image }) handles buffers' refl (leads_on rows n (record t { load = unchecked image }) within handles sound.leads (opening_pins image table free))
-      (lent_given buffers buffers' rows n (Some (record t { load = unchecked image })) (wants_buffer t) within sound.lent given
-      (rw there (uses_more (not (is_double t)) (is_dump_only t) (is_some t.load) (not (is_quiet t.dump)) dumps)))
-
-  pub set_load_seen : (image : List ℕ) → tables_of (slice_set rows n (Some (record t { load = unchecked image }))) handles ≡ set_load n image (tables_of rows handles)
-  set_load_seen image = row_seen (record t { load = unchecked image }) refl ∙ rw there refl
+  pub set_load_sound : (image : List ℕ) (buffers' : List (Option Held)) → IsTable t → (t.load ≡ None → is_double t ≡ true → locker (tables_of rows handles) n t ≡ None)
+      → IsSettled buffers buffers' n (uses_buffer (Some t)) (uses_buffer (Some (record t { load = unchecked image }))) → IsSound (slice_set rows n (Some (record t { load = unchecked image }))) handles buffers'
+  set_load_sound image buffers' table free settled = pins_sound (record t { load = unchecked image }) buffers' refl (λ k h at of is. let p = pinned k h at of is in record {
+    loaded = p.loaded;
+    kept = p.kept;
+    closed = λ old. absurd (none_is_old table free k h at of is old);
+  }) settled
 
   -- ---- the mark of a load
 
-  some-option_map : {X Y : Type 0} (f : X → Y) (o : Option X) → is_some (option_map f o) ≡ is_some o
-  some-option_map f None = refl
-  some-option_map f (Some x) = refl
+  same_open : {X Y : Type 0} (f : X → Y) (o : Option X) → is_some (option_map f o) ≡ is_some o
+  same_open f None = refl
+  same_open f (Some x) = refl
 
-  pub checked_sound : IsSome t.load → (checked : Bool) → IsSound (slice_set rows n (Some (record t { load = option_map (λ (load : Load). record load { checked = checked }) t.load }))) handles buffers
-  checked_sound loaded checked = load_sound loaded _ (some-option_map (λ (load : Load). record load { checked = checked }) t.load)
+  pub checked_sound : (checked : Bool) → IsSound (slice_set rows n (Some (record t { load = option_map (λ (load : Load). record load { checked = checked }) t.load }))) handles buffers
+  checked_sound checked = quiet_sound _ refl refl refl (λ none. rw none refl) (rw (same_open (λ (load : Load). record load { checked = checked }) t.load) refl)
 
-  pub checked_seen : (checked : Bool) → tables_of (slice_set rows n (Some (record t { load = option_map (λ (load : Load). record load { checked = checked }) t.load }))) handles ≡ set_checked n checked (tables_of rows handles)
-  checked_seen checked = row_seen (record t { load = option_map (λ (load : Load). record load { checked = checked }) t.load }) refl ∙ rw there refl
+  -- ---- a dump is filled
+
+  same_quiet : (image : List ℕ) (dump : Dump) → is_quiet (filled_with image dump) ≡ is_quiet dump
+  same_quiet image quiet = refl
+  same_quiet image (asked file) = refl
+  same_quiet image (filled file earlier) = refl
+
+  pub filled_sound : IsSound (slice_set rows n (Some (record t { dump = filled_with (last_image t) t.dump }))) handles buffers
+  filled_sound = quiet_sound _ refl refl refl (λ none. none) (rw (same_quiet (last_image t) t.dump) refl)
+
+  -- ---- an option goes, and the others stay
+
+  pub uncritical_sound : IsSound (slice_set rows n (Some (record t { options = bit_and t.options 0xFFF7 }))) handles buffers
+  uncritical_sound = quiet_sound _ refl refl refl (λ none. none) (rw (other_option t.options 0x0001 refl, other_option t.options 0x0002 refl) refl)

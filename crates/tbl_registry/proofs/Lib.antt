@@ -1,10 +1,12 @@
 pub mod Add
 pub mod Start
 pub mod Changes
+pub mod Ends
 pub mod InUse
 pub mod Lent
 pub mod Named
 pub mod NewImages
+pub mod Owners
 pub mod Pins
 pub mod Places
 pub mod Steps

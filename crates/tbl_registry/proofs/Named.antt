@@ -2,9 +2,9 @@
 use Rattle.std.proofs.Common.{◌≡◌, ◌≢◌, ◌<◌, ℕ, List, length, position, slice_index_or, slice_set, Bool, true, false, cond, nat_lt, Option, Some, None, IsSome, refl, ap, sym, ◌∙◌, inl, inr, arith}
 use Rattle.std.specs.List.{position_or_len}
 use Rattle.std.specs.Str.{bytes_eq}
-use Rattle.std.proofs.lemmas.Bool.{cases_eq, cases_lt, cases_Bool}
+use Rattle.std.proofs.lemmas.Bool.{cases_eq, cases_Bool}
 use Rattle.std.proofs.lemmas.Bool.Decides.{nat_tests}
-use Rattle.std.proofs.lemmas.List.{length-set, get_or-set_same, get_or-set_other, get_or_past}
+use Rattle.std.proofs.lemmas.List.{length-set, get_or-set_same, get_or-set_other}
 use Rattle.std.proofs.lemmas.List.Folds.{position_or_len-set}
 use Rattle.std.proofs.lemmas.List.Quantifiers.{position-Some}
 use Rattle.std.proofs.lemmas.List.Sums.{position_or_len_is}
@@ -14,6 +14,7 @@ use Rattle.tbl_model.specs.State.{Table}
 use Rattle.tbl_model.specs.TableSteps.{has_name}
 use Rattle.tbl_registry.specs.Sound.{AreNamed}
 use Rattle.tbl_kinds.proofs.PositionLaws.{position-None}
+use Rattle.tbl_registry.proofs.Places.{within_places}
 
 same_name : (name : List ℕ) → bytes_eq name name ≡ true
 same_name name = (bytes_eq-Decides name name).1 refl
@@ -31,13 +32,6 @@ position-set p xs n y d same = rw (position_or_len-set p xs n y d same, length-s
 some_at : (n all : ℕ) → n < all → cond (nat_lt n all) (Some n) None ≡ Some n
 some_at n all within = grind (arith, nat_tests)
 
-within_row : (rows : List (Option Table)) (row : ℕ) (t : Table) → slice_index_or rows row None ≡ Some t → row < length rows
-within_row rows row t there =
-    elim (cases_lt row (length rows)) [
-      | inl within ↦ within
-      | inr past ↦ absurd (cc (get_or_past rows row None past))
-    ]
-
 -- a table is changed and keeps its name
 pub named_kept : (rows : List (Option Table)) (row : ℕ) (t u : Table) → slice_index_or rows row None ≡ Some t → u.name ≡ t.name → AreNamed rows → AreNamed (slice_set rows row (Some u))
 named_kept rows row t u there same named k x is =
@@ -46,7 +40,7 @@ named_kept rows row t u there same named k x is =
     elim (cases_eq k row) [
       | inl here ↦
           let at : slice_index_or (slice_set rows row (Some u)) row None ≡ Some x = rw here at is in
-          let x_is : u ≡ x = same_Some u x (sym (get_or-set_same rows row (Some u) None (within_row rows row t there)) ∙ at) in
+          let x_is : u ≡ x = same_Some u x (sym (get_or-set_same rows row (Some u) None (within_places rows row t there)) ∙ at) in
           let x_name : x.name ≡ t.name = ap (λ (v : Table). v.name) (sym x_is) ∙ same in
           rw (stays, here, x_name) (named row t there)
       | inr other ↦ stays ∙ named k x (sym (get_or-set_other rows row k (Some u) None other) ∙ is)
@@ -68,6 +62,21 @@ named_added rows row t free within new named k x is =
           let at : slice_index_or rows k None ≡ Some x = sym (get_or-set_other rows row k (Some t) None other) ∙ is in
           let differ : bytes_eq x.name t.name ≡ false = rw at at (position-None (has_name t.name) rows k None new refl) in
           position-set (has_name x.name) rows row (Some t) None (rw free (other_name x.name t.name differ)) ∙ named k x at
+    ]
+
+-- a table goes
+pub named_removed : (rows : List (Option Table)) (row : ℕ) (t : Table) → slice_index_or rows row None ≡ Some t → AreNamed rows → AreNamed (slice_set rows row None)
+named_removed rows row t there named k x is =
+    elim (cases_eq k row) [
+      | inl here ↦ absurd (cc (get_or-set_same rows row None None (within_places rows row t there), rw here at is))
+      | inr apart ↦
+          let at : slice_index_or rows k None ≡ Some x = sym (get_or-set_other rows row k None None apart) ∙ is in
+          elim (cases_Bool (bytes_eq t.name x.name)) [
+            | inl same ↦
+                let name : t.name ≡ x.name = (bytes_eq-Decides t.name x.name).0 same in
+                absurd (apart (same_Some k row (sym (named k x at) ∙ rw (← name) (named row t there))))
+            | inr differ ↦ position-set (has_name x.name) rows row None None (rw (there, differ) refl) ∙ named k x at
+          ]
     ]
 
 named_there : (name : List ℕ) (row : Option Table) → has_name name row ≡ true → IsSome row

@@ -1,5 +1,5 @@
 -- A table takes a new image: its handles pin the image before, which stays for them.
-use Rattle.std.proofs.Common.{◌≡◌, ◌≢◌, ◌==◌, ◌+◌, ◌-◌, ◌<◌, not, ◌&&◌, ℕ, List, [], ◌∷◌, length, map, position, slice_index_or, slice_set, Bool, true, false, cond, is_some, IsSome, Option, Some, None, refl, ap, sym, ◌∙◌, subst, arith, rules}
+use Rattle.std.proofs.Common.{◌≡◌, ◌==◌, ◌+◌, ◌-◌, ◌<◌, not, ◌&&◌, ℕ, List, length, map, position, slice_index_or, slice_set, Bool, true, false, cond, is_some, IsSome, Option, Some, None, refl, ap, sym, ◌∙◌, subst, arith}
 use Rattle.std.specs.Option.{option_map}
 use Rattle.std.specs.List.{list_any}
 use Rattle.std.proofs.lemmas.Bool.{and_parts}
@@ -7,41 +7,44 @@ use Rattle.std.proofs.lemmas.Bool.Decides.{nat_tests}
 use Rattle.std.proofs.lemmas.Option.{same_Some}
 use Rattle.std.proofs.lemmas.List.{get_or-set_same}
 use Rattle.tbl_model.specs.State.{Table, Handle}
-use Rattle.tbl_model.specs.Tables.{is_double}
-use Rattle.tbl_model.specs.TableSteps.{locker, put, pins as image_pins}
+use Rattle.tbl_model.specs.Tables.{is_double, uses_buffer}
+use Rattle.tbl_model.specs.TableSteps.{locker, with_table, with_image, load_image, put, activate, pins as image_pins}
 use Rattle.access_desc.specs.declared.handle_view.HandleView.{HandleView}
 use Rattle.access_desc.specs.Steps.{has, is_of, pins, pins_old, after_new_image}
 use Rattle.working_buffers.specs.Places.{Held}
 use Rattle.tbl_registry.specs.Rows.{IsTable}
 use Rattle.tbl_registry.specs.Pins.{AtEachPlace, Pins, Leads}
-use Rattle.tbl_registry.specs.Seen.{tables_of, handle_of}
+use Rattle.tbl_registry.specs.Lent.{IsSettled}
+use Rattle.tbl_registry.specs.Seen.{tables_of, handle_of, with_next}
 use Rattle.tbl_registry.specs.Sound.{IsSound}
 use Rattle.tbl_registry.proofs.Places.{within_places, position-seen, any-seen, any_is_found, map-through, AtEachPlace-map}
 use Rattle.tbl_kinds.proofs.PositionLaws.{position-None}
-use Rattle.tbl_registry.proofs.Pins.{PinsOf, pins_of, leads_on, tables_with, handle_other, handles_stay, pins_last, of_row, no_old_pin, no_pin, pins_here}
-use Rattle.tbl_registry.proofs.Changes.{changed_sound, same_buffer}
+use Rattle.tbl_registry.proofs.Pins.{PinsOf, pins_of, leads_on, tables_with, handle_other, pins_last, of_row, no_old_pin, no_pin, pins_here}
+use Rattle.tbl_registry.proofs.Changes.{Stands, changed_sound}
+use Rattle.tbl_registry.proofs.Lent.{settled_same}
 
--- the handles after it
-abbrev pub moved : Bool → ℕ → List (Option HandleView) → List (Option HandleView)
-moved double row handles = cond double (map (option_map (after_new_image row)) handles) handles
+module _ {rows : List (Option Table)} {handles : List (Option HandleView)} {buffers : List (Option Held)} {row : ℕ} {t : Table} (stood : Stands rows handles buffers row t) (free : locker (tables_of rows handles) row t ≡ None) where
+  there : slice_index_or rows row None ≡ Some t
+  there = stood.there
 
--- the table after it
-abbrev pub with_next : Table → List ℕ → Bool → Table
-with_next t image stays = record t { count = t.count + 1; last = Some image; before = cond stays t.last None }
+  sound : IsSound rows handles buffers
+  sound = stood.sound
 
--- whether its old image stays
-abbrev pub stays : Table → ℕ → List (Option HandleView) → Bool
-stays t row handles = is_double t && is_some (position (has (pins_old row)) (moved (is_double t) row handles))
-
-module _ (rows : List (Option Table)) (handles : List (Option HandleView)) (buffers : List (Option Held)) (row : ℕ) (t : Table) (there : slice_index_or rows row None ≡ Some t) (sound : IsSound rows handles buffers)
-    (free : locker (tables_of rows handles) row t ≡ None) where
   pinned : PinsOf row t handles
   pinned = pins_of rows handles row t there sound.leads
 
   within : row < length rows
   within = within_places rows row t there
 
-  -- ---- which image stays
+  not_old : AtEachPlace (λ h. pins_old row h ≡ false) handles
+  not_old = no_old_pin rows row t there handles pinned free
+
+  -- the handles after it, and whether the image that was the last stays
+  abbrev pub moved : List (Option HandleView)
+  moved = map (option_map (after_new_image row)) handles
+
+  abbrev pub stays : Bool
+  stays = is_some (position (has (pins_old row)) moved)
 
   old_after : (h : HandleView) → pins_old row (after_new_image row h) ≡ pins row h
   old_after h = by (pins row h) refl where
@@ -49,7 +52,7 @@ module _ (rows : List (Option Table)) (handles : List (Option HandleView)) (buff
     by true is = rw is refl
     by false is = rw is refl
 
-  found_after : position (has (pins_old row)) (map (option_map (after_new_image row)) handles) ≡ position (has (pins row)) handles
+  found_after : position (has (pins_old row)) moved ≡ position (has (pins row)) handles
   found_after = position-seen (has (pins_old row)) (has (pins row)) (after_new_image row) handles refl (λ n h at. old_after h)
 
   and_not_old : (a p old : Bool) → ((a && p) && old) ≡ false → (a && (p && not old)) ≡ (a && p)
@@ -58,123 +61,106 @@ module _ (rows : List (Option Table)) (handles : List (Option HandleView)) (buff
   and_not_old true false old _ = refl
   and_not_old false p old _ = refl
 
-  none_of : (a p old : Bool) → (a && p) ≡ false → (a && (p && not old)) ≡ false
-  none_of true true old isnt = absurd (cc isnt)
-  none_of true false old _ = refl
-  none_of false p old _ = refl
+  stays_is : list_any (image_pins row t.count) (map (option_map (handle_of rows)) handles) ≡ stays
+  stays_is =
+      any-seen (image_pins row t.count) (has (pins row)) (handle_of rows) handles refl
+      (λ n h at. pins_last rows row t there h (λ of is. (pinned n h at of is).loaded) ∙ and_not_old (is_of row h) h.pinned h.old (not_old n h at))
+      ∙ any_is_found (has (pins row)) handles
+      ∙ ap (λ (found : Option ℕ). is_some found) (sym found_after)
 
-  -- a handle pins the last image
-  pins_it : (double : Bool) → is_double t ≡ double → AtEachPlace (λ h. image_pins row t.count (Some (handle_of rows h)) ≡ (double && pins row h)) handles
-  pins_it true double n h at = pins_last rows row t there h (λ of is. (pinned n h at of is).loaded) ∙ and_not_old (is_of row h) h.pinned h.old (no_old_pin rows row t there handles pinned free double n h at)
-  pins_it false single n h at = pins_last rows row t there h (λ of is. (pinned n h at of is).loaded) ∙ none_of (is_of row h) h.pinned h.old (no_pin rows row t there handles pinned free single n h at)
+  -- a single buffer has no image before the last, and nobody pins one
+  before_is : (double : Bool) → is_double t ≡ double → cond stays (cond double t.last None) None ≡ cond stays t.last None
+  before_is true _ = refl
+  before_is false single = rw (found_after, no_pin rows row t there handles pinned free single) refl
 
-  never : {X : Type 0} (xs : List X) → list_any (λ x. false) xs ≡ false
-  never [] = refl
-  never (x ∷ xs) = never xs
+  next_is : (image : List ℕ) → with_next t image stays ≡ with_image (map (option_map (handle_of rows)) handles) row image t
+  next_is image =
+      ap (λ (before : Option (List ℕ)). let next : Table = record t { count = t.count + 1; last = Some image; before = before } in next)
+      (before_is (is_double t) refl ∙ ap (λ (b : Bool). cond b t.last None) (sym stays_is))
 
-  pub stays_is : list_any (image_pins row t.count) (map (option_map (handle_of rows)) handles) ≡ stays t row handles
-  stays_is = by (is_double t) refl where
-    by : (double : Bool) → is_double t ≡ double → list_any (image_pins row t.count) (map (option_map (handle_of rows)) handles) ≡ (double && is_some (position (has (pins_old row)) (moved double row handles)))
-    by true double =
-        any-seen (image_pins row t.count) (has (pins row)) (handle_of rows) handles refl (pins_it true double)
-        ∙ any_is_found (has (pins row)) handles
-        ∙ ap (λ (found : Option ℕ). is_some found) (sym found_after)
-    by false single = any-seen (image_pins row t.count) (λ place. false) (handle_of rows) handles refl (pins_it false single) ∙ never handles
-
-  -- ---- how the handles are seen
+  -- ---- a table that has had one image more
 
   third_is : (ab c : Bool) → ab ≡ true → (ab && c) ≡ false → c ≡ false
   third_is true c _ isnt = isnt
   third_is false c is _ = absurd (cc is)
 
-  apart_from : (h : HandleView) → pins row h ≡ false → h.pinned ≡ true → (k : ℕ) → h.row ≡ Some k → k ≢ row
-  apart_from h isnt is k of same = cc (pins_here row h is (of ∙ ap (λ (j : ℕ). Some j) same), isnt)
-
-  module _ (image : List ℕ) (b : Bool) where
+  module _ (u : Table) (more : u.count ≡ t.count + 1) where
     abbrev rows' : List (Option Table)
-    rows' = slice_set rows row (Some (with_next t image b))
+    rows' = slice_set rows row (Some u)
 
-    new_there : slice_index_or rows' row None ≡ Some (with_next t image b)
-    new_there = get_or-set_same rows row (Some (with_next t image b)) None within
+    new_there : slice_index_or rows' row None ≡ Some u
+    new_there = get_or-set_same rows row (Some u) None within
 
-    pin_moved : (h : HandleView) → h.row ≡ Some row → h.pinned ≡ true → h.old ≡ false → (handle_of rows' (record h { old = true })).pin ≡ (handle_of rows h).pin
-    pin_moved h of is new = let e : t.count + 1 - 1 ≡ t.count = omega arith in rw (of, is, new, new_there, there, e) refl
+    seen_moved : (h : HandleView) → pins_old row h ≡ false → handle_of rows' (after_new_image row h) ≡ handle_of rows h
+    seen_moved h no_old = by (pins row h) refl where
+      pin_moved : h.row ≡ Some row → h.pinned ≡ true → h.old ≡ false → (handle_of rows' (record h { old = true })).pin ≡ (handle_of rows h).pin
+      pin_moved of is new = let e : t.count + 1 - 1 ≡ t.count = omega arith in rw (of, is, new, new_there, there, more, e) refl
 
-    seen_moved : is_double t ≡ true → (h : HandleView) → pins_old row h ≡ false → handle_of rows' (after_new_image row h) ≡ handle_of rows h
-    seen_moved double h no_old = by (pins row h) refl where
       by : (c : Bool) → pins row h ≡ c → handle_of rows' (cond c (record h { old = true }) h) ≡ handle_of rows h
       by true is =
           let two = and_parts (is_of row h) h.pinned is in
           ap (λ (pin : Option ℕ). let seen : Handle = record { app = h.app; row = h.row; told = h.told; pin = pin } in seen)
-          (pin_moved h (of_row row h.row two.0) two.1 (third_is (pins row h) h.old is no_old))
-      by false isnt = handle_other rows row (Some (with_next t image b)) h (apart_from h isnt)
+          (pin_moved (of_row row h.row two.0) two.1 (third_is (pins row h) h.old is no_old))
+      by false isnt = handle_other rows row (Some u) h (λ is k of same. cc (pins_here row h is (of ∙ ap (λ (j : ℕ). Some j) same), isnt))
 
-    seen_same : map (option_map (handle_of rows')) (moved (is_double t) row handles) ≡ map (option_map (handle_of rows)) handles
-    seen_same = by (is_double t) refl where
-      by : (double : Bool) → is_double t ≡ double → map (option_map (handle_of rows')) (moved double row handles) ≡ map (option_map (handle_of rows)) handles
-      by true double = map-through (handle_of rows') (after_new_image row) (handle_of rows) handles (λ n h at. seen_moved double h (no_old_pin rows row t there handles pinned free double n h at))
-      by false single = handles_stay rows row (Some (with_next t image b)) handles (λ n h at. apart_from h (no_pin rows row t there handles pinned free single n h at))
+    moved_seen : tables_of rows' moved ≡ with_table row u (tables_of rows handles)
+    moved_seen = ap (λ (hs : List (Option Handle)). tables_with rows' hs) (map-through (handle_of rows') (after_new_image row) (handle_of rows) handles (λ n h at. seen_moved h (not_old n h at)))
 
-  pub put_seen : (image : List ℕ) → tables_of (slice_set rows row (Some (with_next t image (stays t row handles)))) (moved (is_double t) row handles) ≡ put row image (tables_of rows handles)
-  put_seen image =
-      ap (λ (hs : List (Option Handle)). tables_with (slice_set rows row (Some (with_next t image (stays t row handles)))) hs) (seen_same image (stays t row handles))
-      ∙ rw there (ap (λ (b : Bool). tables_with (slice_set rows row (Some (with_next t image b))) (map (option_map (handle_of rows)) handles)) (sym stays_is))
+    -- its handles lead on, where the image that was the last stays for them
+    module _ (table : IsTable t) (before : u.before ≡ cond stays t.last None) (closed : u.load ≡ None) where
+      stays_where : (n : ℕ) (h : HandleView) → slice_index_or handles n None ≡ Some h → pins row h ≡ true → stays ≡ true
+      stays_where n h at is = rw found_after (by (position (has (pins row)) handles) refl) where
+        by : (found : Option ℕ) → position (has (pins row)) handles ≡ found → is_some found ≡ true
+        by None none = absurd (cc (rw at at (position-None (has (pins row)) handles n None none refl), is))
+        by (Some k) found = refl
 
-  -- ---- and how they lead on
+      some_last : 0 < t.count → IsSome t.last
+      some_last some = last_is t.last (let more : (t.count == 0) ≡ false = grind (arith, nat_tests) in rw more at table.loaded) where
+        last_is : (last : Option (List ℕ)) → is_some last ≡ not false → IsSome last
+        last_is None is = absurd (cc is)
+        last_is (Some x) is = refl
 
-  stays_where : is_double t ≡ true → (n : ℕ) (h : HandleView) → slice_index_or handles n None ≡ Some h → pins row h ≡ true → stays t row handles ≡ true
-  stays_where double n h at is =
-      rw (double, found_after) (by (position (has (pins row)) handles) refl)
-    where
-      by : (found : Option ℕ) → position (has (pins row)) handles ≡ found → is_some found ≡ true
-      by None none = absurd (cc (rw at at (position-None (has (pins row)) handles n None none refl), is))
-      by (Some k) found = refl
+      leads : AtEachPlace (Leads rows') handles
+      leads = leads_on rows row u within handles sound.leads (λ n h at of is.
+          let never : h.old ≡ true → ⊥ = λ old. cc (rw (pins_here row h is of, old) at (not_old n h at)) in record {
+            loaded = omega (arith, more);
+            kept = λ old. absurd (never old);
+            closed = λ old. absurd (never old);
+          })
 
-  new_pins : (image : List ℕ) (b : Bool) → PinsOf row (with_next t image b) handles
-  new_pins image b n h at of is = record {
-    loaded = omega arith;
-    kept = λ old. absurd (never_old (is_double t) refl old);
-    closed = λ old. absurd (never_old (is_double t) refl old);
-  } where
-    never_old : (double : Bool) → is_double t ≡ double → h.old ≡ true → ⊥
-    never_old true double old = let isnt = no_old_pin rows row t there handles pinned free double n h at in cc (rw (pins_here row h is of, old) at isnt)
-    never_old false single old = let isnt = no_pin rows row t there handles pinned free single n h at in cc (rw (pins_here row h is of) at isnt)
+      moved_leads : (n : ℕ) (h : HandleView) → slice_index_or handles n None ≡ Some h → Leads rows' (after_new_image row h)
+      moved_leads n h at = each (pins row h) refl where
+        each : (c : Bool) → pins row h ≡ c → Leads rows' (cond c (record h { old = true }) h)
+        each true is = record {
+          table = (leads n h at).table;
+          pins = λ is_pinned k of v there_v.
+              let two = and_parts (is_of row h) h.pinned is in
+              let here : row ≡ k = same_Some row k (sym (of_row row h.row two.0) ∙ of) in
+              let same : u ≡ v = same_Some _ v (sym new_there ∙ rw (← here) at there_v) in
+              subst (λ (w : Table). Pins w true) same record {
+                loaded = omega (arith, more);
+                kept = λ _. rw (before, stays_where n h at is) (some_last ((pinned n h at (of_row row h.row two.0) is_pinned).loaded));
+                closed = λ _. closed;
+              };
+        }
+        each false isnt = leads n h at
 
-  put_leads : (image : List ℕ) → IsTable t → t.load ≡ None → AtEachPlace (Leads (slice_set rows row (Some (with_next t image (stays t row handles))))) (moved (is_double t) row handles)
-  put_leads image table closed = by (is_double t) refl where
-    leads : AtEachPlace (Leads (rows' image (stays t row handles))) handles
-    leads = leads_on rows row (with_next t image (stays t row handles)) within handles sound.leads (new_pins image (stays t row handles))
+      moved_sound : (buffers' : List (Option Held)) → u.name ≡ t.name → IsSettled buffers buffers' row (uses_buffer (Some t)) (uses_buffer (Some u)) → IsSound rows' moved buffers'
+      moved_sound buffers' name settled = changed_sound stood u moved buffers' name (AtEachPlace-map (Leads rows') (after_new_image row) handles moved_leads) settled
 
-    some_last : 0 < t.count → IsSome t.last
-    some_last some = last_is t.last (rw (more some) at table.loaded) where
-      more : 0 < t.count → (t.count == 0) ≡ false
-      more some = grind (arith, nat_tests)
+  -- ---- put, and the load that goes active
 
-      last_is : (last : Option (List ℕ)) → is_some last ≡ not false → IsSome last
-      last_is None is = absurd (cc is)
-      last_is (Some x) is = refl
+  abbrev pub activated : Table
+  activated = record (with_next t (load_image t) stays) { load = None; activation = false }
 
-    moved_leads : is_double t ≡ true → (n : ℕ) (h : HandleView) → slice_index_or handles n None ≡ Some h → Leads (rows' image (stays t row handles)) (after_new_image row h)
-    moved_leads double n h at = each (pins row h) refl where
-      each : (c : Bool) → pins row h ≡ c → Leads (rows' image (stays t row handles)) (cond c (record h { old = true }) h)
-      each true is = record {
-        table = (leads n h at).table;
-        pins = λ is_pinned k of v there_v.
-            let two = and_parts (is_of row h) h.pinned is in
-            let here : row ≡ k = same_Some row k (sym (of_row row h.row two.0) ∙ of) in
-            let same : with_next t image (stays t row handles) ≡ v = same_Some _ v (sym (new_there image (stays t row handles)) ∙ rw (← here) at there_v) in
-            subst (λ (w : Table). Pins w true) same record {
-              loaded = omega arith;
-              kept = λ _. rw (stays_where double n h at is) (some_last ((pinned n h at (of_row row h.row two.0) is_pinned).loaded));
-              closed = λ _. closed;
-            };
-      }
-      each false isnt = leads n h at
+  pub put_seen : (image : List ℕ) → tables_of (slice_set rows row (Some (with_next t image stays))) moved ≡ put row image (tables_of rows handles)
+  put_seen image = moved_seen (with_next t image stays) refl ∙ rw there (ap (λ (u : Table). with_table row u (tables_of rows handles)) (next_is image))
 
-    by : (double : Bool) → is_double t ≡ double → AtEachPlace (Leads (rows' image (stays t row handles))) (moved double row handles)
-    by true double = AtEachPlace-map (Leads (rows' image (stays t row handles))) (after_new_image row) handles (moved_leads double)
-    by false single = leads
+  pub activate_seen : tables_of (slice_set rows row (Some activated)) moved ≡ activate row (tables_of rows handles)
+  activate_seen = moved_seen activated refl ∙ rw there (ap (λ (u : Table). with_table row (record u { load = None; activation = false }) (tables_of rows handles)) (next_is (load_image t)))
 
-  pub put_sound : (image : List ℕ) → IsTable t → t.load ≡ None → IsSound (slice_set rows row (Some (with_next t image (stays t row handles)))) (moved (is_double t) row handles) buffers
-  put_sound image table closed = changed_sound rows handles buffers row t there sound (with_next t image (stays t row handles)) (moved (is_double t) row handles) buffers refl (put_leads image table closed)
-      (same_buffer rows handles buffers row t there sound (with_next t image (stays t row handles)) refl)
+  pub put_sound : (image : List ℕ) → IsTable t → t.load ≡ None → IsSound (slice_set rows row (Some (with_next t image stays))) moved buffers
+  put_sound image table closed = moved_sound (with_next t image stays) refl table (before_is (is_double t) refl) closed buffers refl (settled_same buffers row (uses_buffer (Some t)))
+
+  pub activate_sound : (buffers' : List (Option Held)) → IsTable t → IsSettled buffers buffers' row (uses_buffer (Some t)) (uses_buffer (Some activated)) → IsSound (slice_set rows row (Some activated)) moved buffers'
+  activate_sound buffers' table settled = moved_sound activated refl table (before_is (is_double t) refl) refl buffers' refl settled

@@ -1,5 +1,5 @@
 -- Where a row changes: how handles lead on, how they are seen, and which of them pin an image of the row.
-use Rattle.std.proofs.Common.{◌≡◌, ◌≢◌, ◌==◌, ◌-◌, ◌<◌, position, ℕ, List, map, length, slice_index_or, slice_set, Bool, true, false, not, ◌&&◌, is_some, Option, Some, None, refl, ap, sym, ◌∙◌, subst, inl, inr, arith, cond, rules}
+use Rattle.std.proofs.Common.{◌≡◌, ◌≢◌, ◌==◌, ◌-◌, ◌<◌, position, ℕ, List, map, length, slice_index_or, slice_set, Bool, true, false, not, ◌&&◌, ◌||◌, is_some, Option, Some, None, refl, ap, sym, ◌∙◌, subst, inl, inr, arith, cond, rules}
 use Rattle.std.specs.Option.{option_map, option_map_or}
 use Rattle.std.specs.List.{list_any}
 use Rattle.std.proofs.lemmas.Bool.{cases_eq, cases_Bool}
@@ -80,13 +80,16 @@ change_seen rows handles row t u there within same =
 
 -- ---- who pins an image of the row
 
-that_is : (row : ℕ) (of : Option ℕ) → is_that row of ≡ option_map_or (λ r. r == row) of false
+pub that_is : (row : ℕ) (of : Option ℕ) → is_that row of ≡ option_map_or (λ r. r == row) of false
 that_is row None = refl
 that_is row (Some r) = refl
 
 pub of_row : (row : ℕ) (of : Option ℕ) → option_map_or (λ r. r == row) of false ≡ true → of ≡ Some row
 of_row row None is = absurd (cc is)
 of_row row (Some r) is = let same : r ≡ row = grind (arith, nat_tests) in ap (λ (x : ℕ). Some x) same
+
+pub here_of : (row : ℕ) (h : HandleView) → h.row ≡ Some row → is_of row h ≡ true
+here_of row h of = let here : (row == row) ≡ true = search rules in rw (of, here) refl
 
 pub pins_here : (row : ℕ) (h : HandleView) → h.pinned ≡ true → h.row ≡ Some row → pins row h ≡ true
 pins_here row h is of = let here : (row == row) ≡ true = search rules in rw (of, is, here) refl
@@ -107,53 +110,53 @@ pin_is_before count true true some = grind (arith, nat_tests)
 pin_is_before count true false some = let more = some refl in grind (arith, nat_tests)
 
 module _ (rows : List (Option Table)) (row : ℕ) (t : Table) (there : slice_index_or rows row None ≡ Some t) where
-  -- a handle of the row, as it is seen
-  pub pin_here : (h : HandleView) → h.row ≡ Some row → (handle_of rows h).pin ≡ number_of t.count h.pinned h.old
-  pin_here h of = rw (of, there) refl
+  -- a test of the pin of the row's handles
+  test_here : (test : Option ℕ → Bool) (expected : Bool) (h : HandleView) → (h.row ≡ Some row → test (number_of t.count h.pinned h.old) ≡ expected) → (is_that row h.row && test (handle_of rows h).pin) ≡ (is_of row h && expected)
+  test_here test expected h passes =
+      elim (cases_Bool (is_of row h)) [
+        | inl is ↦ let of = of_row row h.row is in rw (that_is row h.row, is) (ap test (rw (of, there) refl) ∙ passes of)
+        | inr other ↦ rw (that_is row h.row, other) refl
+      ]
 
-  way_of : (count : ℕ) (pinned old double : Bool) → (pinned ≡ true → 0 < count) → ((true && is_some (number_of count pinned old)) && not (double && is_that count (number_of count pinned old))) ≡ cond double ((true && pinned) && old) (true && pinned)
-  way_of count false old true some = refl
-  way_of count false old false some = refl
+  way_of : (count : ℕ) (pinned old double : Bool) → (pinned ≡ true → 0 < count) → (is_some (number_of count pinned old) && not (double && is_that count (number_of count pinned old))) ≡ (pinned && (not double || old))
+  way_of count false old double some = refl
   way_of count true old false some = refl
   way_of count true true true some = rw (pin_is_last count true true some) refl
   way_of count true false true some = rw (pin_is_last count true false some) refl
 
-  neither : (double : Bool) → cond double false false ≡ false
-  neither true = refl
-  neither false = refl
+  apart : (a b c : Bool) → ((a && b) && c) ≡ (a && (b && c))
+  apart true b c = refl
+  apart false b c = refl
+
+  as_pins : (here pinned old double : Bool) → (here && (pinned && (not double || old))) ≡ cond double ((here && pinned) && old) (here && pinned)
+  as_pins true true old true = refl
+  as_pins true true old false = refl
+  as_pins true false old true = refl
+  as_pins true false old false = refl
+  as_pins false pinned old true = refl
+  as_pins false pinned old false = refl
 
   -- it is in the way of a new image
   in_way : (h : HandleView) → (h.row ≡ Some row → h.pinned ≡ true → 0 < t.count) → is_in_way row t (Some (handle_of rows h)) ≡ cond (is_double t) (pins_old row h) (pins row h)
   in_way h some =
-      elim (cases_Bool (is_of row h)) [
-        | inl is ↦
-            let of = of_row row h.row is in
-            rw (that_is row h.row, is, pin_here h of) (way_of t.count h.pinned h.old (is_double t) (some of))
-        | inr other ↦ rw (that_is row h.row, other) (sym (neither (is_double t)))
-      ]
+      apart (is_that row h.row) (is_some (handle_of rows h).pin) (not (is_double t && is_that t.count (handle_of rows h).pin))
+      ∙ test_here (λ pin. is_some pin && not (is_double t && is_that t.count pin)) (h.pinned && (not (is_double t) || h.old)) h (λ of. way_of t.count h.pinned h.old (is_double t) (some of))
+      ∙ as_pins (is_of row h) h.pinned h.old (is_double t)
 
   -- it pins the last image, or the one before
   pub pins_last : (h : HandleView) → (h.row ≡ Some row → h.pinned ≡ true → 0 < t.count) → image_pins row t.count (Some (handle_of rows h)) ≡ (is_of row h && (h.pinned && not h.old))
-  pins_last h some =
-      elim (cases_Bool (is_of row h)) [
-        | inl is ↦
-            let of = of_row row h.row is in
-            rw (that_is row h.row, is, pin_here h of, pin_is_last t.count h.pinned h.old (some of)) refl
-        | inr other ↦ rw (that_is row h.row, other) refl
-      ]
+  pins_last h some = test_here (is_that t.count) (h.pinned && not h.old) h (λ of. pin_is_last t.count h.pinned h.old (some of))
 
   pins_before : (h : HandleView) → (h.row ≡ Some row → h.pinned ≡ true → 0 < t.count) → image_pins row (t.count - 1) (Some (handle_of rows h)) ≡ pins_old row h
-  pins_before h some =
-      elim (cases_Bool (is_of row h)) [
-        | inl is ↦
-            let of = of_row row h.row is in
-            rw (that_is row h.row, is, pin_here h of, pin_is_before t.count h.pinned h.old (some of)) refl
-        | inr other ↦ rw (that_is row h.row, other) refl
-      ]
+  pins_before h some = test_here (is_that (t.count - 1)) (h.pinned && h.old) h (λ of. pin_is_before t.count h.pinned h.old (some of)) ∙ sym (apart (is_of row h) h.pinned h.old)
 
   module _ (handles : List (Option HandleView)) (pinned : PinsOf row t handles) where
     some_image : AtEachPlace (λ h. h.row ≡ Some row → h.pinned ≡ true → 0 < t.count) handles
     some_image n h at of is = (pinned n h at of is).loaded
+
+    neither : (double : Bool) → cond double false false ≡ false
+    neither true = refl
+    neither false = refl
 
     pub locker_is : locker (tables_of rows handles) row t ≡ position (λ place. cond (is_double t) (has (pins_old row) place) (has (pins row) place)) handles
     locker_is = position-seen (is_in_way row t) _ (handle_of rows) handles (sym (neither (is_double t))) (λ n h at. in_way h (some_image n h at))
@@ -165,11 +168,11 @@ module _ (rows : List (Option Table)) (row : ℕ) (t : Table) (there : slice_ind
     -- ---- of a table that isn't locked
 
     module _ (free : locker (tables_of rows handles) row t ≡ None) where
-      out_of_way : AtEachPlace (λ h. cond (is_double t) (pins_old row h) (pins row h) ≡ false) handles
-      out_of_way = none_passes handles (λ place. cond (is_double t) (has (pins_old row) place) (has (pins row) place)) (neither (is_double t)) (sym locker_is ∙ free)
+      pub no_old_pin : AtEachPlace (λ h. pins_old row h ≡ false) handles
+      no_old_pin n h at = by (is_double t) (none_passes handles (λ place. cond (is_double t) (has (pins_old row) place) (has (pins row) place)) (neither (is_double t)) (sym locker_is ∙ free) n h at) where
+        by : (double : Bool) → cond double (pins_old row h) (pins row h) ≡ false → pins_old row h ≡ false
+        by true is = is
+        by false is = ap (λ (b : Bool). b && h.old) is
 
-      pub no_old_pin : is_double t ≡ true → AtEachPlace (λ h. pins_old row h ≡ false) handles
-      no_old_pin double n h at = rw double at (out_of_way n h at)
-
-      pub no_pin : is_double t ≡ false → AtEachPlace (λ h. pins row h ≡ false) handles
-      no_pin single n h at = rw single at (out_of_way n h at)
+      pub no_pin : is_double t ≡ false → position (has (pins row)) handles ≡ None
+      no_pin single = sym (rw single at locker_is) ∙ free

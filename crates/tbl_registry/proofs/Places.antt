@@ -1,12 +1,12 @@
 -- Lists of places, seen by index.
-use Rattle.std.proofs.Common.{◌≡◌, ℕ, ◌+◌, ◌<◌, ◌≤◌, zero, suc, List, [], ◌∷◌, length, map, take, replicate, count_by, position, slice_index_or, slice_set, Bool, true, false, not, ◌||◌, cond, nat_lt, is_some, is_none, Option, Some, None, refl, ap, sym, ◌∙◌, subst, IsSome, inl, inr, arith}
+use Rattle.std.proofs.Common.{◌≡◌, ℕ, ◌+◌, ◌<◌, ◌≤◌, zero, suc, List, [], ◌∷◌, length, map, take, replicate, count_by, position, slice_index_or, slice_set, Bool, true, false, not, ◌||◌, cond, nat_lt, is_some, Option, Some, None, refl, ap, sym, ◌∙◌, subst, IsSome, inl, inr, arith}
 use Rattle.std.specs.List.{position_or_len, list_any}
 use Rattle.std.specs.Option.{option_map, ForSome}
 use Rattle.std.proofs.lemmas.Bool.{cases_lt}
 use Rattle.std.proofs.lemmas.Option.{same_Some}
 use Rattle.std.proofs.lemmas.Bool.Decides.{nat_tests}
 use Rattle.std.proofs.lemmas.List.{length-map, length-take-le, get_or_past}
-use Rattle.std.proofs.lemmas.List.Sums.{fails_before_first, sum_by-set, sum_by-cons, count_by_more_yes, count_by_more_no, count_by-le-length}
+use Rattle.std.proofs.lemmas.List.Sums.{sum_by-set, sum_by-cons, count_by_more_yes, count_by_more_no, count_by-le-length}
 use Rattle.tbl_kinds.proofs.PositionLaws.{position-None}
 use Rattle.access_desc.specs.Steps.{at_place, changed_at}
 use Rattle.tbl_registry.specs.Pins.{AtEachPlace}
@@ -62,17 +62,7 @@ within_places xs n x there =
 pub count_set : {X : Type 0} (p : X → Bool) (xs : List X) (n : ℕ) (v d : X) → n < length xs → count_by p (slice_set xs n v) + one_if (p (slice_index_or xs n d)) ≡ count_by p xs + one_if (p v)
 count_set p xs n v d within = sum_by-set (λ x. one_if (p x)) xs n v d within
 
--- a count of a list that is seen otherwise
-pub count_map : {X Y : Type 0} (p : Y → Bool) (q : X → Bool) (f : X → Y) → ((x : X) → p (f x) ≡ q x) → (xs : List X) → count_by p (map f xs) ≡ count_by q xs
-count_map p q f same [] = refl
-count_map p q f same (x ∷ xs) =
-    let a : count_by p (map f (x ∷ xs)) ≡ cond (p (f x)) 1 0 + count_by p (map f xs) = sum_by-cons (λ y. cond (p y) 1 0) (f x) (map f xs) in
-    let b : count_by q (x ∷ xs) ≡ cond (q x) 1 0 + count_by q xs = sum_by-cons (λ y. cond (q y) 1 0) x xs in
-    let e : cond (p (f x)) 1 0 ≡ cond {A = ℕ} (q x) 1 0 = rw (same x) refl in
-    let i : count_by p (map f xs) ≡ count_by q xs = count_map p q f same xs in
-    omega (arith, a, b, e, i)
-
--- and after one element more
+-- a count after one element more
 pub counted_more : {X : Type 0} (p : X → Bool) (xs : List X) (n count : ℕ) (d : X) (b : Bool) → n < length xs → count ≡ count_by p (take n xs) → b ≡ p (slice_index_or xs n d) → cond b (count + 1) count ≡ count_by p (take (n + 1) xs)
 counted_more p xs n count d true within is here = rw is (sym (count_by_more_yes p xs n d within (sym here)))
 counted_more p xs n count d false within is here = rw is (sym (count_by_more_no p xs n d within (sym here)))
@@ -117,6 +107,14 @@ any_is_found {X} q xs = rw (found_at (position_or_len q xs) (length xs)) (by xs)
 
 pub none_passes : {X : Type 0} (xs : List (Option X)) (test : Option X → Bool) → test None ≡ false → position test xs ≡ None → AtEachPlace (λ x. test (Some x) ≡ false) xs
 none_passes xs test none free n x at = rw at at (position-None test xs n None free none)
+
+-- none counts where there is no first
+pub none_counted : {X : Type 0} (p : Option X → Bool) (xs : List (Option X)) → p None ≡ false → position p xs ≡ None → count_by p xs ≡ 0
+none_counted {X} p xs none free = by xs (none_passes xs p none free) where
+  by : (xs : List (Option X)) → AtEachPlace (λ x. p (Some x) ≡ false) xs → count_by p xs ≡ 0
+  by [] fails = refl
+  by (None ∷ xs) fails = sum_by-cons (λ x. cond (p x) 1 0) None xs ∙ rw (none, by xs (λ k. fails (suc k))) refl
+  by (Some x ∷ xs) fails = sum_by-cons (λ x. cond (p x) 1 0) (Some x) xs ∙ rw (fails zero x refl, by xs (λ k. fails (suc k))) refl
 
 -- ---- each place changed
 

@@ -1,21 +1,24 @@
 -- The steps of a handle that leads to a table.
-use Rattle.std.proofs.Common.{◌≡◌, ◌==◌, ◌+◌, ◌-◌, ◌<◌, ◌≤◌, nat_lt, ℕ, List, length, position, take, drop, [], unwrap_or, cond, slice_index_or, slice_set, Bool, true, false, ◌&&◌, is_some, IsSome, Option, Some, None, Ok, refl, ap, sym, ◌∙◌, arith, rules, subst}
+use Rattle.std.proofs.Common.{◌≡◌, ◌==◌, ◌+◌, ◌-◌, ◌<◌, ◌≤◌, nat_lt, ℕ, List, length, position, take, drop, [], unwrap_or, cond, slice_index_or, slice_set, Bool, true, false, ◌&&◌, is_some, IsSome, Option, Some, None, Ok, refl, ap, sym, ◌∙◌, arith, rules, subst, option_and_then}
 use Rattle.std.specs.Option.{option_map}
-use Rattle.std.specs.List.{list_any}
+use Rattle.std.specs.Option.{ForSome}
+use Rattle.std.proofs.lemmas.List.{map-set}
 use Rattle.std.proofs.lemmas.Option.{same_Some}
 use Rattle.std.proofs.lemmas.Bool.Decides.{nat_tests}
 use Rattle.tbl_model.specs.State.{Table, Handle, Tables}
-use Rattle.tbl_model.specs.TableSteps.{access_of, with_handle, with_table, get_address, release, read, let_go, pins as image_pins}
+use Rattle.tbl_model.specs.TableSteps.{access_of, handle_at, new_handle, with_handle, with_table, without_handle, give_back, give_back_by, get_address, release, read, let_go}
+use Rattle.tbl_model.specs.Tables.{uses_buffer}
 use Rattle.access_desc.specs.declared.handle_view.HandleView.{HandleView}
-use Rattle.access_desc.specs.Steps.{at_place, changed_at, has, pins_old, with_no_pin}
+use Rattle.access_desc.specs.Steps.{at_place, changed_at, has, pins_old, with_no_pin, new_handle as new_view}
 use Rattle.working_buffers.specs.Places.{Held}
 use Rattle.std.proofs.Math.ListN.{get_or-map}
 use Rattle.tbl_registry.specs.Pins.{Pins, Leads}
 use Rattle.tbl_registry.specs.Sound.{IsSound}
 use Rattle.tbl_registry.specs.Seen.{tables_of, handle_of, with_last, let_go_unless}
 use Rattle.tbl_registry.proofs.Places.{AtEachPlace-set, map-changed_at, none_passes}
-use Rattle.tbl_registry.proofs.Pins.{PinsOf, pins_of, pins_here, before_is_pinned}
-use Rattle.tbl_registry.proofs.Changes.{row_sound, row_seen}
+use Rattle.tbl_registry.proofs.Pins.{PinsOf, pins_of, pins_here, tables_with, before_is_pinned}
+use Rattle.tbl_registry.proofs.Changes.{Stands, pins_sound, row_seen}
+use Rattle.tbl_registry.proofs.Lent.{settled_same}
 
 not_zero : (n : ℕ) → (n ≡ 0 → ⊥) → (n == 0) ≡ false
 not_zero n some = grind (arith, nat_tests)
@@ -24,6 +27,81 @@ not_zero n some = grind (arith, nat_tests)
 pub leads_nowhere : (tables other : Tables) (n : ℕ) → tables ≡ other → access_of tables n ≡ None → IsSome (access_of other n) → ⊥
 leads_nowhere tables other n same none some = cc (rw (← same, none) at some)
 
+-- ---- the image before the last stays where a handle of the row pins it
+
+module _ {rows : List (Option Table)} {handles : List (Option HandleView)} {buffers : List (Option Held)} {row : ℕ} {t : Table} (stood : Stands rows handles buffers row t) where
+  there : slice_index_or rows row None ≡ Some t
+  there = stood.there
+
+  sound : IsSound rows handles buffers
+  sound = stood.sound
+
+  abbrev stays : Bool
+  stays = is_some (position (has (pins_old row)) handles)
+
+  kept_pins : PinsOf row (let_go_unless stays t) handles
+  kept_pins k g at of is = by (position (has (pins_old row)) handles) refl where
+    p : Pins t g.old
+    p = pins_of rows handles row t there sound.leads k g at of is
+
+    by : (found : Option ℕ) → position (has (pins_old row)) handles ≡ found → Pins (let_go_unless (is_some found) t) g.old
+    by (Some m) _ = record { loaded = p.loaded; kept = p.kept; closed = p.closed }
+    by None none = record {
+      loaded = p.loaded;
+      kept = λ old. absurd (cc (none_passes handles (has (pins_old row)) refl none k g at, ap (λ (b : Bool). b && g.old) (pins_here row g is of) ∙ old));
+      closed = p.closed;
+    }
+
+  pub let_go_sound : IsSound (slice_set rows row (Some (let_go_unless stays t))) handles buffers
+  let_go_sound = pins_sound stood (let_go_unless stays t) buffers refl kept_pins (settled_same buffers row (uses_buffer (Some t)))
+
+  pub let_go_seen : tables_of (slice_set rows row (Some (let_go_unless stays t))) handles ≡ with_table row (let_go (tables_of rows handles).handles row t) (tables_of rows handles)
+  let_go_seen =
+      row_seen stood (let_go_unless stays t) refl
+      ∙ ap (λ (b : Bool). with_table row (let_go_unless b t) (tables_of rows handles)) (sym (before_is_pinned rows row t there handles (pins_of rows handles row t there sound.leads)))
+
+-- ---- a handle is given, and taken back
+
+module _ (rows : List (Option Table)) (handles : List (Option HandleView)) (buffers : List (Option Held)) (sound : IsSound rows handles buffers) (n : ℕ) where
+  with_place : (place : Option HandleView) → ForSome place (Leads rows) → IsSound rows (slice_set handles n place) buffers
+  with_place place leads = record { all_rows = sound.all_rows; named = sound.named; leads = AtEachPlace-set (Leads rows) handles n place sound.leads leads; lent = sound.lent }
+
+  pub given_sound : (app row : ℕ) → IsSome (slice_index_or rows row None) → IsSound rows (slice_set handles n (Some (new_view app row))) buffers
+  given_sound app row there = with_place (Some (new_view app row)) (λ h is. subst (Leads rows) (same_Some (new_view app row) h is) record {
+    table = λ k of. subst (λ (at : ℕ). IsSome (slice_index_or rows at None)) (same_Some row k of) there;
+    pins = λ pinned. absurd (cc pinned);
+  })
+
+  pub given_seen : (app row : ℕ) → tables_of rows (slice_set handles n (Some (new_view app row))) ≡ with_handle n (new_handle app row) (tables_of rows handles)
+  given_seen app row = ap (λ (hs : List (Option Handle)). tables_with rows hs) (map-set (option_map (handle_of rows)) handles n (Some (new_view app row)))
+
+  pub freed_sound : IsSound rows (slice_set handles n None) buffers
+  freed_sound = with_place None (λ h is. absurd (cc is))
+
+  freed_seen : tables_of rows (slice_set handles n None) ≡ without_handle n (tables_of rows handles)
+  freed_seen = ap (λ (hs : List (Option Handle)). tables_with rows hs) (map-set (option_map (handle_of rows)) handles n None)
+
+  handle_seen : (h : HandleView) → at_place handles n ≡ Some h → handle_at (tables_of rows handles) n ≡ Some (handle_of rows h)
+  handle_seen h place = get_or-map (option_map (handle_of rows)) handles n None ∙ rw place refl
+
+  -- a handle's table is there
+  pub its_table : (h : HandleView) (row : ℕ) → at_place handles n ≡ Some h → h.row ≡ Some row → IsSome (slice_index_or rows row None)
+  its_table h row place of = (sound.leads n h place).table row of
+
+  pub not_given : at_place handles n ≡ None → IsSome (handle_at (tables_of rows handles) n) → ⊥
+  not_given none some = cc (rw (get_or-map (option_map (handle_of rows)) handles n None, none) at some)
+
+  -- of a handle without a table, and of one with a table
+  pub alone_seen : (h : HandleView) → at_place handles n ≡ Some h → h.row ≡ None → tables_of rows (slice_set handles n None) ≡ give_back n (tables_of rows handles)
+  alone_seen h place none = freed_seen ∙ sym (ap (λ (at : Option Handle). give_back_by n (tables_of rows handles) (option_and_then (λ (g : Handle). g.row) at)) (handle_seen h place) ∙ rw none refl)
+
+  pub taken_back_seen : (h : HandleView) (row : ℕ) (t : Table) → at_place handles n ≡ Some h → h.row ≡ Some row → slice_index_or rows row None ≡ Some t
+      → tables_of (slice_set rows row (Some (let_go_unless (is_some (position (has (pins_old row)) (slice_set handles n None))) t))) (slice_set handles n None) ≡ give_back n (tables_of rows handles)
+  taken_back_seen h row t place of there =
+      let_go_seen record { there = there; sound = freed_sound }
+      ∙ ap (λ (freed : Tables). with_table row (let_go freed.handles row t) freed) freed_seen
+      ∙ sym (ap (λ (at : Option Handle). give_back_by n (tables_of rows handles) (option_and_then (λ (g : Handle). g.row) at)) (handle_seen h place) ∙ rw (of, there) refl)
+
 -- a handle, its row and its table, as the registry keeps them
 pub record Leading (rows : List (Option Table)) (handles : List (Option HandleView)) (n : ℕ) (h : HandleView) (row : ℕ) (t : Table) : Type 0 where
   pub place : at_place handles n ≡ Some h
@@ -31,16 +109,16 @@ pub record Leading (rows : List (Option Table)) (handles : List (Option HandleVi
   pub table : slice_index_or rows row None ≡ Some t
 
 module _ (rows : List (Option Table)) (handles : List (Option HandleView)) (buffers : List (Option Held)) (n : ℕ) (h : HandleView) (row : ℕ) (t : Table) (l : Leading rows handles n h row t) (sound : IsSound rows handles buffers) where
-  access_is : access_of (tables_of rows handles) n ≡ Some (record { handle = handle_of rows h; row = row; table = t })
+  pub access_is : access_of (tables_of rows handles) n ≡ Some (record { handle = handle_of rows h; row = row; table = t })
   access_is = rw (get_or-map (option_map (handle_of rows)) handles n None, l.place, l.row_is, l.table) refl
 
   -- ---- the handle changes
 
-  handle_seen : (f : HandleView → HandleView) → tables_of rows (changed_at f handles n) ≡ with_handle n (handle_of rows (f h)) (tables_of rows handles)
-  handle_seen f = ap (λ (hs : List (Option Handle)). let ts : Tables = record { rows = rows; handles = hs } in ts) (map-changed_at (handle_of rows) f handles n h l.place)
+  step_seen : (f : HandleView → HandleView) → tables_of rows (changed_at f handles n) ≡ with_handle n (handle_of rows (f h)) (tables_of rows handles)
+  step_seen f = ap (λ (hs : List (Option Handle)). let ts : Tables = record { rows = rows; handles = hs } in ts) (map-changed_at (handle_of rows) f handles n h l.place)
 
-  handle_sound : (f : HandleView → HandleView) → Leads rows (f h) → IsSound rows (changed_at f handles n) buffers
-  handle_sound f leads = rw l.place record {
+  step_sound : (f : HandleView → HandleView) → Leads rows (f h) → IsSound rows (changed_at f handles n) buffers
+  step_sound f leads = rw l.place record {
     all_rows = sound.all_rows;
     named = sound.named;
     leads = AtEachPlace-set (Leads rows) handles n (Some (f h)) sound.leads (λ g is. subst (Leads rows) (same_Some (f h) g is) leads);
@@ -50,7 +128,7 @@ module _ (rows : List (Option Table)) (handles : List (Option HandleView)) (buff
   -- ---- it pins the last image
 
   pub pinned_sound : (count : ℕ) → count ≡ t.count → (count ≡ 0 → ⊥) → IsSound rows (changed_at (with_last count) handles n) buffers
-  pinned_sound count all loaded = handle_sound (with_last count) record {
+  pinned_sound count all loaded = step_sound (with_last count) record {
     table = (sound.leads n h l.place).table;
     pins = λ _ k of u there.
         let here : row ≡ k = same_Some row k (sym l.row_is ∙ of) in
@@ -65,7 +143,7 @@ module _ (rows : List (Option Table)) (handles : List (Option HandleView)) (buff
   pub pinned_seen : (count : ℕ) → h.pinned ≡ false → count ≡ t.count → (count ≡ 0 → ⊥) → tables_of rows (changed_at (with_last count) handles n) ≡ (get_address n (tables_of rows handles)).tables
   pinned_seen count free all loaded =
       let some : (t.count == 0) ≡ false = not_zero t.count (λ none. loaded (all ∙ none)) in
-      rw (access_is, free, some, all, handle_seen (with_last t.count), l.row_is, l.table) refl
+      rw (access_is, free, some, all, step_seen (with_last t.count), l.row_is, l.table) refl
 
   -- ---- its pin ends
 
@@ -73,37 +151,15 @@ module _ (rows : List (Option Table)) (handles : List (Option HandleView)) (buff
   free = changed_at with_no_pin handles n
 
   free_sound : IsSound rows free buffers
-  free_sound = handle_sound with_no_pin record { table = (sound.leads n h l.place).table; pins = λ pinned. absurd (cc pinned) }
+  free_sound = step_sound with_no_pin record { table = (sound.leads n h l.place).table; pins = λ pinned. absurd (cc pinned) }
 
-  -- the image before stays where a handle pins it
-  abbrev stays : Bool
-  stays = is_some (position (has (pins_old row)) free)
+  pub released_sound : IsSound (slice_set rows row (Some (let_go_unless (is_some (position (has (pins_old row)) free)) t))) free buffers
+  released_sound = let_go_sound record { there = l.table; sound = free_sound }
 
-  free_pins : PinsOf row (let_go_unless stays t) free
-  free_pins k g at of is = by (position (has (pins_old row)) free) refl where
-    p : Pins t g.old
-    p = pins_of rows free row t l.table free_sound.leads k g at of is
-
-    by : (found : Option ℕ) → position (has (pins_old row)) free ≡ found → Pins (let_go_unless (is_some found) t) g.old
-    by (Some m) _ = record { loaded = p.loaded; kept = p.kept; closed = p.closed }
-    by None none = record {
-      loaded = p.loaded;
-      kept = λ old. absurd (cc (none_passes free (has (pins_old row)) refl none k g at, ap (λ (b : Bool). b && g.old) (pins_here row g is of) ∙ old));
-      closed = p.closed;
-    }
-
-  pub released_sound : IsSound (slice_set rows row (Some (let_go_unless stays t))) free buffers
-  released_sound = row_sound rows free buffers row t l.table free_sound (let_go_unless stays t) refl free_pins refl
-
-  stays_is : list_any (image_pins row (t.count - 1)) (tables_of rows free).handles ≡ stays
-  stays_is = before_is_pinned rows row t l.table free (pins_of rows free row t l.table free_sound.leads)
-
-  pub released_seen : h.pinned ≡ true → tables_of (slice_set rows row (Some (let_go_unless stays t))) free ≡ (release n (tables_of rows handles)).tables
+  pub released_seen : h.pinned ≡ true → tables_of (slice_set rows row (Some (let_go_unless (is_some (position (has (pins_old row)) free)) t))) free ≡ (release n (tables_of rows handles)).tables
   released_seen pinned =
       let after : Tables → Tables = λ ts. with_table row (let_go ts.handles row t) ts in
-      let kept : tables_of (slice_set rows row (Some (let_go_unless stays t))) free ≡ after (tables_of rows free) =
-      row_seen rows free buffers row t l.table free_sound (let_go_unless stays t) refl ∙ ap (λ (b : Bool). with_table row (let_go_unless b t) (tables_of rows free)) (sym stays_is) in
-      kept ∙ ap after (handle_seen with_no_pin) ∙ rw (access_is, pinned) refl
+      let_go_seen record { there = l.table; sound = free_sound } ∙ ap after (step_seen with_no_pin) ∙ rw (access_is, pinned) refl
 
   -- ---- it reads the image that it pins
 

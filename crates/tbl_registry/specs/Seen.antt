@@ -1,7 +1,8 @@
 -- How what the registry keeps is seen.
-use Rattle.std.specs.Prelude.{ℕ, ◌-◌, List, ◌++◌, length, replicate, map, Bool, if◌then◌else◌, slice_index_or, Option, Some, None}
+use Rattle.std.specs.Prelude.{ℕ, ◌+◌, ◌-◌, List, ◌++◌, length, replicate, map, Bool, if◌then◌else◌, slice_index_or, Option, Some, None}
 use Rattle.std.specs.Option.{option_map, option_map_or}
 use Rattle.tbl_model.specs.State.{Table, Handle, Tables}
+use Rattle.tbl_model.specs.Tables.{is_double}
 use Rattle.access_desc.specs.Steps.{with_pin, with_told}
 use Rattle.access_desc.specs.declared.handle_view.HandleView.{HandleView}
 
@@ -27,6 +28,10 @@ with_last count h = with_told count (with_pin h)
 -- the image before the last stays only while it is pinned
 abbrev pub let_go_unless : Bool → Table → Table
 let_go_unless pinned t = record t { before = if pinned then t.before else None }
+
+-- an image becomes the last one, and the one that was stays where it is pinned and there is a buffer for it
+abbrev pub with_next : Table → List ℕ → Bool → Table
+with_next t image pinned = let_go_unless pinned (record t { count = t.count + 1; last = Some image; before = if is_double t then t.last else None })
 
 -- the rows that use the four shared buffers, and none for each that is free
 abbrev pub padded : List ℕ → List (Option ℕ)

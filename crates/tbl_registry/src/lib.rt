@@ -5,7 +5,7 @@ mod row;
 mod rows;
 mod tables;
 
-pub use row::{NewTable, RowView};
+pub use row::{Dump, NewTable, RowView};
 pub use tables::{AddFault, Tables};
 
 #[cfg(test)]

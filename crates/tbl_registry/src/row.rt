@@ -1,17 +1,21 @@
-ghost use Rattle.std.specs.Prelude.{◌≡◌, ◌<◌, ◌+◌, ◌-◌, ◌≤◌, ◌^◌, ℕ, List, [], false, None, Some, IsSome, IfSome, length, if◌then◌else◌};
-ghost use Rattle.std.specs.Option.{option_map};
+ghost use Rattle.std.specs.Prelude.{◌≡◌, ◌<◌, ◌+◌, ◌-◌, ◌≤◌, ◌^◌, ℕ, List, [], true, false, None, Some, IsSome, IfSome, length, unwrap_or, bit_and, if◌then◌else◌};
+ghost use Rattle.std.specs.Option.{option_map, option_copied};
 ghost use Rattle.std.specs.Borrow.{Bor};
 ghost use Rattle.std.specs.Str.{bytes_eq};
 ghost use Rattle.tbl_kinds.specs.Limits.{table_limit};
 ghost use Rattle.tbl_kinds.specs.Numbers.{patched};
-ghost use Rattle.tbl_model.specs.State.{Load};
-ghost use Rattle.tbl_model.specs.Tables.{option_bits, is_double, uses_buffer};
-ghost use Rattle.tbl_model.specs.TableSteps.{new_table, unchecked, base};
+ghost use Rattle.tbl_model.specs.State.{Load, quiet, asked};
+ghost use Rattle.tbl_model.specs.Tables.{option_bits, is_double, is_dump_only, is_quiet, uses_buffer};
+ghost use Rattle.tbl_model.specs.Management.{pending_status};
+ghost use Rattle.tbl_model.specs.TableSteps.{new_table, with_first, unchecked, base, filled_with, last_image};
 
 use bitflags::Flags;
 use buffer_pairs::{Buffers, Image};
 use std::marker::Model;
-use tbl_kinds::{Name40, Name64, Options};
+use tbl_kinds::{Name40, Name64, Options, Status};
+use tbl_model::Notice;
+
+mod info;
 
 /// What a table is registered with (`CFE_TBL_Register`).
 #[derive(Debug, Drop)]
@@ -23,6 +27,19 @@ pub struct NewTable {
     pub flags: Options,
     /// The number under which its validation function stands in the kit.
     pub validator: Option<u8>,
+    /// The image that it begins with, as a recovered one.
+    pub first: Option<Image>,
+}
+
+/// How far a dump of a dump-only table has come.
+#[derive(Clone, Copy, Debug, PartialEq, Eq)]
+pub enum Dump {
+    /// None is asked.
+    Quiet,
+    /// The ground asked for it.
+    Asked,
+    /// The owner has filled it (`CFE_TBL_DumpToBuffer`).
+    Filled,
 }
 
 /// What can be seen of a registered table.
@@ -45,6 +62,9 @@ pub struct RowView {
     pub checked: bool,
     /// Whether the activation of the open load was asked.
     pub asked: bool,
+    pub dump: Dump,
+    /// The command packet that tells the owner of pending work.
+    pub notice: Option<Notice>,
 }
 
 /// An open load: the image that is being put together.
@@ -63,6 +83,14 @@ impl Model for OpenLoad {
     ghost view = { λ load. record { image = load.image; checked = load.checked } };
 }
 
+/// A dump, with the name of its file. The image of a filled one is what the buffers keep.
+#[derive(Debug, Drop)]
+enum DumpFile {
+    Quiet,
+    Asked(Name64),
+    Filled(Name64),
+}
+
 /// A registered table.
 #[derive(Debug, Drop)]
 pub(crate) struct Row {
@@ -76,6 +104,8 @@ pub(crate) struct Row {
     buffers: Buffers,
     load: Option<OpenLoad>,
     asked: bool,
+    dump: DumpFile,
+    notice: Option<Notice>,
     seconds: u32,
     sub: u16,
     file: Name64,
@@ -94,14 +124,15 @@ impl Model for Row {
 }
 
 impl Row {
-    ghost use Rattle.tbl_registry.specs.Views.{row_view};
+    ghost use Rattle.tbl_registry.specs.Views.{row_view, dump_view, dump_name, filled_image};
     ghost use Rattle.tbl_registry.specs.Rows.{IsTable};
 
     /// A table as its registration makes it.
     pub(crate) fn make(app: u8, handle: u16, plan: NewTable) -> Row
         requires some_bytes { 0 < plan.size }
         requires within { plan.size ≤ table_limit }
-        ensures { result ≡ new_table plan.name app plan.size (option_bits plan.flags) plan.validator handle }
+        requires first { IfSome plan.first (λ image. length image ≡ plan.size) }
+        ensures { result ≡ with_first plan.first (new_table plan.name app plan.size (option_bits plan.flags) plan.validator handle) }
     {
         Row {
             name: plan.name,
@@ -110,10 +141,12 @@ impl Row {
             size: plan.size,
             flags: plan.flags,
             validator: plan.validator,
-            count: 0,
-            buffers: Buffers::make(None, plan.flags.contains(Options::DOUBLE)),
+            count: plan.first.is_some() as u32,
+            buffers: Buffers::make(plan.first, plan.flags.contains(Options::DOUBLE)),
             load: None,
             asked: false,
+            dump: DumpFile::Quiet,
+            notice: None,
             seconds: 0,
             sub: 0,
             file: Name64::of(&[]),
@@ -149,6 +182,8 @@ impl Row {
             load: self.load.is_some(),
             checked: self.is_checked(),
             asked: self.asked,
+            dump: self.dump(),
+            notice: self.notice,
         }
     }
 
@@ -170,7 +205,85 @@ impl Row {
     pub(crate) fn uses_buffer(&self) -> bool
         ensures { result ≡ uses_buffer (Some self.now) }
     {
-        !self.is_double() && self.load.is_some()
+        !self.is_double() && self.load.is_some() || self.is_dump_only() && !self.is_quiet()
+    }
+
+    /// Whether it is dump-only.
+    fn is_dump_only(&self) -> bool
+        ensures { result ≡ is_dump_only self.now }
+    {
+        self.flags.contains(Options::DUMP_ONLY)
+    }
+
+    /// Whether no dump of it is pending.
+    fn is_quiet(&self) -> bool
+        ensures { result ≡ is_quiet self.now.dump }
+    {
+        match self.dump {
+            DumpFile::Quiet => true,
+            DumpFile::Asked(_) | DumpFile::Filled(_) => false,
+        }
+    }
+
+    /// How far its dump has come.
+    fn dump(&self) -> Dump
+        ensures { result ≡ dump_view self.now.dump }
+    {
+        match self.dump {
+            DumpFile::Quiet => Dump::Quiet,
+            DumpFile::Asked(_) => Dump::Asked,
+            DumpFile::Filled(_) => Dump::Filled,
+        }
+    }
+
+    /// The name of its dump's file.
+    pub(crate) fn dump_name(&self) -> Option<&Name64>
+        ensures { option_copied result ≡ dump_name self.now.dump }
+    {
+        match &self.dump {
+            DumpFile::Quiet => None,
+            DumpFile::Asked(file) => Some(file),
+            DumpFile::Filled(file) => Some(file),
+        }
+    }
+
+    /// The image of its filled dump.
+    pub(crate) fn filled(&self) -> Option<&[u8]>
+        ensures image { option_map (λ (image : Bor (List ℕ)). image.now) result ≡ filled_image self.now.dump }
+        ensures within { IfSome result (λ image. length image.now ≤ self.now.size) }
+    {
+        match self.dump {
+            DumpFile::Filled(_) => Some(kept_bytes(&self.buffers)),
+            DumpFile::Quiet | DumpFile::Asked(_) => None,
+        }
+    }
+
+    /// A dump is asked, as this file.
+    pub(crate) fn ask_dump(&mut self, file: &Name64)
+        requires { is_quiet self.old.dump ≡ true }
+        ensures { self.new ≡ record self.old { dump = asked file.now } }
+    {
+        self.dump = DumpFile::Asked(file.copy());
+    }
+
+    /// The asked dump is filled with the last image.
+    pub(crate) fn fill_dump(&mut self)
+        ensures { self.new ≡ record self.old { dump = filled_with (last_image self.old) self.old.dump } }
+    {
+        self.buffers.keep();
+        self.dump = match std::mem::replace(&mut self.dump, DumpFile::Quiet) {
+            DumpFile::Quiet => DumpFile::Quiet,
+            DumpFile::Asked(file) => DumpFile::Filled(file),
+            DumpFile::Filled(file) => DumpFile::Filled(file),
+        };
+    }
+
+    /// No dump is pending any more.
+    pub(crate) fn end_dump(&mut self)
+        ensures { self.new ≡ record self.old { dump = quiet } }
+    {
+        self.buffers.end_keep();
+        self.dump = DumpFile::Quiet;
     }
 
     /// Its last image, or the one before it.
@@ -221,6 +334,53 @@ impl Row {
         self.file = file.copy();
     }
 
+    /// What is pending for it, where no validation is.
+    pub(crate) fn pending(&self) -> Status
+        ensures { (row : ℕ) → result ≡ pending_status [] row self.now }
+    {
+        if self.asked {
+            Status::INFO_UPDATE_PENDING
+        } else if !self.is_quiet() {
+            Status::INFO_DUMP_PENDING
+        } else {
+            Status::SUCCESS
+        }
+    }
+
+    /// Sets the notice that tells its owner of pending work.
+    pub(crate) fn set_notice(&mut self, notice: Notice)
+        ensures { self.new ≡ record self.old { notice = Some notice } }
+    {
+        self.notice = Some(notice);
+    }
+
+    /// Takes the option CRITICAL away.
+    pub(crate) fn not_critical(&mut self)
+        ensures { self.new ≡ record self.old { options = bit_and self.old.options 0xFFF7 } }
+    {
+        self.flags.remove(Options::CRITICAL);
+    }
+
+    /// The activation of its open load is asked.
+    pub(crate) fn ask(&mut self)
+        ensures { self.new ≡ record self.old { activation = true } }
+    {
+        self.asked = true;
+    }
+
+    /// Closes its load, whose activation isn't asked any more, and gives the load's image.
+    pub(crate) fn end_load(&mut self) -> Option<Image>
+        ensures image { result ≡ option_map (λ (load : Load). load.image) self.old.load }
+        ensures size { IfSome result (λ image. length image ≡ self.old.size) }
+        ensures closed { self.new ≡ record self.old { load = None; activation = false } }
+    {
+        self.asked = false;
+        match self.load.take() {
+            Some(load) => Some(load.image),
+            None => None,
+        }
+    }
+
     /// Whether its open load was validated since its last change.
     fn is_checked(&self) -> bool
         ensures { result ≡ (row_view self.now).checked }
@@ -258,7 +418,7 @@ impl Row {
     pub(crate) fn write_load(&mut self, offset: u32, bytes: &[u8]) -> bool
         requires load { IsSome self.old.load }
         requires within { offset + length bytes.now ≤ self.old.size }
-        ensures { self.new ≡ (if result then record self.old { load = unchecked (patched (base self.old) offset bytes.now) } else self.old) }
+        ensures { self.new ≡ record self.old { load = if result then unchecked (patched (base self.old) offset bytes.now) else self.old.load } }
     {
         let Some(load) = &mut self.load else {
             unreachable!();
@@ -275,6 +435,16 @@ impl Row {
             unreachable!();
         };
         load.checked = checked;
+    }
+}
+
+/// The bytes of the image that is kept, none where there is none.
+fn kept_bytes(buffers: &Buffers) -> &[u8]
+    ensures { result.now ≡ unwrap_or buffers.now.kept [] }
+{
+    match buffers.kept() {
+        Some(image) => image.bytes(),
+        None => &[],
     }
 }
 

@@ -1,6 +1,6 @@
 //! The 128 rows, each with a table or none.
 
-ghost use Rattle.std.specs.Prelude.{◌≡◌, ◌<◌, ◌≤◌, ◌↔◌, ◌+◌, None, Some, IsTrue, IsSome, IsNone, IfOk, IfSome, if◌then◌else◌, length, position, replicate, count_by, is_some, is_none, slice_index_or, slice_set};
+ghost use Rattle.std.specs.Prelude.{◌≡◌, ◌<◌, ◌≤◌, ◌↔◌, ◌+◌, None, Some, IsSome, IsNone, IfOk, IfSome, if◌then◌else◌, length, position, replicate, count_by, is_some, is_none, slice_index_or, ◌∷◌, take};
 ghost use Rattle.std.specs.Option.{option_copied};
 ghost use Rattle.tbl_kinds.specs.Free.{least_free};
 ghost use Rattle.tbl_model.specs.Tables.{has_load, uses_buffer, rows_from};
@@ -21,6 +21,16 @@ pub(crate) fn free_rows(alloc: Global) -> Result<Vec<Option<Row>>, AllocError>
         rows.push(None)?;
     }
     Ok(rows)
+}
+
+/// Takes every table away.
+pub(crate) fn free_all(rows: &mut [Option<Row>])
+    requires { length rows.old ≡ 128 }
+    ensures { rows.new ≡ replicate 128 None }
+{
+    for row in rows.iter_mut() {
+        *row = None;
+    }
 }
 
 /// Whether the row has a table of this full name.
@@ -125,17 +135,12 @@ fn uses_buffer(row: &Option<Row>) -> bool
     }
 }
 
-/// Puts the row behind those that were found, where it uses a buffer. How many were found.
-fn collect(found: &mut [Option<u8>; 4], count: usize, row: u8, uses: bool) -> usize
-    requires { IsTrue uses → count < 4 }
-    ensures found { found.new ≡ (if uses then slice_set found.old count (Some row) else found.old) }
-    ensures count { result ≡ (if uses then count + 1 else count) }
+/// Puts the row in front of those that were found, where it uses a buffer.
+fn put_front(found: &mut [Option<u8>; 4], row: u8, uses: bool)
+    ensures { found.new ≡ (if uses then Some row ∷ take 3 found.old else found.old) }
 {
     if uses {
-        found[count] = Some(row);
-        count + 1
-    } else {
-        count
+        *found = [Some(row), found[0], found[1], found[2]];
     }
 }
 
@@ -146,9 +151,10 @@ pub(crate) fn rows_with_buffer(rows: &[Option<Row>]) -> [Option<u8>; 4]
     ensures { result ≡ padded (rows_from 0 rows.now) }
 {
     let mut found = [None; 4];
-    let mut count = 0;
-    for (row, table) in rows.iter().enumerate() {
-        count = collect(&mut found, count, row as u8, uses_buffer(table));
+    let mut row = rows.len();
+    while row > 0 {
+        row -= 1;
+        put_front(&mut found, row as u8, uses_buffer(&rows[row]));
     }
     found
 }

@@ -1,11 +1,12 @@
-ghost use Rattle.std.specs.Prelude.{◌==◌, ◌≡◌, ◌≢◌, ◌<◌, ◌≤◌, ◌↔◌, ◌+◌, ◌-◌, ◌^◌, ℕ, List, None, Some, Ok, Err, IsTrue, IsSome, IfOk, OnOk, OnErr, IfSome, IfNone, length, count_by, is_some, option_and_then};
+ghost use Rattle.std.specs.Prelude.{◌==◌, ◌≡◌, ◌≢◌, ◌<◌, ◌≤◌, ◌↔◌, ◌+◌, ◌-◌, ◌^◌, ℕ, List, None, Some, Ok, Err, IsTrue, IsSome, IfOk, OnOk, OnErr, IfSome, IfNone, length, option_and_then};
 ghost use Rattle.std.specs.Option.{option_copied, option_map, ForSome};
 ghost use Rattle.std.specs.Borrow.{Bor};
 ghost use Rattle.tbl_kinds.specs.Free.{least_free};
 ghost use Rattle.tbl_kinds.specs.Limits.{table_limit};
 ghost use Rattle.tbl_model.specs.State.{no_tables, Load, Table};
 ghost use Rattle.tbl_model.specs.Tables.{table_count, handle_count, load_count, in_use, option_bits, table_at};
-ghost use Rattle.tbl_model.specs.TableSteps.{find, new_table, new_handle, with_table, with_handle};
+ghost use Rattle.tbl_model.specs.TableSteps.{find, new_table, with_first, new_handle, with_table, with_handle};
+ghost use Rattle.tbl_model.specs.Registry.{registry_row};
 ghost use Rattle.tbl_registry.specs.Rows.{IsTable};
 ghost use Rattle.tbl_registry.specs.Seen.{padded};
 
@@ -16,9 +17,12 @@ use crate::rows::{
 use access_desc::Handles;
 use std::alloc::Global;
 use std::marker::Model;
-use tbl_kinds::{Memory, Name40};
+use tbl_kinds::{Memory, Name40, Name64, RegistryRow};
 use working_buffers::Working;
 
+mod buffers;
+mod dumps;
+mod ends;
 mod handles;
 mod images;
 
@@ -57,21 +61,8 @@ impl Model for Tables {
     ghost invariant = { λ t. IsSound t.rows.items t.handles t.working };
 }
 
-fn taken_in(places: &[Option<u8>]) -> usize
-    ensures { result ≡ count_by is_some places.now }
-{
-    places.iter().filter(|place| place.is_some()).count()
-}
-
-/// How many of the shared working buffers are out.
-fn buffers_out(working: &Working) -> usize
-    ensures { result ≡ count_by is_some working.now }
-{
-    taken_in(&working.rows())
-}
-
 impl Tables {
-    ghost use Rattle.tbl_registry.specs.Views.{row_view};
+    ghost use Rattle.tbl_registry.specs.Views.{row_view, dump_name, filled_image};
 
     /// No table and no handle. All memory that the calls below need is taken here, but that of images.
     pub fn make(alloc: Global) -> Result<Tables, Memory>
@@ -117,9 +108,10 @@ impl Tables {
         requires new { find plan.name self.old ≡ None }
         requires some_bytes { 0 < plan.size }
         requires within { plan.size ≤ table_limit }
+        requires first { IfSome plan.first (λ image. length image ≡ plan.size) }
         ensures row_free { OnOk result (IsSome (least_free self.old.rows)) }
         ensures handle_free { IfOk result (λ handle. least_free self.old.handles ≡ Some handle) }
-        ensures added { IfOk result (λ handle. ForSome (least_free self.old.rows) (λ row. self.new ≡ with_handle handle (new_handle app row) (with_table row (new_table plan.name app plan.size (option_bits plan.flags) plan.validator handle) self.old))) }
+        ensures added { IfOk result (λ handle. ForSome (least_free self.old.rows) (λ row. self.new ≡ with_handle handle (new_handle app row) (with_table row (with_first plan.first (new_table plan.name app plan.size (option_bits plan.flags) plan.validator handle)) self.old))) }
         ensures registry_full { (result ≡ Err AddFault.RegistryFull) ↔ (table_count self.old ≡ 128) }
         ensures handles_full { result ≡ Err AddFault.HandlesFull → handle_count self.old ≡ 256 }
         ensures no_row { result ≡ Err AddFault.RegistryFull → least_free self.old.rows ≡ None }
@@ -147,6 +139,17 @@ impl Tables {
         Some(table_in(&self.rows, row)?.view())
     }
 
+    /// The record of the table of a row, as the registry tells it (`CFE_TBL_GetInfo`).
+    pub fn info(&self, row: u8) -> RegistryRow
+        requires { IsSome (table_at self.now row) }
+        ensures { ForSome (table_at self.now row) (λ t. result ≡ registry_row t) }
+    {
+        let Some(table) = table_in(&self.rows, row) else {
+            unreachable!();
+        };
+        table.info()
+    }
+
     /// The full name of the table of a row.
     pub fn name(&self, row: u8) -> Option<&Name40>
         ensures { option_copied result ≡ option_map (λ (t : Table). t.name) (table_at self.now row) }
@@ -171,6 +174,21 @@ impl Tables {
         table_in(&self.rows, row)?.load()
     }
 
+    /// The name of the file of the pending dump of the table of a row, None where no dump is pending.
+    pub fn dump_name(&self, row: u8) -> Option<&Name64>
+        ensures { option_copied result ≡ option_and_then (λ (t : Table). dump_name t.dump) (table_at self.now row) }
+    {
+        table_in(&self.rows, row)?.dump_name()
+    }
+
+    /// The image of the filled dump of the table of a row, None where no dump is filled.
+    pub fn filled(&self, row: u8) -> Option<&[u8]>
+        ensures image { option_map (λ (image : Bor (List ℕ)). image.now) result ≡ option_and_then (λ (t : Table). filled_image t.dump) (table_at self.now row) }
+        ensures size { IfSome result (λ image. ForSome (table_at self.now row) (λ t. length image.now ≤ t.size)) }
+    {
+        table_in(&self.rows, row)?.filled()
+    }
+
     /// The rows that use the shared working buffers, ascending, and then None.
     pub fn in_use(&self) -> [Option<u8>; 4]
         ensures rows { result ≡ padded (in_use self.now) }
@@ -184,6 +202,6 @@ impl Tables {
         ensures all { result ≡ (length (in_use self.now) == 4) }
         ensures few { length (in_use self.now) ≤ 4 }
     {
-        buffers_out(&self.working) == 4
+        self.working.is_full()
     }
 }

@@ -18,6 +18,7 @@ fn register(tables: &mut Tables, name: &[u8], size: u32, flags: u16) -> Result<u
         size,
         flags: Options::from_bits_retain(flags),
         validator: None,
+        first: None,
     };
     if size == 0 || size > 16_384 || tables.find(plan.name.bytes()).is_some() {
         return Err(AddFault::Memory);

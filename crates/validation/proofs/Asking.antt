@@ -1,11 +1,12 @@
 -- Kits that are asked one question after another.
-use Rattle.std.proofs.Common.{◌≡◌, ◌∙◌, subst, refl, ℕ, ◌+◌, List, [], ◌∷◌, Bool, Option, Some, None, IsSome, arith}
+use Rattle.std.proofs.Common.{◌≡◌, ◌∙◌, subst, refl, ℕ, ◌+◌, ◌≤◌, ◌^◌, List, [], ◌∷◌, Bool, Option, Some, None, IsSome, arith}
 use Rattle.std.proofs.Common.{ℤ}
-use Rattle.std.specs.Prelude.{count_by}
+use Rattle.std.specs.Prelude.{count_by, length}
+use Rattle.std.proofs.lemmas.List.Sums.{count_by-le-length}
 use Rattle.std.specs.Option.{ForSome}
 use Rattle.tbl_model.specs.Deeds.{Question}
 use Rattle.tbl_outside.specs.declared.validator.KitEntry.{KitEntry}
-use Rattle.validation.specs.Kits.{entry_at}
+use Rattle.validation.specs.Kits.{entry_at, FewAsked}
 use Rattle.validation.specs.Asked.{is_for, Stays, WasAsked}
 
 module _ {C : Type 0} (verdict : C → List ℕ → ℤ) (asked : C → ℕ) where
@@ -47,3 +48,24 @@ module _ {C : Type 0} (verdict : C → List ℕ → ℤ) (asked : C → ℕ) whe
     each = λ number. subst (λ times. Stays verdict asked times (entry_at old number) (entry_at new number)) (both_count (is_for number) q r) (stays_again _ _ (entry_at old number) (entry_at mid number) (entry_at new number) (first.each number) (second.each number));
     numbers = second.numbers ∙ first.numbers;
   }
+
+  there_still : (times : ℕ) (old new : Option (KitEntry C)) → Stays verdict asked times old new → IsSome old → IsSome new
+  there_still times None new stays is = absurd (cc is)
+  there_still times (Some old) new stays is = stays.0
+
+  -- whose functions stood in the kit has them still
+  pub stands_still : (old new : List (Option (KitEntry C))) (questions : List Question) (verdicts : List (Option ℤ)) → WasAsked verdict asked old new questions verdicts
+      → (number : ℕ) → IsSome (entry_at old number) → IsSome (entry_at new number)
+  stands_still old new questions verdicts was number is = there_still _ (entry_at old number) (entry_at new number) (was.each number) is
+
+  left_of : (times most more : ℕ) (old new : Option (KitEntry C)) → times + more ≤ most → Stays verdict asked times old new
+      → ForSome old (λ entry. asked entry.check + most ≤ 2 ^ 63) → ForSome new (λ entry. asked entry.check + more ≤ 2 ^ 63)
+  left_of times most more None new le stays few = λ entry is. absurd (cc (rw stays at is))
+  left_of times most more (Some old) new le stays few = λ entry is. let so = (stays.1 entry is).2 in let before = few old refl in omega (arith, so, before, le)
+
+  -- how often the functions can be asked still
+  pub few_left : (old new : List (Option (KitEntry C))) (questions : List Question) (verdicts : List (Option ℤ)) (most more : ℕ) → WasAsked verdict asked old new questions verdicts → length questions + more ≤ most
+      → FewAsked asked most old → FewAsked asked more new
+  few_left old new questions verdicts most more was le few = λ number.
+      left_of (count_by (is_for number) questions) most more (entry_at old number) (entry_at new number)
+      (let within = count_by-le-length (is_for number) questions in omega (arith, within, le)) (was.each number) (few number)

@@ -32,3 +32,7 @@ pub record AskedOnce {C : Type 0} (verdict : C → List ℕ → ℤ) (asked : C 
 -- the function of this number stands in the kit, and can be asked so many times
 abbrev pub MayAsk : {C : Type 0} → (C → ℕ) → ℕ → List (Option (KitEntry C)) → ℕ → Type 0
 MayAsk asked times kit number = IsSome (entry_at kit number) × ForSome (entry_at kit number) (λ entry. asked entry.check + times ≤ 2 ^ 63)
+
+-- each function of the kit can be asked so many times
+abbrev pub FewAsked : {C : Type 0} → (C → ℕ) → ℕ → List (Option (KitEntry C)) → Type 0
+FewAsked asked times kit = (number : ℕ) → ForSome (entry_at kit number) (λ entry. asked entry.check + times ≤ 2 ^ 63)

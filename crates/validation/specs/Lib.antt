@@ -1,2 +1,3 @@
 pub mod Kits
 pub mod Asked
+pub mod Ready

@@ -1,11 +1,9 @@
 -- The first free buffer is the first free place.
-use Rattle.std.proofs.Common.{◌≡◌, ℕ, ◌+◌, ◌≤◌, ◌↔◌, List, [], ◌∷◌, Option, Some, None, IsNone, is_some, is_none, not, map, position, length, count_by, cond, nat_lt, ap, sym, ◌∙◌, arith, refl}
+use Rattle.std.proofs.Common.{◌≡◌, ℕ, ◌+◌, List, [], ◌∷◌, Option, Some, None, replicate, is_none, not, map, position, length, cond, nat_lt, ap, sym, ◌∙◌, refl}
 use Rattle.std.specs.List.{position_or_len}
-use Rattle.std.proofs.lemmas.Bool.Decides.{nat_tests}
 use Rattle.std.proofs.lemmas.List.{length-map}
-use Rattle.std.proofs.lemmas.List.Sums.{count_by-le-length, sum_by-cons}
 use Rattle.working_buffers.specs.Places.{Held}
-use Rattle.working_buffers.specs.Buffers.{BufferState, place_of}
+use Rattle.working_buffers.specs.Buffers.{BufferState, place_of, freed}
 
 is_none-place_of : (buffer : BufferState) → is_none (place_of buffer) ≡ is_none buffer.row
 is_none-place_of buffer = by buffer.row
@@ -13,6 +11,11 @@ is_none-place_of buffer = by buffer.row
     by : (row : Option ℕ) → is_none (place_of (record { row = row; bytes = buffer.bytes })) ≡ is_none row
     by None = refl
     by (Some row) = refl
+
+-- all are free
+pub all_freed : (buffers : List BufferState) → map place_of (map freed buffers) ≡ replicate (length buffers) None
+all_freed [] = refl
+all_freed (buffer ∷ buffers) = ap (λ (places : List (Option Held)). None ∷ places) (all_freed buffers)
 
 free_place_or_len : (buffers : List BufferState) → position_or_len is_none (map place_of buffers) ≡ position_or_len (λ (buffer : BufferState). is_none buffer.row) buffers
 free_place_or_len [] = refl

@@ -1,5 +1,6 @@
-ghost use Rattle.std.specs.Prelude.{◌≡◌, ◌<◌, ◌↔◌, None, is_some, is_none, IsSome, IsNone, IfOk, IfSome, IfNone, map, position, count_by, length, replicate, slice_set};
+ghost use Rattle.std.specs.Prelude.{◌==◌, ◌≡◌, ◌<◌, ◌↔◌, None, is_some, is_none, IsSome, IsNone, IfOk, IfSome, IfNone, map, position, count_by, length, replicate, slice_set};
 ghost use Rattle.std.specs.Option.{option_map};
+ghost use Rattle.working_buffers.specs.Buffers.{place_of};
 ghost use Rattle.working_buffers.specs.Places.{at_place, IsTaken};
 
 use crate::buffer::Buffer;
@@ -33,6 +34,17 @@ fn first_free(buffers: &[Buffer]) -> Option<usize>
     ensures within { IfSome result (λ n. n < length buffers.now) }
 {
     buffers.iter().position(|buffer| buffer.row().is_none())
+}
+
+/// Frees all four buffers.
+fn free_all(buffers: &mut [Buffer])
+    requires { length buffers.old ≡ 4 }
+    ensures free { map place_of buffers.new ≡ replicate 4 None }
+    ensures four { length buffers.new ≡ 4 }
+{
+    for buffer in buffers.iter_mut() {
+        buffer.set_row(None);
+    }
 }
 
 impl Working {
@@ -74,6 +86,13 @@ impl Working {
         self.buffers[buffer as usize].set_row(None);
     }
 
+    /// All four buffers are free again.
+    pub fn clear(&mut self)
+        ensures { self.new ≡ replicate 4 None }
+    {
+        free_all(&mut self.buffers);
+    }
+
     /// The bytes of a buffer.
     pub fn bytes(&self, buffer: u8) -> &[u8]
         requires { IsSome (at_place self.now buffer) }
@@ -91,6 +110,21 @@ impl Working {
         ensures size { length result.now ≡ 16384 }
     {
         self.buffers[buffer as usize].bytes_mut()
+    }
+
+    /// Whether all four are out.
+    pub fn is_full(&self) -> bool
+        ensures { result ≡ (count_by is_some self.now == 4) }
+    {
+        match self.buffers.as_slice() {
+            [first, second, third, fourth] => {
+                first.row().is_some()
+                    && second.row().is_some()
+                    && third.row().is_some()
+                    && fourth.row().is_some()
+            }
+            _ => unreachable!(),
+        }
     }
 
     /// Which row has each of the buffers, None for a free one.

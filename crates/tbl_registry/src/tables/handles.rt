@@ -1,11 +1,13 @@
 //! What applications do with handles on tables, and with the images that they pin.
 
-ghost use Rattle.std.specs.Prelude.{◌≡◌, ◌≤◌, ◌+◌, ◌^◌, None, Some, Ok, Err, IsSome, IfOk, OnOk, IfErr, IfSome, IfNone, is_some, if◌then◌else◌, nat_lt, length, map, position, slice_index_or, option_and_then};
-ghost use Rattle.std.specs.Option.{option_map};
+ghost use Rattle.std.specs.Prelude.{◌≡◌, ◌≤◌, ◌+◌, ◌^◌, [], None, Some, Ok, Err, IsSome, IfOk, OnOk, IfErr, IfSome, IfNone, is_some, if◌then◌else◌, nat_lt, length, map, position, slice_index_or, option_and_then};
+ghost use Rattle.std.specs.Option.{option_map, ForSome};
 ghost use Rattle.tbl_kinds.specs.Limits.{table_limit};
-ghost use Rattle.tbl_model.specs.State.{Table};
+ghost use Rattle.tbl_model.specs.State.{Table, Handle};
+ghost use Rattle.tbl_model.specs.Management.{pending_status};
+ghost use Rattle.tbl_kinds.specs.Free.{least_free};
 ghost use Rattle.tbl_model.specs.Tables.{table_at};
-ghost use Rattle.tbl_model.specs.TableSteps.{check, handle_at, access_of, get_address, release, read, locker};
+ghost use Rattle.tbl_model.specs.TableSteps.{check, handle_at, access_of, get_address, release, read, locker, new_handle, with_handle, give_back, registered_by};
 ghost use Rattle.access_desc.specs.Steps.{at_place, changed_at, has, pins_old, with_no_pin};
 ghost use Rattle.tbl_registry.specs.Seen.{handle_of, tables_of, with_last, let_go_unless};
 
@@ -41,11 +43,11 @@ fn pin_last(handles: &mut Handles, handle: u16, count: u32)
     handles.tell(handle, count);
 }
 
-/// Drops the image before the last, unless it is pinned.
-pub(super) fn let_go_unless(table: &mut Row, pinned: bool)
-    ensures { table.new ≡ let_go_unless pinned table.old }
+/// Drops the image before the last of this row's table, unless a handle pins it.
+pub(super) fn let_go(table: &mut Row, handles: &Handles, row: u8)
+    ensures { table.new ≡ let_go_unless (is_some (position (has (pins_old row)) handles.now)) table.old }
 {
-    if !pinned {
+    if handles.pinned_old(row).is_none() {
         table.let_go();
     }
 }
@@ -57,7 +59,7 @@ fn unpin(table: &mut Row, handles: &mut Handles, handle: u16, row: u8)
     ensures table { table.new ≡ let_go_unless (is_some (position (has (pins_old row)) handles.new)) table.old }
 {
     handles.unpin(handle);
-    let_go_unless(table, handles.pinned_old(row).is_some());
+    let_go(table, handles, row);
 }
 
 /// Whether there is an image that was not told of yet.
@@ -94,6 +96,68 @@ impl Tables {
         ensures { result ≡ option_map (λ (t : Table). t.owner) (table_at self.now row) }
     {
         Some(table_in(&self.rows, row)?.view().owner)
+    }
+
+    /// Gives an application a further handle on the table of a row: the least free one, None where 256 are given. It was told
+    /// of no image, and pins none.
+    pub fn new_handle(&mut self, app: u8, row: u8) -> Option<u16>
+        requires { IsSome (table_at self.old row) }
+        ensures least_free { result ≡ least_free self.old.handles }
+        ensures given { IfSome result (λ handle. self.new ≡ with_handle handle (new_handle app row) self.old) }
+        ensures full { IfNone result (self.new ≡ self.old) }
+    {
+        let handle = self.handles.add(app, row)?;
+        Some(handle)
+    }
+
+    /// Takes a handle back, whose number is free again. Its pin ends.
+    pub fn free_handle(&mut self, handle: u16)
+        requires { IsSome (handle_at self.old handle) }
+        ensures { self.new ≡ give_back handle self.old }
+    {
+        let Some(view) = self.handles.view(handle) else {
+            unreachable!();
+        };
+        self.handles.drop_handle(handle);
+        let Some(row) = view.row else {
+            return;
+        };
+        let Some(table) = &mut self.rows[row as usize] else {
+            unreachable!();
+        };
+        let_go(table, &self.handles, row);
+    }
+
+    /// The row of the table that this handle registered, None for a further handle, or where the handle leads to no table.
+    pub fn registered_by(&self, handle: u16) -> Option<u8>
+        ensures row { result ≡ registered_by self.now handle }
+        ensures table { IfSome result (λ row. IsSome (table_at self.now row)) }
+    {
+        let (_, row, table) = access(&self.rows, &self.handles, handle)?;
+        if table.view().handle == handle {
+            Some(row)
+        } else {
+            None
+        }
+    }
+
+    /// The application that a handle was given to, None where no such handle is given.
+    pub fn app_of(&self, handle: u16) -> Option<u8>
+        ensures { result ≡ option_map (λ (h : Handle). h.app) (handle_at self.now handle) }
+    {
+        Some(self.handles.view(handle)?.app)
+    }
+
+    /// What is pending for the table of a handle, as `CFE_TBL_GetStatus` tells, where no validation is.
+    pub fn status(&self, handle: u16) -> Answer
+        requires { IsSome (access_of self.now handle) }
+        ensures status { ForSome (access_of self.now handle) (λ a. result.status ≡ pending_status [] a.row a.table) }
+        ensures detail { result.detail ≡ 0 }
+    {
+        let Some((_, _, table)) = access(&self.rows, &self.handles, handle) else {
+            unreachable!();
+        };
+        Answer::plain(table.pending())
     }
 
     /// What a handle stands for, None where no such handle is given.

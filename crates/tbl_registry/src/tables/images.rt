@@ -1,31 +1,33 @@
 //! How the images of tables and of their open loads change.
 
-ghost use Rattle.std.specs.Prelude.{◌≡◌, ◌<◌, ◌≤◌, ◌+◌, ◌-◌, ◌^◌, ◌&&◌, false, None, Some, IsTrue, IsSome, is_some, if◌then◌else◌, length, map, position, count_by};
+ghost use Rattle.std.specs.Prelude.{◌≡◌, ◌<◌, ◌≤◌, ◌+◌, ◌-◌, ◌^◌, ◌&&◌, false, None, Some, IsSome, IfSome, is_some, if◌then◌else◌, length, map, position, count_by};
 ghost use Rattle.std.specs.Option.{option_map, ForSome};
-ghost use Rattle.tbl_model.specs.State.{Table};
-ghost use Rattle.tbl_model.specs.Tables.{table_at, is_double, is_dump_only};
-ghost use Rattle.tbl_model.specs.TableSteps.{locker, put, set_time, set_file, set_load, patch, set_checked, unchecked};
+ghost use Rattle.tbl_model.specs.State.{Load, Table};
+ghost use Rattle.tbl_model.specs.Tables.{table_at, is_double, is_dump_only, uses_buffer};
+ghost use Rattle.tbl_model.specs.TableSteps.{locker, put, set_time, set_file, set_load, patch, set_checked, unchecked, load_image, ask, close_load, activate, set_notice, not_critical};
 ghost use Rattle.tbl_model.specs.Refusals.{open_refusal};
 ghost use Rattle.access_desc.specs.Steps.{has, pins_old, after_new_image};
-ghost use Rattle.tbl_registry.specs.Lent.{IsGiven, wants_buffer};
+ghost use Rattle.tbl_registry.specs.Lent.{HasItsBuffer, IsSettled};
 ghost use Rattle.tbl_registry.specs.Rows.{IsTable};
-ghost use Rattle.tbl_registry.specs.Seen.{let_go_unless};
+ghost use Rattle.tbl_registry.specs.Seen.{let_go_unless, with_next};
 
 use super::Tables;
-use super::handles::let_go_unless;
+use super::buffers::settle;
+use super::handles::let_go;
 use crate::row::Row;
 use access_desc::Handles;
 use buffer_pairs::Image;
 use tbl_kinds::Name64;
+use tbl_model::Notice;
 use working_buffers::Working;
 
-/// The pins of a table with two buffers are of the image before its new one, which goes where there are none.
+/// The pins of a table are of the image before its new one, which goes where there are none.
 fn move_pins(table: &mut Row, handles: &mut Handles, row: u8)
     ensures handles { handles.new ≡ map (option_map (after_new_image row)) handles.old }
     ensures table { table.new ≡ let_go_unless (is_some (position (has (pins_old row)) handles.new)) table.old }
 {
     handles.moved(row);
-    let_go_unless(table, handles.pinned_old(row).is_some());
+    let_go(table, handles, row);
 }
 
 /// The table takes an image as its last one. Of a table with a single buffer nobody may pin an image.
@@ -33,39 +35,56 @@ fn take_image(table: &mut Row, handles: &mut Handles, row: u8, image: Image)
     requires size { length image ≡ table.old.size }
     requires count { table.old.count < 2 ^ 32 - 1 }
     ensures well { IsTable table.old }
-    ensures handles { handles.new ≡ (if is_double table.old then map (option_map (after_new_image row)) handles.old else handles.old) }
-    ensures table { table.new ≡ record table.old { count = table.old.count + 1; last = Some image; before = if is_double table.old && is_some (position (has (pins_old row)) handles.new) then table.old.last else None } }
+    ensures handles { handles.new ≡ map (option_map (after_new_image row)) handles.old }
+    ensures table { table.new ≡ with_next table.old image (is_some (position (has (pins_old row)) handles.new)) }
 {
     table.put(image);
-    if table.is_double() {
-        move_pins(table, handles, row);
-    }
-}
-
-/// Gives the row a shared working buffer, if it wants one.
-fn give_buffer(working: &mut Working, row: u8, wants: bool)
-    requires { IsTrue wants → count_by is_some working.old < 4 }
-    ensures { IsGiven working.old working.new row wants }
-{
-    if !wants {
-        return;
-    }
-    let Some(_) = working.take(row) else {
-        unreachable!();
-    };
+    move_pins(table, handles, row);
 }
 
 /// Opens a load with this image, or puts it in the place of the open load's. A load that opens takes a buffer.
 fn take_load(table: &mut Row, working: &mut Working, row: u8, image: Image)
     requires size { length image ≡ table.old.size }
-    requires room { IsTrue (wants_buffer table.old) → count_by is_some working.old < 4 }
+    requires out { HasItsBuffer working.old row table.old }
+    requires room { uses_buffer (Some table.old) ≡ false → is_double table.old ≡ false → count_by is_some working.old < 4 }
+    requires loadable { is_dump_only table.old ≡ false }
     ensures table { table.new ≡ record table.old { load = unchecked image } }
     ensures well { IsTable table.old }
-    ensures buffers { IsGiven working.old working.new row (wants_buffer table.old) }
+    ensures buffers { IsSettled working.old working.new row (uses_buffer (Some table.old)) (uses_buffer (Some table.new)) }
 {
-    let wants = !table.is_double() && table.load().is_none();
-    give_buffer(working, row, wants);
+    let had = table.uses_buffer();
     table.set_load(image);
+    settle(working, row, had, table.uses_buffer());
+}
+
+/// Closes the load, and gives its image. The buffer that it used is free again.
+fn end_load(table: &mut Row, working: &mut Working, row: u8) -> Option<Image>
+    requires { HasItsBuffer working.old row table.old }
+    ensures image { result ≡ option_map (λ (load : Load). load.image) table.old.load }
+    ensures size { IfSome result (λ image. length image ≡ table.old.size) }
+    ensures table { table.new ≡ record table.old { load = None; activation = false } }
+    ensures buffers { IsSettled working.old working.new row (uses_buffer (Some table.old)) (uses_buffer (Some table.new)) }
+{
+    let had = table.uses_buffer();
+    let image = table.end_load();
+    settle(working, row, had, table.uses_buffer());
+    image
+}
+
+/// The load's image becomes the last one, and the load is closed.
+fn load_goes_active(table: &mut Row, handles: &mut Handles, working: &mut Working, row: u8)
+    requires load { IsSome table.old.load }
+    requires count { table.old.count < 2 ^ 32 - 1 }
+    requires out { HasItsBuffer working.old row table.old }
+    ensures well { IsTable table.old }
+    ensures handles { handles.new ≡ map (option_map (after_new_image row)) handles.old }
+    ensures table { table.new ≡ record (with_next table.old (load_image table.old) (is_some (position (has (pins_old row)) handles.new))) { load = None; activation = false } }
+    ensures buffers { IsSettled working.old working.new row (uses_buffer (Some table.old)) (uses_buffer (Some table.new)) }
+{
+    let Some(image) = end_load(table, working, row) else {
+        unreachable!();
+    };
+    take_image(table, handles, row, image);
 }
 
 impl Tables {
@@ -114,6 +133,56 @@ impl Tables {
         table.write_load(offset, bytes)
     }
 
+    /// Closes the open load of the table of a row. Its activation isn't asked any more.
+    pub fn close_load(&mut self, row: u8)
+        requires table { IsSome (table_at self.old row) }
+        requires load { ForSome (table_at self.old row) (λ t. IsSome t.load) }
+        ensures { self.new ≡ close_load row self.old }
+    {
+        let Some(table) = &mut self.rows[row as usize] else {
+            unreachable!();
+        };
+        let _ = end_load(table, &mut self.working, row);
+    }
+
+    /// The image of the open load becomes the last one of the table of a row, and the load is closed.
+    pub fn activate(&mut self, row: u8)
+        requires table { IsSome (table_at self.old row) }
+        requires load { ForSome (table_at self.old row) (λ t. IsSome t.load) }
+        requires unlocked { ForSome (table_at self.old row) (λ t. locker self.old row t ≡ None) }
+        requires count { ForSome (table_at self.old row) (λ t. t.count < 2 ^ 32 - 1) }
+        ensures tables { self.new ≡ activate row self.old }
+        ensures table { IsSome (table_at self.new row) }
+    {
+        let Some(table) = &mut self.rows[row as usize] else {
+            unreachable!();
+        };
+        load_goes_active(table, &mut self.handles, &mut self.working, row);
+    }
+
+    /// The activation of the open load of the table of a row is asked.
+    pub fn ask(&mut self, row: u8)
+        requires table { IsSome (table_at self.old row) }
+        requires load { ForSome (table_at self.old row) (λ t. IsSome t.load) }
+        ensures { self.new ≡ ask row self.old }
+    {
+        let Some(table) = &mut self.rows[row as usize] else {
+            unreachable!();
+        };
+        table.ask();
+    }
+
+    /// The notice that tells the owner of the table of a row of pending work.
+    pub fn set_notice(&mut self, row: u8, notice: Notice)
+        requires { IsSome (table_at self.old row) }
+        ensures { self.new ≡ set_notice row notice self.old }
+    {
+        let Some(table) = &mut self.rows[row as usize] else {
+            unreachable!();
+        };
+        table.set_notice(notice);
+    }
+
     /// Marks the open load of the table of a row as validated since its last change, or takes the mark away.
     pub fn set_checked(&mut self, row: u8, checked: bool)
         requires table { IsSome (table_at self.old row) }
@@ -124,6 +193,17 @@ impl Tables {
             unreachable!();
         };
         table.set_checked(checked);
+    }
+
+    /// The table of a row isn't critical any more.
+    pub fn not_critical(&mut self, row: u8)
+        requires { IsSome (table_at self.old row) }
+        ensures { self.new ≡ not_critical row self.old }
+    {
+        let Some(table) = &mut self.rows[row as usize] else {
+            unreachable!();
+        };
+        table.not_critical();
     }
 
     /// The time of the last update of the table of a row.

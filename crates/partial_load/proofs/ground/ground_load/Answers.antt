@@ -2,7 +2,8 @@ use Rattle.std.proofs.Common.{sym, ◌≡◌, Some, None}
 use Rattle.tbl_model.specs.TableSteps.{find}
 use Rattle.tbl_model.specs.Tables.{table_at}
 use Rattle.table_files.specs.Files.{with_image}
-use Rattle.partial_load.proofs.Filling.{some_is, answer_is, not_found, found_in}
+use Rattle.validation.proofs.Ready.{some_is}
+use Rattle.partial_load.proofs.Filling.{answer_is, not_found, found_in}
 use Rattle.partial_load.proofs.ground.ground_load.Goals as goal
 
 pub returns-in_default-clause-effect : goal.returns-in_default-clause-effect

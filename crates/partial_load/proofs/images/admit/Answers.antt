@@ -1,5 +1,5 @@
 use Rattle.tbl_model.specs.Tables.{table_at}
-use Rattle.partial_load.proofs.Filling.{some_is}
+use Rattle.validation.proofs.Ready.{some_is}
 use Rattle.partial_load.proofs.images.admit.Goals as goal
 
 pub judge-verdict-requires : goal.judge-verdict-requires

@@ -2,7 +2,7 @@ use Rattle.std.proofs.Common.{◌≡◌, ◌∙◌, sym, None}
 use Rattle.std.proofs.lemmas.Option.{same_Some}
 use Rattle.tbl_model.specs.TableSteps.{access_of}
 use Rattle.tbl_model.specs.Refusals.{closed_refusal}
-use Rattle.partial_load.proofs.Filling.{some_is}
+use Rattle.validation.proofs.Ready.{some_is}
 use Rattle.partial_load.proofs.images.app_load.Goals as goal
 
 pub load_image-requires-clause-kit : goal.load_image-requires-clause-kit

@@ -2,7 +2,8 @@ use Rattle.std.proofs.Common.{◌∙◌, ap, List, ℕ, length, arith}
 use Rattle.std.proofs.lemmas.Result.{IfOk-weaker}
 use Rattle.tbl_model.specs.Tables.{table_at}
 use Rattle.tbl_model.proofs.RefusalLaws.{part_taken}
-use Rattle.partial_load.proofs.Filling.{some_is, ends, zeros_patched}
+use Rattle.validation.proofs.Ready.{some_is}
+use Rattle.partial_load.proofs.Filling.{ends, zeros_patched}
 use Rattle.partial_load.proofs.making.new_image.Goals as goal
 
 pub patched-requires : goal.patched-requires

@@ -1,17 +1,9 @@
-use Rattle.std.proofs.Common.{◌≡◌, Some, None, slice_index_or}
-use Rattle.tbl_model.specs.Tables.{table_at}
-use Rattle.tbl_registry.proofs.Places.{at_place-read}
-use Rattle.tbl_registry.proofs.Changes.{checked_sound, checked_seen}
+use Rattle.std.proofs.Common.{refl}
+use Rattle.tbl_registry.proofs.Changes.{stands, checked_sound, row_seen}
 use Rattle.tbl_registry.proofs.tables.Tables.set_checked.Goals as goal
 
 pub invariant_of-self : goal.invariant_of-self
-invariant_of-self c =
-    let there : slice_index_or c.self.inside.rows.items c.args.row None ≡ Some c.in-Some.table = at_place-read c.self.inside.rows.items c.args.row c.index_mut.result.now c.in-Some.table c.index_mut.ensures.value c.in-Some.is (rw (← c.self.view_is) at c.requires.table) in
-    let seen : table_at c.args.self.now c.args.row ≡ Some c.in-Some.table = rw (← c.self.view_is) there in
-    rw c.set_checked.ensures (checked_sound c.self.inside.rows.items c.self.inside.handles c.self.inside.working c.args.row c.in-Some.table there c.self.invariant (c.requires.load c.in-Some.table seen) c.args.checked)
+invariant_of-self c = rw c.set_checked.ensures (checked_sound (stands c.args.row c.self.invariant c.index_mut.ensures.value c.in-Some.is (rw (← c.self.view_is) at c.requires.table)) c.args.checked)
 
 pub returns : goal.returns
-returns c =
-    let there : slice_index_or c.self.inside.rows.items c.args.row None ≡ Some c.in-Some.table = at_place-read c.self.inside.rows.items c.args.row c.index_mut.result.now c.in-Some.table c.index_mut.ensures.value c.in-Some.is (rw (← c.self.view_is) at c.requires.table) in
-    let seen : table_at c.args.self.now c.args.row ≡ Some c.in-Some.table = rw (← c.self.view_is) there in
-    rw (← c.self.view_is, c.set_checked.ensures) (checked_seen c.self.inside.rows.items c.self.inside.handles c.self.inside.working c.args.row c.in-Some.table there c.self.invariant c.args.checked)
+returns c = let row = stands c.args.row c.self.invariant c.index_mut.ensures.value c.in-Some.is (rw (← c.self.view_is) at c.requires.table) in rw (← c.self.view_is, c.set_checked.ensures, row.there) (row_seen row _ refl)

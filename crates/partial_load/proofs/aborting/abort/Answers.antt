@@ -1,0 +1,13 @@
+use Rattle.std.proofs.Common.{◌≡◌, false}
+use Rattle.tbl_model.specs.Pending.{without_pair}
+use Rattle.validation.proofs.Ready.{change_keeps, dropped_keeps, pair_gone, loads_keep}
+use Rattle.partial_load.proofs.aborting.abort.Goals as goal
+
+pub returns-clause-pending : goal.returns-clause-pending
+returns-clause-pending c =
+    rw (c.close_load.ensures, c.drop_pair.ensures)
+    (change_keeps c.args.tables.now c.args.row _ (without_pair c.args.row false c.args.pending.now) (λ t has. has) (λ t count. count) (pair_gone c.args.row false c.args.pending.now)
+    (dropped_keeps c.args.tables.now c.args.row false c.args.pending.now c.requires.pending))
+
+pub returns-clause-loads : goal.returns-clause-loads
+returns-clause-loads c = λ all. rw c.close_load.ensures (loads_keep c.args.tables.now c.args.row _ (λ t there has asked. absurd (cc asked)) all)

@@ -1,0 +1,3 @@
+pub mod Managing
+pub mod Missing
+pub mod Refusing

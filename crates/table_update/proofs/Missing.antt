@@ -1,0 +1,19 @@
+-- What is there where nothing is missing.
+use Rattle.std.proofs.Common.{◌≡◌, ◌<◌, ◌==◌, Bool, true, false, Option, Some, None, IsSome, refl, arith}
+use Rattle.std.proofs.lemmas.Bool.Decides.{nat_tests}
+use Rattle.tbl_model.specs.State.{Load, Table}
+use Rattle.validation.specs.Ready.{HasImage}
+use Rattle.table_update.specs.Answers.{missing_refusal}
+
+pub nothing_missing : (t : Table) (active : Bool) → missing_refusal t active ≡ None → HasImage t active
+nothing_missing t true none = by (t.count == 0) refl none
+  where
+    by : (b : Bool) → (t.count == 0) ≡ b → missing_refusal t true ≡ None → 0 < t.count
+    by true is none = absurd (cc (rw is at none))
+    by false is none = grind (arith, nat_tests)
+nothing_missing t false none = by t.load t.activation none
+  where
+    by : (load : Option Load) (asked : Bool) → missing_refusal (record t { load = load; activation = asked }) false ≡ None → IsSome load × (asked ≡ false)
+    by None asked none = absurd (cc none)
+    by (Some l) true none = absurd (cc none)
+    by (Some l) false none = (cc, refl)

@@ -1,0 +1,14 @@
+use Rattle.std.proofs.Common.{◌≡◌, ◌∙◌, Some, None, is_some, sym, ap}
+use Rattle.tbl_model.specs.Tables.{table_at}
+use Rattle.validation.proofs.Ready.{some_is, not_none}
+use Rattle.table_update.proofs.judging.judge.Goals as goal
+
+pub judge-requires : goal.judge-requires
+judge-requires g c =
+    let t = some_is (table_at c.args.tables.now c.args.row) c.requires.table in
+    rw (c.function-number.ensures t.0 t.1) (c.requires.kit t.0 t.1)
+
+pub unreachable-requires : goal.unreachable-requires
+unreachable-requires g c =
+    let t = some_is (table_at c.args.tables.now c.args.row) c.requires.table in
+    not_none t.0.validator (c.requires.validator t.0 t.1) (rw (c.in_default.is, c.function-number.ensures t.0 t.1) at c.judge.ensures.told)

@@ -1,0 +1,17 @@
+use Rattle.std.proofs.Common.{◌∙◌, sym, take, refl}
+use Rattle.std.proofs.lemmas.List.{take_all}
+use Rattle.tbl_registry.proofs.Owners.{taken_no_zero}
+use Rattle.tbl_registry.proofs.row.info.owner_name.Goals as goal
+
+pub returns-then-owner-gt20 : goal.returns-then-owner-gt20
+returns-then-owner-gt20 c =
+    c.of.ensures
+    ∙ taken_no_zero 20 _ (taken_no_zero c.before_dot.result c.bytes-bytes.result.now c.bytes-bytes.ensures.no_zero)
+    ∙ rw (c.before_dot.ensures.first, c.bytes-bytes.ensures.bytes) refl
+
+pub returns-else-owner-gt20 : goal.returns-else-owner-gt20
+returns-else-owner-gt20 c =
+    c.of-else-owner-gt20.ensures
+    ∙ taken_no_zero c.before_dot.result c.bytes-bytes.result.now c.bytes-bytes.ensures.no_zero
+    ∙ sym (take_all 20 (take c.before_dot.result c.bytes-bytes.result.now) c.if-owner-gt20.false)
+    ∙ rw (c.before_dot.ensures.first, c.bytes-bytes.ensures.bytes) refl

@@ -1,0 +1,105 @@
+//! What the registry tells of a table.
+
+ghost use Rattle.std.specs.Prelude.{◌≡◌, ◌==◌, ◌<◌, ◌≤◌, length, position, is_some, IfSome};
+ghost use Rattle.std.specs.Option.{option_map_or};
+ghost use Rattle.std.specs.List.{position_or_len};
+ghost use Rattle.tbl_kinds.specs.Check.{check16};
+ghost use Rattle.tbl_kinds.specs.Records.{validator_number};
+ghost use Rattle.tbl_model.specs.Registry.{registry_row, owner_name, bits_of, bit_at};
+
+use super::Row;
+use bitflags::Flags;
+use check_word::check16;
+use tbl_kinds::{Name20, Name40, Options, RegistryRow};
+
+/// Where the first dot stands.
+fn first_dot(name: &[u8]) -> Option<usize>
+    ensures first { result ≡ position (λ b. b == 46) name.now }
+    ensures within { IfSome result (λ dot. dot < length name.now) }
+{
+    name.iter().position(|byte| *byte == b'.')
+}
+
+/// How many bytes stand before the first dot, or else all.
+fn before_dot(name: &[u8]) -> usize
+    ensures first { result ≡ position_or_len (λ b. b == 46) name.now }
+    ensures within { result ≤ length name.now }
+{
+    match first_dot(name) {
+        Some(dot) => dot,
+        None => name.len(),
+    }
+}
+
+/// The application's name in a full name.
+fn owner_name(name: &Name40) -> Name20
+    ensures { result ≡ owner_name name.now }
+{
+    let bytes = name.bytes();
+    let owner = &bytes[..before_dot(bytes)];
+    if owner.len() > 20 {
+        Name20::of(&owner[..20])
+    } else {
+        Name20::of(owner)
+    }
+}
+
+/// The value of a bit that is set, else 0.
+fn bit_at(value: u8, set: bool) -> u8
+    ensures bit { result ≡ bit_at value set }
+    ensures within { result ≤ value }
+{
+    if set { value } else { 0 }
+}
+
+impl Row {
+    /// Bit 0 loaded, 1 activation asked, 2 dump only, 3 double buffered, 4 critical, 5 load open.
+    fn bits(&self) -> u8
+        ensures { result ≡ bits_of self.now }
+    {
+        bit_at(1, self.buffers.active().is_some())
+            + bit_at(2, self.asked)
+            + bit_at(4, self.flags.contains(Options::DUMP_ONLY))
+            + bit_at(8, self.flags.contains(Options::DOUBLE))
+            + bit_at(16, self.flags.contains(Options::CRITICAL))
+            + bit_at(32, self.load.is_some())
+    }
+
+    /// The check word of its last image, 0 where there is none.
+    fn check(&self) -> u32
+        ensures { result ≡ option_map_or check16 self.now.last 0 }
+    {
+        match self.buffers.active() {
+            Some(image) => check16(image.bytes()) as u32,
+            None => 0,
+        }
+    }
+
+    /// The number of its validation function, 0xFF for none.
+    fn validator_number(&self) -> u8
+        ensures { result ≡ validator_number self.now.validator }
+    {
+        match self.validator {
+            Some(number) => number,
+            None => 0xFF,
+        }
+    }
+
+    /// Its record in the registry.
+    pub(crate) fn info(&self) -> RegistryRow
+        ensures { result ≡ registry_row self.now }
+    {
+        RegistryRow {
+            size: self.size,
+            check: self.check(),
+            count: self.count,
+            seconds: self.seconds,
+            sub: self.sub,
+            bits: self.bits(),
+            validator: self.validator_number(),
+            name: self.name.copy(),
+            owner: owner_name(&self.name),
+            file: self.file.copy(),
+        }
+    }
+}

@@ -1,0 +1,188 @@
+-- Pending validations can be done still, after what changes tables, the kit and the list.
+use Rattle.std.proofs.Common.{◌≡◌, ◌≢◌, ◌<◌, ◌≤◌, ◌+◌, ◌==◌, ◌∙◌, ℕ, List, [], ◌∷◌, ◌++◌, length, Bool, true, false, not, ◌&&◌, ◌||◌, cond, filter, slice_index_or, option_map, Option, Some, None, IsSome, is_some, refl, sym, ap, subst, ◌⊎◌, inl, inr, arith}
+use Rattle.std.proofs.Common.{ℤ}
+use Rattle.std.specs.Option.{ForSome}
+use Rattle.std.specs.List.{list_any}
+use Rattle.std.proofs.lemmas.Bool.{cases_eq, cases_lt, eqb-true}
+use Rattle.std.proofs.lemmas.Bool.Decides.{nat_tests}
+use Rattle.std.proofs.lemmas.List.{get_or-set_same, get_or-set_other, get_or_past}
+use Rattle.std.proofs.lemmas.Option.{same_Some}
+use Rattle.tbl_model.specs.State.{Load, Table, Tables}
+use Rattle.tbl_model.specs.Tables.{table_at}
+use Rattle.tbl_model.specs.TableSteps.{changed, changed_in, set_checked}
+use Rattle.tbl_model.specs.Deeds.{is_good}
+use Rattle.tbl_model.specs.Pending.{is_pair, is_pending, without_pair}
+use Rattle.tbl_model.specs.Validations.{marked, first_pending}
+use Rattle.tbl_outside.specs.declared.validator.KitEntry.{KitEntry}
+use Rattle.validation.specs.Kits.{entry_at}
+use Rattle.validation.specs.Ready.{HasImage, CanBeJudged, ArePending, HaveFunctions, HasItsLoad, HaveLoads}
+
+-- ---- one table changes
+
+-- something stands only within the list
+within : {X : Type 0} (xs : List (Option X)) (k : ℕ) (x : X) → slice_index_or xs k None ≡ Some x → k < length xs
+within xs k x there = elim (cases_lt k (length xs)) [ inl is ↦ is | inr past ↦ absurd (cc (get_or_past xs k None past)) ]
+
+module _ (tables : Tables) (row : ℕ) (change : Table → Table) where
+  pub changed_here : (t : Table) → table_at tables row ≡ Some t → table_at (changed row change tables) row ≡ Some (change t)
+  changed_here t there = rw there (get_or-set_same tables.rows row (Some (change t)) None (within tables.rows row t there))
+
+  pub nothing_here : table_at tables row ≡ None → changed row change tables ≡ tables
+  nothing_here none = rw none refl
+
+  changed_there : (r : ℕ) → r ≢ row → table_at (changed row change tables) r ≡ table_at tables r
+  changed_there r other = by (table_at tables row)
+    where
+      by : (o : Option Table) → table_at (changed_in tables row change o) r ≡ table_at tables r
+      by None = refl
+      by (Some t) = get_or-set_other tables.rows row r (Some (change t)) None other
+
+  -- a table of which something holds is there still
+  pub stays_there : (P : Table → Type 0) → ((t : Table) → table_at tables row ≡ Some t → P t → P (change t)) → (r : ℕ) → IsSome (table_at tables r) × ForSome (table_at tables r) P
+      → IsSome (table_at (changed row change tables) r) × ForSome (table_at (changed row change tables) r) P
+  stays_there P keeps r was = elim (cases_eq r row) [
+    | inl here ↦ by_table (table_at tables row) refl (rw here at was.0) (rw here at was.1) here
+    | inr other ↦ rw (changed_there r other) was
+  ]
+    where
+      by_table : (o : Option Table) → table_at tables row ≡ o → IsSome (table_at tables row) → ForSome (table_at tables row) P → r ≡ row
+          → IsSome (table_at (changed row change tables) r) × ForSome (table_at (changed row change tables) r) P
+      by_table None is some holds here = absurd (cc (rw is at some))
+      by_table (Some t) is some holds here = rw (here, changed_here t is) (cc, λ u same. rw (sym (same_Some (change t) u same)) (keeps t is (holds t is)))
+
+-- what every table has, every table has still
+pub all_keep : (tables : Tables) (row : ℕ) (change : Table → Table) (P : Table → Type 0) → ((t : Table) → table_at tables row ≡ Some t → P t → P (change t)) → ((r : ℕ) → ForSome (table_at tables r) P) → (r : ℕ) → ForSome (table_at (changed row change tables) r) P
+all_keep tables row change P keeps all r = by (table_at tables r) refl
+  where
+    by : (o : Option Table) → table_at tables r ≡ o → ForSome (table_at (changed row change tables) r) P
+    by (Some t) is = (stays_there tables row change P keeps r (rw is cc, all r)).1
+    by None is = elim (cases_eq r row) [
+      | inl here ↦ rw (nothing_here tables row change (rw here at is)) (all r)
+      | inr other ↦ rw (changed_there tables row change r other) (all r)
+    ]
+
+-- ---- the list of pending validations
+
+same_pair : (row r : ℕ) (active a : Bool) → is_pair r a (row, active) ≡ true → (r ≡ row) × (a ≡ active)
+same_pair row r true true is = (let e = is in grind (arith, nat_tests), refl)
+same_pair row r true false is = grind (arith, nat_tests)
+same_pair row r false true is = grind (arith, nat_tests)
+same_pair row r false false is = (let e = is in grind (arith, nat_tests), refl)
+
+pub pending_added : (row r : ℕ) (active a : Bool) (pairs : List (ℕ × Bool)) → is_pending r a (pairs ++ (row, active) ∷ []) ≡ true → (is_pending r a pairs ≡ true) ⊎ ((r ≡ row) × (a ≡ active))
+pending_added row r active a [] is = inr (same_pair row r active a (either _ is))
+  where
+    either : (b : Bool) → (b || false) ≡ true → b ≡ true
+    either true _ = refl
+    either false none = none
+pending_added row r active a (pair ∷ pairs) is = by (is_pair r a pair) refl is (λ rest. pending_added row r active a pairs rest)
+  where
+    by : (b : Bool) → is_pair r a pair ≡ b → (b || is_pending r a (pairs ++ (row, active) ∷ [])) ≡ true
+        → (is_pending r a (pairs ++ (row, active) ∷ []) ≡ true → (is_pending r a pairs ≡ true) ⊎ ((r ≡ row) × (a ≡ active))) → (is_pending r a (pair ∷ pairs) ≡ true) ⊎ ((r ≡ row) × (a ≡ active))
+    by true first _ later = inl (rw first refl)
+    by false first rest later = rw first (later rest)
+
+pub pending_dropped : (row r : ℕ) (active a : Bool) (pairs : List (ℕ × Bool)) → is_pending r a (without_pair row active pairs) ≡ true → is_pending r a pairs ≡ true
+pending_dropped row r active a [] is = is
+pending_dropped row r active a (pair ∷ pairs) is = by (is_pair row active pair) (is_pair r a pair) refl refl (λ later. pending_dropped row r active a pairs later)
+  where
+    by : (dropped here : Bool) → is_pair row active pair ≡ dropped → is_pair r a pair ≡ here → (is_pending r a (without_pair row active pairs) ≡ true → is_pending r a pairs ≡ true) → is_pending r a (pair ∷ pairs) ≡ true
+    by dropped true d h later = rw h refl
+    by true false d h later = rw h (later (rw d at is))
+    by false false d h later = rw h (later (rw (d, h) at is))
+
+-- a pair that was dropped isn't there
+pub pair_gone : (row : ℕ) (active : Bool) (pairs : List (ℕ × Bool)) → is_pending row active (without_pair row active pairs) ≡ false
+pair_gone row active [] = refl
+pair_gone row active (pair ∷ pairs) = by (is_pair row active pair) refl (pair_gone row active pairs)
+  where
+    by : (b : Bool) → is_pair row active pair ≡ b → is_pending row active (without_pair row active pairs) ≡ false → is_pending row active (without_pair row active (pair ∷ pairs)) ≡ false
+    by true is later = rw is later
+    by false is later = rw (is, is) later
+
+-- ---- marks
+
+same_load : (checked : Bool) (load : Option Load) → IsSome load → IsSome (option_map (λ (l : Load). record l { checked = checked }) load)
+same_load checked None is = is
+same_load checked (Some l) is = cc
+
+-- a mark leaves what can be judged
+pub mark_keeps : (tables : Tables) (row : ℕ) (checked : Bool) (r : ℕ) (a : Bool) → CanBeJudged tables r a → CanBeJudged (set_checked row checked tables) r a
+mark_keeps tables row checked r true = stays_there tables row _ (λ t. IsSome t.validator × HasImage t true) (λ t there can. can) r
+mark_keeps tables row checked r false = stays_there tables row _ (λ t. IsSome t.validator × HasImage t false) (λ t there can. (can.0, (same_load checked t.load can.1.0, can.1.1))) r
+
+pub judged_keeps : (tables : Tables) (row : ℕ) (active : Bool) (verdict : ℤ) (pending : List (ℕ × Bool)) → ArePending tables pending → ArePending (marked row active verdict tables) (without_pair row active pending)
+judged_keeps tables row true verdict pending all = λ r a is. all r a (pending_dropped row r true a pending is)
+judged_keeps tables row false verdict pending all = λ r a is. mark_keeps tables row (is_good verdict) r a (all r a (pending_dropped row r false a pending is))
+
+pub asked_keeps : (tables : Tables) (row : ℕ) (active : Bool) (pending : List (ℕ × Bool)) → ArePending tables pending → CanBeJudged tables row active → ArePending tables (pending ++ (row, active) ∷ [])
+asked_keeps tables row active pending all can = λ r a is. elim (pending_added row r active a pending is) [ inl was ↦ all r a was | inr new ↦ rw (new.0, new.1) can ]
+
+-- ---- functions
+
+pub mark_has_functions : {C : Type 0} (tables : Tables) (row : ℕ) (active : Bool) (verdict : ℤ) (kit : List (Option (KitEntry C))) → HaveFunctions tables kit → HaveFunctions (marked row active verdict tables) kit
+mark_has_functions tables row true verdict kit all = all
+mark_has_functions tables row false verdict kit all = all_keep tables row _ (λ t. ForSome t.validator (λ number. IsSome (entry_at kit number))) (λ t there has. has) all
+
+-- ---- other changes
+
+-- a change of a table of which no validation of the load is pending, and which goes on to have its images and its function
+pub change_keeps : (tables : Tables) (row : ℕ) (change : Table → Table) (pending : List (ℕ × Bool)) → ((t : Table) → IsSome t.validator → IsSome (change t).validator) → ((t : Table) → 0 < t.count → 0 < (change t).count)
+    → is_pending row false pending ≡ false → ArePending tables pending → ArePending (changed row change tables) pending
+change_keeps tables row change pending validator count gone all r true is =
+    stays_there tables row change (λ t. IsSome t.validator × HasImage t true) (λ t there can. (validator t can.0, count t can.1)) r (all r true is)
+change_keeps tables row change pending validator count gone all r false is = elim (cases_eq r row) [
+  | inl here ↦ absurd (cc (rw (here, gone) at is))
+  | inr other ↦ rw (changed_there tables row change r other) (all r false is)
+]
+
+-- where the activation of a load is asked, no validation of it is pending
+pub none_pending : (tables : Tables) (row : ℕ) (t : Table) (pending : List (ℕ × Bool)) → table_at tables row ≡ Some t → t.activation ≡ true → ArePending tables pending → is_pending row false pending ≡ false
+none_pending tables row t pending there asked all = by (is_pending row false pending) refl
+  where
+    by : (b : Bool) → is_pending row false pending ≡ b → b ≡ false
+    by false is = refl
+    by true is = let no_activation = ((all row false is).1 t there).1.1 in absurd (cc (rw asked at no_activation))
+
+pub dropped_keeps : (tables : Tables) (row : ℕ) (active : Bool) (pending : List (ℕ × Bool)) → ArePending tables pending → ArePending tables (without_pair row active pending)
+dropped_keeps tables row active pending all = λ r a is. all r a (pending_dropped row r active a pending is)
+
+-- ---- loads whose activation is asked
+
+pub loads_keep : (tables : Tables) (row : ℕ) (change : Table → Table) → ((t : Table) → table_at tables row ≡ Some t → HasItsLoad t → HasItsLoad (change t)) → HaveLoads tables → HaveLoads (changed row change tables)
+loads_keep tables row change keeps all = all_keep tables row change HasItsLoad keeps all
+
+pub mark_keeps_loads : (tables : Tables) (row : ℕ) (active : Bool) (verdict : ℤ) → HaveLoads tables → HaveLoads (marked row active verdict tables)
+mark_keeps_loads tables row true verdict all = all
+mark_keeps_loads tables row false verdict all = loads_keep tables row _ (λ t there has asked. same_load (is_good verdict) t.load (has asked)) all
+
+-- ---- options
+
+pub some_is : {X : Type 0} (place : Option X) → IsSome place → (x : X) × (place ≡ Some x)
+some_is None there = absurd (cc there)
+some_is (Some x) there = (x, refl)
+
+-- the kit has the functions still, which were asked
+pub asked_has_functions : {C : Type 0} (tables : Tables) (old new : List (Option (KitEntry C))) → ((number : ℕ) → IsSome (entry_at old number) → IsSome (entry_at new number)) → HaveFunctions tables old → HaveFunctions tables new
+asked_has_functions tables old new still all = λ row t there number is. still number (all row t there number is)
+
+pub first_is_pending : (pending : List (ℕ × Bool)) (row : ℕ) (active : Bool) → first_pending pending row ≡ Some active → is_pending row active pending ≡ true
+first_is_pending pending row active is = by (is_pending row true pending) (is_pending row false pending) refl refl is
+  where
+    by : (last load : Bool) → is_pending row true pending ≡ last → is_pending row false pending ≡ load → cond last (Some true) (cond load (Some false) None) ≡ Some active → is_pending row active pending ≡ true
+    by true load p q same = rw (← same_Some true active same) p
+    by false true p q same = rw (← same_Some false active same) q
+    by false false p q same = absurd (cc same)
+
+pub is_there : {X : Type 0} (o : Option X) → is_some o ≡ true → IsSome o
+is_there None is = absurd (cc is)
+is_there (Some x) is = cc
+
+pub not_none : {X : Type 0} (o : Option X) → IsSome o → false ≡ is_some o → ⊥
+not_none None is same = absurd (cc is)
+not_none (Some x) is same = absurd (cc same)
+
+-- a mark leaves the tables where they are
+pub mark_leaves : (tables : Tables) (row : ℕ) (active : Bool) (verdict : ℤ) (r : ℕ) → IsSome (table_at tables r) → IsSome (table_at (marked row active verdict tables) r)
+mark_leaves tables row true verdict r there = there
+mark_leaves tables row false verdict r there = (stays_there tables row _ (λ t. Unit {0}) (λ t is none. none) r (there, λ t is. tt)).0
