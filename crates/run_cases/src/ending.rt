@@ -47,7 +47,7 @@ fn out_of_memory(_memory: Memory) -> CaseFault {
 pub(crate) fn run_in(alloc: Global, given: &Given, room: u32) -> Result<Ending, CaseFault> {
     let mut source = source_of(alloc, given).map_err(out_of_memory)?;
     let mut sink = MemSink::make(alloc, room, &given.bad_writes).map_err(out_of_memory)?;
-    let status = run(alloc, &given.words, &mut source, &mut sink);
+    let status = run(alloc, &given.words, &mut source, &mut sink, Vec::new(alloc));
     Ok(Ending {
         status,
         read_faults: source.faults(),
@@ -60,7 +60,13 @@ pub(crate) fn run_in(alloc: Global, given: &Given, room: u32) -> Result<Ending, 
 /// Runs between a source and a sink that never fail. The status, and how many bytes of the input weren't read.
 pub(crate) fn run_calm(alloc: Global, given: &Given) -> Result<(u8, usize), CaseFault> {
     let mut source = CalmSource::make(kept(alloc, &given.input).map_err(out_of_memory)?);
-    let status = run(alloc, &given.words, &mut source, &mut CalmSink::make());
+    let status = run(
+        alloc,
+        &given.words,
+        &mut source,
+        &mut CalmSink::make(),
+        Vec::new(alloc),
+    );
     Ok((status, source.left_bytes().len()))
 }
 

@@ -5,6 +5,7 @@ ghost use Rattle.tbl_kinds.specs.Records.{IsBuilt};
 
 use case_tables::CaseFault;
 use session_records::{Next, next_record};
+use shipped_kit::Shipped;
 use std::alloc::Global;
 use tbl_core::{Core, StepFault};
 use tbl_kinds::{Actor, Bytes, Memory, Outcome, Request};
@@ -14,7 +15,7 @@ use transcript::write_entry;
 const MOST_ENTRIES: usize = 32_768;
 
 /// Appends the spelling of the entry at a place.
-fn tell_entry(core: &Core, place: usize, out: &mut Bytes) -> Result<(), CaseFault> {
+fn tell_entry(core: &Core<Shipped>, place: usize, out: &mut Bytes) -> Result<(), CaseFault> {
     let entries = core.history();
     if place >= MOST_ENTRIES || entries.len() <= place {
         return Err(CaseFault::Unreadable);
@@ -29,7 +30,7 @@ fn tell_entry(core: &Core, place: usize, out: &mut Bytes) -> Result<(), CaseFaul
 
 /// Plays a request, and appends the spelling of its entry.
 pub(crate) fn step(
-    core: &mut Core,
+    core: &mut Core<Shipped>,
     actor: Actor,
     request: Request,
     out: &mut Bytes,
@@ -50,7 +51,7 @@ pub(crate) fn step(
 /// Plays the record at the front of an input, and tells its length: 0 at the end of the input.
 fn step_front(
     alloc: Global,
-    core: &mut Core,
+    core: &mut Core<Shipped>,
     input: &[u8],
     out: &mut Bytes,
 ) -> Result<usize, CaseFault> {
@@ -74,7 +75,7 @@ fn step_front(
 /// Plays records that stand one behind the other, and tells how many there are.
 pub(crate) fn step_all(
     alloc: Global,
-    core: &mut Core,
+    core: &mut Core<Shipped>,
     records: &[u8],
     out: &mut Bytes,
 ) -> Result<u32, CaseFault> {

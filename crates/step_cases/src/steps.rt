@@ -1,10 +1,16 @@
 //! Steps as a table states them.
 
+ghost use Rattle.std.specs.Prelude.{IfOk};
+ghost use Rattle.shipped_kit.specs.Verdicts.{asked_of};
+ghost use Rattle.tbl_core.specs.Service.{AskedBelow};
+
 use crate::stepping::{step, step_all};
 use case_tables::{CaseFault, Cases, Pieces};
+use shipped_kit::{FUNCTIONS, Shipped, shipped_entry};
 use std::alloc::Global;
 use tbl_core::Core;
 use tbl_kinds::{Actor, Bytes, Memory, Name, Request};
+use validation::Kit;
 
 /// How many bytes the field of a file's name has.
 const NAME_FIELD: usize = 64;
@@ -13,7 +19,7 @@ const NAME_FIELD: usize = 64;
 #[derive(Drop)]
 pub(crate) struct Steps {
     alloc: Global,
-    core: Option<Core>,
+    core: Option<Core<Shipped>>,
 }
 
 fn out_of_memory(_memory: Memory) -> CaseFault {
@@ -34,6 +40,17 @@ fn compare(alloc: Global, came: &Bytes, wanted: &[u8]) -> Result<(), CaseFault> 
     Err(CaseFault::Differs(hex::encode(alloc, came.bytes())?))
 }
 
+/// The kit of the shipped program.
+fn shipped(alloc: Global) -> Result<Kit<Shipped>, Memory>
+    ensures { IfOk result (AskedBelow asked_of 1) }
+{
+    let mut entries = Vec::with_capacity(alloc, usize::from(FUNCTIONS))?;
+    'functions: for number in 0..FUNCTIONS {
+        entries.push(shipped_entry(number))?;
+    }
+    Kit::make(alloc, entries)
+}
+
 impl Steps {
     /// Before the first core.
     pub(crate) fn make(alloc: Global) -> Steps {
@@ -41,7 +58,8 @@ impl Steps {
     }
 
     fn start(&mut self) -> Result<u32, CaseFault> {
-        let core = Core::start(self.alloc).map_err(out_of_memory)?;
+        let kit = shipped(self.alloc).map_err(out_of_memory)?;
+        let core = Core::start(self.alloc, kit).map_err(out_of_memory)?;
         self.core = Some(core);
         Ok(0)
     }

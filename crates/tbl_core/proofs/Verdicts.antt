@@ -12,7 +12,7 @@ use Rattle.validation.specs.Kits.{entry_at, owners, MayAsk, FewAsked}
 use Rattle.validation.specs.Ready.{HaveFunctions}
 use Rattle.validation.specs.Asked.{is_for, GivesEach, Stays, WasAsked}
 use Rattle.validation.proofs.Asking.{asked_nothing}
-use Rattle.tbl_core.specs.Service.{AskedFewer}
+use Rattle.tbl_core.specs.Service.{AskedBelow}
 use Rattle.tbl_core.specs.Verdicts.{Stood, StoodThere, Judged}
 
 module _ {C : Type 0} (verdict : C → List ℕ → ℤ) where
@@ -40,7 +40,7 @@ module _ {C : Type 0} (verdict : C → List ℕ → ℤ) where
 module _ {C : Type 0} (verdict : C → List ℕ → ℤ) (asked : C → ℕ) where
   -- an entry asks each function twice at most
   pub few_more : (old new : List (Option (KitEntry C))) (questions : List Question) (verdicts : List (Option ℤ)) (n : ℕ) → length verdicts ≡ 2 → Judged verdict asked old new questions verdicts
-      → AskedFewer asked (2 ^ 62 + 2 * n) old → AskedFewer asked (2 ^ 62 + 2 * suc n) new
+      → AskedBelow asked (2 ^ 62 + 2 * n) old → AskedBelow asked (2 ^ 62 + 2 * suc n) new
   few_more old new questions verdicts n two judged few number entry there =
       let least = count_by-le-length (is_for number) questions in
       let most = few_questions verdict old questions verdicts judged.gives in

@@ -107,14 +107,14 @@ pub record Vouches {C : Type 0} (verdict : C → List ℕ → ℤ) (given : List
 -- ---- what is kept of it
 
 -- each function of the kit was asked fewer times than this
-abbrev pub AskedFewer : {C : Type 0} → (C → ℕ) → ℕ → List (Option (KitEntry C)) → Type 0
-AskedFewer asked most kit = (number : ℕ) → ForSome (entry_at kit number) (λ entry. asked entry.check < most)
+abbrev pub AskedBelow : {C : Type 0} → (C → ℕ) → ℕ → List (Option (KitEntry C)) → Type 0
+AskedBelow asked most kit = (number : ℕ) → ForSome (entry_at kit number) (λ entry. asked entry.check < most)
 
 -- no table has had more images than there are entries, what is pending can be done, and no function was asked more than
 -- twice for each entry since it was given
 pub record IsReady {C : Type 0} (asked : C → ℕ) (core : CoreView C) : Type 0 where
   pub fit : AreFit (length core.entries) (state_of core.state)
-  pub kit : AskedFewer asked (2 ^ 62 + 2 * length core.entries) core.state.kit
+  pub kit : AskedBelow asked (2 ^ 62 + 2 * length core.entries) core.state.kit
 
 -- the next image of each table can be counted in 32 bits
 abbrev pub AreCounted : Tables → Type 0

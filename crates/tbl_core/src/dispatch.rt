@@ -98,7 +98,9 @@ impl<C: Validator> Parts<C> {
                     flags,
                     validator,
                 },
-            ) => register(tables, &self.kit, apps, app, name, *size, *flags, *validator, empty)?,
+            ) => register(
+                tables, &self.kit, apps, app, name, *size, *flags, *validator, empty,
+            )?,
             (Actor::App(app), Request::LoadImage { handle, image }) => {
                 load_image(
                     self.alloc,

@@ -4,10 +4,13 @@
 mod streams;
 mod words;
 
+use shipped_kit::{FUNCTIONS, shipped_entry};
+use std::alloc::Global;
 use std::process::ExitCode;
 use streams::{StandardInput, StandardOutput};
-use tbl_kinds::Bytes;
-use tbl_outside::Sink;
+use tbl_kinds::{Bytes, Memory};
+use tbl_outside::{Sink, Source};
+use tbl_top::run_with;
 use words::{WordsFault, given_words};
 
 /// What `--help` answers.
@@ -47,6 +50,20 @@ fn tell(text: &str, sink: &mut StandardOutput) -> u8 {
     }
 }
 
+/// Plays a session with the shipped validation functions.
+fn play<S: Source, K: Sink>(
+    alloc: Global,
+    words: &[Bytes],
+    source: &mut S,
+    sink: &mut K,
+) -> Result<u8, Memory> {
+    let mut kit = Vec::with_capacity(alloc, usize::from(FUNCTIONS))?;
+    'functions: for number in 0..FUNCTIONS {
+        kit.push(shipped_entry(number))?;
+    }
+    Ok(run_with(alloc, words, source, sink, kit))
+}
+
 fn main(rt: HostRuntime) -> ExitCode {
     let words = match given_words(&rt) {
         Ok(words) => words,
@@ -58,5 +75,8 @@ fn main(rt: HostRuntime) -> ExitCode {
         return ExitCode::from(tell(text, &mut sink));
     }
     let mut source = StandardInput::of(rt.stdin());
-    ExitCode::from(tbl_top::run(rt.alloc(), &words, &mut source, &mut sink))
+    match play(rt.alloc(), &words, &mut source, &mut sink) {
+        Ok(status) => ExitCode::from(status),
+        Err(Memory) => ExitCode::from(1),
+    }
 }

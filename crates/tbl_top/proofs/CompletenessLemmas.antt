@@ -1,5 +1,5 @@
 -- Where the input is a session's records and nothing else, and nothing failed, all of it is played.
-use Rattle.std.proofs.Common.{◌≡◌, ℕ, ◌<◌, List, [], ◌++◌, length, Option, Some, None, refl, sym, ap, subst, ◌∙◌, append_assoc, arith, ◌⊎◌, inl, inr}
+use Rattle.std.proofs.Common.{◌≡◌, ℕ, ℤ, ◌<◌, List, [], ◌++◌, length, Option, Some, None, refl, sym, ap, subst, ◌∙◌, append_assoc, arith, ◌⊎◌, inl, inr}
 use Rattle.std.specs.Prelude.{IfSome}
 use Rattle.std.specs.Io.KnownBytes.{prepend_known, IsAtEnd}
 use Rattle.std.proofs.lemmas.List.{append-nil, length-append, length-map}
@@ -9,6 +9,7 @@ use Rattle.tbl_kinds.specs.Heads.{IsShort, IsBad, is_short, is_bad, EndsBefore}
 use Rattle.tbl_kinds.specs.Transcript.{pair_of, pairs_of}
 use Rattle.tbl_kinds.proofs.RecordLaws.{bad-append, no_rest}
 use Rattle.tbl_outside.specs.Counts.{Rose}
+use Rattle.tbl_outside.specs.declared.validator.KitEntry.{KitEntry}
 use Rattle.tbl_top.specs.Session.{Session, IsWellFormed, IsStatus}
 
 short_is_some : (rest : List ℕ) → IsShort rest → rest ≡ [] → ⊥
@@ -19,8 +20,8 @@ pub bad_is_some : (rest : List ℕ) → IsBad rest → rest ≡ [] → ⊥
 unfolding is_bad
 bad_is_some rest bad none = let h : IsBad [] = subst IsBad none bad in cc
 
-module _ (opening : State) (read input left : List ℕ) (at_end read_failed : Type 0) (result : ℕ) (before after : Option (List ℕ))
-    (s : Session opening read at_end read_failed result before after) (parts : input ≡ read ++ left) (whole : IsWellFormed input) where
+module _ {C : Type 0} (verdict : C → List ℕ → ℤ) (given : List (Option (KitEntry C))) (opening : State) (read input left : List ℕ) (at_end read_failed : Type 0) (result : ℕ) (before after : Option (List ℕ))
+    (s : Session verdict given opening read at_end read_failed result before after) (parts : input ≡ read ++ left) (whole : IsWellFormed input) where
   -- where no record can follow, nothing is left at all
   nothing_left : EndsBefore (pairs_of s.entries) (s.rest ++ left) → s.rest ++ left ≡ []
   nothing_left ends = no_rest (pairs_of s.entries) whole.pairs (s.rest ++ left) s.each whole.each whole.few ends
@@ -47,8 +48,8 @@ rest_of_input : (left_new : Option (List ℕ)) (read input : List ℕ) → Some 
 rest_of_input None read input e = absurd cc
 rest_of_input (Some xs) read input e = (xs, refl, cc)
 
-module _ (opening : State) (read : List ℕ) (left_new : Option (List ℕ)) (read_failed : Type 0) (result : ℕ) (before after : Option (List ℕ)) (a b c d : ℕ)
-    (s : Session opening read (IsAtEnd left_new) read_failed result before after) (source : result ≡ 3 → Rose a b) (sink : result ≡ 4 → Rose c d) where
+module _ {C : Type 0} (verdict : C → List ℕ → ℤ) (given : List (Option (KitEntry C))) (opening : State) (read : List ℕ) (left_new : Option (List ℕ)) (read_failed : Type 0) (result : ℕ) (before after : Option (List ℕ)) (a b c d : ℕ)
+    (s : Session verdict given opening read (IsAtEnd left_new) read_failed result before after) (source : result ≡ 3 → Rose a b) (sink : result ≡ 4 → Rose c d) where
   by_status : (input left : List ℕ) → left_new ≡ Some left → input ≡ read ++ left → IsWellFormed input → ¬ Rose a b → ¬ Rose c d → IsStatus result
       → ((result ≡ 0) × (left_new ≡ Some [])) ⊎ (result ≡ 1)
   by_status input left is parts whole calm_source calm_sink (inl zero) = inl (zero, is ∙ ap Some (at_end_is left_new left is (s.ends.done zero).1))
@@ -57,11 +58,11 @@ module _ (opening : State) (read : List ℕ) (left_new : Option (List ℕ)) (rea
   by_status input left is parts whole calm_source calm_sink (inr (inr (inr (inl four)))) = absurd (calm_sink (sink four))
   by_status input left is parts whole calm_source calm_sink (inr (inr (inr (inr (inl five))))) =
       absurd (elim (s.ends.bad five).1 [
-        | inl bad ↦ not_bad opening read input left (IsAtEnd left_new) read_failed result before after s parts whole bad
-        | inr short ↦ not_short opening read input left (IsAtEnd left_new) read_failed result before after s parts whole (at_end_is left_new left is short.1) short.0
+        | inl bad ↦ not_bad verdict given opening read input left (IsAtEnd left_new) read_failed result before after s parts whole bad
+        | inr short ↦ not_short verdict given opening read input left (IsAtEnd left_new) read_failed result before after s parts whole (at_end_is left_new left is short.1) short.0
       ])
   by_status input left is parts whole calm_source calm_sink (inr (inr (inr (inr (inr six))))) =
-      absurd (not_full opening read input left (IsAtEnd left_new) read_failed result before after s parts whole (s.ends.full six).0 (s.ends.full six).1)
+      absurd (not_full verdict given opening read input left (IsAtEnd left_new) read_failed result before after s parts whole (s.ends.full six).0 (s.ends.full six).1)
 
   pub complete : (left_old : Option (List ℕ)) → left_old ≡ prepend_known read left_new
       → IfSome left_old (λ input. IsWellFormed input → ¬ Rose a b → ¬ Rose c d → ((result ≡ 0) × (left_new ≡ Some [])) ⊎ (result ≡ 1))

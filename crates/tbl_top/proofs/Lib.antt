@@ -1,3 +1,4 @@
+pub mod Functions
 pub mod WritingLemmas
 pub mod PlayingLemmas
 pub mod FeedingLemmas

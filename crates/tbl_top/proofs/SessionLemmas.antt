@@ -1,5 +1,5 @@
 -- From the end of the reading to the session that was told.
-use Rattle.std.proofs.Common.{◌≡◌, ◌≢◌, ℕ, eqb, Bool, true, false, List, [], length, Option, refl, sym, ap, subst, ◌∙◌, arith, ◌⊎◌, inl, inr}
+use Rattle.std.proofs.Common.{◌≡◌, ◌≢◌, ℕ, eqb, Bool, true, false, List, [], length, Option, refl, sym, ap, subst, ◌∙◌, arith, ◌⊎◌, inl, inr, ℤ}
 use Rattle.std.specs.Prelude.{if◌then◌else◌}
 use Rattle.std.specs.Io.KnownBytes.{append_known}
 use Rattle.std.proofs.lemmas.Bool.{eqb-true}
@@ -10,7 +10,8 @@ use Rattle.tbl_kinds.specs.Heads.{IsShort, IsBad, is_short, is_bad, EndsBefore}
 use Rattle.tbl_kinds.proofs.RecordLaws.{are_records}
 use Rattle.tbl_kinds.specs.Transcript.{pair_of, pairs_of, entries_bytes, end_bytes, offset_of, transcript}
 use Rattle.tbl_model.specs.History.{begins_at, run_from}
-use Rattle.tbl_core.specs.Service.{StandsFor}
+use Rattle.tbl_outside.specs.declared.validator.KitEntry.{KitEntry}
+use Rattle.tbl_core.specs.Service.{Vouches}
 use Rattle.tbl_core.proofs.WholeLaws.{whole}
 use Rattle.tbl_outside.specs.Streams.{TakesFront}
 use Rattle.tbl_outside.proofs.Streams.{append_known-nil, written_more, front_of_first, front_of_second, front_of_whole}
@@ -200,17 +201,18 @@ not_sink Unwritten failed whole is = λ e. omega (arith, e)
 
 -- ---- the session
 
-module _ {C : Type 0} (opening : State) (p : Playing C) (read : List ℕ) (failed : Bool) (at_end read_failed : Type 0) (result : ℕ) (before mid after : Option (List ℕ)) (faults faults_then : ℕ)
-    (at_first : opening.tables ≡ no_tables) (stands : StandsFor opening p.core) (session : IsSession p.core) (ends : EndsReading p read failed at_end) (cause : failed ≡ true → read_failed) where
+module _ {C : Type 0} (verdict : C → List ℕ → ℤ) (given : List (Option (KitEntry C))) (opening : State) (p : Playing C) (read : List ℕ) (failed : Bool) (at_end read_failed : Type 0) (result : ℕ) (before mid after : Option (List ℕ)) (faults faults_then : ℕ)
+    (at_first : opening.tables ≡ no_tables) (vouched : Vouches verdict given opening p.core) (session : IsSession p.core) (ends : EndsReading p read failed at_end) (cause : failed ≡ true → read_failed) where
   made : IsStatus result → EndsAs result (length p.core.entries) ends.feeds.behind at_end read_failed
-      → Tells result p.core.entries (λ other. WouldEnd other (length p.core.entries) ends.feeds.behind at_end read_failed) before after → Session opening read at_end read_failed result before after
+      → Tells result p.core.entries (λ other. WouldEnd other (length p.core.entries) ends.feeds.behind at_end read_failed) before after → Session verdict given opening read at_end read_failed result before after
   made known ends_as_is told = record {
     known = known;
     entries = p.core.entries;
     state = (run_from (begins_at opening) p.core.entries).state;
     rest = ends.feeds.behind;
-    legal = stands.legal;
-    whole = whole opening p.core.entries _ at_first stands.legal;
+    legal = vouched.stands.legal;
+    whole = whole opening p.core.entries _ at_first vouched.stands.legal;
+    verdicts = vouched.verdicts;
     each = session.each;
     few = session.few;
     parts = ends.feeds.parts;
@@ -225,7 +227,7 @@ module _ {C : Type 0} (opening : State) (p : Playing C) (read : List ℕ) (faile
 
   -- with an end record, whole or cut short
   ended : (p.standing ≢ SinkFailed) → IsWritten before p.core.entries mid
-      → WritesEnd (status_of p.standing failed (eqb (length p.rest) 0)) result p.core.entries mid after faults faults_then → Session opening read at_end read_failed result before after
+      → WritesEnd (status_of p.standing failed (eqb (length p.rest) 0)) result p.core.entries mid after faults faults_then → Session verdict given opening read at_end read_failed result before after
   ended is written w =
       let status = status_of p.standing failed (eqb (length p.rest) 0) in
       let tells : EndsAs status (length p.core.entries) ends.feeds.behind at_end read_failed =
@@ -241,18 +243,18 @@ module _ {C : Type 0} (opening : State) (p : Playing C) (read : List ℕ) (faile
       (tells_end status result p.core.entries (λ other. WouldEnd other (length p.core.entries) ends.feeds.behind at_end read_failed) before mid after faults faults_then not_four
       (would_end status (length p.core.entries) ends.feeds.behind at_end read_failed known not_four tells) written w)
 
-  without_end : (result ≡ 4) × (after ≡ mid) → TakesFront before mid (entries_bytes 0 p.core.entries) → Session opening read at_end read_failed result before after
+  without_end : (result ≡ 4) × (after ≡ mid) → TakesFront before mid (entries_bytes 0 p.core.entries) → Session verdict given opening read at_end read_failed result before after
   without_end w told =
       made (inr (inr (inr (inl w.0)))) (tells_none result (length p.core.entries) ends.feeds.behind at_end read_failed (inr w.0))
       (tells_front 4 result p.core.entries (λ other. WouldEnd other (length p.core.entries) ends.feeds.behind at_end read_failed) before mid after faults faults_then w told)
 
-  without_memory : (result ≡ 1) × (after ≡ mid) → TakesFront before mid (entries_bytes 0 p.core.entries) → Session opening read at_end read_failed result before after
+  without_memory : (result ≡ 1) × (after ≡ mid) → TakesFront before mid (entries_bytes 0 p.core.entries) → Session verdict given opening read at_end read_failed result before after
   without_memory w told =
       made (inr (inl w.0)) (tells_none result (length p.core.entries) ends.feeds.behind at_end read_failed (inl w.0))
       (tells_starved 1 result p.core.entries (λ other. WouldEnd other (length p.core.entries) ends.feeds.behind at_end read_failed) before mid after faults faults_then w told)
 
   by_standing : (standing : Standing) → p.standing ≡ standing → TellsWritten standing before p.core.entries mid
-      → Finishes standing (status_of p.standing failed (eqb (length p.rest) 0)) result p.core.entries mid after faults faults_then → Session opening read at_end read_failed result before after
+      → Finishes standing (status_of p.standing failed (eqb (length p.rest) 0)) result p.core.entries mid after faults faults_then → Session verdict given opening read at_end read_failed result before after
   by_standing Open is told w = ended (λ e. cc) told w
   by_standing Bad is told w = ended (λ e. cc) told w
   by_standing Full is told w = ended (λ e. cc) told w
@@ -261,7 +263,7 @@ module _ {C : Type 0} (opening : State) (p : Playing C) (read : List ℕ) (faile
   by_standing Unwritten is told w = without_memory w told
 
   pub session_of : TellsWritten p.standing before p.core.entries mid
-      → Finishes p.standing (status_of p.standing failed (eqb (length p.rest) 0)) result p.core.entries mid after faults faults_then → Session opening read at_end read_failed result before after
+      → Finishes p.standing (status_of p.standing failed (eqb (length p.rest) 0)) result p.core.entries mid after faults faults_then → Session verdict given opening read at_end read_failed result before after
   session_of told w = by_standing p.standing refl told w
 
 -- at first nothing is written
@@ -284,13 +286,14 @@ no_reading = record {
 }
 
 -- where memory ran out before the first read
-pub starved_at_once : (opening : State) → opening.tables ≡ no_tables → (at_end read_failed : Type 0) (taken : Option (List ℕ)) → Session opening [] at_end read_failed 1 taken taken
-starved_at_once opening at_first at_end read_failed taken = record {
+pub starved_at_once : {C : Type 0} (verdict : C → List ℕ → ℤ) (given : List (Option (KitEntry C))) (opening : State) → opening.tables ≡ no_tables → (at_end read_failed : Type 0) (taken : Option (List ℕ)) → Session verdict given opening [] at_end read_failed 1 taken taken
+starved_at_once verdict given opening at_first at_end read_failed taken = record {
   entries = [];
   state = opening;
   rest = [];
   legal = record { answered = tt; leads = refl };
   whole = whole opening [] opening at_first (record { answered = tt; leads = refl });
+  verdicts = tt;
   each = tt;
   few = omega arith;
   parts = refl;

@@ -1,10 +1,11 @@
 -- A session as `play` tells it.
-use Rattle.std.specs.Prelude.{◌≡◌, ◌⊎◌, ℕ, ◌<◌, ◌≤◌, List, [], ◌∷◌, ◌++◌, length, codes, Option}
+use Rattle.std.specs.Prelude.{◌≡◌, ◌⊎◌, ℕ, ◌<◌, ◌≤◌, List, [], ◌∷◌, ◌++◌, length, map, codes, Option, Some}
 use Rattle.std.specs.List.{AllByRecursion}
 use Rattle.std.proofs.Common.{ℤ}
 use Rattle.std.specs.Io.KnownBytes.{append_known}
 use Rattle.tbl_kinds.specs.Buffers.{Buffer}
-use Rattle.tbl_model.specs.State.{State}
+use Rattle.tbl_model.specs.State.{State, first_state}
+use Rattle.validation.specs.Kits.{owners}
 use Rattle.tbl_kinds.specs.Records.{Pair, IsRecord, joined, record_limit, AreRecords}
 use Rattle.tbl_kinds.specs.Heads.{IsShort, IsBad}
 use Rattle.tbl_kinds.specs.Transcript.{pairs_of, entries_bytes, transcript}
@@ -22,6 +23,14 @@ abbrev pub IsPlay : List Buffer → Type 0
 IsPlay [] = ⊥
 IsPlay (word ∷ []) = word.list ≡ codes "play"
 IsPlay (word ∷ other ∷ words) = ⊥
+
+-- the validation functions that a session is given, by their numbers
+abbrev pub given_of : {C : Type 0} → List (KitEntry C) → List (Option (KitEntry C))
+given_of entries = map (λ entry. Some entry) entries
+
+-- how it begins with them
+abbrev pub opening_of : {C : Type 0} → List (KitEntry C) → State
+opening_of entries = first_state [] (owners (given_of entries))
 
 -- all but the beginning of one record and one piece of what was read was played
 abbrev pub rest_limit : ℕ

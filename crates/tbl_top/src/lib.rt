@@ -11,7 +11,7 @@ mod words;
 mod writing;
 
 pub use player::{Fed, Player};
-pub use session::run;
+pub use session::{run, run_with};
 
 #[cfg(test)]
 mod tests;

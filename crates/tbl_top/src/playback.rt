@@ -104,7 +104,7 @@ impl<C: Validator> Playback<C> {
 
     /// Plays a record. `Ok(None)` where its entry was written, `Ok(Some(..))` where it was played and the entry wasn't
     /// written whole.
-    fn play_record<C: Validator, K: Sink>(
+    fn play_record<K: Sink>(
         &mut self,
         actor: Actor,
         request: Request,
@@ -136,7 +136,7 @@ impl<C: Validator> Playback<C> {
 
     /// Plays the record at a place where one is whole, and answers None once its entry was written; else what stands in
     /// its way.
-    fn play_next<C: Validator, K: Sink>(&mut self, bytes: &[u8], at: &mut usize, sink: &mut K) -> Option<Standing>
+    fn play_next<K: Sink>(&mut self, bytes: &[u8], at: &mut usize, sink: &mut K) -> Option<Standing>
         requires within { at.old ≤ length bytes.now }
         ensures within { at.new ≤ length bytes.now }
         ensures stream { played_before self.new (drop at.new bytes.now) ≡ played_before self.old (drop at.old bytes.now) }
@@ -181,7 +181,7 @@ impl<C: Validator> Playback<C> {
     }
 
     /// Plays each record that is whole, from a place on.
-    pub(crate) fn play_whole<C: Validator, K: Sink>(
+    pub(crate) fn play_whole<K: Sink>(
         &mut self,
         bytes: &[u8],
         at: &mut usize,
@@ -207,7 +207,7 @@ impl<C: Validator> Playback<C> {
     }
 
     /// Writes the end record.
-    pub(crate) fn tell_end<C: Validator, K: Sink>(&mut self, status: u8, sink: &mut K) -> Result<(), Failed>
+    pub(crate) fn tell_end<K: Sink>(&mut self, status: u8, sink: &mut K) -> Result<(), Failed>
         ensures same { self.new ≡ self.old }
         ensures ok { OnOk result (K.taken sink.new ≡ append_known (K.taken sink.old) (end_bytes status (length self.old.entries) (offset_of self.old.entries))) }
         ensures err { OnErr result (TakesFront (K.taken sink.old) (K.taken sink.new) (end_bytes status (length self.old.entries) (offset_of self.old.entries))) }

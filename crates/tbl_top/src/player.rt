@@ -77,7 +77,7 @@ impl<C: Validator> Player<C> {
 
     /// Plays the records that are whole with this piece of the input, and tells their entries. It doesn't matter where
     /// the input is cut.
-    pub fn feed<C: Validator, K: Sink>(&mut self, piece: &[u8], sink: &mut K) -> Fed
+    pub fn feed<K: Sink>(&mut self, piece: &[u8], sink: &mut K) -> Fed
         requires is_open { self.old.standing ≡ Open }
         ensures answer { result ≡ answer_of self.new.standing }
 
@@ -112,7 +112,7 @@ impl<C: Validator> Player<C> {
 
     /// Ends the session: writes the end record, unless an entry before it wasn't written whole, and answers the status.
     /// The input is at its end, or a read of it failed.
-    pub fn finish<C: Validator, K: Sink>(&mut self, read_failed: bool, sink: &mut K) -> u8
+    pub fn finish<K: Sink>(&mut self, read_failed: bool, sink: &mut K) -> u8
         ensures finishes { Finishes self.old.standing (status_of self.old.standing read_failed (length self.old.rest == 0)) result self.old.core.entries (K.taken sink.old) (K.taken sink.new) (K.faults sink.old) (K.faults sink.new) }
         ensures same { self.new ≡ self.old }
         ensures count { K.faults sink.old ≤ K.faults sink.new }
@@ -235,7 +235,11 @@ fn complete<C: Validator, K: Sink>(
 }
 
 /// Plays what is whole of the kept bytes, and drops it.
-fn play_kept<C: Validator, K: Sink>(playback: &mut Playback<C>, kept: &mut Vec<u8>, sink: &mut K) -> Standing
+fn play_kept<C: Validator, K: Sink>(
+    playback: &mut Playback<C>,
+    kept: &mut Vec<u8>,
+    sink: &mut K,
+) -> Standing
     ensures bound { length kept.new.items ≤ length kept.old.items }
     ensures stream { played_before playback.new kept.new.items ≡ played_before playback.old kept.old.items }
     ensures leaves { Leaves result (length playback.new.entries) kept.new.items }

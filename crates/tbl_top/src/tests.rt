@@ -5,8 +5,10 @@ use super::*;
 use std::alloc::Global;
 use std::test::Fail;
 use tbl_core::Core;
-use tbl_fakes::{MemSink, MemSource};
+use tbl_fakes::{FirstByte, MemSink, MemSource};
 use tbl_kinds::{Bytes, Memory};
+use tbl_outside::{KitEntry, Validator};
+use validation::Kit;
 
 /// The records of a NOOP and of a housekeeping request.
 const NOOP: [u8; 12] = [
@@ -52,7 +54,9 @@ fn play_at_once(alloc: Global) -> Result<Told, Memory> {
     let words = vec![in alloc; joined(alloc, &[b"play"])?]?;
     let mut source = MemSource::make(alloc, joined(alloc, &[&NOOP, &HOUSEKEEPING])?, &[])?;
     let mut sink = MemSink::make(alloc, 400, &[])?;
-    let status = run(alloc, &words, &mut source, &mut sink);
+    let check: Box<dyn Validator + Send> = Box::new(alloc, FirstByte::make())?;
+    let kit = vec![in alloc; KitEntry { app: 1, check }]?;
+    let status = run(alloc, &words, &mut source, &mut sink, kit);
     Ok(Told {
         status,
         first: 45,
@@ -61,9 +65,10 @@ fn play_at_once(alloc: Global) -> Result<Told, Memory> {
 }
 
 /// Feeds both records byte by byte, and gives the core back beside what came of it.
-fn play_each(alloc: Global) -> Result<(Told, Core), Memory> {
+fn play_each(alloc: Global) -> Result<(Told, Core<FirstByte>), Memory> {
     let mut sink = MemSink::make(alloc, 400, &[])?;
-    let Ok(mut player) = Player::make(alloc, Core::start(alloc)?) else {
+    let kit = Kit::make(alloc, Vec::new(alloc))?;
+    let Ok(mut player) = Player::make(alloc, Core::start(alloc, kit)?) else {
         return Err(Memory);
     };
     if !feed_each(&mut player, NOOP, &mut sink) {

@@ -8,11 +8,11 @@ ghost use Rattle.tbl_top.specs.Standing.{TellsStop, TellsWhy};
 
 use crate::playback::Standing;
 use tbl_kinds::{Bytes, Entry};
-use tbl_outside::{Failed, Sink, Validator};
+use tbl_outside::{Failed, Sink};
 use transcript::write_entry;
 
 /// Writes the spelling of an entry, which is put together in `out`; None where the sink took it.
-pub(crate) fn write<C: Validator, K: Sink>(
+pub(crate) fn write<K: Sink>(
     out: &mut Bytes,
     place: usize,
     entry: &Entry,

@@ -9,14 +9,14 @@ returns-clause-asks g c s stands =
     let v = g.C.Validator.verdict in
     let a = g.C.Validator.asked in
     elim c.match-actor.branch [
-    | in-Ground-Command+in-Some+in_ok-effect-in-Some w ↦ let is = w.in_ok-effect-in-Some.ensures.effect s stands.tables stands.drawer in let given = w.in_ok-effect-in-Some.ensures.given in let none = none_judged v a in search rules
-    | in-Ground-File+in_ok-effect-in-Ground-File w ↦ let is = w.in_ok-effect-in-Ground-File.ensures.effect s stands.drawer in let given = w.in_ok-effect-in-Ground-File.ensures.quiet.given in let none = none_judged v a in search rules
-    | in-App-Start w ↦ let is = w.start-effect.ensures.effect s stands.apps in let given = w.start-effect.ensures.quiet.given in let none = none_judged v a in search rules
-    | in-App-Register+in_ok-effect-in-App-Register w ↦ let is = w.in_ok-effect-in-App-Register.ensures.effect s stands.tables stands.apps stands.kit in let given = w.in_ok-effect-in-App-Register.ensures.quiet.given in let none = none_judged v a in search rules
-    | in-App-LoadImage+in_ok-effect-in-App-LoadImage w ↦ let was = was_judged v a in search rules
-    | in-App-Get w ↦ let is = w.get-effect.ensures.effect s stands.tables stands.apps in let given = w.get-effect.ensures.quiet.given in let none = none_judged v a in search rules
-    | in-App-Read+in_ok-effect-in-App-Read w ↦ let is = w.in_ok-effect-in-App-Read.ensures.effect s stands.tables stands.apps in let given = w.in_ok-effect-in-App-Read.ensures.quiet.given in let none = none_judged v a in search rules
-    | in-App-Release w ↦ let is = w.release-effect.ensures.effect s stands.tables stands.apps in let given = w.release-effect.ensures.quiet.given in let none = none_judged v a in search rules
+      | in-Ground-Command+in-Some+in_ok-effect-in-Some w ↦ let is = w.in_ok-effect-in-Some.ensures.effect s stands.tables stands.drawer in let given = w.in_ok-effect-in-Some.ensures.given in let none = none_judged v a in search rules
+      | in-Ground-File+in_ok-effect-in-Ground-File w ↦ let is = w.in_ok-effect-in-Ground-File.ensures.effect s stands.drawer in let given = w.in_ok-effect-in-Ground-File.ensures.quiet.given in let none = none_judged v a in search rules
+      | in-App-Start w ↦ let is = w.start-effect.ensures.effect s stands.apps in let given = w.start-effect.ensures.quiet.given in let none = none_judged v a in search rules
+      | in-App-Register+in_ok-effect-in-App-Register w ↦ let is = w.in_ok-effect-in-App-Register.ensures.effect s stands.tables stands.apps stands.kit in let given = w.in_ok-effect-in-App-Register.ensures.quiet.given in let none = none_judged v a in search rules
+      | in-App-LoadImage+in_ok-effect-in-App-LoadImage w ↦ let was = was_judged v a in search rules
+      | in-App-Get w ↦ let is = w.get-effect.ensures.effect s stands.tables stands.apps in let given = w.get-effect.ensures.quiet.given in let none = none_judged v a in search rules
+      | in-App-Read+in_ok-effect-in-App-Read w ↦ let is = w.in_ok-effect-in-App-Read.ensures.effect s stands.tables stands.apps in let given = w.in_ok-effect-in-App-Read.ensures.quiet.given in let none = none_judged v a in search rules
+      | in-App-Release w ↦ let is = w.release-effect.ensures.effect s stands.tables stands.apps in let given = w.release-effect.ensures.quiet.given in let none = none_judged v a in search rules
     ]
 
 pub returns-then-not-is_played-clause-effect : goal.returns-then-not-is_played-clause-effect

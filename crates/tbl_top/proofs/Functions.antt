@@ -1,0 +1,20 @@
+-- The validation functions that a session is given.
+use Rattle.std.proofs.Common.{◌≡◌, ◌∙◌, ◌<◌, ◌≤◌, ◌^◌, ℕ, List, length, map, Option, Some, None, sym, ap, subst, inl, inr, arith}
+use Rattle.std.specs.Prelude.{All, slice_index_or}
+use Rattle.std.proofs.lemmas.Bool.{cases_lt}
+use Rattle.std.proofs.lemmas.List.{get_or-map, get_or_past, length-map}
+use Rattle.std.proofs.lemmas.Option.{same_Some}
+use Rattle.tbl_outside.specs.declared.validator.KitEntry.{KitEntry}
+use Rattle.tbl_core.specs.Service.{AskedBelow}
+use Rattle.tbl_top.specs.Session.{given_of}
+
+-- where each was asked seldom, so was what stands under each number
+pub seldom_asked : {C : Type 0} (asked : C → ℕ) (entries : List (KitEntry C)) → All (λ (e : KitEntry C). asked e.check < 2 ^ 62) entries → AskedBelow asked (2 ^ 62) (given_of entries)
+seldom_asked asked entries few number entry there = elim (cases_lt number (length entries)) [
+  | inl is ↦
+      let same : slice_index_or entries number entry ≡ entry = same_Some (slice_index_or entries number entry) entry (sym (get_or-map (λ (e : KitEntry _). Some e) entries number entry None is) ∙ there) in
+      subst (λ (e : KitEntry _). asked e.check < 2 ^ 62) same (few number entry is)
+  | inr past ↦
+      let none = get_or_past (given_of entries) number None (omega (arith, past, length-map entries (λ (e : KitEntry _). Some e))) in
+      absurd (cc (none, there))
+]
