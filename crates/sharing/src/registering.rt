@@ -101,6 +101,7 @@ fn add(
         size,
         flags: Options::from_bits_retain(0),
         validator,
+        first: None,
     };
     match tables.add(app, plan) {
         Ok(handle) => Ok(Answer {

@@ -2,7 +2,7 @@
 
 ghost use Rattle.std.specs.Prelude.{IfOk};
 ghost use Rattle.shipped_kit.specs.Verdicts.{asked_of};
-ghost use Rattle.tbl_core.specs.Service.{FewAsked};
+ghost use Rattle.tbl_core.specs.Service.{AskedBelow};
 
 use crate::stepping::{step, step_all};
 use case_tables::{CaseFault, Cases, Pieces};
@@ -42,7 +42,7 @@ fn compare(alloc: Global, came: &Bytes, wanted: &[u8]) -> Result<(), CaseFault> 
 
 /// The kit of the shipped program.
 fn shipped(alloc: Global) -> Result<Kit<Shipped>, Memory>
-    ensures { IfOk result (FewAsked asked_of 1) }
+    ensures { IfOk result (AskedBelow asked_of 1) }
 {
     let mut entries = Vec::with_capacity(alloc, usize::from(FUNCTIONS))?;
     'functions: for number in 0..FUNCTIONS {

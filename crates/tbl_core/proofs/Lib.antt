@@ -3,6 +3,7 @@ pub mod Cases
 pub mod CommandAnswers
 pub mod Fair
 pub mod Few
+pub mod Functions
 pub mod Ordinary
 pub mod Pins
 pub mod Places

@@ -13,7 +13,7 @@ use Rattle.validation.specs.Kits.{entry_at, is_of, owners, MayAsk}
 use Rattle.validation.specs.Asked.{is_for, GivesEach, Stays, WasAsked}
 use Rattle.validation.proofs.Asking.{asked_nothing}
 use Rattle.sharing.proofs.Functions.{may_use_at}
-use Rattle.tbl_core.specs.Service.{AreUsual, FewAsked}
+use Rattle.tbl_core.specs.Service.{AreUsual, AskedBelow}
 use Rattle.tbl_core.specs.Verdicts.{Stood, StoodThere, Judged}
 
 module _ {C : Type 0} (verdict : C → List ℕ → ℤ) where
@@ -41,7 +41,7 @@ module _ {C : Type 0} (verdict : C → List ℕ → ℤ) where
 module _ {C : Type 0} (verdict : C → List ℕ → ℤ) (asked : C → ℕ) where
   -- an entry asks each function twice at most
   pub few_more : (old new : List (Option (KitEntry C))) (questions : List Question) (verdicts : List (Option ℤ)) (n : ℕ) → length verdicts ≡ 2 → Judged verdict asked old new questions verdicts
-      → FewAsked asked (2 ^ 62 + 2 * n) old → FewAsked asked (2 ^ 62 + 2 * suc n) new
+      → AskedBelow asked (2 ^ 62 + 2 * n) old → AskedBelow asked (2 ^ 62 + 2 * suc n) new
   few_more old new questions verdicts n two judged few number entry there =
       let least = count_by-le-length (is_for number) questions in
       let most = few_questions verdict old questions verdicts judged.gives in
@@ -89,7 +89,7 @@ module _ {C : Type 0} (verdict : C → List ℕ → ℤ) (asked : C → ℕ) whe
 
 module _ {C : Type 0} (asked : C → ℕ) where
   -- the function of a table may be asked
-  pub may_ask : (kit : List (Option (KitEntry C))) (app : ℕ) (validator : Option ℕ) → may_use (owners kit) app validator ≡ true → FewAsked asked (2 ^ 63 - 1) kit → ForSome validator (MayAsk asked 1 kit)
+  pub may_ask : (kit : List (Option (KitEntry C))) (app : ℕ) (validator : Option ℕ) → may_use (owners kit) app validator ≡ true → AskedBelow asked (2 ^ 63 - 1) kit → ForSome validator (MayAsk asked 1 kit)
   may_ask kit app validator may few number is = by (entry_at kit number) refl where
     there : is_of app (entry_at kit number) ≡ true
     there = sym (may_use_at kit app number) ∙ subst (λ v. may_use (owners kit) app v ≡ true) is may
@@ -98,5 +98,5 @@ module _ {C : Type 0} (asked : C → ℕ) where
     by None at = absurd (cc (there, at))
     by (Some entry) at = (rw at cc, λ other same. let low = few number other same in omega (arith, low))
 
-  pub may_ask_there : (kit : List (Option (KitEntry C))) (tables : Tables) (row most : ℕ) → AreUsual most (owners kit) tables → FewAsked asked (2 ^ 63 - 1) kit → ForSome (table_at tables row) (λ t. ForSome t.validator (MayAsk asked 1 kit))
+  pub may_ask_there : (kit : List (Option (KitEntry C))) (tables : Tables) (row most : ℕ) → AreUsual most (owners kit) tables → AskedBelow asked (2 ^ 63 - 1) kit → ForSome (table_at tables row) (λ t. ForSome t.validator (MayAsk asked 1 kit))
   may_ask_there kit tables row most are few t there = may_ask kit t.owner t.validator (are row t there).function few

@@ -101,14 +101,14 @@ abbrev pub AreUsual : ℕ → List (Option ℕ) → Tables → Type 0
 AreUsual most kit tables = (row : ℕ) → ForSome (table_at tables row) (IsUsual most kit)
 
 -- each function of the kit was asked fewer times than this
-abbrev pub FewAsked : {C : Type 0} → (C → ℕ) → ℕ → List (Option (KitEntry C)) → Type 0
-FewAsked asked most kit = (number : ℕ) → ForSome (entry_at kit number) (λ entry. asked entry.check < most)
+abbrev pub AskedBelow : {C : Type 0} → (C → ℕ) → ℕ → List (Option (KitEntry C)) → Type 0
+AskedBelow asked most kit = (number : ℕ) → ForSome (entry_at kit number) (λ entry. asked entry.check < most)
 
 -- no table has had more images than there are entries, and no function was asked more than twice for each of them
 -- since it was given
 pub record IsReady {C : Type 0} (asked : C → ℕ) (core : CoreView C) : Type 0 where
   pub tables : AreUsual (length core.entries) (owners core.state.kit) core.state.tables
-  pub kit : FewAsked asked (2 ^ 62 + 2 * length core.entries) core.state.kit
+  pub kit : AskedBelow asked (2 ^ 62 + 2 * length core.entries) core.state.kit
 
 -- ---- one request
 

@@ -11,7 +11,7 @@ ghost use Rattle.tbl_core.specs.Asked.{asked_of, most_deeds};
 ghost use Rattle.tbl_core.specs.Effects.{IsWithin, given_of};
 ghost use Rattle.tbl_core.specs.Log.{reply_limit};
 ghost use Rattle.validation.specs.Kits.{owners};
-ghost use Rattle.tbl_core.specs.Service.{AreUsual, FewAsked, Stands, Leaves, Asks, held_of};
+ghost use Rattle.tbl_core.specs.Service.{AreUsual, AskedBelow, Stands, Leaves, Asks, held_of};
 
 use crate::addresses::{get, read, release};
 use crate::applications::{register, start};
@@ -38,7 +38,7 @@ impl<C: Validator> Parts<C> {
         requires built { IsBuilt request.now }
         requires asked { asked_of asked.now ≡ asked_in request.now }
         requires tables { AreUsual record_limit (owners self.old.kit) self.old.tables }
-        requires kit { FewAsked C.asked (2 ^ 63 - 1) self.old.kit }
+        requires kit { AskedBelow C.asked (2 ^ 63 - 1) self.old.kit }
         ensures effect { IfOk result (λ done. (s : State) → Stands (held_of self.old) s → Leaves done (held_of self.new) (effect_of s actor request.now (given_of done))) }
         ensures asks { IfOk result (λ done. (s : State) → Stands (held_of self.old) s → Asks C.verdict C.asked self.old.kit self.new.kit done.verdicts (effect_of s actor request.now (given_of done))) }
         ensures note { IfOk result (λ done. done.note ≡ untouched) }

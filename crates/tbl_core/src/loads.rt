@@ -13,7 +13,7 @@ ghost use Rattle.validation.specs.Kits.{owners};
 ghost use Rattle.validation.specs.Asked.{WasAsked};
 ghost use Rattle.tbl_core.specs.Effects.{IsEffect, IsWithin, given_of};
 ghost use Rattle.tbl_core.specs.Loads.{verdict_deeds, IsLoaded};
-ghost use Rattle.tbl_core.specs.Service.{AreUsual, FewAsked};
+ghost use Rattle.tbl_core.specs.Service.{AreUsual, AskedBelow};
 
 use crate::checks::{BUFFERS, answered_load, check};
 use crate::effect::Effect;
@@ -138,7 +138,7 @@ fn load_row<C: Validator>(
     requires empty { empty.list ≡ [] }
     requires room { 4 ≤ empty.spare }
     requires tables { AreUsual record_limit (owners kit.old) tables.old }
-    requires kit { FewAsked C.asked (2 ^ 63 - 1) kit.old }
+    requires kit { AskedBelow C.asked (2 ^ 63 - 1) kit.old }
     ensures effect { IfOk result (λ done. (s : State) → s.tables ≡ tables.old → s.seconds ≡ clock.seconds → s.sub ≡ clock.sub
         → ForSome (table_at tables.old row) (λ t. IsEffect done (load_image_of s image.now (given_of done) row t).asked (record s { tables = tables.new }) (load_image_of s image.now (given_of done) row t))) }
     ensures asks { IfOk result (λ done. (s : State) → s.tables ≡ tables.old
@@ -178,7 +178,7 @@ pub(crate) fn load_image<C: Validator>(
     requires two { 2 ≤ vec_capacity deeds }
     requires empty { empty.list ≡ [] }
     requires tables { AreUsual record_limit (owners kit.old) tables.old }
-    requires kit { FewAsked C.asked (2 ^ 63 - 1) kit.old }
+    requires kit { AskedBelow C.asked (2 ^ 63 - 1) kit.old }
     ensures effect { IfOk result (λ done. (s : State) → s.tables ≡ tables.old → s.apps ≡ apps.now → s.seconds ≡ clock.seconds → s.sub ≡ clock.sub
         → IsEffect done (load_image_effect s app handle image.now (given_of done)).asked (record s { tables = tables.new }) (load_image_effect s app handle image.now (given_of done))) }
     ensures asks { IfOk result (λ done. (s : State) → s.tables ≡ tables.old → s.apps ≡ apps.now

@@ -9,7 +9,7 @@ ghost use Rattle.tbl_core.specs.Log.{IsSmall};
 ghost use Rattle.tbl_model.specs.History.{begins_at, run_from};
 ghost use Rattle.validation.specs.Kits.{owners};
 ghost use Rattle.tbl_outside.specs.declared.validator.KitEntry.{KitEntry as Function};
-ghost use Rattle.tbl_core.specs.Service.{StandsFor, Vouches, FewAsked};
+ghost use Rattle.tbl_core.specs.Service.{StandsFor, Vouches, AskedBelow};
 ghost use Rattle.tbl_core.specs.Verdicts.{Judged, questions_in};
 ghost use Rattle.tbl_kinds.specs.declared.entry.Entry.{Entry};
 
@@ -56,7 +56,7 @@ impl<C: Validator> Core<C> {
     /// The service at its start, with an empty history and these validation functions.
     #[tactic(auto, unfolding(tbl_model::specs::Counts::counts_of))]
     pub fn start(alloc: Global, kit: Kit<C>) -> Result<Core<C>, Memory>
-        requires { FewAsked C.asked (2 ^ 62) kit }
+        requires { AskedBelow C.asked (2 ^ 62) kit }
         ensures stands { IfOk result (StandsFor (first_state [] (owners kit))) }
         ensures kit { IfOk result (λ core. core.state.kit ≡ kit) }
         ensures empty { IfOk result (λ core. core.entries ≡ []) }
