@@ -1,6 +1,7 @@
 pub mod Buffers
 pub mod Cases
 pub mod CommandAnswers
+pub mod CommandReadings
 pub mod Fair
 pub mod Few
 pub mod Functions

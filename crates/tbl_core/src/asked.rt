@@ -15,13 +15,11 @@ use tbl_kinds::{Name64, Request};
 pub(crate) type Asked = Option<Result<Ground, CmdFault>>;
 
 /// Reads the packet of a command.
+#[tactic(auto, using(crate::proofs::CommandReadings::gives_read))]
 fn read(bytes: &[u8]) -> Result<Ground, CmdFault>
     ensures { read_of result ≡ command_in bytes.now }
 {
-    match read_command(bytes) {
-        Ok(command) => Ok(command),
-        Err(fault) => Err(fault),
-    }
+    read_command(bytes)
 }
 
 /// What a request asks.
@@ -101,12 +99,12 @@ pub(crate) fn asks_load(request: &Request, asked: &Asked) -> bool
 }
 
 /// The file that a load names.
-pub(crate) fn load_file_of(request: &Request, asked: &Asked) -> Option<Name64>
-    ensures { result ≡ load_file_of request.now (asked_of asked.now) }
+pub(crate) fn load_file_of<'a>(request: &'a Request, asked: &'a Asked) -> Option<&'a Name64>
+    ensures { option_copied result ≡ load_file_of request.now (asked_of asked.now) }
 {
     match request {
-        Request::LoadFile { name, .. } => Some(name.copy()),
-        _ => Some(asked_file(asked)?.copy()),
+        Request::LoadFile { name, .. } => Some(name),
+        _ => asked_file(asked),
     }
 }
 

@@ -1,11 +1,15 @@
 //! The running numbers of telemetry.
 
 ghost use Rattle.std.specs.Prelude.{◌≡◌, ◌+◌, ◌%◌, ◌<◌, [], unwrap_or, if◌then◌else◌};
+ghost use Rattle.std.specs.Option.{option_copied};
 ghost use Rattle.tbl_model.specs.CountsAfter.{bit, counts_after};
 ghost use Rattle.tbl_model.specs.Counts.{no_counts};
 
+use crate::parts::Clock;
+use crate::telemetry::{latest_dump, latest_validation, update_in};
 use std::marker::Model;
 use tbl_kinds::{Name, Name40, Name64};
+use tbl_model::Deed;
 
 /// Sequence counts have 14 bits (CCSDS 133.0-B, "Packet Sequence Count").
 pub(crate) const SEQUENCE_COUNTS: u16 = 16_384;
@@ -68,8 +72,8 @@ impl Validation {
     }
 }
 
-/// What an entry adds to the running numbers.
-#[derive(Debug, Drop)]
+/// How much an entry adds to the running numbers.
+#[derive(Clone, Copy, Debug)]
 pub(crate) struct Tally {
     /// The service began anew.
     pub restarted: bool,
@@ -93,16 +97,6 @@ pub(crate) struct Tally {
     pub registry: bool,
     /// A notice was sent to an application.
     pub notice: bool,
-    /// The latest validation that came to its end.
-    pub validation: Option<Validation>,
-    /// The latest image that went active.
-    pub update: Option<Update>,
-    /// A table was loaded, by its name.
-    pub loaded: Option<Name40>,
-    /// The file that it was loaded from.
-    pub loaded_file: Option<Name64>,
-    /// The latest dump file that was written.
-    pub dumped_file: Option<Name64>,
 }
 
 /// A counter of one byte: 0 where it was cleared, else so many more.
@@ -133,11 +127,11 @@ fn sequence(known: u16, more: u8) -> u16
 }
 
 /// The latest name, after a newer one if there is one.
-fn renew_name<const N: usize>(known: &mut Name<N>, newer: Option<Name<N>>)
-    ensures { known.new ≡ unwrap_or newer.entry known.old }
+fn renew_name<const N: usize>(known: &mut Name<N>, newer: Option<&Name<N>>)
+    ensures { known.new ≡ unwrap_or (option_copied newer.entry) known.old }
 {
     if let Some(name) = newer {
-        *known = name;
+        *known = name.copy();
     }
 }
 
@@ -167,7 +161,7 @@ pub(crate) struct Counters {
 }
 
 impl Counters {
-    ghost use Rattle.tbl_core.specs.Counters.{counts_view, tally_view, restarted};
+    ghost use Rattle.tbl_core.specs.Counters.{counts_view, tally_view, restarted, renewed};
 
     /// Nothing was counted yet.
     pub(crate) fn make() -> Counters
@@ -217,9 +211,29 @@ impl Counters {
         self.dumped_file = none.dumped_file;
     }
 
-    /// Counts an entry.
-    pub(crate) fn add(&mut self, tally: Tally)
-        ensures { counts_view self.new ≡ counts_after (counts_view self.old) (tally_view tally) }
+    /// The latest of what deeds tell. It isn't inlined: few requests have deeds, and whoever calls it would clear the
+    /// memory of its names for each.
+    #[inline(never)]
+    fn renew(&mut self, clock: Clock, deeds: &[Deed])
+        ensures { counts_view self.new ≡ renewed (counts_view self.old) clock deeds.now }
+    {
+        self.validation.renew(latest_validation(deeds));
+        self.update.renew(update_in(clock, deeds));
+        if let Some(name) = latest_dump(deeds) {
+            self.dumped_file = name;
+        }
+    }
+
+    /// Counts an entry, with what was done in it at this time, and the table that was loaded from a file.
+    pub(crate) fn add(
+        &mut self,
+        tally: Tally,
+        clock: Clock,
+        deeds: &[Deed],
+        loaded: Option<&Name40>,
+        loaded_file: Option<&Name64>,
+    )
+        ensures { counts_view self.new ≡ counts_after (counts_view self.old) (tally_view tally clock deeds.now (option_copied loaded.entry) (option_copied loaded_file.entry)) }
     {
         self.accepted = counted(self.accepted, tally.cleared, u8::from(tally.accepted));
         self.refused = counted(self.refused, tally.cleared, u8::from(tally.refused));
@@ -235,10 +249,10 @@ impl Counters {
         self.housekeepings = sequence(self.housekeepings, u8::from(tally.housekeeping));
         self.registries = sequence(self.registries, u8::from(tally.registry));
         self.notices = sequence(self.notices, u8::from(tally.notice));
-        self.validation.renew(tally.validation);
-        self.update.renew(tally.update);
-        renew_name(&mut self.loaded, tally.loaded);
-        renew_name(&mut self.loaded_file, tally.loaded_file);
-        renew_name(&mut self.dumped_file, tally.dumped_file);
+        renew_name(&mut self.loaded, loaded);
+        renew_name(&mut self.loaded_file, loaded_file);
+        if !deeds.is_empty() {
+            self.renew(clock, deeds);
+        }
     }
 }

@@ -3,7 +3,9 @@
 ghost use Rattle.std.specs.Prelude.{◌≡◌, ◌+◌, ◌*◌, ◌<◌, ◌≤◌, [], length, is_some, if◌then◌else◌};
 ghost use Rattle.tbl_model.specs.Commands.{asked_in, asks_housekeeping};
 ghost use Rattle.tbl_core.specs.Asked.{asked_of, most_deeds};
-ghost use Rattle.tbl_core.specs.Effects.{IsWithin};
+ghost use Rattle.tbl_model.specs.State.{no_tables};
+ghost use Rattle.tbl_model.specs.CountsAfter.{counts_after, tally_of};
+ghost use Rattle.tbl_core.specs.Effects.{IsWithin, told_at};
 ghost use Rattle.tbl_core.specs.Finish.{packets_room, Reports};
 ghost use Rattle.tbl_core.specs.Log.{reply_limit};
 ghost use Rattle.tbl_core.specs.Service.{Finishes, held_of};
@@ -11,7 +13,10 @@ ghost use Rattle.tbl_core.specs.Service.{Finishes, held_of};
 use crate::asked::{Asked, asks_housekeeping, most_deeds};
 use crate::effect::Effect;
 use crate::parts::Parts;
-use crate::telemetry::{EVENT_LENGTH, HOUSEKEEPING_LENGTH, head_at, put_events, put_shown, tally};
+use crate::telemetry::{
+    EVENT_LENGTH, HOUSEKEEPING_LENGTH, head_at, loaded_file, loaded_name, put_events, put_shown,
+    tally,
+};
 use tbl_kinds::{Actor, Bytes, Entry, Reply, Request, Status};
 use tbl_outside::Validator;
 
@@ -29,6 +34,23 @@ pub(crate) fn packets_room(request: &Request, asked: &Asked) -> usize
 }
 
 impl<C: Validator> Parts<C> {
+    /// Counts a request.
+    fn count(&mut self, request: &Request, asked: &Asked, effect: &Effect)
+        requires asked { asked_of asked.now ≡ asked_in request.now }
+        requires few { length effect.now.deeds.items ≤ 8 }
+        ensures entries { self.new.log.entries ≡ self.old.log.entries }
+        ensures room { self.new.log.spare ≡ self.old.log.spare }
+        ensures counts { self.new.log.counts ≡ counts_after self.old.log.counts (tally_of (told_at self.old.clock.seconds self.old.clock.sub no_tables request.now effect.now)) }
+        ensures clock { self.new.clock ≡ self.old.clock }
+        ensures stays { held_of self.new ≡ held_of self.old }
+    {
+        let tally = tally(request, asked, effect);
+        let loaded = loaded_name(request, asked, effect);
+        let file = loaded_file(request, asked, effect);
+        self.log
+            .count(tally, self.clock, effect.deeds.as_slice(), loaded, file);
+    }
+
     /// Appends the packets of a request, and counts it.
     #[tactic(auto, using(crate::proofs::Few::few_deeds))]
     fn tell(&mut self, request: &Request, asked: &Asked, effect: &Effect, packets: &mut Bytes)
@@ -40,15 +62,14 @@ impl<C: Validator> Parts<C> {
         ensures len { length packets.new.list ≤ reply_limit }
         ensures stays { held_of self.new ≡ held_of self.old }
     {
-        let tally = tally(self.clock, request, asked, effect);
         if effect.answer.status == Status::INFO_STOPPED {
-            self.log.count(tally);
+            self.count(request, asked, effect);
             return;
         }
         let counters = self.log.counters();
         let head = head_at(self.clock, u32::from(counters.housekeepings));
         put_events(packets, self.clock, counters.events, asked, effect);
-        self.log.count(tally);
+        self.count(request, asked, effect);
         put_shown(
             packets,
             head,

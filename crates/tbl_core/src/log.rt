@@ -1,14 +1,17 @@
 //! The history, and what telemetry counts over it.
 
 ghost use Rattle.std.specs.Prelude.{◌≡◌, ◌<◌, ◌∷◌, [], ◌++◌, OnOk, All};
+ghost use Rattle.std.specs.Option.{option_copied};
 ghost use Rattle.tbl_model.specs.Counts.{no_counts};
 ghost use Rattle.tbl_model.specs.CountsAfter.{counts_after};
 ghost use Rattle.tbl_core.specs.Log.{IsSmall};
 
 use crate::counters::{Counters, Tally};
+use crate::parts::Clock;
 use std::alloc::Global;
 use std::marker::Model;
-use tbl_kinds::{Entry, Memory};
+use tbl_kinds::{Entry, Memory, Name40, Name64};
+use tbl_model::Deed;
 
 /// The entries in their order, the running numbers of telemetry, and reserved room for further entries.
 #[derive(Debug, Drop)]
@@ -70,13 +73,20 @@ impl Log {
         Ok(())
     }
 
-    /// Counts what an entry adds.
-    pub(crate) fn count(&mut self, tally: Tally)
+    /// Counts what an entry adds, with what was done in it at this time, and the table that was loaded from a file.
+    pub(crate) fn count(
+        &mut self,
+        tally: Tally,
+        clock: Clock,
+        deeds: &[Deed],
+        loaded: Option<&Name40>,
+        loaded_file: Option<&Name64>,
+    )
         ensures entries { self.new.entries ≡ self.old.entries }
         ensures room { self.new.spare ≡ self.old.spare }
-        ensures counts { self.new.counts ≡ counts_after self.old.counts (tally_view tally) }
+        ensures counts { self.new.counts ≡ counts_after self.old.counts (tally_view tally clock deeds.now (option_copied loaded.entry) (option_copied loaded_file.entry)) }
     {
-        self.counters.add(tally);
+        self.counters.add(tally, clock, deeds, loaded, loaded_file);
     }
 
     /// Adds an entry, which was counted.

@@ -1,7 +1,7 @@
 //! What an effect adds to telemetry: its events, what it counts as, and the packet behind the events.
 
 ghost use Rattle.std.specs.Prelude.{◌≡◌, ◌+◌, ◌*◌, ◌<◌, ◌≤◌, ◌++◌, ◌&&◌, ◌||◌, map, length, count_by, false, is_none, if◌then◌else◌, None};
-ghost use Rattle.std.specs.Option.{option_map};
+ghost use Rattle.std.specs.Option.{option_map, option_copied};
 ghost use Rattle.tbl_kinds.specs.Statuses.{is_success};
 ghost use Rattle.tbl_kinds.specs.Packets.{telemetry_packet, event_id};
 ghost use Rattle.tbl_kinds.specs.Telemetry.{event_body};
@@ -10,11 +10,11 @@ ghost use Rattle.tbl_model.specs.State.{no_tables};
 ghost use Rattle.tbl_model.specs.Commands.{asked_in, asks_housekeeping, asks_reset_counters, asks_validate, asked_file, asked_code};
 ghost use Rattle.tbl_model.specs.Deeds.{is_good};
 ghost use Rattle.tbl_model.specs.Events.{row_field, table_field, verdict_event, deed_event, command_events};
-ghost use Rattle.tbl_model.specs.Counts.{is_reset, is_stopped, resets_counters, adds_accepted, adds_refused, adds_request, is_housekeeping, is_registry, asks_load, load_file_of, latest, is_finished, is_finished_well, is_finished_badly, validation_of, updated_name, dump_of};
+ghost use Rattle.tbl_model.specs.Counts.{is_reset, is_stopped, resets_counters, adds_accepted, adds_refused, adds_request, is_housekeeping, is_registry, asks_load, load_file_of, latest, is_finished, is_finished_well, is_finished_badly, validation_of, updated_name, dump_of, loaded_in, loaded_file_in};
 ghost use Rattle.tbl_model.specs.CountsAfter.{tally_of};
 ghost use Rattle.tbl_model.specs.Replies.{head_at, event_packets, housekeeping_of, shown_packet};
 ghost use Rattle.tbl_core.specs.Asked.{asked_of};
-ghost use Rattle.tbl_core.specs.Counters.{counts_view, tally_view};
+ghost use Rattle.tbl_core.specs.Counters.{counts_view, tally_view, update_in};
 ghost use Rattle.tbl_core.specs.Effects.{seen, told_events, listed, told_at};
 
 use crate::asked::{
@@ -283,7 +283,7 @@ fn validation_of(deed: &Deed) -> Option<Validation>
 }
 
 /// The latest validation that came to its end.
-fn latest_validation(deeds: &[Deed]) -> Option<Validation>
+pub(crate) fn latest_validation(deeds: &[Deed]) -> Option<Validation>
     ensures { result ≡ latest validation_of deeds.now }
 {
     deeds
@@ -321,7 +321,7 @@ fn dump_of(deed: &Deed) -> Option<Name64>
 }
 
 /// The dump file that was written last.
-fn latest_dump(deeds: &[Deed]) -> Option<Name64>
+pub(crate) fn latest_dump(deeds: &[Deed]) -> Option<Name64>
     ensures { result ≡ latest dump_of deeds.now }
 {
     deeds
@@ -342,21 +342,29 @@ fn event_count(asked: &Asked, effect: &Effect) -> u8
 }
 
 /// The table that an accepted load filled, by its name.
-fn loaded_name(request: &Request, asked: &Asked, effect: &Effect) -> Option<Name40>
-    ensures { result ≡ (if is_success effect.now.answer.status && asks_load request.now (asked_of asked.now) then option_map (λ (table : Named). table.name) effect.now.table else None) }
+pub(crate) fn loaded_name<'a>(
+    request: &Request,
+    asked: &Asked,
+    effect: &'a Effect,
+) -> Option<&'a Name40>
+    ensures { option_copied result ≡ (if is_success effect.now.answer.status && asks_load request.now (asked_of asked.now) then option_map (λ (table : Named). table.name) effect.now.table else None) }
 {
     if !is_success(effect) || !asks_load(request, asked) {
         return None;
     }
     match &effect.table {
-        Some(table) => Some(table.name.copy()),
+        Some(table) => Some(&table.name),
         None => None,
     }
 }
 
 /// The file of an accepted load.
-fn loaded_file(request: &Request, asked: &Asked, effect: &Effect) -> Option<Name64>
-    ensures { result ≡ (if is_success effect.now.answer.status then load_file_of request.now (asked_of asked.now) else None) }
+pub(crate) fn loaded_file<'a>(
+    request: &'a Request,
+    asked: &'a Asked,
+    effect: &Effect,
+) -> Option<&'a Name64>
+    ensures { option_copied result ≡ (if is_success effect.now.answer.status then load_file_of request.now (asked_of asked.now) else None) }
 {
     if !is_success(effect) {
         return None;
@@ -365,10 +373,10 @@ fn loaded_file(request: &Request, asked: &Asked, effect: &Effect) -> Option<Name
 }
 
 /// The latest image that went active, at the service's time.
-fn update_in(clock: Clock, effect: &Effect) -> Option<Update>
-    ensures { result ≡ option_map (λ name. record { seconds = clock.seconds; sub = clock.sub; name = name }) (latest updated_name effect.now.deeds.items) }
+pub(crate) fn update_in(clock: Clock, deeds: &[Deed]) -> Option<Update>
+    ensures { result ≡ update_in clock deeds.now }
 {
-    match latest_updated(effect.deeds.as_slice()) {
+    match latest_updated(deeds) {
         Some(name) => Some(Update {
             seconds: clock.seconds,
             sub: clock.sub,
@@ -423,10 +431,10 @@ fn adds_request(asked: &Asked, effect: &Effect) -> bool
 }
 
 /// What a request adds to the running numbers.
-pub(crate) fn tally(clock: Clock, request: &Request, asked: &Asked, effect: &Effect) -> Tally
+pub(crate) fn tally(request: &Request, asked: &Asked, effect: &Effect) -> Tally
     requires asked { asked_of asked.now ≡ asked_in request.now }
     requires few { length effect.now.deeds.items ≤ 8 }
-    ensures { tally_view result ≡ tally_of (told_at clock.seconds clock.sub no_tables request.now effect.now) }
+    ensures { (clock : Clock) → tally_view result clock effect.now.deeds.items (loaded_in (told_at clock.seconds clock.sub no_tables request.now effect.now)) (loaded_file_in (told_at clock.seconds clock.sub no_tables request.now effect.now)) ≡ tally_of (told_at clock.seconds clock.sub no_tables request.now effect.now) }
 {
     let restarted = restarts(request, effect);
     let resets = resets_counters(asked, effect);
@@ -444,11 +452,6 @@ pub(crate) fn tally(clock: Clock, request: &Request, asked: &Asked, effect: &Eff
         housekeeping: is_housekeeping(effect.shown),
         registry: is_registry(effect.shown),
         notice: effect.notice.is_some(),
-        validation: latest_validation(deeds),
-        update: update_in(clock, effect),
-        loaded: loaded_name(request, asked, effect),
-        loaded_file: loaded_file(request, asked, effect),
-        dumped_file: latest_dump(deeds),
     }
 }
 
@@ -495,6 +498,18 @@ fn housekeeping(counters: &Counters, tables: &Tables) -> Housekeeping
     }
 }
 
+/// Appends a housekeeping packet. It isn't inlined, since whoever calls it would clear the memory of its fields for each
+/// request.
+#[inline(never)]
+fn put_housekeeping(packets: &mut Bytes, head: &TlmHead, counters: &Counters, tables: &Tables)
+    requires count { head.now.count < 16384 }
+    requires room { 290 ≤ packets.old.spare }
+    ensures bytes { packets.new.list ≡ packets.old.list ++ shown_packet head.now (counts_view counters.now) tables.now Shown.Housekeeping }
+    ensures len { length packets.new.list ≤ length packets.old.list + 290 }
+{
+    write_housekeeping(packets, head, &housekeeping(counters, tables));
+}
+
 /// Appends the packet behind the events.
 pub(crate) fn put_shown(
     packets: &mut Bytes,
@@ -512,8 +527,6 @@ pub(crate) fn put_shown(
     match shown {
         Shown::Nothing => {}
         Shown::Registry { .. } => unreachable!(),
-        Shown::Housekeeping => {
-            write_housekeeping(packets, &head, &housekeeping(counters, tables));
-        }
+        Shown::Housekeeping => put_housekeeping(packets, &head, counters, tables),
     }
 }
