@@ -1,6 +1,7 @@
 pub mod Buffers
 pub mod CommandReadings
 pub mod Few
+pub mod Functions
 pub mod Places
 pub mod Ready
 pub mod Steps

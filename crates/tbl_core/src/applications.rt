@@ -26,6 +26,7 @@ pub(crate) fn start(apps: &mut Apps, app: u8, name: &Name20, empty: Bytes) -> Ef
 }
 
 /// An application registers a table (`CFE_TBL_Register`).
+#[inline(never)]
 pub(crate) fn register<C: Validator>(
     tables: &mut Tables,
     kit: &Kit<C>,

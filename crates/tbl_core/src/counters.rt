@@ -213,6 +213,7 @@ impl Counters {
 
     /// The latest of what deeds tell. It isn't inlined: few requests have deeds, and whoever calls it would clear the
     /// memory of its names for each.
+    #[inline(never)]
     fn renew(&mut self, clock: Clock, deeds: &[Deed])
         ensures { counts_view self.new ≡ renewed (counts_view self.old) clock deeds.now }
     {

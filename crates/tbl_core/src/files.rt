@@ -32,6 +32,7 @@ fn put(drawer: &mut Drawer, name: &Name64, bytes: &Bytes) -> Result<Status, Memo
 }
 
 /// The ground uplinks a file. The history keeps the request with its bytes, and the drawer a copy of them.
+#[inline(never)]
 pub(crate) fn file(
     drawer: &mut Drawer,
     name: &Name64,

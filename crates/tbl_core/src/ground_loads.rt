@@ -74,6 +74,7 @@ fn load_parsed(
 
 /// Fills the load of a table from a file in the drawer, or answers why not.
 #[tactic(auto, unfolding(tbl_model::specs::GroundLoads::load_effect))]
+#[inline(never)]
 pub(crate) fn load(
     alloc: Global,
     tables: &mut Tables,

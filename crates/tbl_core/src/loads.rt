@@ -163,6 +163,7 @@ fn load_row<C: Validator>(
 
 /// The owner of a table loads an image of it (`CFE_TBL_Load` from an address).
 #[tactic(auto, unfolding(tbl_model::specs::AppLoads::load_image_effect))]
+#[inline(never)]
 pub(crate) fn load_image<C: Validator>(
     alloc: Global,
     tables: &mut Tables,

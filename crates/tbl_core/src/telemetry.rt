@@ -500,6 +500,7 @@ fn housekeeping(counters: &Counters, tables: &Tables) -> Housekeeping
 
 /// Appends a housekeeping packet. It isn't inlined, since whoever calls it would clear the memory of its fields for each
 /// request.
+#[inline(never)]
 fn put_housekeeping(packets: &mut Bytes, head: &TlmHead, counters: &Counters, tables: &Tables)
     requires count { head.now.count < 16384 }
     requires room { 290 ≤ packets.old.spare }

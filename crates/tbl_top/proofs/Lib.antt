@@ -1,4 +1,3 @@
-pub mod Functions
 pub mod WritingLemmas
 pub mod PlayingLemmas
 pub mod FeedingLemmas
