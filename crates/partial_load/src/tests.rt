@@ -113,7 +113,10 @@ fn an_owner_loads_a_part(rt: HostRuntime) -> Result<(), Fail> {
         take(rt.alloc(), &mut tables, &[0; 12])?.status,
         take_part(rt.alloc(), &mut tables, 4, b"\xAA\xAA\xAA\xAA")?.status,
     ];
-    assert_eq!(rt; statuses, [Status::ERR_PARTIAL_LOAD, Status::SUCCESS, Status::SUCCESS]);
+    assert_eq!(rt;
+        statuses,
+        [Status::ERR_PARTIAL_LOAD, Status::SUCCESS, Status::SUCCESS]
+    );
     assert_eq!(rt;
         tables.last(0).ok_or("image")?,
         b"\0\0\0\0\xAA\xAA\xAA\xAA\0\0\0\0".as_slice()
