@@ -1,5 +1,5 @@
 -- What a load does to a table that takes it, and what it is answered.
-use Rattle.std.proofs.Common.{◌≡◌, ◌==◌, ◌&&◌, ◌+◌, ℕ, List, [], length, drop, Bool, true, false, not, cond, Option, Some, None, IsSome, is_some, refl, sym, arith}
+use Rattle.std.proofs.Common.{◌≡◌, ◌==◌, ◌&&◌, ◌+◌, ℕ, List, [], length, drop, Bool, true, false, not, cond, Option, Some, None, is_some, refl, sym, arith}
 use Rattle.std.specs.Prelude.{replicate}
 use Rattle.std.specs.Option.{option_or}
 use Rattle.std.specs.Str.{bytes_eq}

@@ -1,4 +1,4 @@
-use Rattle.std.proofs.Common.{◌≡◌, refl, false}
+use Rattle.std.proofs.Common.{refl, false}
 use Rattle.tbl_model.specs.Pending.{without_pair}
 use Rattle.validation.proofs.Ready.{change_keeps, dropped_keeps, pair_gone, loads_keep, functions_stay}
 use Rattle.partial_load.proofs.aborting.abort.Goals as goal
