@@ -4,11 +4,11 @@ use Rattle.std.proofs.Common.{ℤ}
 use Rattle.std.specs.Option.{option_map, option_map_or, ForSome}
 use Rattle.tbl_model.specs.State.{State, Load, Table, Tables}
 use Rattle.tbl_model.specs.Tables.{table_at}
-use Rattle.tbl_model.specs.TableSteps.{changed, with_image, fill_dump, set_checked, activate, set_time, load_image, locker}
-use Rattle.tbl_model.specs.Deeds.{Question, is_good}
+use Rattle.tbl_model.specs.TableSteps.{changed, with_image, fill_dump, activate, set_time, load_image, locker}
+use Rattle.tbl_model.specs.Deeds.{is_good}
 use Rattle.tbl_model.specs.Given.{Given, verdict_at}
 use Rattle.tbl_model.specs.Refusals.{update_refusal, lock_refusal, refusal}
-use Rattle.tbl_model.specs.Validations.{judged_image, questions}
+use Rattle.tbl_model.specs.Validations.{judged_image}
 use Rattle.tbl_model.specs.Management.{Done, nothing_done, then_update, then_fill, is_asked, managed_effect, manage_answer}
 use Rattle.tbl_kinds.specs.declared.entry.Answer.{Answer}
 use Rattle.tbl_kinds.specs.declared.status.TheConstants.Status.{SUCCESS, INFO_UPDATED, INFO_TABLE_LOCKED, INFO_NO_UPDATE_PENDING}

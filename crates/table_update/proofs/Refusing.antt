@@ -3,7 +3,7 @@ use Rattle.std.proofs.Common.{◌≡◌, ℕ, List, Bool, true, false, not, ◌|
 use Rattle.tbl_kinds.specs.Statuses.{is_success}
 use Rattle.tbl_model.specs.State.{Load, Table, Tables}
 use Rattle.tbl_model.specs.Tables.{is_dump_only}
-use Rattle.tbl_model.specs.TableSteps.{locker, is_checked}
+use Rattle.tbl_model.specs.TableSteps.{locker}
 use Rattle.tbl_model.specs.Pending.{is_pending}
 use Rattle.tbl_model.specs.Refusals.{activation_refusal, update_refusal, lock_refusal}
 use Rattle.tbl_model.proofs.RefusalLaws.{is_refusal, Refuses, activation_refused, update_refused}

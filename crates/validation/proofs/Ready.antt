@@ -1,9 +1,8 @@
 -- Pending validations can be done still, after what changes tables, the kit and the list.
-use Rattle.std.proofs.Common.{◌≡◌, ◌≢◌, ◌<◌, ◌≤◌, ◌+◌, ◌==◌, ◌∙◌, ℕ, List, [], ◌∷◌, ◌++◌, length, Bool, true, false, not, ◌&&◌, ◌||◌, cond, filter, slice_index_or, slice_set, replicate, zero, suc, option_map, Option, Some, None, IsSome, is_some, refl, sym, ap, subst, ◌⊎◌, inl, inr, arith}
+use Rattle.std.proofs.Common.{◌≡◌, ◌≢◌, ◌<◌, ◌∙◌, ℕ, List, [], ◌∷◌, ◌++◌, length, Bool, true, false, ◌||◌, cond, slice_index_or, slice_set, replicate, zero, suc, option_map, Option, Some, None, IsSome, is_some, refl, sym, ap, subst, ◌⊎◌, inl, inr, arith}
 use Rattle.std.proofs.Common.{ℤ}
 use Rattle.std.specs.Option.{ForSome}
-use Rattle.std.specs.List.{list_any}
-use Rattle.std.proofs.lemmas.Bool.{cases_eq, cases_lt, eqb-true}
+use Rattle.std.proofs.lemmas.Bool.{cases_eq, cases_lt}
 use Rattle.std.proofs.lemmas.Bool.Decides.{nat_tests}
 use Rattle.std.proofs.lemmas.List.{get_or-set_same, get_or-set_other, get_or_past}
 use Rattle.std.proofs.lemmas.Option.{same_Some}
@@ -161,9 +160,9 @@ mark_keeps_loads tables row false verdict all = loads_keep tables row _ (λ t th
 -- a change of one table that leaves its function
 pub functions_stay : (tables : Tables) (row : ℕ) (change : Table → Table) → ((t : Table) → (change t).validator ≡ t.validator) → HaveSameFunctions tables (changed row change tables)
 functions_stay tables row change same r = elim (cases_eq r row) [
-    inl here ↦ rw here (by (table_at tables row) refl)
+  | inl here ↦ rw here (by (table_at tables row) refl)
   | inr other ↦ rw (changed_there tables row change r other) refl
-  ]
+]
   where
     by : (o : Option Table) → table_at tables row ≡ o → option_map (λ (t : Table). t.validator) (table_at (changed row change tables) row) ≡ option_map (λ (t : Table). t.validator) (table_at tables row)
     by None is = rw (nothing_here tables row change is) refl

@@ -1,4 +1,3 @@
-use Rattle.std.proofs.Common.{◌≡◌, sym, true}
 use Rattle.tbl_model.specs.Tables.{table_at}
 use Rattle.tbl_model.specs.Validations.{marked}
 use Rattle.validation.proofs.Asking.{stands_still}

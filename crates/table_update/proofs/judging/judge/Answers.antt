@@ -1,4 +1,3 @@
-use Rattle.std.proofs.Common.{◌≡◌, ◌∙◌, Some, None, is_some, sym, ap}
 use Rattle.tbl_model.specs.Tables.{table_at}
 use Rattle.validation.proofs.Ready.{some_is, not_none}
 use Rattle.table_update.proofs.judging.judge.Goals as goal

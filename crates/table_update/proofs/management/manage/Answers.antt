@@ -1,4 +1,4 @@
-use Rattle.std.proofs.Common.{◌≡◌, ◌∙◌, ◌+◌, ◌-◌, ◌^◌, ◌≤◌, sym, ap, refl, length, arith, Some, None, true, false}
+use Rattle.std.proofs.Common.{◌≡◌, ◌∙◌, ◌-◌, ◌^◌, sym, ap, refl, arith, Some, None, false}
 use Rattle.tbl_model.specs.Tables.{table_at}
 use Rattle.validation.proofs.Asking.{few_left}
 use Rattle.validation.proofs.Ready.{some_is}

@@ -1,4 +1,4 @@
-use Rattle.std.proofs.Common.{◌≡◌, sym, refl, Some, None}
+use Rattle.std.proofs.Common.{sym, refl}
 use Rattle.tbl_model.specs.Tables.{table_at}
 use Rattle.validation.proofs.Ready.{some_is, change_keeps, loads_keep, functions_stay}
 use Rattle.table_update.proofs.Refusing.{may_ask}

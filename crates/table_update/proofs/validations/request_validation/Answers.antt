@@ -1,5 +1,4 @@
-use Rattle.std.proofs.Common.{◌≡◌, ◌∙◌, sym, true, pos, Some, is_some}
-use Rattle.tbl_model.specs.Tables.{table_at}
+use Rattle.std.proofs.Common.{◌∙◌, sym, pos}
 use Rattle.validation.proofs.Ready.{judged_keeps, asked_keeps, is_there, mark_leaves_functions}
 use Rattle.table_update.proofs.Missing.{nothing_missing}
 use Rattle.table_update.proofs.validations.request_validation.Goals as goal
