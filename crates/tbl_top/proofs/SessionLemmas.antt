@@ -12,7 +12,7 @@ use Rattle.tbl_kinds.specs.Transcript.{pair_of, pairs_of, entries_bytes, end_byt
 use Rattle.tbl_model.specs.History.{begins_at, run_from}
 use Rattle.tbl_outside.specs.declared.validator.KitEntry.{KitEntry}
 use Rattle.tbl_core.specs.Service.{Vouches}
-use Rattle.tbl_core.proofs.WholeLaws.{whole}
+use Rattle.tbl_laws.proofs.WholeLaws.{whole}
 use Rattle.tbl_outside.specs.Streams.{TakesFront}
 use Rattle.tbl_outside.proofs.Streams.{append_known-nil, written_more, front_of_first, front_of_second, front_of_whole}
 use Rattle.tbl_top.specs.Playing.{Playing, IsBeginning, IsSession, IsWritten}
@@ -202,7 +202,7 @@ not_sink Unwritten failed whole is = λ e. omega (arith, e)
 -- ---- the session
 
 module _ {C : Type 0} (verdict : C → List ℕ → ℤ) (given : List (Option (KitEntry C))) (opening : State) (p : Playing C) (read : List ℕ) (failed : Bool) (at_end read_failed : Type 0) (result : ℕ) (before mid after : Option (List ℕ)) (faults faults_then : ℕ)
-    (at_first : opening.tables ≡ no_tables) (vouched : Vouches verdict given opening p.core) (session : IsSession p.core) (ends : EndsReading p read failed at_end) (cause : failed ≡ true → read_failed) where
+    (at_first : opening.tables ≡ no_tables) (unasked : opening.pending ≡ []) (vouched : Vouches verdict given opening p.core) (session : IsSession p.core) (ends : EndsReading p read failed at_end) (cause : failed ≡ true → read_failed) where
   made : IsStatus result → EndsAs result (length p.core.entries) ends.feeds.behind at_end read_failed
       → Tells result p.core.entries (λ other. WouldEnd other (length p.core.entries) ends.feeds.behind at_end read_failed) before after → Session verdict given opening read at_end read_failed result before after
   made known ends_as_is told = record {
@@ -211,7 +211,7 @@ module _ {C : Type 0} (verdict : C → List ℕ → ℤ) (given : List (Option (
     state = (run_from (begins_at opening) p.core.entries).state;
     rest = ends.feeds.behind;
     legal = vouched.stands.legal;
-    whole = whole opening p.core.entries _ at_first vouched.stands.legal;
+    whole = whole opening p.core.entries _ at_first unasked vouched.stands.legal;
     verdicts = vouched.verdicts;
     each = session.each;
     few = session.few;
@@ -286,13 +286,13 @@ no_reading = record {
 }
 
 -- where memory ran out before the first read
-pub starved_at_once : {C : Type 0} (verdict : C → List ℕ → ℤ) (given : List (Option (KitEntry C))) (opening : State) → opening.tables ≡ no_tables → (at_end read_failed : Type 0) (taken : Option (List ℕ)) → Session verdict given opening [] at_end read_failed 1 taken taken
-starved_at_once verdict given opening at_first at_end read_failed taken = record {
+pub starved_at_once : {C : Type 0} (verdict : C → List ℕ → ℤ) (given : List (Option (KitEntry C))) (opening : State) → opening.tables ≡ no_tables → opening.pending ≡ [] → (at_end read_failed : Type 0) (taken : Option (List ℕ)) → Session verdict given opening [] at_end read_failed 1 taken taken
+starved_at_once verdict given opening at_first unasked at_end read_failed taken = record {
   entries = [];
   state = opening;
   rest = [];
   legal = record { answered = tt; leads = refl };
-  whole = whole opening [] opening at_first (record { answered = tt; leads = refl });
+  whole = whole opening [] opening at_first unasked (record { answered = tt; leads = refl });
   verdicts = tt;
   each = tt;
   few = omega arith;

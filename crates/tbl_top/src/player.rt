@@ -93,7 +93,7 @@ impl<C: Validator> Player<C> {
         ensures stands { (opening : State) → StandsFor opening self.old.core → StandsFor opening self.new.core }
 
         ensures vouched { (opening : State) (given : List (Option (Function C))) → Vouches C.verdict given opening self.old.core → Vouches C.verdict given opening self.new.core }
-        ensures whole { (opening : State) → opening.tables ≡ no_tables → StandsFor opening self.old.core → HasWholeReads opening self.new.core.entries }
+        ensures whole { (opening : State) → opening.tables ≡ no_tables → opening.pending ≡ [] → StandsFor opening self.old.core → HasWholeReads opening self.new.core.entries }
         ensures session { IsSession self.new.core }
 
         // The sink took the entries' spellings; where it failed or memory ran out for a spelling, a front of them.

@@ -53,7 +53,7 @@ fn play<C: Validator, S: Source, K: Sink>(
     requires none { bytes_fed player.old ≡ [] }
     requires empty { player.old.core.entries ≡ [] }
     requires session { IsSession player.old.core }
-    ensures session { (given : List (Option (Entry C))) (opening : State) → opening.tables ≡ no_tables → Vouches C.verdict given opening player.old.core
+    ensures session { (given : List (Option (Entry C))) (opening : State) → opening.tables ≡ no_tables → opening.pending ≡ [] → Vouches C.verdict given opening player.old.core
         → (read : List ℕ) × (S.left source.old ≡ prepend_known read (S.left source.new))
         × Session C.verdict given opening read (IsAtEnd (S.left source.new)) (Rose (S.faults source.old) (S.faults source.new)) result (K.taken sink.old) (K.taken sink.new) }
     ensures source_failed { result ≡ 3 → Rose (S.faults source.old) (S.faults source.new) }

@@ -4,7 +4,7 @@ use Rattle.tbl_top.proofs.SessionLemmas.{session_of, nothing_written}
 use Rattle.tbl_top.proofs.session.play.Goals as goal
 
 pub returns-clause-session : goal.returns-clause-session
-returns-clause-session g c given opening at_first vouched =
+returns-clause-session g c given opening at_first unasked vouched =
     let reads = c.read_all-read_failed.ensures.reads in
     let before = g.K.Sink.taken c.args.sink.now in (
       reads.0,
@@ -12,6 +12,6 @@ returns-clause-session g c given opening at_first vouched =
       session_of g.C.Validator.verdict given opening c.read_all-read_failed.new.player reads.0 c.read_all-read_failed.result (IsAtEnd (g.S.Source.left c.read_all-read_failed.new.source))
           (Rose (g.S.Source.faults c.args.source.now) (g.S.Source.faults c.read_all-read_failed.new.source)) c.finish.result before (g.K.Sink.taken c.read_all-read_failed.new.sink) (g.K.Sink.taken c.finish.new.sink)
           (g.K.Sink.faults c.read_all-read_failed.new.sink) (g.K.Sink.faults c.finish.new.sink)
-          at_first (c.read_all-read_failed.ensures.vouched opening given vouched) c.read_all-read_failed.ensures.session reads.2 c.read_all-read_failed.ensures.source_failed
+          at_first unasked (c.read_all-read_failed.ensures.vouched opening given vouched) c.read_all-read_failed.ensures.session reads.2 c.read_all-read_failed.ensures.source_failed
           (c.read_all-read_failed.ensures.written before (nothing_written before c.args.player.now.core.entries c.requires.empty)) c.finish.ensures.finishes,
     )

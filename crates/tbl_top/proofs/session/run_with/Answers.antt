@@ -11,7 +11,7 @@ pub returns-in-Err-clause-session : goal.returns-in-Err-clause-session
 returns-in-Err-clause-session g c = λ words. (
   [],
   prepend_nothing (g.S.Source.left c.args.source.now),
-  starved_at_once g.C.Validator.verdict (given_of c.args.kit.items) (opening_of c.args.kit.items) refl (IsAtEnd (g.S.Source.left c.args.source.now)) (Rose (g.S.Source.faults c.args.source.now) (g.S.Source.faults c.args.source.now)) (g.K.Sink.taken c.args.sink.now),
+  starved_at_once g.C.Validator.verdict (given_of c.args.kit.items) (opening_of c.args.kit.items) refl refl (IsAtEnd (g.S.Source.left c.args.source.now)) (Rose (g.S.Source.faults c.args.source.now) (g.S.Source.faults c.args.source.now)) (g.K.Sink.taken c.args.sink.now),
 )
 
 pub returns-in-Err-clause-complete : goal.returns-in-Err-clause-complete
@@ -19,7 +19,7 @@ returns-in-Err-clause-complete g c = λ words. starved (g.S.Source.left c.args.s
 
 pub returns-in-Ok-clause-complete : goal.returns-in-Ok-clause-complete
 returns-in-Ok-clause-complete g c = λ words.
-    let session = c.play.ensures.session (given_of c.args.kit.items) (opening_of c.args.kit.items) refl c.in-Ok.ensures.vouched in
+    let session = c.play.ensures.session (given_of c.args.kit.items) (opening_of c.args.kit.items) refl refl c.in-Ok.ensures.vouched in
     complete g.C.Validator.verdict (given_of c.args.kit.items) (opening_of c.args.kit.items) session.0 (g.S.Source.left c.play.new.source) (Rose (g.S.Source.faults c.args.source.now) (g.S.Source.faults c.play.new.source)) c.play.result (g.K.Sink.taken c.args.sink.now) (g.K.Sink.taken c.play.new.sink)
     (g.S.Source.faults c.args.source.now) (g.S.Source.faults c.play.new.source) (g.K.Sink.faults c.args.sink.now) (g.K.Sink.faults c.play.new.sink)
     session.2 c.play.ensures.source_failed c.play.ensures.sink_failed (g.S.Source.left c.args.source.now) session.1

@@ -2,7 +2,7 @@ use Rattle.std.proofs.Common.{List, ℕ, ◌+◌, ◌++◌, length, sym, subst, 
 use Rattle.tbl_kinds.specs.Records.{joined, AreRecords}
 use Rattle.tbl_kinds.specs.Transcript.{pairs_of}
 use Rattle.tbl_core.specs.Service.{StandsFor}
-use Rattle.tbl_core.proofs.WholeLaws.{whole}
+use Rattle.tbl_laws.proofs.WholeLaws.{whole}
 use Rattle.tbl_top.specs.Playing.{Playing, played_before}
 use Rattle.tbl_top.proofs.FeedingLemmas.{beginning_length, begun_rest, open_answer, records_of}
 use Rattle.tbl_top.proofs.player.Player.feed.Goals as goal
@@ -22,6 +22,6 @@ returns-clause-records g c =
     (records_of f.new.standing (played_before old.playback (old.kept.items ++ c.args.piece.now)) (length old.kept.items + length c.args.piece.now) f.new.playback f.new.kept.items f.ensures.session f.ensures.feeds all))
 
 pub returns-clause-whole : goal.returns-clause-whole
-returns-clause-whole g c = λ opening at_first stood.
+returns-clause-whole g c = λ opening at_first unasked stood.
     let f = c.feed_fields in
-    whole opening f.new.playback.entries _ at_first (f.ensures.stands opening (subst (λ (p : Playing _). StandsFor opening p.core) (sym c.self.view_is) stood)).legal
+    whole opening f.new.playback.entries _ at_first unasked (f.ensures.stands opening (subst (λ (p : Playing _). StandsFor opening p.core) (sym c.self.view_is) stood)).legal
