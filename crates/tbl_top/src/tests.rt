@@ -29,7 +29,7 @@ fn joined(alloc: Global, pieces: &[&[u8]]) -> Result<Bytes, Memory> {
 }
 
 /// Feeds a record byte by byte, and answers whether the session is open then.
-fn feed_each(player: &mut Player<C>, record: [u8; 12], sink: &mut MemSink) -> bool
+fn feed_each(player: &mut Player<FirstByte>, record: [u8; 12], sink: &mut MemSink) -> bool
     requires is_open { player.old.standing ≡ Open }
     ensures is_open { IsTrue result → player.new.standing ≡ Open }
 {
