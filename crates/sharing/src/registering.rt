@@ -1,11 +1,11 @@
-ghost use Rattle.std.specs.Prelude.{◌≡◌, ◌<◌, ◌≤◌, Some, IfOk, OnErr};
+ghost use Rattle.std.specs.Prelude.{◌≡◌, ◌<◌, ◌≤◌, true, Some, IfOk, OnErr};
 ghost use Rattle.tbl_model.specs.State.{State};
 ghost use Rattle.tbl_model.specs.Tables.{option_bits, table_at};
 ghost use Rattle.tbl_kinds.specs.Free.{least_free};
 ghost use Rattle.tbl_model.specs.TableSteps.{find};
 ghost use Rattle.tbl_kinds.specs.Limits.{table_limit};
 ghost use Rattle.tbl_model.specs.Applications.{duplicate_effect, add_effect, by_name_effect, register_effect};
-ghost use Rattle.tbl_model.specs.Refusals.{refusal, may_use, plan_refusal};
+ghost use Rattle.tbl_model.specs.Refusals.{refusal, are_options, may_use, plan_refusal};
 ghost use Rattle.validation.specs.Kits.{owners};
 ghost use Rattle.sharing.specs.Registering.{answered_with};
 
@@ -54,13 +54,25 @@ fn plan_refusal<C: Validator>(
     if size == 0 || size > TABLE_LIMIT {
         return refusal(Status::ERR_INVALID_SIZE);
     }
-    if flags != 0 {
+    if flags != 0 && flags != Options::DOUBLE.bits() {
         return refusal(Status::ERR_INVALID_OPTIONS);
     }
     if !may_use(kit, app, validator) {
         return refusal(Status::ERR_NO_VALIDATOR);
     }
     None
+}
+
+/// The options of a registration that isn't refused: two buffers, or none.
+fn options(flags: u16) -> Options
+    requires { are_options flags ≡ true }
+    ensures { option_bits result ≡ flags }
+{
+    if flags == 0 {
+        Options::from_bits_retain(0)
+    } else {
+        Options::DOUBLE
+    }
 }
 
 /// The answer where a table of this name is there.
@@ -88,18 +100,19 @@ fn add(
     app: u8,
     name: Name40,
     size: u32,
+    flags: Options,
     validator: Option<u8>,
 ) -> Result<Answer, Memory>
     requires new { find name tables.old ≡ None }
     requires some_bytes { 0 < size }
     requires within { size ≤ table_limit }
-    ensures effect { IfOk result (λ answer. (s : State) → s.tables ≡ tables.old → add_effect s app name size 0 validator (least_free tables.old.rows) (least_free tables.old.handles) ≡ answered_with s answer tables.new) }
+    ensures effect { IfOk result (λ answer. (s : State) → s.tables ≡ tables.old → add_effect s app name size (option_bits flags) validator (least_free tables.old.rows) (least_free tables.old.handles) ≡ answered_with s answer tables.new) }
     ensures err { OnErr result (tables.new ≡ tables.old) }
 {
     let plan = NewTable {
         name,
         size,
-        flags: Options::from_bits_retain(0),
+        flags,
         validator,
         first: None,
     };
@@ -120,16 +133,17 @@ fn by_name(
     app: u8,
     name: Name40,
     size: u32,
+    flags: Options,
     validator: Option<u8>,
 ) -> Result<Answer, Memory>
     requires some_bytes { 0 < size }
     requires within { size ≤ table_limit }
-    ensures effect { IfOk result (λ answer. (s : State) → s.tables ≡ tables.old → by_name_effect s app name size 0 validator (find name s.tables) ≡ answered_with s answer tables.new) }
+    ensures effect { IfOk result (λ answer. (s : State) → s.tables ≡ tables.old → by_name_effect s app name size (option_bits flags) validator (find name s.tables) ≡ answered_with s answer tables.new) }
     ensures err { OnErr result (tables.new ≡ tables.old) }
 {
     match tables.find(name.bytes()) {
         Some(row) => Ok(duplicate(tables, row, app, size)),
-        None => add(tables, app, name, size, validator),
+        None => add(tables, app, name, size, flags, validator),
     }
 }
 
@@ -157,5 +171,5 @@ pub fn register<C: Validator>(
     if let Some(answer) = plan_refusal(kit, app, short, size, flags, validator) {
         return Ok(answer);
     }
-    by_name(tables, app, name, size, validator)
+    by_name(tables, app, name, size, options(flags), validator)
 }

@@ -179,7 +179,6 @@ edit_taken tables row t offset len none =
 pub record TakesPlan (kit : List (Option ℕ)) (app size flags : ℕ) (validator : Option ℕ) : Type 0 where
   pub some_bytes : 0 < size
   pub within : size ≤ table_limit
-  pub no_flag : flags ≡ 0
   pub may : may_use kit app validator ≡ true
 
 pub plan_taken : (kit : List (Option ℕ)) (app : ℕ) (short : List ℕ) (size flags : ℕ) (validator : Option ℕ) → plan_refusal kit app short size flags validator ≡ None → TakesPlan kit app size flags validator
@@ -189,10 +188,9 @@ plan_taken kit app short size flags validator none =
     let c = passed (not (are_options flags)) _ _ b.1 in
     let d = passed (not (may_use kit app validator)) _ None c.1 in
     let sized = b.0 in
-    let plain = not_false _ c.0 in record {
+    record {
       some_bytes = grind (arith, nat_tests);
       within = grind (arith, nat_tests);
-      no_flag = grind (arith, nat_tests);
       may = not_false _ d.0;
     }
 
