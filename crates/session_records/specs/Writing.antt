@@ -4,17 +4,13 @@ use Rattle.tbl_kinds.specs.declared.request.Request.TheVariants as ask
 
 -- the requests whose body begins with a handle
 abbrev pub BeginsWithHandle : Request → Type 0
-BeginsWithHandle (ask.Unregister handle) = Unit {0}
 BeginsWithHandle (ask.LoadImage handle image) = Unit {0}
 BeginsWithHandle (ask.LoadFile handle name) = Unit {0}
 BeginsWithHandle (ask.Update handle) = Unit {0}
 BeginsWithHandle (ask.Validate handle) = Unit {0}
 BeginsWithHandle (ask.Manage handle) = Unit {0}
-BeginsWithHandle (ask.DumpToBuffer handle) = Unit {0}
-BeginsWithHandle (ask.Edit handle offset bytes) = Unit {0}
 BeginsWithHandle (ask.Get handle) = Unit {0}
 BeginsWithHandle (ask.Read handle offset len) = Unit {0}
 BeginsWithHandle (ask.Release handle) = Unit {0}
 BeginsWithHandle (ask.GetStatus handle) = Unit {0}
-BeginsWithHandle (ask.Notify handle msg code parameter) = Unit {0}
 BeginsWithHandle _ = ⊥

@@ -20,22 +20,15 @@ fn kind_of(request: &Request) -> u8
         Request::Time { .. } => 0x03,
         Request::Start { .. } => 0x10,
         Request::Register { .. } => 0x11,
-        Request::Share { .. } => 0x12,
-        Request::Unregister { .. } => 0x13,
         Request::LoadImage { .. } => 0x14,
         Request::LoadFile { .. } => 0x15,
         Request::Update { .. } => 0x16,
         Request::Validate { .. } => 0x17,
         Request::Manage { .. } => 0x18,
-        Request::DumpToBuffer { .. } => 0x19,
-        Request::Edit { .. } => 0x1A,
         Request::Get { .. } => 0x1B,
         Request::Read { .. } => 0x1C,
         Request::Release { .. } => 0x1D,
         Request::GetStatus { .. } => 0x1E,
-        Request::GetInfo { .. } => 0x1F,
-        Request::Notify { .. } => 0x20,
-        Request::Exit => 0x21,
         _ => unreachable!(),
     }
 }
@@ -52,17 +45,12 @@ pub fn body_len(request: &Request) -> usize
         Request::Time { .. } => 6,
         Request::Start { name } => name.field_len(),
         Request::Register { name, .. } => name.field_len() + 7,
-        Request::Share { name } | Request::GetInfo { name } => name.field_len(),
         Request::LoadImage { image, .. } => 2 + image.bytes().len(),
         Request::LoadFile { name, .. } => 2 + name.field_len(),
-        Request::Edit { bytes, .. } => 6 + bytes.bytes().len(),
-        Request::Read { .. } | Request::Notify { .. } => 10,
-        Request::Exit => 0,
-        Request::Unregister { .. }
-        | Request::Update { .. }
+        Request::Read { .. } => 10,
+        Request::Update { .. }
         | Request::Validate { .. }
         | Request::Manage { .. }
-        | Request::DumpToBuffer { .. }
         | Request::Get { .. }
         | Request::Release { .. }
         | Request::GetStatus { .. } => 2,
@@ -117,16 +105,6 @@ fn append_load_file(out: &mut Bytes, handle: u16, name: &Name64)
     name.append_field(out);
 }
 
-fn append_edit(out: &mut Bytes, handle: u16, offset: u32, bytes: &Bytes)
-    requires { 6 + length bytes.now.list ≤ out.old.spare }
-    ensures bytes { out.new.list ≡ out.old.list ++ body_of (ask.Edit handle offset bytes.now) }
-    ensures sized { IsSized (ask.Edit handle offset bytes.now) }
-{
-    append_two(out, handle);
-    append_four(out, offset);
-    out.append(bytes.bytes());
-}
-
 fn append_read(out: &mut Bytes, handle: u16, offset: u32, len: u32)
     requires { 10 ≤ out.old.spare }
     ensures bytes { out.new.list ≡ out.old.list ++ body_of (ask.Read handle offset len) }
@@ -135,17 +113,6 @@ fn append_read(out: &mut Bytes, handle: u16, offset: u32, len: u32)
     append_two(out, handle);
     append_four(out, offset);
     append_four(out, len);
-}
-
-fn append_notify(out: &mut Bytes, handle: u16, msg: u16, code: u16, parameter: u32)
-    requires { 10 ≤ out.old.spare }
-    ensures bytes { out.new.list ≡ out.old.list ++ body_of (ask.Notify handle msg code parameter) }
-    ensures sized { IsSized (ask.Notify handle msg code parameter) }
-{
-    append_two(out, handle);
-    append_two(out, msg);
-    append_two(out, code);
-    append_four(out, parameter);
 }
 
 /// The body of a request that begins with a handle.
@@ -158,27 +125,14 @@ fn append_handle_body(out: &mut Bytes, request: &Request)
     match request {
         Request::LoadImage { handle, image } => append_image(out, *handle, image),
         Request::LoadFile { handle, name } => append_load_file(out, *handle, name),
-        Request::Edit {
-            handle,
-            offset,
-            bytes,
-        } => append_edit(out, *handle, *offset, bytes),
         Request::Read {
             handle,
             offset,
             len,
         } => append_read(out, *handle, *offset, *len),
-        Request::Notify {
-            handle,
-            msg,
-            code,
-            parameter,
-        } => append_notify(out, *handle, *msg, *code, *parameter),
-        Request::Unregister { handle }
-        | Request::Update { handle }
+        Request::Update { handle }
         | Request::Validate { handle }
         | Request::Manage { handle }
-        | Request::DumpToBuffer { handle }
         | Request::Get { handle }
         | Request::Release { handle }
         | Request::GetStatus { handle } => append_two(out, *handle),
@@ -203,8 +157,6 @@ fn append_body(out: &mut Bytes, request: &Request)
             flags,
             validator,
         } => append_register(out, name, *size, *flags, *validator),
-        Request::Share { name } | Request::GetInfo { name } => name.append_field(out),
-        Request::Exit => {}
         _ => append_handle_body(out, request),
     }
 }
