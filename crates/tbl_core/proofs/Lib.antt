@@ -1,10 +1,12 @@
+pub mod Both
 pub mod Buffers
 pub mod CommandReadings
 pub mod Few
 pub mod Functions
+pub mod Managing
 pub mod Places
 pub mod Ready
 pub mod Steps
-pub mod Unplayed
+pub mod Uplinked
 pub mod Verdicts
 pub mod Vouching

@@ -10,7 +10,7 @@ use Rattle.tbl_laws.specs.Fit.{IsFit, FitAt, AreFit, CanValidate, owner_at}
 use Rattle.tbl_outside.specs.declared.validator.KitEntry.{KitEntry}
 use Rattle.validation.specs.Kits.{entry_at, owners, FewAsked}
 use Rattle.validation.specs.Ready.{HasImage, CanBeJudged, ArePending, HaveFunctions, HaveLoads}
-use Rattle.tbl_core.specs.Service.{CoreView, IsReady, AreCounted, MayPlay}
+use Rattle.tbl_core.specs.Service.{CoreView, IsReady, AreCounted, AreSendable, MayPlay}
 
 -- whose function it is stands at its number
 owner_of_entry : {C : Type 0} (kit : List (Option (KitEntry C))) (number : ℕ) → owner_at (owners kit) number ≡ option_map (λ (e : KitEntry C). e.app) (entry_at kit number)
@@ -48,6 +48,9 @@ module _ {C : Type 0} (asked : C → ℕ) (core : CoreView C) (ready : IsReady a
   counted : AreCounted core.state.tables
   counted row t is = let few = (of_row row t is).few in omega (arith, few, room)
 
+  notices : AreSendable core.state.tables
+  notices row t is = (of_row row t is).notice
+
   functions : HaveFunctions core.state.tables core.state.kit
   functions row t is number at = there (entry_at core.state.kit number) t.owner (sym (owner_of_entry core.state.kit number) ∙ owner number at) where
     owner : (n : ℕ) → t.validator ≡ Some n → owner_at (owners core.state.kit) n ≡ Some t.owner
@@ -63,6 +66,7 @@ module _ {C : Type 0} (asked : C → ℕ) (core : CoreView C) (ready : IsReady a
   pub may_play : MayPlay asked core.state
   may_play = record {
     counted = counted;
+    notices = notices;
     functions = functions;
     few = few;
     pending = λ row active pending. can row active (table_at core.state.tables row) refl pending;

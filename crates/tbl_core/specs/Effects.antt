@@ -1,5 +1,5 @@
 -- The effect of a request as the code has it, and what it stands for.
-use Rattle.std.specs.Prelude.{◌≡◌, ℕ, ◌≤◌, List, [], ◌∷◌, ◌++◌, length, map, Bool, false, Option, None, Some}
+use Rattle.std.specs.Prelude.{◌≡◌, ℕ, ◌≤◌, List, [], ◌∷◌, ◌++◌, length, map, Bool, false, Option, None, Some, IfSome}
 use Rattle.tbl_model.specs.State.{State, Tables, first_state}
 use Rattle.tbl_model.specs.Effects as model
 use Rattle.tbl_model.specs.Deeds.{Question}
@@ -8,6 +8,7 @@ use Rattle.tbl_model.specs.Commands.{Asked}
 use Rattle.tbl_model.specs.Events.{deed_event, command_events}
 use Rattle.tbl_model.specs.Counts.{Told, is_registry}
 use Rattle.tbl_model.specs.History.{told}
+use Rattle.tbl_laws.specs.Fit.{HasCode}
 use Rattle.tbl_model.specs.declared.deeds.Shown.{Shown}
 use Rattle.tbl_model.specs.declared.deeds.Shown.TheVariants.{Nothing}
 use Rattle.tbl_kinds.specs.declared.telemetry.Event.{Event}
@@ -71,13 +72,14 @@ listed (Some event) = event ∷ []
 
 -- ---- how much it tells
 
--- it has so many deeds at most, and shows a housekeeping packet only where this is true. No request that is built shows
--- a registry packet or gives notice
-pub record IsWithin (most : ℕ) (shows : Bool) (done : Effect) : Type 0 where
+-- it has so many deeds at most, shows a housekeeping packet and gives a notice only where these are true, and a notice can be
+-- sent. No request that is built shows a registry packet
+pub record IsWithin (most : ℕ) (shows owes : Bool) (done : Effect) : Type 0 where
   pub deeds : length done.deeds.items ≤ most
   pub shown : shows ≡ false → done.shown ≡ Nothing
   pub no_registry : is_registry done.shown ≡ false
-  pub notice : done.notice ≡ None
+  pub no_notice : owes ≡ false → done.notice ≡ None
+  pub notice : IfSome done.notice HasCode
 
 -- it answers, and no more is told of it
 pub record IsQuiet (done : Effect) : Type 0 where

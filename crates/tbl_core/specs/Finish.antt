@@ -5,15 +5,16 @@ use Rattle.tbl_model.specs.Commands.{Asked, asks_housekeeping}
 use Rattle.tbl_model.specs.CountsAfter.{tally_of, counts_after}
 use Rattle.tbl_model.specs.Replies.{packets_by}
 use Rattle.tbl_kinds.specs.declared.request.Request.{Request}
-use Rattle.tbl_core.specs.Asked.{most_deeds}
+use Rattle.tbl_core.specs.Asked.{asks_notice, most_deeds}
 use Rattle.tbl_core.specs.Effects.{told_at}
 use Rattle.tbl_core.specs.Log.{Logged}
 use Rattle.tbl_core.specs.declared.effect.Effect.{Effect}
 use Rattle.tbl_core.specs.declared.parts.Clock.{Clock}
 
--- an event of 24 bytes for a command and for each deed, and a housekeeping packet of 290
+-- an event of 24 bytes for a command and for each deed, a housekeeping packet of 290, and a notice of 12
 abbrev pub packets_room : Request → Asked → ℕ
-packets_room request asked = (if is_some asked then 24 else 0) + 24 * most_deeds request + (if asks_housekeeping asked then 290 else 0)
+packets_room request asked =
+    (if is_some asked then 24 else 0) + 24 * most_deeds request asked + (if asks_housekeeping asked then 290 else 0) + (if asks_notice asked then 12 else 0)
 
 -- these packets tell the effect, and it is counted
 pub record Reports (old new : Logged) (clock : Clock) (tables : Tables) (request : Request) (done : Effect) (sent : List ℕ) : Type 0 where

@@ -4,6 +4,7 @@ pub mod Effects
 pub mod Finish
 pub mod Loads
 pub mod Log
+pub mod Managed
 pub mod Rows
 pub mod Service
 pub mod Verdicts

@@ -1,10 +1,10 @@
 -- What the core keeps, and which histories it stands for.
-use Rattle.std.specs.Prelude.{◌≡◌, ℕ, ◌+◌, ◌-◌, ◌*◌, ◌^◌, ◌≤◌, ◌<◌, List, [], ◌∷◌, ◌++◌, length, Bool, true, false, Option, Some, None}
+use Rattle.std.specs.Prelude.{◌≡◌, ℕ, ◌+◌, ◌-◌, ◌*◌, ◌^◌, ◌≤◌, ◌<◌, List, [], ◌∷◌, ◌++◌, length, Bool, true, false, Option, Some, None, IfSome}
 use Rattle.std.specs.Option.{ForSome}
 use Rattle.std.proofs.Common.{ℤ}
 use Rattle.tbl_model.specs.State.{State, Tables}
 use Rattle.tbl_model.specs.Tables.{table_at}
-use Rattle.tbl_laws.specs.Fit.{AreFit}
+use Rattle.tbl_laws.specs.Fit.{HasCode, AreFit}
 use Rattle.tbl_kinds.specs.Drawer.{File}
 use Rattle.tbl_model.specs.Effects as model
 use Rattle.tbl_model.specs.Counts.{Counts, counts_of}
@@ -120,9 +120,14 @@ pub record IsReady {C : Type 0} (asked : C → ℕ) (core : CoreView C) : Type 0
 abbrev pub AreCounted : Tables → Type 0
 AreCounted tables = (row : ℕ) → ForSome (table_at tables row) (λ t. t.count < 2 ^ 32 - 1)
 
+-- the notice of each table can be sent
+abbrev pub AreSendable : Tables → Type 0
+AreSendable tables = (row : ℕ) → ForSome (table_at tables row) (λ t. IfSome t.notice HasCode)
+
 -- what each request may rely on
 pub record MayPlay {C : Type 0} (asked : C → ℕ) (held : Held C) : Type 0 where
   pub counted : AreCounted held.tables
+  pub notices : AreSendable held.tables
   pub functions : HaveFunctions held.tables held.kit
   pub few : FewAsked asked 2 held.kit
   pub pending : ArePending held.tables held.pending

@@ -6,7 +6,7 @@ ghost use Rattle.tbl_kinds.specs.GroundCommands.{code_of, command_in};
 ghost use Rattle.tbl_model.specs.Commands.{asked_in, asks_housekeeping, asks_reset_counters, asks_validate, asked_file, asked_code};
 ghost use Rattle.tbl_model.specs.Counts.{is_reset, asks_load, load_file_of};
 ghost use Rattle.cmd_packets.specs.Views.{command_of};
-ghost use Rattle.tbl_core.specs.Asked.{read_of, asked_of, most_deeds};
+ghost use Rattle.tbl_core.specs.Asked.{read_of, asked_of, asks_notice, most_deeds};
 
 use cmd_packets::{CmdFault, Ground, read_command};
 use tbl_kinds::{Name64, Request};
@@ -115,12 +115,27 @@ pub(crate) fn is_reset(request: &Request) -> bool
     matches!(request, Request::Reset { .. })
 }
 
+/// Whether it is a command of which the owner of a table is told.
+pub(crate) fn asks_notice(asked: &Asked) -> bool
+    ensures { result ≡ asks_notice (asked_of asked.now) }
+{
+    matches!(
+        asked,
+        Some(Ok(Ground::Validate { .. } | Ground::Activate { .. }))
+    )
+}
+
 /// The most deeds of a request.
-pub(crate) fn most_deeds(request: &Request) -> usize
-    ensures { result ≡ most_deeds request.now }
+pub(crate) fn most_deeds(request: &Request, asked: &Asked) -> usize
+    ensures { result ≡ most_deeds request.now (asked_of asked.now) }
 {
     match request {
+        Request::Command { .. } => { if asks_validate(asked) { 1 } else { 0 } }
         Request::LoadImage { .. } => 2,
+        Request::LoadFile { .. } => 2,
+        Request::Update { .. } => 1,
+        Request::Validate { .. } => 1,
+        Request::Manage { .. } => 3,
         _ => 0,
     }
 }

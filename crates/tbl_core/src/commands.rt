@@ -1,21 +1,26 @@
 //! What a command does.
 
-ghost use Rattle.std.specs.Prelude.{◌≡◌, ◌≤◌, [], ◌∷◌, Some, length, IfOk, OnErr};
+ghost use Rattle.std.specs.Prelude.{◌≡◌, ◌≤◌, [], ◌∷◌, Some, length, true, if◌then◌else◌, vec_capacity, IfOk, OnErr};
 ghost use Rattle.tbl_model.specs.State.{State};
-ghost use Rattle.tbl_model.specs.Commands.{asks_housekeeping, effect_by};
+ghost use Rattle.tbl_model.specs.Commands.{asks_housekeeping, asks_validate, effect_by};
 ghost use Rattle.tbl_model.specs.Given.{nothing_given};
-ghost use Rattle.tbl_core.specs.Asked.{read_of};
+ghost use Rattle.validation.specs.Ready.{ArePending};
+ghost use Rattle.tbl_core.specs.Service.{AreSendable};
+ghost use Rattle.tbl_core.specs.Asked.{read_of, asks_notice};
 ghost use Rattle.tbl_core.specs.Effects.{IsEffect, IsWithin, given_of};
 
+use crate::activations::{abort, activate};
 use crate::asked::code_of;
 use crate::effect::Effect;
 use crate::ground_loads::load;
+use crate::validations::validate;
 use cmd_packets::{CmdFault, Ground};
 use file_drawer::Drawer;
 use std::alloc::Global;
 use tbl_kinds::{Answer, Bytes, Memory, Status};
-use tbl_model::Shown;
+use tbl_model::{Deed, Shown};
 use tbl_registry::Tables;
+use validation::Pending;
 
 /// The refusal of a command that isn't built: its function code is the detail.
 fn not_built(code: u8) -> Answer
@@ -32,16 +37,23 @@ fn not_built(code: u8) -> Answer
 pub(crate) fn command(
     alloc: Global,
     tables: &mut Tables,
+    pending: &mut Pending,
     drawer: &Drawer,
     asked: &Result<Ground, CmdFault>,
+    deeds: Vec<Deed>,
     empty: Bytes,
 ) -> Result<Effect, Memory>
-    requires { empty.list ≡ [] }
-    ensures effect { IfOk result (λ done. (s : State) → s.tables ≡ tables.old → s.drawer ≡ drawer.now → IsEffect done [] (record s { tables = tables.new }) (effect_by s (read_of asked.now))) }
-    ensures within { IfOk result (IsWithin 0 (asks_housekeeping (Some (read_of asked.now)))) }
+    requires pending { ArePending tables.old pending.old }
+    requires notices { AreSendable tables.old }
+    requires no_deeds { deeds.items ≡ [] }
+    requires room { asks_validate (Some (read_of asked.now)) ≡ true → 1 ≤ vec_capacity deeds }
+    requires empty { empty.list ≡ [] }
+    ensures effect { IfOk result (λ done. (s : State) → s.tables ≡ tables.old → s.pending ≡ pending.old → s.drawer ≡ drawer.now → IsEffect done [] (record s { tables = tables.new; pending = pending.new }) (effect_by s (read_of asked.now))) }
+    ensures within { IfOk result (IsWithin (if asks_validate (Some (read_of asked.now)) then 1 else 0) (asks_housekeeping (Some (read_of asked.now))) (asks_notice (Some (read_of asked.now)))) }
     ensures given { IfOk result (λ done. given_of done ≡ nothing_given) }
     ensures bytes { IfOk result (λ done. length done.bytes.list ≤ 4) }
     ensures err { OnErr result (tables.new ≡ tables.old) }
+    ensures still_pending { OnErr result (pending.new ≡ pending.old) }
 {
     match asked {
         Err(fault) => Ok(Effect::of(fault.answer(), empty)),
@@ -52,6 +64,11 @@ pub(crate) fn command(
         Ok(Ground::Noop) => Ok(Effect::of(Answer::plain(Status::SUCCESS), empty)),
         Ok(Ground::ResetCounters) => Ok(Effect::of(Answer::plain(Status::SUCCESS), empty)),
         Ok(Ground::Load { file }) => load(alloc, tables, drawer, file, empty),
+        Ok(Ground::Validate { select, table }) => {
+            Ok(validate(tables, pending, *select, table, deeds, empty))
+        }
+        Ok(Ground::Activate { table }) => Ok(activate(tables, pending, table, empty)),
+        Ok(Ground::Abort { table }) => Ok(abort(tables, pending, table, empty)),
         Ok(command) => Ok(Effect::of(not_built(code_of(command)), empty)),
     }
 }

@@ -2,10 +2,10 @@
 
 ghost use Rattle.std.specs.Prelude.{◌≡◌, [], ◌∷◌, None, IfOk, vec_capacity};
 ghost use Rattle.tbl_model.specs.Given.{nothing_given};
-ghost use Rattle.tbl_core.specs.Asked.{most_deeds};
+ghost use Rattle.tbl_core.specs.Asked.{asked_of, most_deeds};
 ghost use Rattle.tbl_core.specs.Effects.{given_of};
 
-use crate::asked::most_deeds;
+use crate::asked::{Asked, most_deeds};
 use std::alloc::Global;
 use tbl_kinds::{Answer, Bytes, Memory, Note, Request};
 use tbl_model::{Deed, Named, Notice, Shown};
@@ -30,11 +30,15 @@ pub(crate) struct Effect {
 }
 
 /// Reserved room for the deeds of a request.
-pub(crate) fn room_for_deeds(alloc: Global, request: &Request) -> Result<Vec<Deed>, Memory>
+pub(crate) fn room_for_deeds(
+    alloc: Global,
+    request: &Request,
+    asked: &Asked,
+) -> Result<Vec<Deed>, Memory>
     ensures empty { IfOk result (λ deeds. deeds.items ≡ []) }
-    ensures room { IfOk result (λ deeds. vec_capacity deeds ≡ most_deeds request.now) }
+    ensures room { IfOk result (λ deeds. vec_capacity deeds ≡ most_deeds request.now (asked_of asked.now)) }
 {
-    Ok(Vec::with_capacity(alloc, most_deeds(request))?)
+    Ok(Vec::with_capacity(alloc, most_deeds(request, asked))?)
 }
 
 impl Effect {

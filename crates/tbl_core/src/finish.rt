@@ -2,7 +2,7 @@
 
 ghost use Rattle.std.specs.Prelude.{◌≡◌, ◌+◌, ◌*◌, ◌<◌, ◌≤◌, [], length, is_some, if◌then◌else◌};
 ghost use Rattle.tbl_model.specs.Commands.{asked_in, asks_housekeeping};
-ghost use Rattle.tbl_core.specs.Asked.{asked_of, most_deeds};
+ghost use Rattle.tbl_core.specs.Asked.{asked_of, asks_notice, most_deeds};
 ghost use Rattle.tbl_model.specs.State.{no_tables};
 ghost use Rattle.tbl_model.specs.CountsAfter.{counts_after, tally_of};
 ghost use Rattle.tbl_core.specs.Effects.{IsWithin, told_at};
@@ -10,12 +10,12 @@ ghost use Rattle.tbl_core.specs.Finish.{packets_room, Reports};
 ghost use Rattle.tbl_core.specs.Log.{reply_limit};
 ghost use Rattle.tbl_core.specs.Service.{Finishes, held_of};
 
-use crate::asked::{Asked, asks_housekeeping, most_deeds};
+use crate::asked::{Asked, asks_housekeeping, asks_notice, most_deeds};
 use crate::effect::Effect;
-use crate::parts::Parts;
+use crate::parts::{Clock, Parts};
 use crate::telemetry::{
-    EVENT_LENGTH, HOUSEKEEPING_LENGTH, head_at, loaded_file, loaded_name, put_events, put_shown,
-    tally,
+    EVENT_LENGTH, HOUSEKEEPING_LENGTH, NOTICE_LENGTH, head_at, loaded_file, loaded_name,
+    put_events, put_notice, put_shown, tally,
 };
 use tbl_kinds::{Actor, Bytes, Entry, Reply, Request, Status};
 use tbl_outside::Validator;
@@ -30,46 +30,54 @@ pub(crate) fn packets_room(request: &Request, asked: &Asked) -> usize
     } else {
         0
     };
-    own + EVENT_LENGTH * most_deeds(request) + shown
+    let notice = if asks_notice(asked) { NOTICE_LENGTH } else { 0 };
+    own + EVENT_LENGTH * most_deeds(request, asked) + shown + notice
 }
 
 impl<C: Validator> Parts<C> {
     /// Counts a request.
-    fn count(&mut self, request: &Request, asked: &Asked, effect: &Effect)
+    fn count(&mut self, clock: Clock, request: &Request, asked: &Asked, effect: &Effect)
         requires asked { asked_of asked.now ≡ asked_in request.now }
         requires few { length effect.now.deeds.items ≤ 8 }
         ensures entries { self.new.log.entries ≡ self.old.log.entries }
         ensures room { self.new.log.spare ≡ self.old.log.spare }
-        ensures counts { self.new.log.counts ≡ counts_after self.old.log.counts (tally_of (told_at self.old.clock.seconds self.old.clock.sub no_tables request.now effect.now)) }
-        ensures clock { self.new.clock ≡ self.old.clock }
+        ensures counts { self.new.log.counts ≡ counts_after self.old.log.counts (tally_of (told_at clock.seconds clock.sub no_tables request.now effect.now)) }
         ensures stays { held_of self.new ≡ held_of self.old }
     {
         let tally = tally(request, asked, effect);
         let loaded = loaded_name(request, asked, effect);
         let file = loaded_file(request, asked, effect);
         self.log
-            .count(tally, self.clock, effect.deeds.as_slice(), loaded, file);
+            .count(tally, clock, effect.deeds.as_slice(), loaded, file);
     }
 
     /// Appends the packets of a request, and counts it.
     #[tactic(auto, using(crate::proofs::Few::few_deeds))]
-    fn tell(&mut self, request: &Request, asked: &Asked, effect: &Effect, packets: &mut Bytes)
+    fn tell(
+        &mut self,
+        clock: Clock,
+        request: &Request,
+        asked: &Asked,
+        effect: &Effect,
+        packets: &mut Bytes,
+    )
         requires asked { asked_of asked.now ≡ asked_in request.now }
-        requires within { IsWithin (most_deeds request.now) (asks_housekeeping (asked_of asked.now)) effect.now }
+        requires within { IsWithin (most_deeds request.now (asked_of asked.now)) (asks_housekeeping (asked_of asked.now)) (asks_notice (asked_of asked.now)) effect.now }
         requires no_packets { packets.old.list ≡ [] }
         requires packets { packets_room request.now (asked_of asked.now) ≤ packets.old.spare }
-        ensures reports { Reports self.old.log self.new.log self.old.clock self.old.tables request.now effect.now packets.new.list }
+        ensures reports { Reports self.old.log self.new.log clock self.old.tables request.now effect.now packets.new.list }
         ensures len { length packets.new.list ≤ reply_limit }
         ensures stays { held_of self.new ≡ held_of self.old }
     {
         if effect.answer.status == Status::INFO_STOPPED {
-            self.count(request, asked, effect);
+            self.count(clock, request, asked, effect);
             return;
         }
         let counters = self.log.counters();
-        let head = head_at(self.clock, u32::from(counters.housekeepings));
-        put_events(packets, self.clock, counters.events, asked, effect);
-        self.count(request, asked, effect);
+        let head = head_at(clock, u32::from(counters.housekeepings));
+        let notices = counters.notices;
+        put_events(packets, clock, counters.events, asked, effect);
+        self.count(clock, request, asked, effect);
         put_shown(
             packets,
             head,
@@ -77,11 +85,14 @@ impl<C: Validator> Parts<C> {
             &self.tables,
             effect.shown,
         );
+        put_notice(packets, notices, effect.notice);
     }
 
-    /// Tells what a request did, counts it, and enters it into the history, for which room was reserved.
+    /// Tells what a request did that was made at this time, counts it, and enters it into the history, for which room was
+    /// reserved.
     pub(crate) fn finish(
         &mut self,
+        clock: Clock,
         actor: Actor,
         request: Request,
         asked: &Asked,
@@ -89,15 +100,15 @@ impl<C: Validator> Parts<C> {
         mut packets: Bytes,
     )
         requires asked { asked_of asked.now ≡ asked_in request }
-        requires within { IsWithin (most_deeds request) (asks_housekeeping (asked_of asked.now)) effect }
+        requires within { IsWithin (most_deeds request (asked_of asked.now)) (asks_housekeeping (asked_of asked.now)) (asks_notice (asked_of asked.now)) effect }
         requires small { length effect.bytes.list ≤ reply_limit }
         requires room { 0 < self.old.log.spare }
         requires no_packets { packets.list ≡ [] }
         requires packets { packets_room request (asked_of asked.now) ≤ packets.spare }
-        ensures finishes { Finishes self.old.log self.new.log self.old.clock self.old.tables actor request effect }
+        ensures finishes { Finishes self.old.log self.new.log clock self.old.tables actor request effect }
         ensures stays { held_of self.new ≡ held_of self.old }
     {
-        self.tell(&request, asked, &effect, &mut packets);
+        self.tell(clock, &request, asked, &effect, &mut packets);
         let reply = Reply {
             status: effect.answer.status,
             detail: effect.answer.detail,

@@ -1,6 +1,7 @@
 //! The service itself: one step plays one request of one actor and adds one legal entry to the history that it keeps.
 #![tactic(auto)]
 
+mod activations;
 mod addresses;
 mod applications;
 mod asked;
@@ -14,9 +15,12 @@ mod finish;
 mod ground_loads;
 mod loads;
 mod log;
+mod management;
 mod parts;
 mod service;
+mod subjects;
 mod telemetry;
+mod validations;
 
 pub use service::{Core, StepFault};
 

@@ -1,13 +1,16 @@
-//! Images that applications load.
+//! Images and files that applications load.
 
 ghost use Rattle.std.specs.Prelude.{◌≡◌, ◌-◌, ◌^◌, ◌≤◌, ◌<◌, ◌∷◌, [], ◌++◌, length, false, if◌then◌else◌, vec_capacity, None, Some, IsSome, OnErr, IfOk};
 ghost use Rattle.std.specs.Option.{ForSome};
 ghost use Rattle.tbl_model.specs.State.{State};
 ghost use Rattle.tbl_model.specs.Tables.{table_at, in_use};
-ghost use Rattle.tbl_model.specs.TableSteps.{set_time};
+ghost use Rattle.tbl_model.specs.TableSteps.{set_time, set_file};
 ghost use Rattle.tbl_model.specs.Deeds.{activated};
+ghost use Rattle.tbl_model.specs.Refusals.{by_answer, closed_refusal};
+ghost use Rattle.tbl_model.specs.Subjects.{if_file};
+ghost use Rattle.table_files.specs.Files.{with_image};
 ghost use Rattle.tbl_kinds.specs.Notes.{untouched};
-ghost use Rattle.tbl_model.specs.AppLoads.{load_image_of, load_image_effect};
+ghost use Rattle.tbl_model.specs.AppLoads.{load_image_of, load_image_effect, load_file_of, app_file_effect};
 ghost use Rattle.validation.specs.Kits.{owners, FewAsked};
 ghost use Rattle.validation.specs.Ready.{HaveFunctions};
 ghost use Rattle.validation.specs.Asked.{WasAsked};
@@ -18,17 +21,19 @@ ghost use Rattle.tbl_core.specs.Service.{AreCounted};
 use crate::checks::{BUFFERS, answered_load, check};
 use crate::effect::Effect;
 use crate::parts::Clock;
+use file_drawer::Drawer;
 use partial_load::Loaded;
 use sharing::Apps;
 use std::alloc::Global;
-use tbl_kinds::{Answer, Bytes, Memory, Note, Status};
+use table_files::{IMAGE_PLACE, TableFile, read_table_file};
+use tbl_kinds::{Answer, Bytes, Memory, Name64, Note, Status};
 use tbl_model::{Deed, Named, Shown};
 use tbl_outside::Validator;
 use tbl_registry::Tables;
 use validation::Kit;
 
 /// The table of a row.
-fn named(tables: &Tables, row: u8) -> Named
+pub(crate) fn named(tables: &Tables, row: u8) -> Named
     requires { IsSome (table_at tables.now row) }
     ensures { ForSome (table_at tables.now row) (λ t. result ≡ record { row = row; name = t.name }) }
 {
@@ -42,7 +47,7 @@ fn named(tables: &Tables, row: u8) -> Named
 }
 
 /// That the next image of the table of a row goes active.
-fn activated(tables: &Tables, row: u8) -> Deed
+pub(crate) fn activated(tables: &Tables, row: u8) -> Deed
     requires table { IsSome (table_at tables.now row) }
     requires few { ForSome (table_at tables.now row) (λ t. t.count < 2 ^ 32 - 1) }
     ensures { ForSome (table_at tables.now row) (λ t. result ≡ activated row t) }
@@ -112,7 +117,7 @@ fn told(
 }
 
 /// The table of a row has the service's time as that of its last update, if it was updated.
-fn stamp(tables: &mut Tables, row: u8, updated: bool, clock: Clock)
+pub(crate) fn stamp(tables: &mut Tables, row: u8, updated: bool, clock: Clock)
     requires { IsSome (table_at tables.old row) }
     ensures { tables.new ≡ (if updated then set_time row clock.seconds clock.sub tables.old else tables.old) }
 {
@@ -145,7 +150,7 @@ fn load_row<C: Validator>(
     ensures asks { IfOk result (λ done. (s : State) → s.tables ≡ tables.old
         → ForSome (table_at tables.old row) (λ t. WasAsked C.verdict C.asked kit.old kit.new (load_image_of s image.now (given_of done) row t).asked done.verdicts)) }
     ensures owners { owners kit.new ≡ owners kit.old }
-    ensures within { IfOk result (IsWithin 2 false) }
+    ensures within { IfOk result (IsWithin 2 false false) }
     ensures note { IfOk result (λ done. done.note ≡ untouched) }
     ensures two { IfOk result (λ done. length done.verdicts ≡ 2) }
     ensures bytes { IfOk result (λ done. length done.bytes.list ≤ 4) }
@@ -187,7 +192,7 @@ pub(crate) fn load_image<C: Validator>(
     ensures asks { IfOk result (λ done. (s : State) → s.tables ≡ tables.old → s.apps ≡ apps.now
         → WasAsked C.verdict C.asked kit.old kit.new (load_image_effect s app handle image.now (given_of done)).asked done.verdicts) }
     ensures owners { owners kit.new ≡ owners kit.old }
-    ensures within { IfOk result (IsWithin 2 false) }
+    ensures within { IfOk result (IsWithin 2 false false) }
     ensures note { IfOk result (λ done. done.note ≡ untouched) }
     ensures two { IfOk result (λ done. length done.verdicts ≡ 2) }
     ensures bytes { IfOk result (λ done. length done.bytes.list ≤ 4) }
@@ -198,5 +203,149 @@ pub(crate) fn load_image<C: Validator>(
     match check(tables, apps, app, handle, true) {
         Err(status) => Ok(Effect::of(Answer::plain(status), empty)),
         Ok(row) => load_row(alloc, tables, kit, clock, row, image, deeds, empty),
+    }
+}
+
+/// The table of a row has this file as that of its last load, if it was loaded.
+fn note_file(tables: &mut Tables, row: u8, taken: bool, file: &Name64)
+    requires { IsSome (table_at tables.old row) }
+    ensures { tables.new ≡ (if taken then set_file row file.now tables.old else tables.old) }
+{
+    if taken {
+        tables.set_file(row, file);
+    }
+}
+
+/// The bytes of a file for the table of a row, or for a part of it, which its owner loads.
+fn load_part<C: Validator>(
+    alloc: Global,
+    tables: &mut Tables,
+    kit: &mut Kit<C>,
+    clock: Clock,
+    row: u8,
+    file: &Name64,
+    parsed: &TableFile,
+    image: &[u8],
+    deeds: Vec<Deed>,
+    empty: Bytes,
+) -> Result<Effect, Memory>
+    requires table { IsSome (table_at tables.old row) }
+    requires open_to { ForSome (table_at tables.old row) (λ t. closed_refusal t ≡ None) }
+    requires count { length image.now ≡ parsed.now.count }
+    requires no_deeds { deeds.items ≡ [] }
+    requires two { 2 ≤ vec_capacity deeds }
+    requires empty { empty.list ≡ [] }
+    requires room { 4 ≤ empty.spare }
+    requires counted { AreCounted tables.old }
+    requires functions { HaveFunctions tables.old kit.old }
+    requires kit { FewAsked C.asked 2 kit.old }
+    ensures effect { IfOk result (λ done. (s : State) → s.tables ≡ tables.old → s.seconds ≡ clock.seconds → s.sub ≡ clock.sub
+        → ForSome (table_at tables.old row) (λ t. IsEffect done (load_file_of s file.now (given_of done) row t (with_image parsed.now image.now)).asked (record s { tables = tables.new }) (load_file_of s file.now (given_of done) row t (with_image parsed.now image.now)))) }
+    ensures asks { IfOk result (λ done. (s : State) → s.tables ≡ tables.old
+        → ForSome (table_at tables.old row) (λ t. WasAsked C.verdict C.asked kit.old kit.new (load_file_of s file.now (given_of done) row t (with_image parsed.now image.now)).asked done.verdicts)) }
+    ensures owners { owners kit.new ≡ owners kit.old }
+    ensures within { IfOk result (IsWithin 2 false false) }
+    ensures note { IfOk result (λ done. done.note ≡ untouched) }
+    ensures two { IfOk result (λ done. length done.verdicts ≡ 2) }
+    ensures bytes { IfOk result (λ done. length done.bytes.list ≤ 4) }
+    ensures err { OnErr result (tables.new ≡ tables.old) }
+    ensures not_asked { OnErr result (kit.new ≡ kit.old) }
+{
+    let table = named(tables, row);
+    let active = activated(tables, row);
+    let loaded = partial_load::load_part(alloc, tables, kit, row, parsed, image)?;
+    let taken = loaded.answer.status == Status::SUCCESS;
+    let done = told(tables, row, taken, loaded, table, active, deeds, empty);
+    stamp(tables, row, taken, clock);
+    note_file(tables, row, taken, file);
+    Ok(done)
+}
+
+/// A file in the drawer for the table of a row, which its owner loads.
+fn load_file_row<C: Validator>(
+    alloc: Global,
+    tables: &mut Tables,
+    kit: &mut Kit<C>,
+    drawer: &Drawer,
+    clock: Clock,
+    row: u8,
+    file: &Name64,
+    deeds: Vec<Deed>,
+    empty: Bytes,
+) -> Result<Effect, Memory>
+    requires table { IsSome (table_at tables.old row) }
+    requires no_deeds { deeds.items ≡ [] }
+    requires two { 2 ≤ vec_capacity deeds }
+    requires empty { empty.list ≡ [] }
+    requires room { 4 ≤ empty.spare }
+    requires counted { AreCounted tables.old }
+    requires functions { HaveFunctions tables.old kit.old }
+    requires kit { FewAsked C.asked 2 kit.old }
+    ensures effect { IfOk result (λ done. (s : State) → s.tables ≡ tables.old → s.drawer ≡ drawer.now → s.seconds ≡ clock.seconds → s.sub ≡ clock.sub
+        → ForSome (table_at tables.old row) (λ t. IsEffect done (by_answer s (closed_refusal t) (if_file s file.now (load_file_of s file.now (given_of done) row t))).asked (record s { tables = tables.new }) (by_answer s (closed_refusal t) (if_file s file.now (load_file_of s file.now (given_of done) row t))))) }
+    ensures asks { IfOk result (λ done. (s : State) → s.tables ≡ tables.old → s.drawer ≡ drawer.now
+        → ForSome (table_at tables.old row) (λ t. WasAsked C.verdict C.asked kit.old kit.new (by_answer s (closed_refusal t) (if_file s file.now (load_file_of s file.now (given_of done) row t))).asked done.verdicts)) }
+    ensures owners { owners kit.new ≡ owners kit.old }
+    ensures within { IfOk result (IsWithin 2 false false) }
+    ensures note { IfOk result (λ done. done.note ≡ untouched) }
+    ensures two { IfOk result (λ done. length done.verdicts ≡ 2) }
+    ensures bytes { IfOk result (λ done. length done.bytes.list ≤ 4) }
+    ensures err { OnErr result (tables.new ≡ tables.old) }
+    ensures not_asked { OnErr result (kit.new ≡ kit.old) }
+{
+    if let Some(answer) = partial_load::closed_refusal(tables, row) {
+        return Ok(Effect::of(answer, empty));
+    }
+    let Some(contents) = drawer.get(file) else {
+        return Ok(Effect::of(Answer::plain(Status::ERR_FILE_NOT_FOUND), empty));
+    };
+    match read_table_file(contents) {
+        Ok(parsed) => {
+            let (_, image) = contents.split_at(IMAGE_PLACE);
+            load_part(
+                alloc, tables, kit, clock, row, file, &parsed, image, deeds, empty,
+            )
+        }
+        Err(fault) => Ok(Effect::of(Answer::plain(fault.status()), empty)),
+    }
+}
+
+/// The owner of a table loads a file of it, or of a part of it (`CFE_TBL_Load` from a file).
+#[tactic(auto, unfolding(tbl_model::specs::AppLoads::app_file_effect))]
+pub(crate) fn load_file<C: Validator>(
+    alloc: Global,
+    tables: &mut Tables,
+    kit: &mut Kit<C>,
+    apps: &Apps,
+    drawer: &Drawer,
+    clock: Clock,
+    app: u8,
+    handle: u16,
+    file: &Name64,
+    deeds: Vec<Deed>,
+    mut empty: Bytes,
+) -> Result<Effect, Memory>
+    requires no_deeds { deeds.items ≡ [] }
+    requires two { 2 ≤ vec_capacity deeds }
+    requires empty { empty.list ≡ [] }
+    requires counted { AreCounted tables.old }
+    requires functions { HaveFunctions tables.old kit.old }
+    requires kit { FewAsked C.asked 2 kit.old }
+    ensures effect { IfOk result (λ done. (s : State) → s.tables ≡ tables.old → s.apps ≡ apps.now → s.drawer ≡ drawer.now → s.seconds ≡ clock.seconds → s.sub ≡ clock.sub
+        → IsEffect done (app_file_effect s app handle file.now (given_of done)).asked (record s { tables = tables.new }) (app_file_effect s app handle file.now (given_of done))) }
+    ensures asks { IfOk result (λ done. (s : State) → s.tables ≡ tables.old → s.apps ≡ apps.now → s.drawer ≡ drawer.now
+        → WasAsked C.verdict C.asked kit.old kit.new (app_file_effect s app handle file.now (given_of done)).asked done.verdicts) }
+    ensures owners { owners kit.new ≡ owners kit.old }
+    ensures within { IfOk result (IsWithin 2 false false) }
+    ensures note { IfOk result (λ done. done.note ≡ untouched) }
+    ensures two { IfOk result (λ done. length done.verdicts ≡ 2) }
+    ensures bytes { IfOk result (λ done. length done.bytes.list ≤ 4) }
+    ensures err { OnErr result (tables.new ≡ tables.old) }
+    ensures not_asked { OnErr result (kit.new ≡ kit.old) }
+{
+    empty.reserve(BUFFERS)?;
+    match check(tables, apps, app, handle, true) {
+        Err(status) => Ok(Effect::of(Answer::plain(status), empty)),
+        Ok(row) => load_file_row(alloc, tables, kit, drawer, clock, row, file, deeds, empty),
     }
 }

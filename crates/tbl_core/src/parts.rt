@@ -86,8 +86,9 @@ impl<C: Validator> Parts<C> {
         self.log.reserve()?;
         let asked = asked_in(&request);
         let packets = Bytes::make(self.alloc, packets_room(&request, &asked))?;
+        let clock = self.clock;
         let effect = self.effect(actor, &request, &asked)?;
-        self.finish(actor, request, &asked, effect, packets);
+        self.finish(clock, actor, request, &asked, effect, packets);
         Ok(())
     }
 }

@@ -1,6 +1,6 @@
 //! What an effect adds to telemetry: its events, what it counts as, and the packet behind the events.
 
-ghost use Rattle.std.specs.Prelude.{◌≡◌, ◌+◌, ◌*◌, ◌<◌, ◌≤◌, ◌++◌, ◌&&◌, ◌||◌, map, length, count_by, false, is_none, if◌then◌else◌, None};
+ghost use Rattle.std.specs.Prelude.{◌≡◌, ◌+◌, ◌*◌, ◌<◌, ◌≤◌, ◌++◌, ◌&&◌, ◌||◌, map, length, count_by, false, is_none, is_some, true, if◌then◌else◌, None, IfSome};
 ghost use Rattle.std.specs.Option.{option_map, option_copied};
 ghost use Rattle.tbl_kinds.specs.Statuses.{is_success};
 ghost use Rattle.tbl_kinds.specs.Packets.{telemetry_packet, event_id};
@@ -10,9 +10,10 @@ ghost use Rattle.tbl_model.specs.State.{no_tables};
 ghost use Rattle.tbl_model.specs.Commands.{asked_in, asks_housekeeping, asks_reset_counters, asks_validate, asked_file, asked_code};
 ghost use Rattle.tbl_model.specs.Deeds.{is_good};
 ghost use Rattle.tbl_model.specs.Events.{row_field, table_field, verdict_event, deed_event, command_events};
-ghost use Rattle.tbl_model.specs.Counts.{is_reset, is_stopped, resets_counters, adds_accepted, adds_refused, adds_request, is_housekeeping, is_registry, asks_load, load_file_of, latest, is_finished, is_finished_well, is_finished_badly, validation_of, updated_name, dump_of, loaded_in, loaded_file_in};
+ghost use Rattle.tbl_model.specs.Counts.{Counts, is_reset, is_stopped, resets_counters, adds_accepted, adds_refused, adds_request, is_housekeeping, is_registry, asks_load, load_file_of, latest, is_finished, is_finished_well, is_finished_badly, validation_of, updated_name, dump_of, loaded_in, loaded_file_in};
 ghost use Rattle.tbl_model.specs.CountsAfter.{tally_of};
-ghost use Rattle.tbl_model.specs.Replies.{head_at, event_packets, housekeeping_of, shown_packet};
+ghost use Rattle.tbl_model.specs.Replies.{head_at, event_packets, housekeeping_of, shown_packet, notice_packet};
+ghost use Rattle.tbl_laws.specs.Fit.{HasCode};
 ghost use Rattle.tbl_core.specs.Asked.{asked_of};
 ghost use Rattle.tbl_core.specs.Counters.{counts_view, tally_view, update_in};
 ghost use Rattle.tbl_core.specs.Effects.{seen, told_events, listed, told_at};
@@ -25,15 +26,18 @@ use crate::counters::{Counters, SEQUENCE_COUNTS, Tally, Update, Validation};
 use crate::effect::Effect;
 use crate::parts::Clock;
 use tbl_kinds::{Bytes, Event, Housekeeping, Name40, Name64, Request, Status, TlmHead};
-use tbl_model::{Deed, Named, Shown};
+use tbl_model::{Deed, Named, Notice, Shown};
 use tbl_registry::Tables;
-use tlm_packets::{write_event, write_housekeeping};
+use tlm_packets::{write_event, write_housekeeping, write_notice};
 
 /// The length of an event packet.
 pub(crate) const EVENT_LENGTH: usize = 24;
 
 /// The length of a housekeeping packet.
 pub(crate) const HOUSEKEEPING_LENGTH: usize = 290;
+
+/// The length of a notice.
+pub(crate) const NOTICE_LENGTH: usize = 12;
 
 /// The row field of an event that is about no table.
 const NO_ROW: u16 = 0xFFFF;
@@ -523,10 +527,29 @@ pub(crate) fn put_shown(
     requires room { shown ≡ Shown.Housekeeping → 290 ≤ packets.old.spare }
     ensures bytes { packets.new.list ≡ packets.old.list ++ shown_packet head (counts_view counters.now) tables.now shown }
     ensures len { length packets.new.list ≤ length packets.old.list + 290 }
+    ensures room { shown ≡ Shown.Nothing → packets.new.spare ≡ packets.old.spare }
 {
     match shown {
         Shown::Nothing => {}
         Shown::Housekeeping => put_housekeeping(packets, &head, counters, tables),
         Shown::Registry { .. } => unreachable!(),
+    }
+}
+
+/// Appends a notice, before which so many were sent.
+pub(crate) fn put_notice(packets: &mut Bytes, sent: u16, notice: Option<Notice>)
+    requires code { IfSome notice HasCode }
+    requires room { is_some notice ≡ true → 12 ≤ packets.old.spare }
+    ensures bytes { (c : Counts) → c.notices ≡ sent → packets.new.list ≡ packets.old.list ++ notice_packet c notice }
+    ensures len { length packets.new.list ≤ length packets.old.list + 12 }
+{
+    if let Some(notice) = notice {
+        write_notice(
+            packets,
+            sent % SEQUENCE_COUNTS,
+            notice.msg,
+            notice.code,
+            notice.parameter,
+        );
     }
 }

@@ -399,12 +399,12 @@ module _ (s : State) (P : Effect → Type 0) (refusal : (e : Effect) → e.next 
   by_asked (Ok reset_counters) refuses = done.accepted
   by_asked (Ok (load file)) refuses = by_load s P refusal done.about file (done.loaded file)
   by_asked (Ok (dump select table file)) refuses = refusal _ refl refl refl
-  by_asked (Ok (validate select table)) refuses = refusal _ refl refl refl
-  by_asked (Ok (activate table)) refuses = refusal _ refl refl refl
+  by_asked (Ok (validate select table)) refuses = by_validate s P refusal done.about select table done.pends done.at_once
+  by_asked (Ok (activate table)) refuses = by_activate s P refusal done.about table done.asks
   by_asked (Ok (dump_registry file)) refuses = refusal _ refl refl refl
   by_asked (Ok (send_registry table)) refuses = refusal _ refl refl refl
   by_asked (Ok (delete_cds table)) refuses = refusal _ refl refl refl
-  by_asked (Ok (abort table)) refuses = refusal _ refl refl refl
+  by_asked (Ok (abort table)) refuses = by_abort s P refusal done.about table done.aborted
 
   pub by_command : (bytes : List ℕ) → P (command_effect s bytes)
   by_command bytes = by_asked (command_in bytes) (command_refuses bytes)

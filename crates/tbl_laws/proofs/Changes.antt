@@ -43,14 +43,14 @@ use Rattle.tbl_kinds.specs.declared.request.Request.TheVariants as ask
 
 module _ (n : ℕ) (s : State) (fit : AreFit n s) (row : ℕ) (t : Table) (there : table_at s.tables row ≡ Some t) where
   -- by one change that leaves its registration
-  changes : (change : Table → Table) → (change t).handle ≡ t.handle → (change t).owner ≡ t.owner → (change t).validator ≡ t.validator → Becomes n s fit row t there (changed row change s.tables) (change t)
-  changes change handle owner validator = record { changes = changed_row s.tables row change t there; handles = handles_changed s.tables row change; handle = handle; owner = owner; validator = validator }
+  changes : (change : Table → Table) → (change t).handle ≡ t.handle → (change t).owner ≡ t.owner → (change t).validator ≡ t.validator → (change t).notice ≡ t.notice → Becomes n s fit row t there (changed row change s.tables) (change t)
+  changes change handle owner validator notice = record { changes = changed_row s.tables row change t there; handles = handles_changed s.tables row change; handle = handle; owner = owner; validator = validator; notice = rw notice (was n s fit row t there).notice }
 
   -- what telemetry alone tells of changes
-  pub told : (m : ℕ) (change : Table → Table) → n ≤ m → (change t).handle ≡ t.handle → (change t).owner ≡ t.owner → (change t).validator ≡ t.validator → (change t).count ≡ t.count → (change t).load ≡ t.load → (change t).activation ≡ t.activation
+  pub told : (m : ℕ) (change : Table → Table) → n ≤ m → (change t).handle ≡ t.handle → (change t).owner ≡ t.owner → (change t).validator ≡ t.validator → (change t).notice ≡ t.notice → (change t).count ≡ t.count → (change t).load ≡ t.load → (change t).activation ≡ t.activation
       → AreFit m (record s { tables = changed row change s.tables })
-  told m change low handle owner validator count load activation =
-      unseen n s fit row t there m (changed row change s.tables) (change t) low (changes change handle owner validator)
+  told m change low handle owner validator notice count load activation =
+      unseen n s fit row t there m (changed row change s.tables) (change t) low (changes change handle owner validator notice)
       (omega (arith, count)) (let few = (was n s fit row t there).few in omega (arith, count)) load activation
 
   -- a new image becomes the last one, at a time
@@ -62,6 +62,7 @@ module _ (n : ℕ) (s : State) (fit : AreFit n s) (row : ℕ) (t : Table) (there
         handle = refl;
         owner = refl;
         validator = refl;
+        notice = (was n s fit row t there).notice;
       }
 
   pub imaged : (image : List ℕ) (seconds sub : ℕ) → AreFit (suc n) (record s { tables = set_time row seconds sub (put row image s.tables) })
@@ -74,7 +75,7 @@ module _ (n : ℕ) (s : State) (fit : AreFit n s) (row : ℕ) (t : Table) (there
   put_alone image =
       let few = (was n s fit row t there).few in
       unseen n s fit row t there (suc n) (put row image s.tables) (with_image s.tables.handles row image t) (omega arith)
-      (record { changes = put_row s.tables row image t there; handles = handles_put s.tables row image; handle = refl; owner = refl; validator = refl }) (omega arith) (omega (arith, few)) refl refl
+      (record { changes = put_row s.tables row image t there; handles = handles_put s.tables row image; handle = refl; owner = refl; validator = refl; notice = (was n s fit row t there).notice }) (omega arith) (omega (arith, few)) refl refl
 
   pub imaged_from : (image : List ℕ) (seconds sub : ℕ) (file : List ℕ) → AreFit (suc n) (record s { tables = set_file row file (set_time row seconds sub (put row image s.tables)) })
   imaged_from image seconds sub file =
@@ -86,6 +87,7 @@ module _ (n : ℕ) (s : State) (fit : AreFit n s) (row : ℕ) (t : Table) (there
         handle = refl;
         owner = refl;
         validator = refl;
+        notice = (was n s fit row t there).notice;
       }) (omega arith) (omega (arith, few)) refl refl
 
   -- bytes of a file go into the load
@@ -93,13 +95,14 @@ module _ (n : ℕ) (s : State) (fit : AreFit n s) (row : ℕ) (t : Table) (there
   loads offset bytes name unasked =
       let few = (was n s fit row t there).few in
       let put_in_load : Table → Table = λ u. record u { load = unchecked (patched (base u) offset bytes) } in
-      let first = changes put_in_load refl refl refl in
+      let first = changes put_in_load refl refl refl refl in
       kept n s fit row t there (suc n) (set_file row name (patch row offset bytes s.tables)) (record (put_in_load t) { file = name }) (omega arith) (record {
         changes = then_row s.tables (patch row offset bytes s.tables) _ row _ _ first.changes (changed_row (patch row offset bytes s.tables) row (λ u. record u { file = name }) (put_in_load t) first.changes.here);
         handles = handles_changed (patch row offset bytes s.tables) row (λ u. record u { file = name }) ∙ first.handles;
         handle = refl;
         owner = refl;
         validator = refl;
+        notice = (was n s fit row t there).notice;
       }) (omega arith) (omega (arith, few)) (λ asked_now. absurd (cc (asked_now, unasked))) (λ pends open_load not_asked. (refl, unasked))
 
   -- a validation is asked
@@ -117,6 +120,7 @@ module _ (n : ℕ) (s : State) (fit : AreFit n s) (row : ℕ) (t : Table) (there
         few = let few = held.few in omega arith;
         registered = held.registered;
         function = held.function;
+        notice = held.notice;
         checked = held.checked;
         pends = λ a pending. elim (both_images a active) [
           | inl same ↦ rw same (record { function = function; loaded = λ last. eqb-false t.count 0 (takes.loaded last); open_load = takes.open_load; unasked = takes.unasked })
@@ -129,7 +133,7 @@ module _ (n : ℕ) (s : State) (fit : AreFit n s) (row : ℕ) (t : Table) (there
   asks none =
       let takes = activation_taken s.pending row t none in
       let few = (was n s fit row t there).few in
-      kept n s fit row t there (suc n) (ask row s.tables) (record t { activation = true }) (omega arith) (changes (λ u. record u { activation = true }) refl refl refl) (omega arith) (omega (arith, few))
+      kept n s fit row t there (suc n) (ask row s.tables) (record t { activation = true }) (omega arith) (changes (λ u. record u { activation = true }) refl refl refl refl) (omega arith) (omega (arith, few))
       (λ _. takes.checked) (λ pending open_load not_asked. absurd (cc (pending, takes.none_pending)))
 
   -- the load is dropped, with what is pending for it
@@ -147,6 +151,7 @@ module _ (n : ℕ) (s : State) (fit : AreFit n s) (row : ℕ) (t : Table) (there
         few = held.few;
         registered = rw (handles_changed s.tables row (λ v. record v { load = None; activation = false })) held.registered;
         function = held.function;
+        notice = held.notice;
         checked = λ asked_now. cc asked_now;
         pends = λ a pending. elim (both_images a false) [
           | inl same ↦ absurd (cc (rw same at pending, pending_gone s.pending row false))
@@ -165,13 +170,14 @@ module _ (n : ℕ) (s : State) (fit : AreFit n s) (row : ℕ) (t : Table) (there
   updates seconds sub asked_before =
       let few = (was n s fit row t there).few in
       let close : Table → Table = λ u. record (with_image s.tables.handles row (load_image u) u) { load = None; activation = false } in
-      let first = changes close refl refl refl in
+      let first = changes close refl refl refl refl in
       kept n s fit row t there (suc n) (set_time row seconds sub (activate row s.tables)) (record (close t) { seconds = seconds; sub = sub }) (omega arith) (record {
         changes = then_row s.tables (activate row s.tables) _ row _ _ first.changes (time_row (activate row s.tables) row seconds sub (close t) first.changes.here);
         handles = handles_time (activate row s.tables) row seconds sub ∙ first.handles;
         handle = refl;
         owner = refl;
         validator = refl;
+        notice = (was n s fit row t there).notice;
       }) (omega arith) (omega (arith, few)) (λ asked_now. cc asked_now) (λ pending open_load not_asked. absurd (cc (asked_before, not_asked)))
 
 -- more images may have been
@@ -204,7 +210,7 @@ module _ (n : ℕ) (row : ℕ) (given : Given) where
 
   filled_up : (m : ℕ) (d : Done) → AreFit m d.state → AreFit m (then_fill row d).state
   filled_up m d fit = with_found (λ e. AreFit m e.state) d _ (table_at d.state.tables row) refl fit (λ t there.
-      either (λ e. AreFit m e.state) (not (is_asked t.dump)) d (with_fill row d) fit (λ is. told m d.state fit row t there m (λ u. record u { dump = filled_with (last_image u) u.dump }) (omega arith) refl refl refl refl refl refl))
+      either (λ e. AreFit m e.state) (not (is_asked t.dump)) d (with_fill row d) fit (λ is. told m d.state fit row t there m (λ u. record u { dump = filled_with (last_image u) u.dump }) (omega arith) refl refl refl refl refl refl refl))
 
   pub managed : (s : State) → AreFit n s → AreFit (suc n) (all_done s given row).state
   managed s fit = filled_up (suc n) _ (updated _ (validated false _ (validated true (nothing_done s) fit)))

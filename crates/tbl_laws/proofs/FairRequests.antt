@@ -219,7 +219,9 @@ module _ (s : State) (n : ℕ) (fit : AreFit n s) where
   request_fair loaded Ground (ask.File name bytes) given =
       let request : Request = ask.File name bytes in
       by_file s (Fair s Ground request) (fair_refused s Ground request refl) name bytes.list (fair_plain s Ground request (plain_of request (λ k. refl) (λ k. refl) (λ k. refl) refl refl) _ (stays_keeps s.tables) refl)
-  request_fair loaded Ground (ask.Time seconds sub) given = fair_refused s Ground (ask.Time seconds sub) refl _ refl refl refl
+  request_fair loaded Ground (ask.Time seconds sub) given =
+      let request : Request = ask.Time seconds sub in
+      fair_plain s Ground request (plain_of request (λ k. refl) (λ k. refl) (λ k. refl) refl refl) _ (stays_keeps s.tables) refl
   request_fair loaded Ground _ given = tt
   request_fair loaded (App app) (ask.Start name) given =
       let request : Request = ask.Start name in
@@ -230,19 +232,30 @@ module _ (s : State) (n : ℕ) (fit : AreFit n s) where
       let plain = plain_of request (λ k. refl) (λ k. refl) (λ k. refl) refl refl in
       by_register s (Fair s (App app) request) (refuses app request plain) app short size flags validator (λ name row handle may free_row free_handle.
       keeps app request plain _ (add_keeps s.tables row handle app (new_table name app size flags validator handle) (free_place s.tables.rows row free_row).1 refl refl refl) refl)
-  request_fair loaded (App app) (ask.Share name) given = fair_refused s (App app) (ask.Share name) refl _ refl refl refl
-  request_fair loaded (App app) (ask.Unregister m) given = fair_refused s (App app) (ask.Unregister m) refl _ refl refl refl
   request_fair loaded (App app) (ask.LoadImage handle image) given =
       let request : Request = ask.LoadImage handle image in
       let plain = plain_of request (λ k. refl) (λ k. refl) (λ k. refl) refl refl in
       by_load_image s (Fair s (App app) request) (refuses app request plain) (λ row t bytes number verdict there is bad. quiet_fair app request plain _ refl refl) app handle image.list given
       (λ row t there none no_function. keeps app request plain _ (loaded_image row t image.list there none) refl) (λ row t number verdict there none is good. keeps app request plain _ (loaded_image row t image.list there none) refl)
-  request_fair loaded (App app) (ask.LoadFile handle name) given = fair_refused s (App app) (ask.LoadFile handle name) refl _ refl refl refl
-  request_fair loaded (App app) (ask.Update handle) given = fair_refused s (App app) (ask.Update handle) refl _ refl refl refl
-  request_fair loaded (App app) (ask.Validate handle) given = fair_refused s (App app) (ask.Validate handle) refl _ refl refl refl
-  request_fair loaded (App app) (ask.Manage handle) given = fair_refused s (App app) (ask.Manage handle) refl _ refl refl refl
-  request_fair loaded (App app) (ask.DumpToBuffer handle) given = fair_refused s (App app) (ask.DumpToBuffer handle) refl _ refl refl refl
-  request_fair loaded (App app) (ask.Edit handle offset bytes) given = fair_refused s (App app) (ask.Edit handle offset bytes) refl _ refl refl refl
+  request_fair loaded (App app) (ask.LoadFile handle name) given =
+      let request : Request = ask.LoadFile handle name in
+      let plain = plain_of request (λ k. refl) (λ k. refl) (λ k. refl) refl refl in
+      by_load_file s (Fair s (App app) request) (refuses app request plain) (λ row t bytes number verdict there is bad. quiet_fair app request plain _ refl refl) app handle name given
+      (λ row t file there open_to none no_function. keeps app request plain _ (loaded_from name row t file there loaded none) refl) (λ row t file number verdict there open_to none is good. keeps app request plain _ (loaded_from name row t file there loaded none) refl)
+  request_fair loaded (App app) (ask.Update handle) given =
+      let request : Request = ask.Update handle in
+      let plain = plain_of request (λ k. refl) (λ k. refl) (λ k. refl) refl refl in
+      by_update s (Fair s (App app) request) (refuses app request plain) app handle (λ row t there none.
+      let taken = update_taken s.tables row t none in
+      keeps app request plain _ (update_keeps s.tables row t s.seconds s.sub there taken.1 (open_checked t ((was n s fit row t there).checked taken.0))) refl)
+  request_fair loaded (App app) (ask.Validate handle) given =
+      let request : Request = ask.Validate handle in
+      let plain = plain_of request (λ k. refl) (λ k. refl) (λ k. refl) refl refl in
+      by_app_validate s (Fair s (App app) request) (refuses app request plain) app handle given (λ row t active there first. keeps app request plain _ (marks row active (verdict_at 0 given)) (judged_goes_on (is_good (verdict_at 0 given))))
+  request_fair loaded (App app) (ask.Manage handle) given =
+      let request : Request = ask.Manage handle in
+      let plain = plain_of request (λ k. refl) (λ k. refl) (λ k. refl) refl refl in
+      by_manage s (Fair s (App app) request) (refuses app request plain) app handle given (λ row t there. keeps app request plain _ (manage_keeps n row given s fit) (manage_goes_on s.tables row t))
   request_fair loaded (App app) (ask.Get handle) given = by_get s (Fair s (App app) (ask.Get handle)) (fair_refused s (App app) (ask.Get handle) refl) app handle (pin_fair s app handle)
   request_fair loaded (App app) (ask.Read handle offset len) given =
       let request : Request = ask.Read handle offset len in
@@ -252,8 +265,8 @@ module _ (s : State) (n : ℕ) (fit : AreFit n s) where
       by_release s (Fair s (App app) (ask.Release handle)) (fair_refused s (App app) (ask.Release handle) refl) app handle (λ a leads pinned. rw pinned
       (back_fair s app handle (ask.Release handle) (λ k. refl) (λ k. refl) refl refl _ (release_keeps s.tables handle a.handle a.row a.table leads.there) (granted (nat_lt a.handle.told a.table.count)).1
       (λ k g p at pin. (unpinned_set s.tables.handles handle (record a.handle { pin = None }) k g p refl at pin).0) (λ k g p row t at pin of there on. refl)))
-  request_fair loaded (App app) (ask.GetStatus handle) given = fair_refused s (App app) (ask.GetStatus handle) refl _ refl refl refl
-  request_fair loaded (App app) (ask.GetInfo name) given = fair_refused s (App app) (ask.GetInfo name) refl _ refl refl refl
-  request_fair loaded (App app) (ask.Notify handle msg code parameter) given = fair_refused s (App app) (ask.Notify handle msg code parameter) refl _ refl refl refl
-  request_fair loaded (App app) ask.Exit given = fair_refused s (App app) ask.Exit refl _ refl refl refl
+  request_fair loaded (App app) (ask.GetStatus handle) given =
+      let request : Request = ask.GetStatus handle in
+      let plain = plain_of request (λ k. refl) (λ k. refl) (λ k. refl) refl refl in
+      by_get_status s (Fair s (App app) request) (refuses app request plain) app handle (λ row t. quiet_fair app request plain _ refl (status_goes_on s.pending row t))
   request_fair loaded (App app) _ given = tt

@@ -12,7 +12,7 @@ use Rattle.tbl_model.specs.TableSteps.{is_checked, set_checked, changed, changed
 use Rattle.tbl_model.specs.Deeds.{is_good}
 use Rattle.tbl_model.specs.Pending.{is_pair, is_pending, without_pair, of_other_rows}
 use Rattle.tbl_model.specs.Validations.{marked, judged}
-use Rattle.tbl_laws.specs.Fit.{CanValidate, owner_at, IsRegistered, IsFit, FitAt, AreFit}
+use Rattle.tbl_laws.specs.Fit.{CanValidate, owner_at, IsRegistered, HasCode, IsFit, FitAt, AreFit}
 use Rattle.tbl_laws.proofs.Rows.{OneRow, same_rows, set_row, changed_row, put_row, time_row, then_row}
 use Rattle.tbl_laws.proofs.Pairs.{both_images, pending_more, pending_more_other, pending_less_other, pending_gone, fewer, row_gone, row_stays}
 
@@ -21,18 +21,18 @@ use Rattle.tbl_laws.proofs.Pairs.{both_images, pending_more, pending_more_other,
 -- what is fit stays so where more images may have been
 more : (n m : ℕ) (kit : List (Option ℕ)) (pending : List (ℕ × Bool)) (handles : List (Option Handle)) (row : ℕ) (found : Option Table) → n ≤ m → FitAt n kit pending handles row found → FitAt m kit pending handles row found
 more n m kit pending handles row None low fit = fit
-more n m kit pending handles row (Some t) low fit = record { few = let few = fit.few in omega arith; registered = fit.registered; function = fit.function; checked = fit.checked; pends = fit.pends }
+more n m kit pending handles row (Some t) low fit = record { few = let few = fit.few in omega arith; registered = fit.registered; function = fit.function; notice = fit.notice; checked = fit.checked; pends = fit.pends }
 
 -- and where nothing else is pending for the row
 same_pending : (n : ℕ) (kit : List (Option ℕ)) (old new : List (ℕ × Bool)) (handles : List (Option Handle)) (row : ℕ) (found : Option Table) → ((active : Bool) → is_pending row active new ≡ is_pending row active old) → FitAt n kit old handles row found → FitAt n kit new handles row found
 same_pending n kit old new handles row None same fit = λ active. same active ∙ fit active
-same_pending n kit old new handles row (Some t) same fit = record { few = fit.few; registered = fit.registered; function = fit.function; checked = fit.checked; pends = λ active is. fit.pends active (sym (same active) ∙ is) }
+same_pending n kit old new handles row (Some t) same fit = record { few = fit.few; registered = fit.registered; function = fit.function; notice = fit.notice; checked = fit.checked; pends = λ active is. fit.pends active (sym (same active) ∙ is) }
 
 -- and where its registration's handle stays
 same_handle : (n : ℕ) (kit : List (Option ℕ)) (pending : List (ℕ × Bool)) (old new : List (Option Handle)) (row : ℕ) (found : Option Table)
     → ((t : Table) → found ≡ Some t → IsRegistered old row t.handle t.owner → IsRegistered new row t.handle t.owner) → FitAt n kit pending old row found → FitAt n kit pending new row found
 same_handle n kit pending old new row None stays fit = fit
-same_handle n kit pending old new row (Some t) stays fit = record { few = fit.few; registered = stays t refl fit.registered; function = fit.function; checked = fit.checked; pends = fit.pends }
+same_handle n kit pending old new row (Some t) stays fit = record { few = fit.few; registered = stays t refl fit.registered; function = fit.function; notice = fit.notice; checked = fit.checked; pends = fit.pends }
 
 -- the state differs in one row, in what is pending for it, and in handles that no other table has from its registration
 pub record Differs (old new : State) (row : ℕ) (found : Option Table) : Type 0 where
@@ -77,6 +77,7 @@ module _ (n : ℕ) (s : State) (fit : AreFit n s) (row : ℕ) (t : Table) (there
     pub handle : u.handle ≡ t.handle
     pub owner : u.owner ≡ t.owner
     pub validator : u.validator ≡ t.validator
+    pub notice : IfSome u.notice HasCode
 
   -- so this still holds
   registered : (tables : Tables) (u : Table) → Becomes tables u → IsRegistered tables.handles row u.handle u.owner
@@ -102,6 +103,7 @@ module _ (n : ℕ) (s : State) (fit : AreFit n s) (row : ℕ) (t : Table) (there
     few = few;
     registered = registered tables u is;
     function = function tables u is;
+    notice = is.notice;
     checked = checked;
     pends = λ active pends. let can = was.pends active pends in record {
       function = rw is.validator can.function;
@@ -124,6 +126,7 @@ module _ (n : ℕ) (s : State) (fit : AreFit n s) (row : ℕ) (t : Table) (there
           few = few;
           registered = registered tables u is;
           function = function tables u is;
+          notice = is.notice;
           checked = checked;
           pends = λ a pends. elim (both_images a active) [
             | inl same ↦ absurd (cc (rw same at pends, pending_gone s.pending row active))
@@ -140,7 +143,7 @@ module _ (n : ℕ) (s : State) (fit : AreFit n s) (row : ℕ) (t : Table) (there
   -- ---- each change of the table
 
   same_table : (tables : Tables) → tables.rows ≡ s.tables.rows → tables.handles ≡ s.tables.handles → Becomes tables t
-  same_table tables rows handles = record { changes = same_rows s.tables tables row t there rows; handles = handles; handle = refl; owner = refl; validator = refl }
+  same_table tables rows handles = record { changes = same_rows s.tables tables row t there rows; handles = handles; handle = refl; owner = refl; validator = refl; notice = was.notice }
 
   -- the mark of a load changes, or there is none
   pub mark : (active : Bool) (verdict : ℤ) → (active ≡ false → t.activation ≡ false) → AreFit n (judged s row active verdict)
@@ -148,7 +151,7 @@ module _ (n : ℕ) (s : State) (fit : AreFit n s) (row : ℕ) (t : Table) (there
   mark false verdict unasked =
       let u : Table = record t { load = option_map (λ (load : Load). record load { checked = is_good verdict }) t.load } in
       less false (set_checked row (is_good verdict) s.tables) u
-      (record { changes = changed_row s.tables row (λ t. record t { load = option_map (λ (load : Load). record load { checked = is_good verdict }) t.load }) t there; handles = rw there refl; handle = refl; owner = refl; validator = refl })
+      (record { changes = changed_row s.tables row (λ t. record t { load = option_map (λ (load : Load). record load { checked = is_good verdict }) t.load }) t there; handles = rw there refl; handle = refl; owner = refl; validator = refl; notice = was.notice })
       (omega arith) was.few (λ asked. absurd (cc (asked, unasked refl))) (same_some t.load) refl
     where
       same_some : (load : Option Load) → is_some (option_map (λ (load : Load). record load { checked = is_good verdict }) load) ≡ is_some load

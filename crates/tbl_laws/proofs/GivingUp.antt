@@ -103,7 +103,7 @@ module _ (n m : ℕ) (s : State) (fit : AreFit n s) where
   given_back (Some row) none = by_row (table_at s.tables row) refl where
     by_row : (found : Option Table) → table_at s.tables row ≡ found → AreFit n (record s { tables = changed row (let_go (without_handle m s.tables).handles row) (without_handle m s.tables) })
     by_row None there = rw there (alone none)
-    by_row (Some t) there = told n (record s { tables = without_handle m s.tables }) (alone none) row t there n (let_go (without_handle m s.tables).handles row) (omega arith) refl refl refl refl refl refl
+    by_row (Some t) there = told n (record s { tables = without_handle m s.tables }) (alone none) row t there n (let_go (without_handle m s.tables).handles row) (omega arith) refl refl refl refl refl refl refl
 
   -- the table goes with it
   taken_away : (row : ℕ) → registered_by s.tables m ≡ Some row → AreFit n (record s { tables = without_handle m (remove row s.tables); pending = of_other_rows row s.pending })
@@ -268,6 +268,7 @@ module _ (app : ℕ) where
       few = at.few;
       registered = at.registered;
       function = by t.validator at.function;
+      notice = at.notice;
       checked = at.checked;
       pends = at.pends;
     } where

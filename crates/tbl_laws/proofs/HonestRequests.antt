@@ -413,27 +413,22 @@ module _ (s : State) (n : ℕ) (fit : AreFit n s) where
   pub honest : (actor : Actor) (request : Request) (given : Given) → OfEffect (IsHonest s) (effect_of s actor request given)
   honest Ground (ask.Command bytes) given = by_command s (IsHonest s) refused commands bytes.list
   honest Ground (ask.File name bytes) given = by_file s (IsHonest s) refused name bytes.list (same_tables _ refl refl)
-  honest Ground (ask.Time seconds sub) given = refused _ refl refl refl
+  honest Ground (ask.Time seconds sub) given = same_tables _ refl refl
   honest Ground _ given = tt
   honest (App app) (ask.Start name) given = by_start s (IsHonest s) refused app name (same_tables _ refl refl)
   honest (App app) (ask.Register short size flags validator) given = by_register s (IsHonest s) refused app short size flags validator (λ name row handle may free_row free_handle.
       let u : Table = new_table name app size flags validator handle in
       plain _ refl (inherits_none s.tables (with_handle handle (new_handle app row) (with_table row u s.tables)) row (Some u) (record { here = get_or-set_same s.tables.rows row (Some u) None (free_place s.tables.rows row free_row).0; others = λ k other. get_or-set_other s.tables.rows row k (Some u) None other }) (λ v is. ap (λ (x : Table). x.load) (sym (same_Some u v is)))))
-  honest (App app) (ask.Share name) given = refused _ refl refl refl
-  honest (App app) (ask.Unregister m) given = refused _ refl refl refl
   honest (App app) (ask.LoadImage handle image) given = by_load_image s (IsHonest s) refused (λ row t bytes number verdict there is bad. judged_badly row bytes number verdict (answered s ERR_VALIDATION_FAILED (verdict_bits verdict)) refl refl) app handle image.list given
       (λ row t there none no_function. loaded_image row t image.list there no_function) (λ row t number verdict there none is good. judged_active s row t image.list verdict _ good refl refl (inherits_imaged s.tables row image.list s.seconds s.sub))
-  honest (App app) (ask.LoadFile handle name) given = refused _ refl refl refl
-  honest (App app) (ask.Update handle) given = refused _ refl refl refl
-  honest (App app) (ask.Validate handle) given = refused _ refl refl refl
-  honest (App app) (ask.Manage handle) given = refused _ refl refl refl
-  honest (App app) (ask.DumpToBuffer handle) given = refused _ refl refl refl
-  honest (App app) (ask.Edit handle offset bytes) given = refused _ refl refl refl
+  honest (App app) (ask.LoadFile handle name) given = by_load_file s (IsHonest s) refused (λ row t bytes number verdict there is bad. judged_badly row bytes number verdict (answered s ERR_VALIDATION_FAILED (verdict_bits verdict)) refl refl) app handle name given
+      (λ row t file there open_to none no_function. plain_active s row t (file_image t file) _ there no_function refl refl (inherits_from row (file_image t file) name))
+      (λ row t file number verdict there open_to none is good. judged_active s row t (file_image t file) verdict _ good refl refl (inherits_from row (file_image t file) name))
+  honest (App app) (ask.Update handle) given = by_update s (IsHonest s) refused app handle (λ row t there none. loaded_active s n fit row t there (update_taken s.tables row t none).0)
+  honest (App app) (ask.Validate handle) given = by_app_validate s (IsHonest s) refused app handle given (λ row t active there first. validated_mark s row t active (verdict_at 0 given) _ there refl refl refl)
+  honest (App app) (ask.Manage handle) given = by_manage s (IsHonest s) refused app handle given (λ row t there. let end = managed_end n row given s fit in record { active = end.active; marks = λ k u l at load checked function. end.marks k u l at load checked })
   honest (App app) (ask.Get handle) given = by_get s (IsHonest s) refused app handle (λ a leads some. same_rows_of _ refl refl)
   honest (App app) (ask.Read handle offset len) given = by_read s (IsHonest s) refused app handle offset len (λ a leads pinned inside. same_tables _ refl refl)
   honest (App app) (ask.Release handle) given = by_release s (IsHonest s) refused app handle (λ a leads pinned. rw pinned (plain _ refl (inherits_released s.tables handle a.handle a.row a.table leads.there)))
-  honest (App app) (ask.GetStatus handle) given = refused _ refl refl refl
-  honest (App app) (ask.GetInfo name) given = refused _ refl refl refl
-  honest (App app) (ask.Notify handle msg code parameter) given = refused _ refl refl refl
-  honest (App app) ask.Exit given = refused _ refl refl refl
+  honest (App app) (ask.GetStatus handle) given = by_get_status s (IsHonest s) refused app handle (λ row t. same_tables _ refl refl)
   honest (App app) _ given = tt

@@ -99,7 +99,7 @@ module _ (s : State) (n : ℕ) (live : s.ended ≡ false) (fit : AreFit n s) whe
       let fits : AreFit n freed = with_this_handle m (record a.handle { pin = None }) (λ g at. same_handle_of m a.handle g leads.place at) in
       let few = (was n freed fits a.row a.table leads.there).few in
       unseen n freed fits a.row a.table leads.there (suc n) _ (let_go (slice_set s.tables.handles m (Some (record a.handle { pin = None }))) a.row a.table) (omega arith)
-      (record { changes = set_row freed.tables a.row a.table _ leads.there; handles = refl; handle = refl; owner = refl; validator = refl }) (omega arith) (omega (arith, few)) refl refl
+      (record { changes = set_row freed.tables a.row a.table _ leads.there; handles = refl; handle = refl; owner = refl; validator = refl; notice = (was n freed fits a.row a.table leads.there).notice }) (omega arith) (omega (arith, few)) refl refl
 
   -- ---- housekeeping
 
@@ -108,7 +108,7 @@ module _ (s : State) (n : ℕ) (live : s.ended ≡ false) (fit : AreFit n s) whe
   EndsWell e = AreFit n e.state × (e.state.ended ≡ s.ended)
 
   over : (row : ℕ) (t : Table) (e : Ended) → table_at e.state.tables row ≡ Some t → AreFit n e.state → AreFit n (record e.state { tables = end_dump row e.state.tables })
-  over row t e there fits = told n e.state fits row t there n (λ u. record u { dump = quiet }) (omega arith) refl refl refl refl refl refl
+  over row t e there fits = told n e.state fits row t there n (λ u. record u { dump = quiet }) (omega arith) refl refl refl refl refl refl refl
 
   end_dump_of : (row : ℕ) (t : Table) (e : Ended) (dump : Dump) → table_at e.state.tables row ≡ Some t → EndsWell e → EndsWell (end_by e row t.name dump)
   unfolding EndsWell
@@ -147,7 +147,7 @@ module _ (s : State) (n : ℕ) (live : s.ended ≡ false) (fit : AreFit n s) whe
     aborted = λ row t there open_load. record { fit = grown n _ (aborts n s fit row t there); live = live };
     shown = λ row. same _ refl;
     written = λ row file bytes free. rw free (record { fit = elsewhere _ refl refl refl; live = live });
-    dump_asked = λ file row t there only none. rw none (record { fit = told n s fit row t there (suc n) (λ u. record u { dump = asked file }) (omega arith) refl refl refl refl refl refl; live = live });
+    dump_asked = λ file row t there only none. rw none (record { fit = told n s fit row t there (suc n) (λ u. record u { dump = asked file }) (omega arith) refl refl refl refl refl refl refl; live = live });
   }
 
   -- ---- a registration
@@ -168,6 +168,7 @@ module _ (s : State) (n : ℕ) (live : s.ended ≡ false) (fit : AreFit n s) whe
         few = omega arith;
         registered = record { handle = new_handle app row; place = get_or-set_same s.tables.handles handle (Some (new_handle app row)) None number.0; app = refl; leads = refl };
         function = usable s.kit app validator may;
+        notice = tt;
         checked = λ asked_now. cc asked_now;
         pends = λ active pending. absurd (cc (pending, (subst (FitAt n s.kit s.pending s.tables.handles row) place.1 (fit.each row)) active));
       })
@@ -177,23 +178,23 @@ module _ (s : State) (n : ℕ) (live : s.ended ≡ false) (fit : AreFit n s) whe
   pub ordinary : (actor : Actor) (request : Request) (given : Given) → OfEffect (IsOrdinary n) (effect_of s actor request given)
   ordinary Ground (ask.Command bytes) given = by_command s (IsOrdinary n) refused commands bytes.list
   ordinary Ground (ask.File name bytes) given = by_file s (IsOrdinary n) refused name bytes.list (record { fit = elsewhere _ refl refl refl; live = live })
-  ordinary Ground (ask.Time seconds sub) given = refused _ refl refl refl
+  ordinary Ground (ask.Time seconds sub) given = record { fit = elsewhere _ refl refl refl; live = live }
   ordinary Ground request given = tt
   ordinary (App app) (ask.Start name) given = by_start s (IsOrdinary n) refused app name (record { fit = elsewhere _ refl refl refl; live = live })
   ordinary (App app) (ask.Register name size flags validator) given = by_register s (IsOrdinary n) refused app name size flags validator (λ full row handle plan free_row free_handle. record {
     fit = new_row full row handle app size flags validator free_row free_handle (plan_taken s.kit app name size flags validator plan).may;
     live = live;
   })
-  ordinary (App app) (ask.Share name) given = refused _ refl refl refl
-  ordinary (App app) (ask.Unregister handle) given = refused _ refl refl refl
   ordinary (App app) (ask.LoadImage handle image) given = by_load_image s (IsOrdinary n) refused (λ row t bytes number verdict there is bad. record { fit = grown n s fit; live = live }) app handle image.list given
       (λ row t there none plain. record { fit = imaged n s fit row t there image.list s.seconds s.sub; live = live }) (λ row t number verdict there none is good. record { fit = imaged n s fit row t there image.list s.seconds s.sub; live = live })
-  ordinary (App app) (ask.LoadFile handle name) given = refused _ refl refl refl
-  ordinary (App app) (ask.Update handle) given = refused _ refl refl refl
-  ordinary (App app) (ask.Validate handle) given = refused _ refl refl refl
-  ordinary (App app) (ask.Manage handle) given = refused _ refl refl refl
-  ordinary (App app) (ask.DumpToBuffer handle) given = refused _ refl refl refl
-  ordinary (App app) (ask.Edit handle offset bytes) given = refused _ refl refl refl
+  ordinary (App app) (ask.LoadFile handle name) given = by_load_file s (IsOrdinary n) refused (λ row t bytes number verdict there is bad. record { fit = grown n s fit; live = live }) app handle name given
+      (λ row t file there open_to none plain. record { fit = imaged_from n s fit row t there _ s.seconds s.sub name; live = live }) (λ row t file number verdict there open_to none is good. record { fit = imaged_from n s fit row t there _ s.seconds s.sub name; live = live })
+  ordinary (App app) (ask.Update handle) given = by_update s (IsOrdinary n) refused app handle (λ row t there none. record { fit = updates n s fit row t there s.seconds s.sub (update_taken s.tables row t none).0; live = live })
+  ordinary (App app) (ask.Validate handle) given = by_app_validate s (IsOrdinary n) refused app handle given (λ row t active there first. record {
+    fit = grown n _ (mark n s fit row t there active (verdict_at 0 given) ((was n s fit row t there).pends active (pending_first s.pending row active first)).unasked);
+    live = live;
+  })
+  ordinary (App app) (ask.Manage handle) given = by_manage s (IsOrdinary n) refused app handle given (λ row t there. record { fit = managed n row given s fit; live = goes_on n row given s ∙ live })
   ordinary (App app) (ask.Get handle) given = by_get s (IsOrdinary n) refused app handle (λ a leads some. record {
     fit = grown n _ (with_this_handle handle (record a.handle { pin = Some a.table.count; told = a.table.count }) (λ g at. same_handle_of handle a.handle g leads.place at));
     live = live;
@@ -203,8 +204,5 @@ module _ (s : State) (n : ℕ) (live : s.ended ≡ false) (fit : AreFit n s) whe
     fit = released app handle a leads;
     live = live;
   }))
-  ordinary (App app) (ask.GetStatus handle) given = refused _ refl refl refl
-  ordinary (App app) (ask.GetInfo name) given = refused _ refl refl refl
-  ordinary (App app) (ask.Notify handle msg code parameter) given = refused _ refl refl refl
-  ordinary (App app) ask.Exit given = refused _ refl refl refl
+  ordinary (App app) (ask.GetStatus handle) given = by_get_status s (IsOrdinary n) refused app handle (λ row t. same _ refl)
   ordinary (App app) request given = tt

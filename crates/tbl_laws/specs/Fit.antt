@@ -1,9 +1,10 @@
 -- What holds of the service's state between two requests, table by table.
-use Rattle.std.specs.Prelude.{◌≡◌, ◌≢◌, ℕ, ◌≤◌, List, length, Bool, true, false, Option, Some, None, is_some, IfSome, slice_index_or}
+use Rattle.std.specs.Prelude.{◌≡◌, ◌≢◌, ℕ, ◌≤◌, ◌<◌, List, length, Bool, true, false, Option, Some, None, is_some, IfSome, slice_index_or}
 use Rattle.tbl_model.specs.State.{State, Table, Handle}
 use Rattle.tbl_model.specs.Tables.{table_at}
 use Rattle.tbl_model.specs.TableSteps.{is_checked}
 use Rattle.tbl_model.specs.Pending.{is_pending}
+use Rattle.tbl_model.specs.declared.deeds.Notice.{Notice}
 
 -- a pending validation can be done: the table has a function, and the image is there, which of an open load isn't about to go active
 pub record CanValidate (t : Table) (active : Bool) : Type 0 where
@@ -23,12 +24,17 @@ pub record IsRegistered (handles : List (Option Handle)) (row : ℕ) (number own
   pub app : handle.app ≡ owner
   pub leads : handle.row ≡ Some row
 
--- the table in this row has had so many images at most, its function stands in the kit and is its owner's, a load that is about to
--- go active is validated, and its pending validations can be done
+-- a function code of a command has seven bits
+abbrev pub HasCode : Notice → Type 0
+HasCode notice = notice.code < 128
+
+-- the table in this row has had so many images at most, its function stands in the kit and is its owner's, its notice can be
+-- sent, a load that is about to go active is validated, and its pending validations can be done
 pub record IsFit (most : ℕ) (kit : List (Option ℕ)) (pending : List (ℕ × Bool)) (handles : List (Option Handle)) (row : ℕ) (t : Table) : Type 0 where
   pub few : t.count ≤ most
   pub registered : IsRegistered handles row t.handle t.owner
   pub function : IfSome t.validator (λ number. owner_at kit number ≡ Some t.owner)
+  pub notice : IfSome t.notice HasCode
   pub checked : t.activation ≡ true → is_checked t ≡ true
   pub pends : (active : Bool) → is_pending row active pending ≡ true → CanValidate t active
 

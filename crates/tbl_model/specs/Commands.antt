@@ -3,6 +3,8 @@ use Rattle.std.specs.Prelude.{ℕ, List, Bool, true, false, Option, Some, None, 
 use Rattle.tbl_model.specs.State.{State}
 use Rattle.tbl_model.specs.Effects.{Effect, answered}
 use Rattle.tbl_model.specs.GroundLoads.{load_effect}
+use Rattle.tbl_model.specs.Validations.{validate_effect}
+use Rattle.tbl_model.specs.Activations.{activate_command_effect, abort_effect}
 use Rattle.tbl_kinds.specs.GroundCommands.{GroundCommand, housekeeping, noop, reset_counters, load, dump, validate, activate, dump_registry, send_registry, abort, code_of, command_in}
 use Rattle.tbl_model.specs.declared.deeds.Shown.TheVariants.{Housekeeping}
 use Rattle.tbl_kinds.specs.declared.entry.Answer.{Answer}
@@ -51,6 +53,9 @@ effect_by s (Ok housekeeping) = record (answered s SUCCESS 0) { shown = Housekee
 effect_by s (Ok noop) = answered s SUCCESS 0
 effect_by s (Ok reset_counters) = answered s SUCCESS 0
 effect_by s (Ok (load file)) = load_effect s file
+effect_by s (Ok (validate select table)) = validate_effect s select table
+effect_by s (Ok (activate table)) = activate_command_effect s table
+effect_by s (Ok (abort table)) = abort_effect s table
 effect_by s (Ok command) = answered s ERR_BAD_CODE (code_of command)
 
 abbrev pub command_effect : State → List ℕ → Effect

@@ -1,0 +1,223 @@
+//! All that is pending for a table, which its owner has done or asks for.
+
+ghost use Rattle.std.specs.Prelude.{◌≡◌, ◌≤◌, ◌<◌, [], ◌∷◌, ◌++◌, length, false, if◌then◌else◌, None, Some, IsSome, IfOk, OnErr, vec_capacity};
+ghost use Rattle.std.specs.Option.{ForSome};
+ghost use Rattle.tbl_kinds.specs.Notes.{untouched};
+ghost use Rattle.tbl_model.specs.State.{State};
+ghost use Rattle.tbl_model.specs.Tables.{table_at};
+ghost use Rattle.tbl_model.specs.Management.{managed_effect, manage_answer, all_done, manage_effect, pending_status, get_status_effect};
+ghost use Rattle.validation.specs.Kits.{FewAsked, owners};
+ghost use Rattle.validation.specs.Asked.{WasAsked};
+ghost use Rattle.validation.specs.Ready.{ArePending, HaveFunctions, HaveLoads};
+ghost use Rattle.table_update.specs.Answers.{verdicts_of};
+ghost use Rattle.tbl_core.specs.Effects.{IsEffect, IsWithin, IsQuiet, given_of};
+ghost use Rattle.tbl_core.specs.Managed.{judged_deeds, managed_deeds};
+ghost use Rattle.tbl_core.specs.Service.{AreCounted};
+
+use crate::checks::check;
+use crate::effect::Effect;
+use crate::loads::{activated, named, stamp};
+use crate::parts::Clock;
+use crate::validations::finished;
+use sharing::Apps;
+use table_update::{Judgement, Managed};
+use tbl_kinds::{Answer, Bytes, Memory, Name40, Status};
+use tbl_model::{Deed, Named};
+use tbl_outside::Validator;
+use tbl_registry::{Dump, Tables};
+use validation::{Kit, Pending};
+
+/// Appends that a validation of the table in a row, of this name, came to its end, if one did.
+fn put_judgement(deeds: &mut Vec<Deed>, row: u8, name: &Name40, judgement: Option<Judgement>)
+    requires { length deeds.old.items < vec_capacity deeds.old }
+    ensures deeds { deeds.new.items ≡ deeds.old.items ++ judged_deeds row name.now judgement }
+    ensures room { vec_capacity deeds.new ≡ vec_capacity deeds.old }
+{
+    if let Some(judgement) = judgement {
+        deeds.push_reserved(finished(row, judgement, name.copy()));
+    }
+}
+
+/// Appends the deed, if it was done.
+fn put_done(deeds: &mut Vec<Deed>, done: bool, deed: Deed)
+    requires { length deeds.old.items < vec_capacity deeds.old }
+    ensures { deeds.new.items ≡ deeds.old.items ++ (if done then deed ∷ [] else []) }
+{
+    if done {
+        deeds.push_reserved(deed);
+    }
+}
+
+/// The verdicts that were given, in order.
+fn verdicts(first: Option<Judgement>, second: Option<Judgement>) -> [Option<i32>; 2]
+    ensures { result ≡ verdicts_of first second }
+{
+    match (first, second) {
+        (None, None) => [None, None],
+        (None, Some(only)) => [Some(only.verdict), None],
+        (Some(only), None) => [Some(only.verdict), None],
+        (Some(first), Some(second)) => [Some(first.verdict), Some(second.verdict)],
+    }
+}
+
+/// The effect of all that was done for the table in a row, of this name: where it was updated, this is the deed.
+fn told(
+    row: u8,
+    done: Managed,
+    name: &Name40,
+    active: Deed,
+    mut deeds: Vec<Deed>,
+    mut empty: Bytes,
+) -> Effect
+    requires no_deeds { deeds.items ≡ [] }
+    requires three { 3 ≤ vec_capacity deeds }
+    requires empty { empty.list ≡ [] }
+    requires room { 1 ≤ empty.spare }
+    ensures answer { result.answer ≡ done.answer }
+    ensures deeds { result.deeds.items ≡ managed_deeds row name.now done active }
+    ensures bytes { result.bytes.list ≡ done.did ∷ [] }
+    ensures table { result.table ≡ None }
+    ensures notice { result.notice ≡ None }
+    ensures within { IsWithin 3 false false result }
+    ensures note { result.note ≡ untouched }
+    ensures verdicts { result.verdicts ≡ verdicts_of done.first done.second }
+{
+    put_judgement(&mut deeds, row, name, done.first);
+    put_judgement(&mut deeds, row, name, done.second);
+    put_done(
+        &mut deeds,
+        done.answer.status == Status::INFO_UPDATED,
+        active,
+    );
+    empty.append(&[done.did]);
+    Effect {
+        deeds,
+        verdicts: verdicts(done.first, done.second),
+        ..Effect::of(done.answer, empty)
+    }
+}
+
+/// The owner of the table in the row has all done that is pending for it.
+fn manage_row<C: Validator>(
+    tables: &mut Tables,
+    kit: &mut Kit<C>,
+    pending: &mut Pending,
+    clock: Clock,
+    row: u8,
+    deeds: Vec<Deed>,
+    empty: Bytes,
+) -> Effect
+    requires table { IsSome (table_at tables.old row) }
+    requires pending { ArePending tables.old pending.old }
+    requires kit { HaveFunctions tables.old kit.old }
+    requires few { FewAsked C.asked 2 kit.old }
+    requires loads { HaveLoads tables.old }
+    requires counted { AreCounted tables.old }
+    requires no_deeds { deeds.items ≡ [] }
+    requires three { 3 ≤ vec_capacity deeds }
+    requires empty { empty.list ≡ [] }
+    requires room { 1 ≤ empty.spare }
+    ensures effect { (s : State) → s.tables ≡ tables.old → s.pending ≡ pending.old → s.seconds ≡ clock.seconds → s.sub ≡ clock.sub
+        → ForSome (table_at tables.old row) (λ t. IsEffect result (managed_effect s (manage_answer s.tables row t) (all_done s (given_of result) row)).asked (record s { tables = tables.new; pending = pending.new }) (managed_effect s (manage_answer s.tables row t) (all_done s (given_of result) row))) }
+    ensures asks { (s : State) → s.tables ≡ tables.old → s.pending ≡ pending.old
+        → ForSome (table_at tables.old row) (λ t. WasAsked C.verdict C.asked kit.old kit.new (managed_effect s (manage_answer s.tables row t) (all_done s (given_of result) row)).asked result.verdicts) }
+    ensures owners { owners kit.new ≡ owners kit.old }
+    ensures within { IsWithin 3 false false result }
+    ensures note { result.note ≡ untouched }
+    ensures two { length result.verdicts ≡ 2 }
+    ensures bytes { length result.bytes.list ≤ 1 }
+{
+    let Named { name, .. } = named(tables, row);
+    let active = activated(tables, row);
+    let done = table_update::manage(tables, kit, pending, row);
+    stamp(
+        tables,
+        row,
+        done.answer.status == Status::INFO_UPDATED,
+        clock,
+    );
+    told(row, done, &name, active, deeds, empty)
+}
+
+/// The owner of a table has all done that is pending for it (`CFE_TBL_Manage`). The reply is one byte: bit 0 for the
+/// validation of the last image, bit 1 for that of the load's, bit 2 for the update, bit 3 for the filling of a dump.
+#[tactic(auto, unfolding(tbl_model::specs::Management::manage_effect))]
+pub(crate) fn manage<C: Validator>(
+    tables: &mut Tables,
+    kit: &mut Kit<C>,
+    pending: &mut Pending,
+    apps: &Apps,
+    clock: Clock,
+    app: u8,
+    handle: u16,
+    deeds: Vec<Deed>,
+    mut empty: Bytes,
+) -> Result<Effect, Memory>
+    requires pending { ArePending tables.old pending.old }
+    requires kit { HaveFunctions tables.old kit.old }
+    requires few { FewAsked C.asked 2 kit.old }
+    requires loads { HaveLoads tables.old }
+    requires counted { AreCounted tables.old }
+    requires no_deeds { deeds.items ≡ [] }
+    requires three { 3 ≤ vec_capacity deeds }
+    requires empty { empty.list ≡ [] }
+    ensures effect { IfOk result (λ done. (s : State) → s.tables ≡ tables.old → s.pending ≡ pending.old → s.apps ≡ apps.now → s.seconds ≡ clock.seconds → s.sub ≡ clock.sub
+        → IsEffect done (manage_effect s app handle (given_of done)).asked (record s { tables = tables.new; pending = pending.new }) (manage_effect s app handle (given_of done))) }
+    ensures asks { IfOk result (λ done. (s : State) → s.tables ≡ tables.old → s.pending ≡ pending.old → s.apps ≡ apps.now
+        → WasAsked C.verdict C.asked kit.old kit.new (manage_effect s app handle (given_of done)).asked done.verdicts) }
+    ensures owners { owners kit.new ≡ owners kit.old }
+    ensures within { IfOk result (IsWithin 3 false false) }
+    ensures note { IfOk result (λ done. done.note ≡ untouched) }
+    ensures two { IfOk result (λ done. length done.verdicts ≡ 2) }
+    ensures bytes { IfOk result (λ done. length done.bytes.list ≤ 1) }
+    ensures err { OnErr result (tables.new ≡ tables.old) }
+    ensures still_pending { OnErr result (pending.new ≡ pending.old) }
+    ensures not_asked { OnErr result (kit.new ≡ kit.old) }
+{
+    empty.reserve(1)?;
+    match check(tables, apps, app, handle, true) {
+        Err(status) => Ok(Effect::of(Answer::plain(status), empty)),
+        Ok(row) => Ok(manage_row(tables, kit, pending, clock, row, deeds, empty)),
+    }
+}
+
+/// What is pending for the table in the row.
+fn status(tables: &Tables, pending: &Pending, row: u8) -> Status
+    requires { IsSome (table_at tables.now row) }
+    ensures { ForSome (table_at tables.now row) (λ t. result ≡ pending_status pending.now row t) }
+{
+    let Some(table) = tables.row(row) else {
+        unreachable!();
+    };
+    if pending.has(row, true) || pending.has(row, false) {
+        return Status::INFO_VALIDATION_PENDING;
+    }
+    if table.asked {
+        return Status::INFO_UPDATE_PENDING;
+    }
+    if table.dump != Dump::Quiet {
+        return Status::INFO_DUMP_PENDING;
+    }
+    Status::SUCCESS
+}
+
+/// An application asks what is pending for a table (`CFE_TBL_GetStatus`), whose owner it need not be.
+#[tactic(auto, unfolding(tbl_model::specs::Management::get_status_effect))]
+pub(crate) fn get_status(
+    tables: &Tables,
+    pending: &Pending,
+    apps: &Apps,
+    app: u8,
+    handle: u16,
+    empty: Bytes,
+) -> Effect
+    requires { empty.list ≡ [] }
+    ensures effect { (s : State) → s.tables ≡ tables.now → s.pending ≡ pending.now → s.apps ≡ apps.now → IsEffect result [] s (get_status_effect s app handle) }
+    ensures quiet { IsQuiet result }
+    ensures bytes { result.bytes ≡ empty }
+{
+    match check(tables, apps, app, handle, false) {
+        Err(status) => Effect::of(Answer::plain(status), empty),
+        Ok(row) => Effect::of(Answer::plain(status(tables, pending, row)), empty),
+    }
+}
