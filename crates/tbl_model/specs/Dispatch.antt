@@ -28,15 +28,26 @@ ground_effect s _ given = None
 abbrev pub app_effect : State → ℕ → Request → Given → Option Effect
 app_effect s app (ask.Start name) given = Some (start_effect s app name)
 app_effect s app (ask.Register name size flags validator) given = Some (register_effect s app name size flags validator)
+app_effect s app (ask.Share name) given = None
+app_effect s app (ask.Unregister handle) given = None
 app_effect s app (ask.LoadImage handle image) given = Some (load_image_effect s app handle image.list given)
 app_effect s app (ask.LoadFile handle name) given = Some (app_file_effect s app handle name given)
 app_effect s app (ask.Update handle) given = Some (update_effect s app handle)
 app_effect s app (ask.Validate handle) given = Some (app_validate_effect s app handle given)
 app_effect s app (ask.Manage handle) given = Some (manage_effect s app handle given)
+app_effect s app (ask.DumpToBuffer handle) given = None
+app_effect s app (ask.Edit handle offset bytes) given = None
 app_effect s app (ask.Get handle) given = Some (get_effect s app handle)
 app_effect s app (ask.Read handle offset len) given = Some (read_effect s app handle offset len)
 app_effect s app (ask.Release handle) given = Some (release_effect s app handle)
 app_effect s app (ask.GetStatus handle) given = Some (get_status_effect s app handle)
+app_effect s app (ask.GetInfo name) given = None
+app_effect s app (ask.Notify handle msg code parameter) given = None
+app_effect s app ask.Exit given = None
+app_effect s app (ask.CdsRegister name size) given = None
+app_effect s app (ask.CdsCopy slot image) given = None
+app_effect s app (ask.CdsRestore slot) given = None
+app_effect s app (ask.CdsDelete slot) given = None
 app_effect s app _ given = None
 
 abbrev pub effect_of : State → Actor → Request → Given → Option Effect
