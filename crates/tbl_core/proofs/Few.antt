@@ -1,9 +1,8 @@
 -- How many deeds a request has, and how much room its packets take.
-use Rattle.std.proofs.Common.{◌≡◌, ◌≤◌, ◌+◌, ◌*◌, ℕ, List, [], ◌∷◌, ◌++◌, length, map, Bool, true, false, Option, Some, None, Result, Ok, Err, is_some, refl, subst, arith, if◌then◌else◌}
+use Rattle.std.proofs.Common.{◌≡◌, ◌≤◌, ◌+◌, ◌*◌, ℕ, [], ◌∷◌, length, map, Bool, true, false, Option, Some, None, Ok, Err, is_some, refl, subst, arith, if◌then◌else◌}
 use Rattle.std.proofs.lemmas.List.{length-append, length-map}
-use Rattle.tbl_kinds.specs.GroundCommands.{GroundCommand, housekeeping, noop, reset_counters, load, dump, validate, activate, dump_registry, send_registry, abort, delete_cds}
+use Rattle.tbl_kinds.specs.GroundCommands.{housekeeping}
 use Rattle.tbl_model.specs.Commands.{Asked, asks_validate, asks_housekeeping}
-use Rattle.tbl_model.specs.Effects as model
 use Rattle.tbl_model.specs.Events.{deed_event, command_events}
 use Rattle.tbl_model.specs.declared.deeds.Notice.{Notice}
 use Rattle.tbl_kinds.specs.declared.request.Request.{Request}

@@ -1,15 +1,15 @@
 -- What each request may rely on follows from what is kept between two of them.
-use Rattle.std.proofs.Common.{◌≡◌, ◌<◌, ℕ, suc, zero, List, [], ◌∷◌, length, Bool, true, false, Option, Some, None, IsSome, is_some, IfSome, refl, sym, ap, subst, ◌∙◌, arith}
+use Rattle.std.proofs.Common.{◌≡◌, ◌<◌, ℕ, suc, zero, List, [], ◌∷◌, length, Bool, true, false, Option, Some, None, IsSome, is_some, IfSome, refl, sym, subst, ◌∙◌, arith}
 use Rattle.std.specs.Option.{option_map}
 use Rattle.tbl_kinds.specs.Records.{record_limit}
 use Rattle.tbl_model.specs.State.{Table, Load}
 use Rattle.tbl_model.specs.Tables.{table_at}
 use Rattle.tbl_model.specs.TableSteps.{is_checked}
 use Rattle.tbl_model.specs.Pending.{is_pending}
-use Rattle.tbl_laws.specs.Fit.{IsFit, FitAt, AreFit, CanValidate, owner_at}
+use Rattle.tbl_laws.specs.Fit.{IsFit, FitAt, CanValidate, owner_at}
 use Rattle.tbl_outside.specs.declared.validator.KitEntry.{KitEntry}
 use Rattle.validation.specs.Kits.{entry_at, owners, FewAsked}
-use Rattle.validation.specs.Ready.{HasImage, CanBeJudged, ArePending, HaveFunctions, HaveLoads}
+use Rattle.validation.specs.Ready.{HasImage, CanBeJudged, HaveFunctions}
 use Rattle.tbl_core.specs.Service.{CoreView, IsReady, AreCounted, AreSendable, MayPlay}
 
 -- whose function it is stands at its number

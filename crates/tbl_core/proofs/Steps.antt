@@ -1,29 +1,25 @@
 -- From what a step did to the core to the legal history.
 use Rattle.std.proofs.Common.{◌≡◌, ℕ, suc, false, List, [], ◌∷◌, ◌++◌, length, Option, Some, None, Result, Ok, Err, ℤ, refl, sym, ap, subst, ◌∙◌, length-append, arith}
 use Rattle.std.specs.Prelude.{OnOk}
-use Rattle.std.proofs.lemmas.List.{append-nil}
-use Rattle.tbl_model.specs.State.{State, Tables, first_state}
+use Rattle.tbl_model.specs.State.{State, Tables}
 use Rattle.tbl_kinds.specs.Requests.{Fits}
 use Rattle.tbl_kinds.specs.Records.{IsBuilt}
 use Rattle.tbl_model.specs.Effects as model
 use Rattle.tbl_model.specs.Deeds.{Question}
-use Rattle.tbl_model.specs.Given.{MayBeGiven}
 use Rattle.tbl_kinds.specs.Notes.{untouched}
-use Rattle.validation.specs.Kits.{owners}
 use Rattle.tbl_model.specs.Dispatch.{effect_of}
-use Rattle.tbl_model.specs.Counts.{Told, Counts, counts_of}
+use Rattle.tbl_model.specs.Counts.{Counts, counts_of}
 use Rattle.tbl_model.specs.CountsAfter.{tally_of, counts_after}
 use Rattle.tbl_model.specs.Replies.{packets_by, packets_of}
-use Rattle.tbl_model.specs.History.{Run, begins_at, onward, onward_by, run_from, told, effect_in, IsAnswered, AreAnswered}
+use Rattle.tbl_model.specs.History.{Run, begins_at, onward, onward_by, run_from, told, IsAnswered, AreAnswered}
 use Rattle.tbl_model.proofs.CountsLaws.{counts_push}
 use Rattle.tbl_model.proofs.HistoryLaws.{run_push, answered_push}
 use Rattle.tbl_core.specs.Log.{Logged, entry_of}
-use Rattle.tbl_core.specs.Effects.{IsEffect, given_of, without_images, seen_at, told_at}
+use Rattle.tbl_core.specs.Effects.{IsEffect, given_of, without_images, told_at}
 use Rattle.tbl_core.specs.Service.{Held, CoreView, Stands, state_of, Shows, StandsFor, Leaves, Asks, Finishes, Plays, IsReady}
 use Rattle.tbl_core.specs.Verdicts.{Judged, questions_in}
 use Rattle.tbl_core.proofs.Verdicts.{answers_each, few_more}
 use Rattle.tbl_laws.proofs.Cases.{OfEffect}
-use Rattle.tbl_laws.specs.Fit.{AreFit}
 use Rattle.tbl_laws.proofs.Ordinary.{IsOrdinary, ordinary}
 use Rattle.tbl_core.specs.declared.effect.Effect.{Effect}
 use Rattle.tbl_core.specs.declared.parts.Clock.{Clock}

@@ -1,5 +1,5 @@
 -- What is known of the kit of validation functions after an entry.
-use Rattle.std.proofs.Common.{◌≡◌, ◌<◌, ◌≤◌, ◌+◌, ◌*◌, ◌-◌, ◌^◌, ℕ, zero, suc, eqb, List, [], ◌∷◌, length, count_by, Bool, true, false, cond, Option, Some, None, IsSome, ℤ, refl, sym, ap, subst, ◌∙◌, arith}
+use Rattle.std.proofs.Common.{◌≡◌, ◌<◌, ◌≤◌, ◌+◌, ◌*◌, ◌^◌, ℕ, suc, List, [], ◌∷◌, length, count_by, Option, Some, None, ℤ, refl, ap, subst, arith}
 use Rattle.std.specs.Option.{ForSome, option_map}
 use Rattle.std.proofs.lemmas.List.Sums.{count_by-le-length}
 use Rattle.tbl_model.specs.Deeds.{Question}

@@ -9,9 +9,9 @@ use Rattle.tbl_kinds.specs.declared.request.Actor.{Actor}
 use Rattle.tbl_kinds.specs.declared.request.Request.{Request}
 use Rattle.tbl_outside.specs.declared.validator.KitEntry.{KitEntry}
 use Rattle.validation.specs.Kits.{entry_at}
-use Rattle.validation.specs.Asked.{Gives, GivesEach}
+use Rattle.validation.specs.Asked.{GivesEach}
 use Rattle.tbl_core.specs.Service.{CoreView, StandsFor, Vouches, Plays}
-use Rattle.tbl_core.specs.Verdicts.{StoodThere, Judged, questions_in, AreGiven, IsOf, AreOf}
+use Rattle.tbl_core.specs.Verdicts.{StoodThere, questions_in, AreGiven, IsOf, AreOf}
 use Rattle.tbl_core.proofs.Steps.{plays_on}
 
 module _ {C : Type 0} (verdict : C → List ℕ → ℤ) where

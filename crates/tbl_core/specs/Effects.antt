@@ -9,7 +9,6 @@ use Rattle.tbl_model.specs.Events.{deed_event, command_events}
 use Rattle.tbl_model.specs.Counts.{Told, is_registry}
 use Rattle.tbl_model.specs.History.{told}
 use Rattle.tbl_laws.specs.Fit.{HasCode}
-use Rattle.tbl_model.specs.declared.deeds.Shown.{Shown}
 use Rattle.tbl_model.specs.declared.deeds.Shown.TheVariants.{Nothing}
 use Rattle.tbl_kinds.specs.declared.telemetry.Event.{Event}
 use Rattle.tbl_kinds.specs.declared.request.Actor.TheVariants.{Ground}

@@ -1,12 +1,10 @@
-use Rattle.std.proofs.Common.{◌≡◌, List, [], ◌∷◌, ℕ, Some, None, sym, ap, subst, ◌∙◌}
+use Rattle.std.proofs.Common.{◌≡◌, List, [], ◌∷◌, Some, None, sym, ap, subst, ◌∙◌}
 use Rattle.std.proofs.lemmas.Result.{IfOk-weaker}
 use Rattle.tbl_kinds.specs.Drawer.{File, contents_of}
-use Rattle.tbl_kinds.specs.TableFiles.{TableFile, table_file_in}
+use Rattle.tbl_kinds.specs.TableFiles.{table_file_in}
 use Rattle.tbl_model.specs.Effects as model
 use Rattle.tbl_model.specs.Given.{Given}
-use Rattle.tbl_model.specs.State.{State}
-use Rattle.tbl_model.specs.Subjects.{if_file}
-use Rattle.tbl_model.specs.Refusals.{by_answer, closed_refusal}
+use Rattle.tbl_model.specs.Refusals.{closed_refusal}
 use Rattle.tbl_model.specs.AppLoads.{load_file_of}
 use Rattle.table_files.specs.Files.{with_image, flaw_of}
 use Rattle.validation.proofs.Asking.{asked_nothing}

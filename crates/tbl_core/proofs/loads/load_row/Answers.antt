@@ -1,4 +1,3 @@
-use Rattle.tbl_kinds.specs.Records.{record_limit}
 use Rattle.std.proofs.Common.{refl, [], ◌∷◌, None}
 use Rattle.tbl_kinds.specs.Notes.{untouched}
 use Rattle.tbl_model.specs.Tables.{table_at}

@@ -1,8 +1,7 @@
 use Rattle.std.proofs.Common.{refl, sym, ap, subst, ◌∙◌}
 use Rattle.tbl_model.specs.Dispatch.{effect_of}
 use Rattle.tbl_core.specs.Effects.{given_of}
-use Rattle.tbl_core.specs.Service.{Held, Asks, Finishes, held_of, view_of}
-use Rattle.tbl_core.specs.declared.parts.Clock.{Clock}
+use Rattle.tbl_core.specs.Service.{Held, Asks, Finishes, view_of}
 use Rattle.tbl_core.specs.Log.{Logged}
 use Rattle.tbl_core.proofs.Ready.{may_play}
 use Rattle.tbl_core.proofs.Steps.{did_play}

@@ -1,7 +1,6 @@
 use Rattle.tbl_core.proofs.Steps.{on_ok, plays_on}
 use Rattle.tbl_core.proofs.Vouching.{vouches_on}
 use Rattle.tbl_laws.proofs.WholeLaws.{whole}
-use Rattle.tbl_laws.proofs.VouchedLaws.{vouched as history_vouched}
 use Rattle.tbl_core.proofs.service.Core.step.Goals as goal
 
 pub returns-clause-legal : goal.returns-clause-legal
