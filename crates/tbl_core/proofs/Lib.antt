@@ -3,6 +3,7 @@ pub mod Buffers
 pub mod CommandReadings
 pub mod Few
 pub mod Functions
+pub mod Keeping
 pub mod Managing
 pub mod Places
 pub mod Ready

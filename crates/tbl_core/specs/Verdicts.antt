@@ -1,10 +1,12 @@
 -- What validation functions are asked in an entry, and what they answer.
-use Rattle.std.specs.Prelude.{◌≡◌, ℕ, ◌+◌, List, [], ◌∷◌, count_by, Option, Some, None}
+use Rattle.std.specs.Prelude.{◌≡◌, ℕ, ◌+◌, List, [], ◌∷◌, ◌++◌, count_by, Option, Some, None}
 use Rattle.std.specs.Option.{option_map_or}
-use Rattle.std.proofs.Common.{ℤ}
+use Rattle.std.proofs.Common.{ℤ, pos}
 use Rattle.tbl_model.specs.Deeds.{Question}
 use Rattle.tbl_model.specs.Effects as model
-use Rattle.tbl_model.specs.History.{Run, onward, effect_in}
+use Rattle.tbl_model.specs.History.{Run, begins_at, onward, run_from, effect_in, told}
+use Rattle.tbl_model.specs.State.{State}
+use Rattle.tbl_model.specs.Vouched.{KeepsTo}
 use Rattle.tbl_kinds.specs.declared.entry.Entry.{Entry}
 use Rattle.tbl_outside.specs.declared.validator.KitEntry.{KitEntry}
 use Rattle.validation.specs.Kits.{entry_at}
@@ -47,3 +49,14 @@ IsOf verdict (Some first) (Some entry) = (image : List ℕ) → verdict entry.ch
 
 abbrev pub AreOf : {C : Type 0} → (C → List ℕ → ℤ) → List (Option (KitEntry C)) → List (Option (KitEntry C)) → Type 0
 AreOf verdict given kit = (number : ℕ) → IsOf verdict (entry_at given number) (entry_at kit number)
+
+-- ---- what is told of them
+
+-- what the function of this number answers about an image; 0 where there is none
+abbrev pub verdict_of : {C : Type 0} → (C → List ℕ → ℤ) → List (Option (KitEntry C)) → ℕ → List ℕ → ℤ
+verdict_of verdict given number image = option_map_or (λ entry. verdict entry.check image) (entry_at given number) (pos 0)
+
+-- each verdict that an entry tells of a table with a function is the one that this function gives on the very image
+abbrev pub KeepsToFunctions : {C : Type 0} → (C → List ℕ → ℤ) → List (Option (KitEntry C)) → State → List Entry → Type 0
+KeepsToFunctions verdict given opening entries = (before after : List Entry) (e : Entry) (effect : model.Effect) → entries ≡ before ++ e ∷ after → effect_in (run_from (begins_at opening) before) e ≡ Some effect
+    → KeepsTo (verdict_of verdict given) (told (run_from (begins_at opening) before).state e.actor e.request effect)

@@ -2,6 +2,7 @@
 
 ghost use Rattle.std.specs.Prelude.{◌≡◌, false, ◌+◌, ◌^◌, ◌<◌, ◌↔◌, Option, List, [], ◌∷◌, ◌++◌, length, IsTrue, OnOk, OnErr, All, IfOk, IsOkUnless};
 ghost use Rattle.tbl_model.specs.State.{State, first_state, no_tables};
+ghost use Rattle.tbl_model.specs.Vouched.{IsVouched};
 ghost use Rattle.tbl_model.specs.Whole.{IsWhole};
 ghost use Rattle.tbl_kinds.specs.Requests.{Fits};
 ghost use Rattle.tbl_kinds.specs.Records.{IsBuilt, record_limit};
@@ -10,7 +11,7 @@ ghost use Rattle.tbl_model.specs.History.{begins_at, run_from};
 ghost use Rattle.validation.specs.Kits.{owners};
 ghost use Rattle.tbl_outside.specs.declared.validator.KitEntry.{KitEntry as Function};
 ghost use Rattle.tbl_core.specs.Service.{StandsFor, Vouches, AskedBelow};
-ghost use Rattle.tbl_core.specs.Verdicts.{Judged, questions_in};
+ghost use Rattle.tbl_core.specs.Verdicts.{Judged, questions_in, KeepsToFunctions};
 ghost use Rattle.tbl_kinds.specs.declared.entry.Entry.{Entry};
 
 use crate::parts::Parts;
@@ -94,8 +95,12 @@ impl<C: Validator> Core<C> {
         // The functions were asked what the request asks, and the entry has their verdicts.
         ensures judged { OnOk result ((e : Entry) × (self.new.entries ≡ self.old.entries ++ e ∷ []) × ((opening : State) → StandsFor opening self.old
             → Judged C.verdict C.asked self.old.state.kit self.new.state.kit (questions_in (run_from (begins_at opening) self.old.entries) e) e.verdicts)) }
+        // No image went active that its table's function didn't answer for.
+        ensures vouched { OnOk result ((opening : State) → opening.tables ≡ no_tables → opening.pending ≡ [] → StandsFor opening self.old → IsVouched opening self.new.entries) }
         // Whatever functions it was given at first, the history's verdicts are still theirs.
-        ensures vouched { OnOk result ((opening : State) (given : List (Option (Function C))) → Vouches C.verdict given opening self.old → Vouches C.verdict given opening self.new) }
+        ensures verdicts { OnOk result ((opening : State) (given : List (Option (Function C))) → Vouches C.verdict given opening self.old → Vouches C.verdict given opening self.new) }
+        // And so each verdict that is told of an image.
+        ensures kept { OnOk result ((opening : State) (given : List (Option (Function C))) → Vouches C.verdict given opening self.old → KeepsToFunctions C.verdict given opening self.new.entries) }
         ensures live { OnOk result (self.new.state.ended ≡ false) }
         ensures memory { IsOkUnless result StepFault.Memory }
         ensures err { OnErr result (self.new ≡ self.old) }

@@ -1,43 +1,41 @@
 -- What each request does, by cases: it is refused, or it does what it asks. A law of all requests cites a case for each.
-use Rattle.std.proofs.Common.{◌≡◌, ◌≤◌, ℕ, ◌+◌, eqb, nat_lt, List, [], ◌∷◌, length, Bool, true, false, not, ◌&&◌, ◌||◌, cond, Option, Some, None, is_some, unwrap_or, Result, Ok, Err, refl, sym, subst, ◌⊎◌, inl, inr}
+use Rattle.std.proofs.Common.{◌≡◌, ◌≤◌, ℕ, ◌+◌, eqb, nat_lt, List, [], length, Bool, true, false, not, ◌&&◌, ◌||◌, cond, Option, Some, None, is_some, unwrap_or, Result, Ok, Err, refl, sym, subst, ◌⊎◌, inl, inr}
 use Rattle.std.proofs.Common.{ℤ}
 use Rattle.std.specs.Option.{option_map, option_map_or}
-use Rattle.std.specs.Prelude.{◌==◌, ◌-◌, slice_set}
+use Rattle.std.specs.Prelude.{◌-◌, slice_set}
 use Rattle.std.proofs.lemmas.Bool.{eqb-true, ltb-false, not-false, cond_both}
 use Rattle.tbl_kinds.specs.Drawer.{contents_of, is_full_for, with_file}
-use Rattle.tbl_kinds.specs.GroundCommands.{GroundCommand, housekeeping, noop, reset_counters, load, dump, validate, activate, dump_registry, send_registry, delete_cds, abort, code_of, command_in}
+use Rattle.tbl_kinds.specs.GroundCommands.{GroundCommand, housekeeping, noop, reset_counters, load, dump, validate, activate, dump_registry, send_registry, delete_cds, abort, command_in}
 use Rattle.tbl_kinds.specs.Free.{least_free}
-use Rattle.tbl_kinds.specs.Limits.{file_limit}
 use Rattle.tbl_kinds.specs.Names.{is_name}
 use Rattle.tbl_kinds.specs.Numbers.{piece, patched}
 use Rattle.tbl_kinds.specs.TableFiles.{TableFile, FileFlaw, no_std_header, bad_content, bad_subtype, no_table_header, incomplete, too_big, file_flaw, file_status, table_file_in}
 use Rattle.tbl_kinds.specs.Telemetry.{registry_record}
 use Rattle.tbl_model.specs.State.{State, Table, Handle, Tables}
-use Rattle.tbl_model.specs.Tables.{table_at, is_dump_only, is_quiet}
-use Rattle.tbl_model.specs.TableSteps.{handle_at, access_of, Access, find, is_that, locker, image_of, check_row, check_handle, stays, pin_last, get_address_of, release_of, read_of, base, last_image, load_image, put, fill_dump, set_notice, with_handle, new_handle}
+use Rattle.tbl_model.specs.Tables.{table_at, is_dump_only}
+use Rattle.tbl_model.specs.TableSteps.{handle_at, access_of, Access, find, is_that, image_of, check_row, check_handle, stays, pin_last, get_address_of, release_of, read_of, base, last_image, load_image, put, fill_dump, set_notice}
 use Rattle.tbl_model.specs.Registry.{registry_row}
 use Rattle.tbl_model.specs.Effects.{Effect, answered}
 use Rattle.tbl_model.specs.Given.{Given, verdict_at}
 use Rattle.tbl_model.specs.Deeds.{is_good, verdict_bits}
-use Rattle.tbl_model.specs.Subjects.{name_of, by_app, by_check, if_handle, by_table, if_its_table, if_owner, by_row, if_table, by_flaw, by_contents, if_file}
+use Rattle.tbl_model.specs.Subjects.{name_of, by_app, by_check, if_handle, by_table, if_its_table, by_row, if_table, by_flaw, by_contents, if_file}
 use Rattle.tbl_model.specs.Applications.{has_dot, full_name, start_effect, duplicate_effect, add_effect, by_name_effect, register_effect}
 use Rattle.tbl_model.specs.Addresses.{stepped, get_effect, release_effect, read_answer, read_effect}
 use Rattle.tbl_model.specs.Refusals.{by_answer, by_refusal, plan_refusal, image_refusal, closed_refusal, file_refusal, load_refusal, validation_refusal, activation_refusal, update_refusal}
-use Rattle.tbl_model.specs.AppLoads.{activate_effect, with_verdict, by_function, load_image_effect, from_file, file_image, load_file_of, app_file_effect}
+use Rattle.tbl_model.specs.AppLoads.{activate_effect, with_verdict, by_function, load_image_effect, from_file, file_image, app_file_effect}
 use Rattle.tbl_model.specs.GroundLoads.{loaded_effect, load_file_effect, load_effect}
 use Rattle.tbl_model.specs.Validations.{selected, validated_effect, pending_effect, validate_by, validate_effect, first_pending, do_validation, app_validate_effect}
 use Rattle.tbl_model.specs.Activations.{ask_effect, activate_command_effect, updated_effect, update_effect, aborted_effect, abort_effect}
 use Rattle.tbl_model.specs.Management.{manage_answer, all_done, managed_effect, manage_effect, pending_status, get_status_effect, is_asked}
-use Rattle.tbl_model.specs.Dumps.{housekeeping_effect, written_effect, dump_refusal, ask_dump_effect, dump_file, image_dump_effect, dump_by, dump_effect, registry_file, dump_registry_effect, dump_to_buffer_effect, edit_refusal, edit_effect}
+use Rattle.tbl_model.specs.Dumps.{written_effect, dump_refusal, ask_dump_effect, dump_file, image_dump_effect, dump_by, dump_effect, registry_file, dump_registry_effect, dump_to_buffer_effect, edit_refusal, edit_effect}
 use Rattle.tbl_model.specs.Sharing.{share_by, share_found, share_effect, give_up, unregister_by, unregister_effect, without_handles_of, ended_app, exit_effect, is_notice, notify_effect, info_of, info_effect, send_registry_effect}
 use Rattle.tbl_model.specs.Uplinks.{file_effect}
 use Rattle.tbl_model.specs.Commands.{effect_by, command_effect}
 use Rattle.tbl_model.specs.declared.deeds.Named.{Named}
-use Rattle.tbl_model.specs.declared.deeds.Notice.{Notice}
 use Rattle.tbl_model.specs.declared.deeds.Shown.TheVariants.{Housekeeping, Registry}
 use Rattle.tbl_kinds.specs.declared.entry.Answer.{Answer}
 use Rattle.tbl_kinds.specs.declared.status.Status.{Status}
-use Rattle.tbl_kinds.specs.declared.status.TheConstants.Status.{SUCCESS, INFO_STOPPED, WARN_DUPLICATE, ERR_BAD_APP, ERR_INVALID_HANDLE, ERR_NO_ACCESS, ERR_UNREGISTERED, ERR_INVALID_NAME, ERR_DUPLICATE_NOT_OWNED, ERR_DUPLICATE_DIFF_SIZE, ERR_REGISTRY_FULL, ERR_HANDLES_FULL, ERR_ALREADY_PINNED, ERR_NEVER_LOADED, ERR_NOT_PINNED, ERR_OUT_OF_RANGE, ERR_APP_RUNNING, ERR_BAD_NAME, ERR_FILE_TOO_LARGE, ERR_DRAWER_FULL, ERR_FILE_NOT_FOUND, ERR_NO_SUCH_TABLE, INFO_NO_VALIDATION_PENDING, INFO_NO_DUMP_PENDING, ERR_BAD_SELECT, ERR_NO_LOAD, ERR_NOTICE_ID, ERR_VALIDATION_FAILED, ERR_BAD_CODE}
+use Rattle.tbl_kinds.specs.declared.status.TheConstants.Status.{SUCCESS, WARN_DUPLICATE, ERR_BAD_APP, ERR_INVALID_HANDLE, ERR_NO_ACCESS, ERR_UNREGISTERED, ERR_INVALID_NAME, ERR_DUPLICATE_NOT_OWNED, ERR_DUPLICATE_DIFF_SIZE, ERR_REGISTRY_FULL, ERR_HANDLES_FULL, ERR_ALREADY_PINNED, ERR_NEVER_LOADED, ERR_NOT_PINNED, ERR_OUT_OF_RANGE, ERR_APP_RUNNING, ERR_BAD_NAME, ERR_FILE_TOO_LARGE, ERR_DRAWER_FULL, ERR_FILE_NOT_FOUND, ERR_NO_SUCH_TABLE, INFO_NO_VALIDATION_PENDING, INFO_NO_DUMP_PENDING, ERR_BAD_SELECT, ERR_NO_LOAD, ERR_NOTICE_ID, ERR_VALIDATION_FAILED}
 use Rattle.tbl_laws.proofs.CommandAnswers.{CommandRefuses, command_refuses}
 use Rattle.tbl_model.proofs.RefusalLaws.{is_refusal, Refuses, plan_refused, image_refused, closed_refused, file_refused, load_refused, validation_refused, activation_refused, update_refused, dump_refused, edit_refused}
 
@@ -244,35 +242,35 @@ module _ (s : State) (P : Effect → Type 0) (refusal : (e : Effect) → e.next 
 
   -- a function that there is gives its verdict first, and a bad one is a refusal with a deed
   by_verdict : (row : ℕ) (image : List ℕ) (validator : Option ℕ) (given : Given) (effect : Effect)
-      → ((number : ℕ) (verdict : ℤ) → validator ≡ Some number → is_good verdict ≡ false → P (with_verdict row image number verdict (answered s ERR_VALIDATION_FAILED (verdict_bits verdict))))
-      → ((number : ℕ) (verdict : ℤ) → validator ≡ Some number → is_good verdict ≡ true → P (with_verdict row image number verdict effect)) → (validator ≡ None → P effect) → P (by_function s row image validator given effect)
+      → ((number : ℕ) (verdict : ℤ) → validator ≡ Some number → verdict ≡ verdict_at 0 given → is_good verdict ≡ false → P (with_verdict row image number verdict (answered s ERR_VALIDATION_FAILED (verdict_bits verdict))))
+      → ((number : ℕ) (verdict : ℤ) → validator ≡ Some number → verdict ≡ verdict_at 0 given → is_good verdict ≡ true → P (with_verdict row image number verdict effect)) → (validator ≡ None → P effect) → P (by_function s row image validator given effect)
   by_verdict row image None given effect bad good none = none refl
   by_verdict row image (Some number) given effect bad good none =
       cond_both (is_good (verdict_at 0 given)) (with_verdict row image number (verdict_at 0 given) effect) (with_verdict row image number (verdict_at 0 given) (answered s ERR_VALIDATION_FAILED (verdict_bits (verdict_at 0 given)))) P
-      (good number (verdict_at 0 given) refl) (bad number (verdict_at 0 given) refl)
+      (good number (verdict_at 0 given) refl refl) (bad number (verdict_at 0 given) refl refl)
 
-  module _ (bad : (row : ℕ) (t : Table) (image : List ℕ) (number : ℕ) (verdict : ℤ) → table_at s.tables row ≡ Some t → t.validator ≡ Some number → is_good verdict ≡ false → P (with_verdict row image number verdict (answered s ERR_VALIDATION_FAILED (verdict_bits verdict)))) where
-    pub by_load_image : (app m : ℕ) (image : List ℕ) (given : Given)
+  module _ (given : Given) (bad : (row : ℕ) (t : Table) (image : List ℕ) (number : ℕ) (verdict : ℤ) → table_at s.tables row ≡ Some t → t.validator ≡ Some number → verdict ≡ verdict_at 0 given → is_good verdict ≡ false → P (with_verdict row image number verdict (answered s ERR_VALIDATION_FAILED (verdict_bits verdict)))) where
+    pub by_load_image : (app m : ℕ) (image : List ℕ)
         → ((row : ℕ) (t : Table) → table_at s.tables row ≡ Some t → image_refusal s.tables row t (length image) ≡ None → t.validator ≡ None → P (activate_effect s row t image))
-        → ((row : ℕ) (t : Table) (number : ℕ) (verdict : ℤ) → table_at s.tables row ≡ Some t → image_refusal s.tables row t (length image) ≡ None → t.validator ≡ Some number → is_good verdict ≡ true → P (with_verdict row image number verdict (activate_effect s row t image)))
+        → ((row : ℕ) (t : Table) (number : ℕ) (verdict : ℤ) → table_at s.tables row ≡ Some t → image_refusal s.tables row t (length image) ≡ None → t.validator ≡ Some number → verdict ≡ verdict_at 0 given → is_good verdict ≡ true → P (with_verdict row image number verdict (activate_effect s row t image)))
         → P (load_image_effect s app m image given)
     unfolding load_image_effect
-    by_load_image app m image given plain good = by_its_table app m true _ (λ row t there.
+    by_load_image app m image plain good = by_its_table app m true _ (λ row t there.
         by_load_ladder (image_refusal s.tables row t (length image)) _ (image_refused s.tables row t (length image)) (λ none.
-        by_verdict row image t.validator given (activate_effect s row t image) (λ number verdict is no. bad row t image number verdict there is no) (λ number verdict is yes. good row t number verdict there none is yes) (plain row t there none)))
+        by_verdict row image t.validator given (activate_effect s row t image) (λ number verdict is one no. bad row t image number verdict there is one no) (λ number verdict is one yes. good row t number verdict there none is one yes) (plain row t there none)))
 
-    pub by_load_file : (app m : ℕ) (name : List ℕ) (given : Given)
+    pub by_load_file : (app m : ℕ) (name : List ℕ)
         → ((row : ℕ) (t : Table) (file : TableFile) → table_at s.tables row ≡ Some t → closed_refusal t ≡ None → file_refusal s.tables row t file ≡ None → t.validator ≡ None → P (from_file row name (activate_effect s row t (file_image t file))))
-        → ((row : ℕ) (t : Table) (file : TableFile) (number : ℕ) (verdict : ℤ) → table_at s.tables row ≡ Some t → closed_refusal t ≡ None → file_refusal s.tables row t file ≡ None → t.validator ≡ Some number → is_good verdict ≡ true
+        → ((row : ℕ) (t : Table) (file : TableFile) (number : ℕ) (verdict : ℤ) → table_at s.tables row ≡ Some t → closed_refusal t ≡ None → file_refusal s.tables row t file ≡ None → t.validator ≡ Some number → verdict ≡ verdict_at 0 given → is_good verdict ≡ true
         → P (with_verdict row (file_image t file) number verdict (from_file row name (activate_effect s row t (file_image t file)))))
         → P (app_file_effect s app m name given)
     unfolding app_file_effect
-    by_load_file app m name given plain good = by_its_table app m true _ (λ row t there.
+    by_load_file app m name plain good = by_its_table app m true _ (λ row t there.
         by_ladder (closed_refusal t) _ (closed_refused t) (λ open_to.
         by_file_of name _ (λ file.
         by_load_ladder (file_refusal s.tables row t file) _ (file_refused s.tables row t file) (λ none.
         by_verdict row (file_image t file) t.validator given (from_file row name (activate_effect s row t (file_image t file)))
-        (λ number verdict is no. bad row t (file_image t file) number verdict there is no) (λ number verdict is yes. good row t file number verdict there open_to none is yes) (plain row t file there open_to none)))))
+        (λ number verdict is one no. bad row t (file_image t file) number verdict there is one no) (λ number verdict is one yes. good row t file number verdict there open_to none is one yes) (plain row t file there open_to none)))))
 
   -- ---- validation, activation, dumps: the owner's part
 

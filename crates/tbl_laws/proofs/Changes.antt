@@ -1,43 +1,21 @@
 -- Each change that a request makes to a table leaves what holds between requests.
-use Rattle.std.proofs.Common.{◌≡◌, ◌≢◌, ℕ, suc, zero, ◌≤◌, ◌+◌, ◌<◌, List, [], ◌∷◌, ◌++◌, length, map, Bool, true, false, not, ◌&&◌, ◌||◌, eqb, Option, Some, None, is_some, is_none, refl, sym, ap, ◌∙◌, subst, arith, inl, inr, ◌⊎◌, cond, if◌then◌else◌, length-append, replicate}
-use Rattle.std.proofs.Common.{ℤ, pos}
-use Rattle.std.specs.Prelude.{◌-◌, slice_index_or, slice_set, IfSome, option_and_then, slice_get}
-use Rattle.std.specs.List.{fold}
-use Rattle.std.specs.Option.{ForSome, option_map, option_map_or}
-use Rattle.std.proofs.lemmas.Bool.{cases_eq, eqb-true, eqb-false, eq-eqb, ne_eqb, not-false, or_cases, or_from, or_parts, cond_both}
-use Rattle.std.proofs.lemmas.Bool.Decides.{nat_tests}
-use Rattle.std.proofs.lemmas.List.{get_or-set_same, get_or-set_other}
-use Rattle.std.proofs.lemmas.List.Quantifiers.{position-Some}
-use Rattle.std.proofs.lemmas.Option.{same_Some}
-use Rattle.tbl_kinds.specs.Free.{least_free}
+use Rattle.std.proofs.Common.{◌≡◌, ℕ, suc, ◌≤◌, List, [], ◌∷◌, ◌++◌, length, Bool, true, false, not, Option, Some, None, is_some, refl, sym, ◌∙◌, arith, inl, inr, cond, length-append}
+use Rattle.std.specs.Option.{option_map_or}
+use Rattle.std.proofs.lemmas.Bool.{eqb-false, not-false}
 use Rattle.tbl_kinds.specs.Numbers.{patched}
-use Rattle.tbl_kinds.specs.TableFiles.{TableFile}
-use Rattle.tbl_model.specs.State.{State, Load, Table, Handle, Tables, Dump, quiet, asked, filled, no_tables}
+use Rattle.tbl_model.specs.State.{State, Table}
 use Rattle.tbl_model.specs.Tables.{table_at}
-use Rattle.tbl_model.specs.TableSteps.{is_checked, is_that, handle_at, access_of, Access, base, unchecked, with_image, let_go, changed, put, patch, set_load, set_file, set_time, set_checked, set_notice, ask, close_load, activate, filled_with, fill_dump, ask_dump, end_dump, last_image, load_image, with_table, with_handle, new_table, new_handle, pin_last, release_of}
-use Rattle.tbl_model.specs.Effects.{Effect, answered}
+use Rattle.tbl_model.specs.TableSteps.{base, unchecked, with_image, changed, put, patch, set_file, set_time, ask, close_load, activate, filled_with, last_image, load_image}
 use Rattle.tbl_model.specs.Given.{Given, verdict_at}
-use Rattle.tbl_model.specs.Pending.{is_pair, is_pending, without_pair, of_other_rows}
-use Rattle.tbl_model.specs.Refusals.{load_refusal, validation_refusal, activation_refusal, update_refusal}
-use Rattle.tbl_model.specs.GroundLoads.{loaded_effect}
-use Rattle.tbl_model.specs.Validations.{judged, validated_effect, pending_effect, do_validation, first_pending}
-use Rattle.tbl_model.specs.Activations.{ask_effect, updated_effect, aborted_effect}
-use Rattle.tbl_model.specs.AppLoads.{activate_effect, with_verdict, from_file, file_image}
-use Rattle.tbl_model.specs.Dumps.{Ended, end_by, then_end, dumps_ended, housekeeping_effect, ask_dump_effect}
-use Rattle.tbl_model.specs.Management.{Done, nothing_done, with_table_of, with_validation, then_validate, with_update, then_update, with_fill, then_fill, all_done, is_asked}
-use Rattle.tbl_model.specs.Dispatch.{effect_of}
-use Rattle.tbl_model.specs.declared.deeds.Notice.{Notice}
-use Rattle.tbl_model.proofs.RefusalLaws.{is_refusal, image_taken, file_taken, load_taken, validation_taken, activation_taken, update_taken, edit_taken, may_take, plan_taken}
-use Rattle.tbl_laws.specs.Fit.{CanValidate, owner_at, IsRegistered, IsFit, FitAt, AreFit}
-use Rattle.tbl_laws.proofs.Rows.{OneRow, same_rows, set_row, changed_row, put_row, time_row, then_row}
-use Rattle.tbl_laws.proofs.Pairs.{both_images, pending_more, pending_more_other, pending_less_other, pending_gone, fewer, row_gone, row_stays}
-use Rattle.tbl_laws.proofs.Fits.{Differs, fit_on, fit_same, was, Becomes, kept, unseen, mark, less, handles_changed, handles_put, handles_time}
-use Rattle.tbl_laws.proofs.Cases.{OfEffect, Commands}
+use Rattle.tbl_model.specs.Pending.{is_pair, is_pending, without_pair}
+use Rattle.tbl_model.specs.Refusals.{validation_refusal, activation_refusal, update_refusal}
+use Rattle.tbl_model.specs.Management.{Done, nothing_done, with_validation, then_validate, with_update, then_update, with_fill, then_fill, all_done, is_asked}
+use Rattle.tbl_model.proofs.RefusalLaws.{validation_taken, activation_taken, update_taken}
+use Rattle.tbl_laws.specs.Fit.{AreFit}
+use Rattle.tbl_laws.proofs.Rows.{same_rows, changed_row, put_row, time_row, then_row}
+use Rattle.tbl_laws.proofs.Pairs.{both_images, pending_more_other, pending_less_other, pending_gone, fewer}
+use Rattle.tbl_laws.proofs.Fits.{fit_on, fit_same, was, Becomes, kept, unseen, mark, handles_changed, handles_put, handles_time}
 use Rattle.tbl_kinds.specs.declared.entry.Answer.{Answer}
-use Rattle.tbl_kinds.specs.declared.request.Actor.{Actor}
-use Rattle.tbl_kinds.specs.declared.request.Actor.TheVariants.{Ground, App}
-use Rattle.tbl_kinds.specs.declared.request.Request.{Request}
-use Rattle.tbl_kinds.specs.declared.request.Request.TheVariants as ask
 
 -- ---- a table changes
 

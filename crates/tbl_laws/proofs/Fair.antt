@@ -1,34 +1,24 @@
 -- What the effect of each request does to pins: a handle that pins an image remains, or it got its address just now.
-use Rattle.std.proofs.Common.{◌≡◌, ◌≢◌, ℕ, suc, ◌+◌, ◌≤◌, eqb, nat_lt, List, [], length, Bool, true, false, not, ◌&&◌, ◌||◌, cond, Option, Some, None, is_some, is_none, refl, ap, sym, ◌∙◌, subst, inl, inr, ◌⊎◌}
-use Rattle.std.specs.Prelude.{slice_index_or, slice_set}
-use Rattle.std.specs.List.{fold, range_with_len}
-use Rattle.std.proofs.lemmas.Bool.{eqb-true, eqb-false, eq-eqb, ne_eqb, or_cases, or_from, or_parts, not-true}
-use Rattle.std.proofs.lemmas.List.{get_or-set_same, get_or-set_other}
+use Rattle.std.proofs.Common.{◌≡◌, ◌≢◌, ℕ, eqb, nat_lt, [], Bool, true, false, ◌&&◌, ◌||◌, cond, Some, refl, ap, sym, ◌∙◌, inl, inr, ◌⊎◌}
+use Rattle.std.proofs.lemmas.Bool.{eqb-false, eq-eqb, ne_eqb, or_from, or_parts, not-true}
 use Rattle.std.proofs.lemmas.Option.{same_Some}
-use Rattle.tbl_model.specs.State.{State, Table, Handle, Tables, Dump, quiet, asked}
-use Rattle.tbl_model.specs.Tables.{table_at, rows_where}
-use Rattle.tbl_model.specs.TableSteps.{handle_at, access_of, Access, with_handle, pin_last, new_table, new_handle, filled_with, last_image}
+use Rattle.tbl_model.specs.State.{State, Table, Handle, Tables}
+use Rattle.tbl_model.specs.Tables.{table_at}
+use Rattle.tbl_model.specs.TableSteps.{handle_at, access_of, Access, pin_last}
 use Rattle.tbl_model.specs.Effects.{Effect}
 use Rattle.tbl_model.specs.Addresses.{stepped}
-use Rattle.tbl_model.specs.Given.{Given}
-use Rattle.tbl_model.specs.Sharing.{give_up, give_up_if, is_handle_of, without_handles_of, ended_app}
-use Rattle.tbl_model.specs.Dispatch.{effect_of}
 use Rattle.tbl_model.specs.Counts.{is_reset}
 use Rattle.tbl_model.specs.Whole.{is_by, is_done, asks_address, is_get, asks_end, is_exit, gives_back, asks_removal, takes_away, begins_anew, ends_pin}
 use Rattle.tbl_kinds.specs.declared.entry.Entry.{Entry}
 use Rattle.tbl_kinds.specs.declared.request.Actor.{Actor}
-use Rattle.tbl_kinds.specs.declared.request.Actor.TheVariants.{Ground, App}
+use Rattle.tbl_kinds.specs.declared.request.Actor.TheVariants.{App}
 use Rattle.tbl_kinds.specs.declared.request.Request.{Request}
 use Rattle.tbl_kinds.specs.declared.request.Request.TheVariants as ask
 use Rattle.tbl_kinds.specs.declared.status.Status.{Status}
 use Rattle.tbl_kinds.specs.declared.status.TheConstants.Status.{SUCCESS, INFO_UPDATED, INFO_STOPPED}
 use Rattle.tbl_model.proofs.RefusalLaws.{is_refusal}
-use Rattle.tbl_laws.specs.Fit.{IsRegistered, AreFit}
-use Rattle.tbl_laws.proofs.Rows.{within}
-use Rattle.tbl_laws.proofs.Fits.{was}
-use Rattle.tbl_laws.proofs.GivingUp.{IsGone, fewer_handles, given_up, exited, all_left}
-use Rattle.tbl_laws.proofs.Cases.{OfEffect, Leads, access_is}
-use Rattle.tbl_laws.proofs.Pins.{at_set, kept, IsNear, GoesOn, AreLoaded, Remains, Keeps, stays_goes_on, stays_keeps, unpinned_set}
+use Rattle.tbl_laws.proofs.Cases.{Leads, access_is}
+use Rattle.tbl_laws.proofs.Pins.{at_set, kept, IsNear, GoesOn, AreLoaded, Remains, Keeps, stays_goes_on, stays_keeps}
 
 -- ---- what an entry says of a handle
 

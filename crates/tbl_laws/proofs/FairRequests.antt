@@ -1,18 +1,15 @@
 -- Each request is fair to pins.
-use Rattle.std.proofs.Common.{◌≡◌, ◌≢◌, ℕ, suc, ◌+◌, ◌≤◌, ◌<◌, eqb, nat_lt, List, [], ◌∷◌, length, Bool, true, false, not, ◌&&◌, ◌||◌, cond, Option, Some, None, is_some, is_none, refl, ap, sym, ◌∙◌, subst, inl, inr, ◌⊎◌, arith, replicate}
+use Rattle.std.proofs.Common.{◌≡◌, ◌≢◌, ℕ, eqb, nat_lt, List, [], ◌∷◌, length, Bool, true, false, not, ◌&&◌, ◌||◌, cond, Option, Some, None, is_some, refl, ap, sym, ◌∙◌, arith}
 use Rattle.std.proofs.Common.{ℤ, pos}
-use Rattle.std.specs.Prelude.{slice_index_or, slice_set, IsSome}
 use Rattle.std.specs.List.{fold, range_with_len}
 use Rattle.std.specs.Option.{option_map_or}
-use Rattle.std.proofs.lemmas.Bool.{eqb-true, eqb-false, eq-eqb, ne_eqb, not-false, or_from, cond_both}
-use Rattle.std.proofs.lemmas.Option.{same_Some}
+use Rattle.std.proofs.lemmas.Bool.{eq-eqb, ne_eqb, cond_both}
 use Rattle.tbl_kinds.specs.Buffers.{Buffer}
 use Rattle.tbl_kinds.specs.Drawer.{is_full_for}
-use Rattle.tbl_kinds.specs.Numbers.{patched}
 use Rattle.tbl_kinds.specs.TableFiles.{TableFile}
 use Rattle.tbl_model.specs.State.{State, Load, Table, Handle, Tables, Dump, quiet, asked, filled}
-use Rattle.tbl_model.specs.Tables.{table_at, is_quiet, rows_where}
-use Rattle.tbl_model.specs.TableSteps.{is_checked, locker, handle_at, Access, base, last_image, load_image, let_go, put, set_time, set_file, set_checked, ask, activate, close_load, filled_with, fill_dump, end_dump, with_table, with_handle, new_table, new_handle}
+use Rattle.tbl_model.specs.Tables.{table_at, is_quiet}
+use Rattle.tbl_model.specs.TableSteps.{is_checked, locker, handle_at, last_image, put, set_time, set_file, filled_with, end_dump, new_table}
 use Rattle.tbl_model.specs.Effects.{Effect, answered}
 use Rattle.tbl_model.specs.Given.{Given, verdict_at}
 use Rattle.tbl_model.specs.Deeds.{is_good}
@@ -21,29 +18,28 @@ use Rattle.tbl_model.specs.Refusals.{image_refusal, file_refusal, update_refusal
 use Rattle.tbl_model.specs.Validations.{marked}
 use Rattle.tbl_model.specs.AppLoads.{file_image}
 use Rattle.tbl_model.specs.Management.{Done, nothing_done, with_validation, then_validate, with_update, then_update, with_fill, then_fill, all_done, is_asked, manage_answer, pending_status}
-use Rattle.tbl_model.specs.Dumps.{Ended, end_by, then_end, is_filled, dumps_ended, housekeeping_effect}
-use Rattle.tbl_model.specs.Sharing.{give_up, give_up_if, is_handle_of, without_handles_of, ended_app}
+use Rattle.tbl_model.specs.Dumps.{Ended, end_by, then_end, dumps_ended, housekeeping_effect}
+use Rattle.tbl_model.specs.Sharing.{give_up, give_up_if, without_handles_of, ended_app}
 use Rattle.tbl_model.specs.Dispatch.{effect_of}
 use Rattle.tbl_model.specs.Counts.{is_reset}
-use Rattle.tbl_model.specs.Whole.{is_by, is_done, asks_address, asks_end, asks_removal, is_exit}
+use Rattle.tbl_model.specs.Whole.{asks_address, asks_end, asks_removal, is_exit}
 use Rattle.tbl_kinds.specs.declared.entry.Answer.{Answer}
 use Rattle.tbl_kinds.specs.declared.request.Actor.{Actor}
 use Rattle.tbl_kinds.specs.declared.request.Actor.TheVariants.{Ground, App}
 use Rattle.tbl_kinds.specs.declared.request.Request.{Request}
 use Rattle.tbl_kinds.specs.declared.request.Request.TheVariants as ask
-use Rattle.tbl_kinds.specs.declared.status.Status.{Status}
 use Rattle.tbl_kinds.specs.declared.status.TheConstants.Status.{SUCCESS, INFO_UPDATED, INFO_TABLE_LOCKED, INFO_STOPPED, INFO_UPDATE_PENDING, INFO_VALIDATION_PENDING, INFO_DUMP_PENDING, ERR_VALIDATION_FAILED}
-use Rattle.tbl_model.proofs.RefusalLaws.{is_refusal, image_taken, file_taken, load_taken, may_take, update_taken, edit_taken}
-use Rattle.tbl_laws.specs.Fit.{IsRegistered, IsFit, AreFit}
+use Rattle.tbl_model.proofs.RefusalLaws.{is_refusal, image_taken, file_taken, load_taken, update_taken}
+use Rattle.tbl_laws.specs.Fit.{AreFit}
 use Rattle.tbl_laws.proofs.Rows.{within}
 use Rattle.tbl_laws.proofs.Fits.{was}
-use Rattle.tbl_laws.proofs.Changes.{with_found, either, validated, updated}
-use Rattle.tbl_laws.proofs.GivingUp.{IsGone, fewer_handles, given_up, exited, left, no_handle, owned_by_others}
+use Rattle.tbl_laws.proofs.Changes.{with_found, either, validated}
+use Rattle.tbl_laws.proofs.GivingUp.{fewer_handles, given_up, left, no_handle, owned_by_others}
 use Rattle.tbl_laws.proofs.Ordinary.{free_place}
-use Rattle.tbl_laws.proofs.Pins.{kept, IsNear, GoesOn, AreLoaded, IsLoaded, Remains, Keeps, stays_keeps, stays_goes_on, unpinned_set, release_keeps, add_keeps, put_keeps, unseen_keeps, then_keeps, file_keeps, close_keeps, mark_keeps, patched_sized, base_sized}
-use Rattle.tbl_laws.proofs.PinsKept.{update_keeps, put_alone_keeps, without_keeps, give_up_keeps, leave_keeps}
-use Rattle.tbl_laws.proofs.Fair.{Spares, IsPlain, Fair, fair_keeps, fair_plain, fair_refused, pin_fair, back_fair, granted, other_number}
-use Rattle.tbl_laws.proofs.Cases.{OfEffect, Leads, Commands, by_command, by_file, by_start, by_register, by_share, by_unregister, by_exit, by_notify, by_info, by_load_image, by_load_file, by_app_validate, by_update, by_manage, by_get_status, by_dump_to_buffer, by_edit, by_get, by_read, by_release}
+use Rattle.tbl_laws.proofs.Pins.{AreLoaded, Keeps, stays_keeps, unpinned_set, release_keeps, add_keeps, put_keeps, unseen_keeps, then_keeps, file_keeps, close_keeps, mark_keeps, patched_sized}
+use Rattle.tbl_laws.proofs.PinsKept.{update_keeps, give_up_keeps, leave_keeps}
+use Rattle.tbl_laws.proofs.Fair.{IsPlain, Fair, fair_keeps, fair_plain, fair_refused, pin_fair, back_fair, granted}
+use Rattle.tbl_laws.proofs.Cases.{OfEffect, Commands, by_command, by_file, by_start, by_register, by_load_image, by_load_file, by_app_validate, by_update, by_manage, by_get_status, by_get, by_read, by_release}
 
 -- a load that is about to go active is open
 pub open_checked : (t : Table) → is_checked t ≡ true → is_some t.load ≡ true
@@ -235,13 +231,13 @@ module _ (s : State) (n : ℕ) (fit : AreFit n s) where
   request_fair loaded (App app) (ask.LoadImage handle image) given =
       let request : Request = ask.LoadImage handle image in
       let plain = plain_of request (λ k. refl) (λ k. refl) (λ k. refl) refl refl in
-      by_load_image s (Fair s (App app) request) (refuses app request plain) (λ row t bytes number verdict there is bad. quiet_fair app request plain _ refl refl) app handle image.list given
-      (λ row t there none no_function. keeps app request plain _ (loaded_image row t image.list there none) refl) (λ row t number verdict there none is good. keeps app request plain _ (loaded_image row t image.list there none) refl)
+      by_load_image s (Fair s (App app) request) (refuses app request plain) given (λ row t bytes number verdict there is one bad. quiet_fair app request plain _ refl refl) app handle image.list
+      (λ row t there none no_function. keeps app request plain _ (loaded_image row t image.list there none) refl) (λ row t number verdict there none is one good. keeps app request plain _ (loaded_image row t image.list there none) refl)
   request_fair loaded (App app) (ask.LoadFile handle name) given =
       let request : Request = ask.LoadFile handle name in
       let plain = plain_of request (λ k. refl) (λ k. refl) (λ k. refl) refl refl in
-      by_load_file s (Fair s (App app) request) (refuses app request plain) (λ row t bytes number verdict there is bad. quiet_fair app request plain _ refl refl) app handle name given
-      (λ row t file there open_to none no_function. keeps app request plain _ (loaded_from name row t file there loaded none) refl) (λ row t file number verdict there open_to none is good. keeps app request plain _ (loaded_from name row t file there loaded none) refl)
+      by_load_file s (Fair s (App app) request) (refuses app request plain) given (λ row t bytes number verdict there is one bad. quiet_fair app request plain _ refl refl) app handle name
+      (λ row t file there open_to none no_function. keeps app request plain _ (loaded_from name row t file there loaded none) refl) (λ row t file number verdict there open_to none is one good. keeps app request plain _ (loaded_from name row t file there loaded none) refl)
   request_fair loaded (App app) (ask.Update handle) given =
       let request : Request = ask.Update handle in
       let plain = plain_of request (λ k. refl) (λ k. refl) (λ k. refl) refl refl in

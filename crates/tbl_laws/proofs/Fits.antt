@@ -1,20 +1,18 @@
 -- What holds of the state between two requests, where little of it changes.
-use Rattle.std.proofs.Common.{◌≡◌, ◌≢◌, ℕ, suc, zero, ◌≤◌, ◌+◌, ◌<◌, List, [], ◌∷◌, ◌++◌, length, map, Bool, true, false, not, ◌&&◌, ◌||◌, eqb, Option, Some, None, is_some, is_none, refl, sym, ap, ◌∙◌, subst, arith, inl, inr, ◌⊎◌, cond, if◌then◌else◌, length-append}
+use Rattle.std.proofs.Common.{◌≡◌, ◌≢◌, ℕ, ◌≤◌, List, length, Bool, true, false, not, Option, Some, None, is_some, refl, sym, ◌∙◌, subst, arith, inl, inr}
 use Rattle.std.proofs.Common.{ℤ}
-use Rattle.std.specs.Prelude.{slice_index_or, slice_set, IfSome}
-use Rattle.std.specs.Option.{ForSome, option_map}
-use Rattle.std.proofs.lemmas.Bool.{cases_eq, eqb-true, eq-eqb, ne_eqb, not-false, or_cases, or_from, or_parts}
-use Rattle.std.proofs.lemmas.List.{get_or-set_same, get_or-set_other}
-use Rattle.std.proofs.lemmas.Option.{same_Some}
+use Rattle.std.specs.Prelude.{IfSome}
+use Rattle.std.specs.Option.{option_map}
+use Rattle.std.proofs.lemmas.Bool.{cases_eq}
 use Rattle.tbl_model.specs.State.{State, Load, Table, Handle, Tables}
 use Rattle.tbl_model.specs.Tables.{table_at}
 use Rattle.tbl_model.specs.TableSteps.{is_checked, set_checked, changed, changed_in, put, put_in, set_time, set_time_in}
 use Rattle.tbl_model.specs.Deeds.{is_good}
-use Rattle.tbl_model.specs.Pending.{is_pair, is_pending, without_pair, of_other_rows}
-use Rattle.tbl_model.specs.Validations.{marked, judged}
-use Rattle.tbl_laws.specs.Fit.{CanValidate, owner_at, IsRegistered, HasCode, IsFit, FitAt, AreFit}
-use Rattle.tbl_laws.proofs.Rows.{OneRow, same_rows, set_row, changed_row, put_row, time_row, then_row}
-use Rattle.tbl_laws.proofs.Pairs.{both_images, pending_more, pending_more_other, pending_less_other, pending_gone, fewer, row_gone, row_stays}
+use Rattle.tbl_model.specs.Pending.{is_pair, is_pending, without_pair}
+use Rattle.tbl_model.specs.Validations.{judged}
+use Rattle.tbl_laws.specs.Fit.{owner_at, IsRegistered, HasCode, IsFit, FitAt, AreFit}
+use Rattle.tbl_laws.proofs.Rows.{OneRow, same_rows, changed_row}
+use Rattle.tbl_laws.proofs.Pairs.{both_images, pending_less_other, pending_gone, fewer}
 
 -- ---- states that differ little
 

@@ -1,22 +1,22 @@
 -- Handles that come and go, and tables that go with them.
-use Rattle.std.proofs.Common.{◌≡◌, ◌≢◌, ℕ, suc, zero, ◌≤◌, ◌<◌, ◌+◌, List, [], ◌∷◌, length, map, Bool, true, false, not, eqb, Option, Some, None, is_some, refl, sym, ap, ◌∙◌, subst, arith, inl, inr, ◌⊎◌, cond, if◌then◌else◌}
+use Rattle.std.proofs.Common.{◌≡◌, ◌≢◌, ℕ, suc, zero, ◌<◌, List, [], ◌∷◌, length, map, Bool, true, false, not, eqb, Option, Some, None, refl, sym, ap, ◌∙◌, arith, inl, inr, cond, if◌then◌else◌}
 use Rattle.std.specs.Prelude.{slice_index_or, slice_set, IfSome, option_and_then}
 use Rattle.std.specs.List.{fold, range_with_len}
 use Rattle.std.specs.Option.{option_map}
-use Rattle.std.proofs.lemmas.Bool.{cases_eq, cases_lt, eqb-true, eq-eqb, ne_eqb}
-use Rattle.std.proofs.lemmas.List.{get_or_past, get_or-set_same, get_or-set_other, length-set, length-map}
+use Rattle.std.proofs.lemmas.Bool.{cases_eq, eqb-true, eq-eqb, ne_eqb}
+use Rattle.std.proofs.lemmas.List.{get_or-set_same, get_or-set_other, length-set, length-map}
 use Rattle.std.proofs.lemmas.List.FromFn.{get_or-range_with_len, length-range_with_len}
 use Rattle.std.proofs.Math.ListN.{get_or-map}
 use Rattle.std.proofs.lemmas.Option.{same_Some}
 use Rattle.tbl_model.specs.State.{State, Table, Handle, Tables}
 use Rattle.tbl_model.specs.Tables.{table_at}
-use Rattle.tbl_model.specs.TableSteps.{is_that, handle_at, Access, access_by, access_of, let_go, changed, without_handle, give_back, give_back_by, orphaned, remove, registered_by}
-use Rattle.tbl_model.specs.Pending.{is_pending, of_other_rows}
+use Rattle.tbl_model.specs.TableSteps.{is_that, handle_at, Access, access_of, let_go, changed, without_handle, give_back_by, orphaned, remove, registered_by}
+use Rattle.tbl_model.specs.Pending.{of_other_rows}
 use Rattle.tbl_model.specs.Sharing.{give_up, give_up_by, is_handle_of, give_up_if, without_handles_of, unless_of, ended_app}
-use Rattle.tbl_laws.specs.Fit.{IsRegistered, IsFit, FitAt, AreFit}
-use Rattle.tbl_laws.proofs.Rows.{within, OneRow}
+use Rattle.tbl_laws.specs.Fit.{IsRegistered, FitAt, AreFit}
+use Rattle.tbl_laws.proofs.Rows.{within}
 use Rattle.tbl_laws.proofs.Pairs.{fewer, row_gone, row_stays}
-use Rattle.tbl_laws.proofs.Fits.{Differs, fit_on, fit_same, handles_changed}
+use Rattle.tbl_laws.proofs.Fits.{fit_on, fit_same, handles_changed}
 use Rattle.tbl_laws.proofs.Changes.{told}
 
 -- ---- registrations that stay

@@ -1,19 +1,16 @@
 -- What each request's effect says of marks and of images that go active: each has a verdict 0 in the effect, or the mark was there.
-use Rattle.std.proofs.Common.{◌≡◌, ◌≢◌, ℕ, suc, zero, ◌<◌, ◌≤◌, ◌+◌, ◌-◌, eqb, List, [], ◌∷◌, ◌++◌, length, map, Bool, true, false, not, cond, Option, Some, None, is_some, refl, ap, sym, ◌∙◌, subst, inl, inr, ◌⊎◌, arith, length-append}
-use Rattle.std.proofs.Common.{ℤ, pos}
-use Rattle.std.specs.Prelude.{slice_get, slice_index_or, slice_set}
-use Rattle.std.specs.List.{fold, range_with_len}
-use Rattle.std.specs.Option.{option_map, option_map_or}
-use Rattle.std.proofs.lemmas.Bool.{cases_eq, cases_lt, eqb-true, eq-eqb}
+use Rattle.std.proofs.Common.{◌≡◌, ◌≢◌, ℕ, suc, zero, ◌<◌, ◌≤◌, List, [], ◌∷◌, ◌++◌, length, Bool, true, false, Option, Some, None, is_some, refl, ap, sym, ◌∙◌, inl, inr, ◌⊎◌, arith}
+use Rattle.std.proofs.Common.{ℤ}
+use Rattle.std.specs.Prelude.{slice_get, slice_index_or}
+use Rattle.std.proofs.lemmas.Bool.{cases_eq}
 use Rattle.std.proofs.lemmas.Option.{same_Some}
-use Rattle.tbl_model.specs.State.{State, Load, Table, Handle, Tables}
+use Rattle.tbl_model.specs.State.{State, Load, Table, Tables}
 use Rattle.tbl_model.specs.Tables.{table_at}
-use Rattle.tbl_model.specs.TableSteps.{is_checked, load_image, changed, with_table}
 use Rattle.tbl_model.specs.Effects.{Effect}
 use Rattle.tbl_model.specs.Deeds.{is_good}
 use Rattle.tbl_model.specs.Vouched.{verdict_for}
 use Rattle.tbl_model.specs.declared.deeds.Deed.{Deed}
-use Rattle.tbl_model.specs.declared.deeds.Deed.TheVariants.{Finished, Judged, Activated, CopyFailed, Dumped, NotDumped}
+use Rattle.tbl_model.specs.declared.deeds.Deed.TheVariants.{Activated}
 use Rattle.tbl_laws.proofs.Rows.{OneRow}
 
 -- ---- deeds and their images

@@ -1,34 +1,31 @@
 -- Each request is honest about marks and about images that go active.
-use Rattle.std.proofs.Common.{◌≡◌, ◌≢◌, ℕ, suc, zero, ◌<◌, ◌≤◌, ◌+◌, eqb, nat_lt, List, [], ◌∷◌, ◌++◌, length, map, Bool, true, false, not, cond, Option, Some, None, is_some, refl, ap, sym, ◌∙◌, subst, inl, inr, ◌⊎◌, arith, length-append, if◌then◌else◌}
+use Rattle.std.proofs.Common.{◌≡◌, ℕ, suc, zero, ◌+◌, List, [], ◌∷◌, ◌++◌, length, Bool, true, false, not, cond, Option, Some, None, is_some, refl, ap, sym, ◌∙◌, subst, inl, inr, ◌⊎◌, arith, length-append}
 use Rattle.std.proofs.Common.{ℤ, pos}
-use Rattle.std.specs.Prelude.{slice_get, slice_index_or, slice_set, option_and_then}
+use Rattle.std.specs.Prelude.{slice_index_or, slice_set, option_and_then}
 use Rattle.std.specs.List.{fold, range_with_len}
 use Rattle.std.specs.Option.{option_map, option_map_or}
-use Rattle.std.proofs.lemmas.Bool.{cases_eq, eqb-true, eq-eqb, not-false, cond_both}
+use Rattle.std.proofs.lemmas.Bool.{cases_eq, eq-eqb, cond_both}
 use Rattle.std.proofs.lemmas.List.{get_or-set_same, get_or-set_other}
 use Rattle.std.proofs.lemmas.Option.{same_Some}
-use Rattle.tbl_kinds.specs.Buffers.{Buffer}
 use Rattle.tbl_kinds.specs.Drawer.{is_full_for}
 use Rattle.tbl_kinds.specs.Numbers.{patched}
-use Rattle.tbl_kinds.specs.TableFiles.{TableFile}
 use Rattle.tbl_model.specs.State.{State, Load, Table, Handle, Tables, Dump, quiet, asked, filled}
-use Rattle.tbl_model.specs.Tables.{table_at, rows_where}
-use Rattle.tbl_model.specs.TableSteps.{is_checked, handle_at, Access, base, unchecked, last_image, load_image, let_go, with_image, put, put_in, set_time, set_time_in, set_file, set_checked, patch, activate, close_load, changed, changed_in, filled_with, fill_dump, end_dump, without_handle, give_back_by, remove, registered_by, with_table, with_handle, new_table, new_handle}
+use Rattle.tbl_model.specs.Tables.{table_at}
+use Rattle.tbl_model.specs.TableSteps.{handle_at, base, unchecked, last_image, load_image, let_go, with_image, put, put_in, set_time, set_time_in, set_file, set_checked, patch, activate, changed, changed_in, filled_with, end_dump, without_handle, give_back_by, remove, registered_by, with_table, with_handle, new_table, new_handle}
 use Rattle.tbl_model.specs.Effects.{Effect, answered}
 use Rattle.tbl_model.specs.Deeds.{is_good, verdict_bits, activated, finished}
 use Rattle.tbl_model.specs.Given.{Given, verdict_at}
 use Rattle.tbl_model.specs.Pending.{is_pending}
-use Rattle.tbl_model.specs.Refusals.{image_refusal, file_refusal, update_refusal}
-use Rattle.tbl_model.specs.Validations.{judged_image, marked, judged, validated_effect, do_validation}
-use Rattle.tbl_model.specs.AppLoads.{activate_effect, with_verdict, from_file, file_image}
+use Rattle.tbl_model.specs.Refusals.{update_refusal}
+use Rattle.tbl_model.specs.Validations.{judged_image, marked, validated_effect}
+use Rattle.tbl_model.specs.AppLoads.{activate_effect, with_verdict, file_image}
 use Rattle.tbl_model.specs.Activations.{updated_effect}
 use Rattle.tbl_model.specs.Management.{Done, nothing_done, with_validation, then_validate, with_update, then_update, with_fill, then_fill, all_done, is_asked}
-use Rattle.tbl_model.specs.Dumps.{Ended, end_by, then_end, is_filled, dumps_ended, housekeeping_effect}
-use Rattle.tbl_model.specs.Sharing.{give_up, give_up_by, give_up_if, is_handle_of, without_handles_of, ended_app}
-use Rattle.tbl_model.specs.Vouched.{verdict_for}
+use Rattle.tbl_model.specs.Dumps.{Ended, end_by, then_end, dumps_ended, housekeeping_effect}
+use Rattle.tbl_model.specs.Sharing.{give_up, give_up_by, give_up_if, is_handle_of, without_handles_of}
 use Rattle.tbl_model.specs.Dispatch.{effect_of}
 use Rattle.tbl_model.specs.declared.deeds.Deed.{Deed}
-use Rattle.tbl_model.specs.declared.deeds.Deed.TheVariants.{Finished, Judged, Activated, Dumped, NotDumped}
+use Rattle.tbl_model.specs.declared.deeds.Deed.TheVariants.{Judged, Activated, Dumped, NotDumped}
 use Rattle.tbl_model.proofs.RefusalLaws.{is_refusal, update_taken}
 use Rattle.tbl_kinds.specs.declared.entry.Answer.{Answer}
 use Rattle.tbl_kinds.specs.declared.status.TheConstants.Status.{ERR_VALIDATION_FAILED}
@@ -36,13 +33,13 @@ use Rattle.tbl_kinds.specs.declared.request.Actor.{Actor}
 use Rattle.tbl_kinds.specs.declared.request.Actor.TheVariants.{Ground, App}
 use Rattle.tbl_kinds.specs.declared.request.Request.{Request}
 use Rattle.tbl_kinds.specs.declared.request.Request.TheVariants as ask
-use Rattle.tbl_laws.specs.Fit.{IsFit, AreFit}
-use Rattle.tbl_laws.proofs.Rows.{within, OneRow, set_row, changed_row, put_row, time_row}
+use Rattle.tbl_laws.specs.Fit.{AreFit}
+use Rattle.tbl_laws.proofs.Rows.{set_row, changed_row}
 use Rattle.tbl_laws.proofs.Fits.{was}
 use Rattle.tbl_laws.proofs.Changes.{with_found, either, validated}
-use Rattle.tbl_laws.proofs.Ordinary.{free_place, pending_first}
-use Rattle.tbl_laws.proofs.Honest.{TellsIn, PassesIn, is_activated, NoneActive, none_active_nil, none_active_one, none_active_more, slice_get_more, passes_more, last_tells, Inherits, inherits_same, then_inherits, inherits_row, inherits_none, IsHonest, honest_plain}
-use Rattle.tbl_laws.proofs.Cases.{OfEffect, Leads, Commands, by_command, by_file, by_start, by_register, by_share, by_unregister, by_exit, by_notify, by_info, by_load_image, by_load_file, by_app_validate, by_update, by_manage, by_get_status, by_dump_to_buffer, by_edit, by_get, by_read, by_release}
+use Rattle.tbl_laws.proofs.Ordinary.{free_place}
+use Rattle.tbl_laws.proofs.Honest.{TellsIn, PassesIn, NoneActive, none_active_nil, none_active_one, none_active_more, slice_get_more, passes_more, last_tells, Inherits, inherits_same, then_inherits, inherits_row, inherits_none, IsHonest, honest_plain}
+use Rattle.tbl_laws.proofs.Cases.{OfEffect, Commands, by_command, by_file, by_start, by_register, by_load_image, by_load_file, by_app_validate, by_update, by_manage, by_get_status, by_get, by_read, by_release}
 
 -- ---- changes that make no mark
 
@@ -419,11 +416,11 @@ module _ (s : State) (n : ℕ) (fit : AreFit n s) where
   honest (App app) (ask.Register short size flags validator) given = by_register s (IsHonest s) refused app short size flags validator (λ name row handle may free_row free_handle.
       let u : Table = new_table name app size flags validator handle in
       plain _ refl (inherits_none s.tables (with_handle handle (new_handle app row) (with_table row u s.tables)) row (Some u) (record { here = get_or-set_same s.tables.rows row (Some u) None (free_place s.tables.rows row free_row).0; others = λ k other. get_or-set_other s.tables.rows row k (Some u) None other }) (λ v is. ap (λ (x : Table). x.load) (sym (same_Some u v is)))))
-  honest (App app) (ask.LoadImage handle image) given = by_load_image s (IsHonest s) refused (λ row t bytes number verdict there is bad. judged_badly row bytes number verdict (answered s ERR_VALIDATION_FAILED (verdict_bits verdict)) refl refl) app handle image.list given
-      (λ row t there none no_function. loaded_image row t image.list there no_function) (λ row t number verdict there none is good. judged_active s row t image.list verdict _ good refl refl (inherits_imaged s.tables row image.list s.seconds s.sub))
-  honest (App app) (ask.LoadFile handle name) given = by_load_file s (IsHonest s) refused (λ row t bytes number verdict there is bad. judged_badly row bytes number verdict (answered s ERR_VALIDATION_FAILED (verdict_bits verdict)) refl refl) app handle name given
+  honest (App app) (ask.LoadImage handle image) given = by_load_image s (IsHonest s) refused given (λ row t bytes number verdict there is one bad. judged_badly row bytes number verdict (answered s ERR_VALIDATION_FAILED (verdict_bits verdict)) refl refl) app handle image.list
+      (λ row t there none no_function. loaded_image row t image.list there no_function) (λ row t number verdict there none is one good. judged_active s row t image.list verdict _ good refl refl (inherits_imaged s.tables row image.list s.seconds s.sub))
+  honest (App app) (ask.LoadFile handle name) given = by_load_file s (IsHonest s) refused given (λ row t bytes number verdict there is one bad. judged_badly row bytes number verdict (answered s ERR_VALIDATION_FAILED (verdict_bits verdict)) refl refl) app handle name
       (λ row t file there open_to none no_function. plain_active s row t (file_image t file) _ there no_function refl refl (inherits_from row (file_image t file) name))
-      (λ row t file number verdict there open_to none is good. judged_active s row t (file_image t file) verdict _ good refl refl (inherits_from row (file_image t file) name))
+      (λ row t file number verdict there open_to none is one good. judged_active s row t (file_image t file) verdict _ good refl refl (inherits_from row (file_image t file) name))
   honest (App app) (ask.Update handle) given = by_update s (IsHonest s) refused app handle (λ row t there none. loaded_active s n fit row t there (update_taken s.tables row t none).0)
   honest (App app) (ask.Validate handle) given = by_app_validate s (IsHonest s) refused app handle given (λ row t active there first. validated_mark s row t active (verdict_at 0 given) _ there refl refl refl)
   honest (App app) (ask.Manage handle) given = by_manage s (IsHonest s) refused app handle given (λ row t there. let end = managed_end n row given s fit in record { active = end.active; marks = λ k u l at load checked function. end.marks k u l at load checked })

@@ -13,4 +13,5 @@ pub mod FairRequests
 pub mod WholeLaws
 pub mod Honest
 pub mod HonestRequests
+pub mod Kept
 pub mod VouchedLaws

@@ -1,6 +1,6 @@
 -- What each request leaves: the service goes on, and what holds of its tables and of pending validations still does.
-use Rattle.std.proofs.Common.{◌≡◌, ℕ, suc, ◌≤◌, ◌<◌, ◌+◌, List, [], ◌∷◌, length, Bool, true, false, eqb, Option, Some, None, is_some, is_none, refl, sym, ap, ◌∙◌, subst, arith, cond, if◌then◌else◌, replicate}
-use Rattle.std.specs.Prelude.{◌-◌, slice_index_or, slice_set, slice_get, option_and_then, IfSome}
+use Rattle.std.proofs.Common.{◌≡◌, ℕ, suc, ◌<◌, List, [], ◌∷◌, length, Bool, true, false, Option, Some, None, is_none, refl, sym, ap, ◌∙◌, subst, arith, cond, replicate}
+use Rattle.std.specs.Prelude.{slice_index_or, slice_set, slice_get, option_and_then, IfSome}
 use Rattle.std.specs.List.{fold}
 use Rattle.std.specs.Option.{option_map_or}
 use Rattle.std.proofs.Common.{pos}
@@ -12,22 +12,21 @@ use Rattle.std.proofs.lemmas.Option.{same_Some, get_or_from_slice_get}
 use Rattle.tbl_kinds.specs.Free.{least_free}
 use Rattle.tbl_model.specs.State.{State, Table, Handle, Tables, Dump, quiet, asked, filled, no_tables}
 use Rattle.tbl_model.specs.Tables.{table_at, rows_where}
-use Rattle.tbl_model.specs.TableSteps.{is_that, end_dump, handle_at, Access, let_go, with_table, with_handle, new_table, new_handle, filled_with, last_image}
+use Rattle.tbl_model.specs.TableSteps.{is_that, end_dump, handle_at, Access, let_go, with_table, with_handle, new_table, new_handle}
 use Rattle.tbl_model.specs.Effects.{Effect}
 use Rattle.tbl_model.specs.Given.{Given, verdict_at}
 use Rattle.tbl_model.specs.Pending.{is_pending}
-use Rattle.tbl_model.specs.Refusals.{may_use, plan_refusal}
-use Rattle.tbl_model.specs.Validations.{first_pending, do_validation}
+use Rattle.tbl_model.specs.Refusals.{may_use}
+use Rattle.tbl_model.specs.Validations.{first_pending}
 use Rattle.tbl_model.specs.Dumps.{Ended, end_by, then_end, is_filled, dumps_ended, housekeeping_effect}
 use Rattle.tbl_model.specs.Dispatch.{effect_of}
-use Rattle.tbl_model.specs.declared.deeds.Notice.{Notice}
 use Rattle.tbl_model.proofs.RefusalLaws.{is_refusal, load_taken, validation_taken, update_taken, plan_taken}
-use Rattle.tbl_laws.specs.Fit.{IsRegistered, IsFit, FitAt, AreFit}
+use Rattle.tbl_laws.specs.Fit.{FitAt, AreFit}
 use Rattle.tbl_laws.proofs.Rows.{nothing_at, set_row}
-use Rattle.tbl_laws.proofs.Fits.{Differs, fit_on, fit_same, was, Becomes, unseen, mark}
-use Rattle.tbl_laws.proofs.Changes.{grown, told, imaged, imaged_from, loads, pends, asks, aborts, updates, put_alone, managed, goes_on}
-use Rattle.tbl_laws.proofs.GivingUp.{kept_with, given_up, fewer_handles, exited, still_live}
-use Rattle.tbl_laws.proofs.Cases.{OfEffect, Leads, Commands, by_command, by_file, by_start, by_register, by_share, by_unregister, by_exit, by_notify, by_info, by_load_image, by_load_file, by_app_validate, by_update, by_manage, by_get_status, by_dump_to_buffer, by_edit, by_get, by_read, by_release}
+use Rattle.tbl_laws.proofs.Fits.{fit_on, fit_same, was, unseen, mark}
+use Rattle.tbl_laws.proofs.Changes.{grown, told, imaged, imaged_from, loads, pends, asks, aborts, updates, managed, goes_on}
+use Rattle.tbl_laws.proofs.GivingUp.{kept_with}
+use Rattle.tbl_laws.proofs.Cases.{OfEffect, Leads, Commands, by_command, by_file, by_start, by_register, by_load_image, by_load_file, by_app_validate, by_update, by_manage, by_get_status, by_get, by_read, by_release}
 use Rattle.tbl_kinds.specs.declared.request.Actor.{Actor}
 use Rattle.tbl_kinds.specs.declared.request.Actor.TheVariants.{Ground, App}
 use Rattle.tbl_kinds.specs.declared.request.Request.{Request}
@@ -185,10 +184,10 @@ module _ (s : State) (n : ℕ) (live : s.ended ≡ false) (fit : AreFit n s) whe
     fit = new_row full row handle app size flags validator free_row free_handle (plan_taken s.kit app name size flags validator plan).may;
     live = live;
   })
-  ordinary (App app) (ask.LoadImage handle image) given = by_load_image s (IsOrdinary n) refused (λ row t bytes number verdict there is bad. record { fit = grown n s fit; live = live }) app handle image.list given
-      (λ row t there none plain. record { fit = imaged n s fit row t there image.list s.seconds s.sub; live = live }) (λ row t number verdict there none is good. record { fit = imaged n s fit row t there image.list s.seconds s.sub; live = live })
-  ordinary (App app) (ask.LoadFile handle name) given = by_load_file s (IsOrdinary n) refused (λ row t bytes number verdict there is bad. record { fit = grown n s fit; live = live }) app handle name given
-      (λ row t file there open_to none plain. record { fit = imaged_from n s fit row t there _ s.seconds s.sub name; live = live }) (λ row t file number verdict there open_to none is good. record { fit = imaged_from n s fit row t there _ s.seconds s.sub name; live = live })
+  ordinary (App app) (ask.LoadImage handle image) given = by_load_image s (IsOrdinary n) refused given (λ row t bytes number verdict there is one bad. record { fit = grown n s fit; live = live }) app handle image.list
+      (λ row t there none plain. record { fit = imaged n s fit row t there image.list s.seconds s.sub; live = live }) (λ row t number verdict there none is one good. record { fit = imaged n s fit row t there image.list s.seconds s.sub; live = live })
+  ordinary (App app) (ask.LoadFile handle name) given = by_load_file s (IsOrdinary n) refused given (λ row t bytes number verdict there is one bad. record { fit = grown n s fit; live = live }) app handle name
+      (λ row t file there open_to none plain. record { fit = imaged_from n s fit row t there _ s.seconds s.sub name; live = live }) (λ row t file number verdict there open_to none is one good. record { fit = imaged_from n s fit row t there _ s.seconds s.sub name; live = live })
   ordinary (App app) (ask.Update handle) given = by_update s (IsOrdinary n) refused app handle (λ row t there none. record { fit = updates n s fit row t there s.seconds s.sub (update_taken s.tables row t none).0; live = live })
   ordinary (App app) (ask.Validate handle) given = by_app_validate s (IsOrdinary n) refused app handle given (λ row t active there first. record {
     fit = grown n _ (mark n s fit row t there active (verdict_at 0 given) ((was n s fit row t there).pends active (pending_first s.pending row active first)).unasked);

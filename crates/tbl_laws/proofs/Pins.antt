@@ -11,7 +11,7 @@ use Rattle.std.proofs.lemmas.Option.{same_Some}
 use Rattle.tbl_kinds.specs.Numbers.{patched}
 use Rattle.tbl_model.specs.State.{Load, Table, Handle, Tables}
 use Rattle.tbl_model.specs.Tables.{table_at, is_double}
-use Rattle.tbl_model.specs.TableSteps.{handle_at, pins, is_in_way, locker, image_of, let_go, with_table, with_handle, with_image, put, set_time, base, unchecked, changed, changed_in, patch, set_file, set_checked, load_image, activate, new_handle}
+use Rattle.tbl_model.specs.TableSteps.{handle_at, pins, is_in_way, locker, image_of, let_go, with_table, with_handle, with_image, put, set_time, base, unchecked, changed, changed_in, patch, set_file, set_checked, new_handle}
 
 -- ---- places
 

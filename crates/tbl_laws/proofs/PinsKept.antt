@@ -1,18 +1,18 @@
 -- The further changes of the tables, and what they do to pins: activation, and handles and tables that are given up.
-use Rattle.std.proofs.Common.{◌≡◌, ◌≢◌, ◌<◌, ◌≤◌, ℕ, ◌+◌, eqb, List, [], ◌∷◌, length, map, Bool, true, false, cond, Option, Some, None, is_some, refl, ap, sym, ◌∙◌, subst, ◌⊎◌, inl, inr, arith}
+use Rattle.std.proofs.Common.{◌≡◌, ◌≢◌, ◌<◌, ℕ, List, [], ◌∷◌, length, Bool, true, false, cond, Option, Some, None, is_some, refl, ap, sym, ◌∙◌, subst, inl, inr}
 use Rattle.std.specs.Prelude.{slice_index_or, slice_set, option_and_then}
 use Rattle.std.specs.List.{fold}
-use Rattle.std.proofs.lemmas.Bool.{cases_eq, eqb-true, eq-eqb, ne_eqb}
+use Rattle.std.proofs.lemmas.Bool.{cases_eq, eq-eqb}
 use Rattle.std.proofs.lemmas.List.{get_or-set_same, get_or-set_other, set-set}
 use Rattle.std.proofs.lemmas.Option.{same_Some}
 use Rattle.std.proofs.Math.ListN.{get_or-map}
 use Rattle.tbl_model.specs.State.{State, Load, Table, Handle, Tables}
 use Rattle.tbl_model.specs.Tables.{table_at}
-use Rattle.tbl_model.specs.TableSteps.{is_that, handle_at, is_in_way, locker, let_go, with_table, with_image, put, put_in, set_time, set_file, changed, load_image, activate, without_handle, give_back_by, orphaned, remove, registered_by}
+use Rattle.tbl_model.specs.TableSteps.{is_that, handle_at, is_in_way, locker, let_go, with_table, with_image, put, set_time, changed, load_image, activate, without_handle, give_back_by, orphaned, remove, registered_by}
 use Rattle.tbl_model.specs.Sharing.{give_up, give_up_by, give_up_if}
 use Rattle.tbl_laws.proofs.Rows.{within}
-use Rattle.tbl_laws.proofs.Pins.{at_set, none_passes, kept, IsNear, Gives, PinsAt, IsLoaded, AreLoaded, GoesOn, Remains, Keeps, stays_goes_on, stays_keeps, set_keeps, let_go_gives, image_gives, then_keeps}
-use Rattle.tbl_laws.proofs.GivingUp.{set_none, fewer_without}
+use Rattle.tbl_laws.proofs.Pins.{none_passes, kept, IsNear, Gives, Keeps, stays_goes_on, stays_keeps, set_keeps, let_go_gives, image_gives, then_keeps}
+use Rattle.tbl_laws.proofs.GivingUp.{fewer_without}
 
 -- ---- activation
 

@@ -1,6 +1,5 @@
 -- Every legal history is vouched for: what goes active was marked, and a mark has a verdict behind it.
-use Rattle.std.proofs.Common.{◌≡◌, ℕ, ◌+◌, List, [], ◌∷◌, ◌++◌, length, length-append, arith, Bool, true, false, ◌&&◌, Option, Some, None, is_some, refl, ap, sym, ◌∙◌, subst, inl, inr, ◌⊎◌, append_assoc}
-use Rattle.std.specs.Prelude.{slice_index_or}
+use Rattle.std.proofs.Common.{◌≡◌, ℕ, List, [], ◌∷◌, ◌++◌, length, length-append, arith, Bool, true, Option, Some, None, is_some, refl, ap, sym, ◌∙◌, subst, inl, inr, ◌⊎◌, append_assoc}
 use Rattle.std.specs.List.{list_all}
 use Rattle.std.proofs.lemmas.Bool.{and_parts}
 use Rattle.std.proofs.lemmas.List.{append-nil}
@@ -10,14 +9,14 @@ use Rattle.tbl_model.specs.Tables.{table_at}
 use Rattle.tbl_model.specs.Effects.{Effect}
 use Rattle.tbl_model.specs.Counts.{Told}
 use Rattle.tbl_model.specs.History.{Run, begins_at, onward_by, run_from, given_in, effect_in, told, IsAnswered, AreAnswered, IsLegal}
-use Rattle.tbl_model.specs.Vouched.{Tells, Passes, PassedBefore, table_before, IsVouchedEntry, IsVouched}
+use Rattle.tbl_model.specs.Vouched.{Passes, PassedBefore, table_before, IsVouchedEntry, IsVouched}
 use Rattle.tbl_model.proofs.HistoryLaws.{run_push}
 use Rattle.tbl_kinds.specs.declared.entry.Entry.{Entry}
 use Rattle.tbl_laws.specs.Fit.{AreFit}
 use Rattle.tbl_laws.proofs.Cases.{OfEffect}
 use Rattle.tbl_laws.proofs.Pins.{nothing_there}
 use Rattle.tbl_laws.proofs.Ordinary.{IsOrdinary, fit_at_first, ordinary}
-use Rattle.tbl_laws.proofs.Honest.{TellsIn, PassesIn, IsHonest}
+use Rattle.tbl_laws.proofs.Honest.{PassesIn, IsHonest}
 use Rattle.tbl_laws.proofs.HonestRequests.{honest}
 
 -- one of the entries so far tells verdict 0 on this image, and the table has been registered since

@@ -1,12 +1,11 @@
 -- Every legal history is whole: what is read by a pinned handle is of the image that was the last when it got the address.
-use Rattle.std.proofs.Common.{◌≡◌, ◌≢◌, ◌≤◌, ℕ, ◌+◌, eqb, List, [], ◌∷◌, ◌++◌, length, length-append, arith, Bool, true, false, Option, Some, None, unwrap_or, refl, ap, sym, ◌∙◌, subst, inl, inr, append_assoc}
+use Rattle.std.proofs.Common.{◌≡◌, ◌≤◌, ℕ, ◌+◌, List, [], ◌∷◌, ◌++◌, length, length-append, arith, Bool, false, Option, Some, None, unwrap_or, refl, ap, sym, ◌∙◌, subst, inl, inr, append_assoc}
 use Rattle.std.specs.List.{list_any}
 use Rattle.std.proofs.lemmas.Bool.{eq-eqb}
 use Rattle.std.proofs.lemmas.List.{append-nil}
 use Rattle.std.proofs.lemmas.List.Folds.{list_any-append}
 use Rattle.std.proofs.lemmas.Option.{same_Some}
 use Rattle.tbl_kinds.specs.Numbers.{piece}
-use Rattle.tbl_kinds.specs.Records.{IsBuilt}
 use Rattle.tbl_model.specs.State.{State, Table, Handle, Tables, no_tables}
 use Rattle.tbl_model.specs.Tables.{table_at}
 use Rattle.tbl_model.specs.TableSteps.{handle_at, image_of}
@@ -15,14 +14,14 @@ use Rattle.tbl_model.specs.Given.{Given}
 use Rattle.tbl_model.specs.Dispatch.{effect_of}
 use Rattle.tbl_model.specs.Addresses.{read_effect}
 use Rattle.tbl_model.specs.History.{Run, begins_at, onward_by, run_from, given_in, IsAnswered, AreAnswered, IsLegal}
-use Rattle.tbl_model.specs.Whole.{is_done, is_get, ends_pin, IsWholeRead, IsWholeBy, IsWholeEntry, IsWhole}
+use Rattle.tbl_model.specs.Whole.{is_get, ends_pin, IsWholeRead, IsWholeBy, IsWholeEntry, IsWhole}
 use Rattle.tbl_model.proofs.HistoryLaws.{run_push}
 use Rattle.tbl_kinds.specs.declared.entry.Entry.{Entry}
 use Rattle.tbl_kinds.specs.declared.request.Actor.{Actor}
 use Rattle.tbl_kinds.specs.declared.request.Actor.TheVariants.{App}
 use Rattle.tbl_kinds.specs.declared.request.Request.{Request}
 use Rattle.tbl_kinds.specs.declared.request.Request.TheVariants as ask
-use Rattle.tbl_kinds.specs.declared.status.TheConstants.Status.{SUCCESS, INFO_STOPPED}
+use Rattle.tbl_kinds.specs.declared.status.TheConstants.Status.{SUCCESS}
 use Rattle.tbl_laws.specs.Fit.{AreFit}
 use Rattle.tbl_laws.proofs.Cases.{OfEffect, by_read}
 use Rattle.tbl_laws.proofs.Ordinary.{IsOrdinary, fit_at_first, ordinary}

@@ -12,6 +12,8 @@ use Rattle.tbl_kinds.specs.Transcript.{pair_of, pairs_of, entries_bytes, end_byt
 use Rattle.tbl_model.specs.History.{begins_at, run_from}
 use Rattle.tbl_outside.specs.declared.validator.KitEntry.{KitEntry}
 use Rattle.tbl_core.specs.Service.{Vouches}
+use Rattle.tbl_core.proofs.Keeping.{keeps}
+use Rattle.tbl_laws.proofs.VouchedLaws as laws
 use Rattle.tbl_laws.proofs.WholeLaws.{whole}
 use Rattle.tbl_outside.specs.Streams.{TakesFront}
 use Rattle.tbl_outside.proofs.Streams.{append_known-nil, written_more, front_of_first, front_of_second, front_of_whole}
@@ -212,7 +214,9 @@ module _ {C : Type 0} (verdict : C → List ℕ → ℤ) (given : List (Option (
     rest = ends.feeds.behind;
     legal = vouched.stands.legal;
     whole = whole opening p.core.entries _ at_first unasked vouched.stands.legal;
+    vouched = laws.vouched opening p.core.entries _ at_first unasked vouched.stands.legal;
     verdicts = vouched.verdicts;
+    kept = keeps verdict _ opening p.core.entries vouched.verdicts;
     each = session.each;
     few = session.few;
     parts = ends.feeds.parts;
@@ -293,7 +297,9 @@ starved_at_once verdict given opening at_first unasked at_end read_failed taken 
   rest = [];
   legal = record { answered = tt; leads = refl };
   whole = whole opening [] opening at_first unasked (record { answered = tt; leads = refl });
+  vouched = laws.vouched opening [] opening at_first unasked (record { answered = tt; leads = refl });
   verdicts = tt;
+  kept = keeps verdict given opening [] tt;
   each = tt;
   few = omega arith;
   parts = refl;

@@ -10,10 +10,11 @@ use Rattle.tbl_kinds.specs.Records.{Pair, IsRecord, joined, record_limit, AreRec
 use Rattle.tbl_kinds.specs.Heads.{IsShort, IsBad}
 use Rattle.tbl_kinds.specs.Transcript.{pairs_of, entries_bytes, transcript}
 use Rattle.tbl_model.specs.History.{IsLegal, begins_at}
+use Rattle.tbl_model.specs.Vouched.{IsVouched}
 use Rattle.tbl_model.specs.Whole.{IsWhole as HasWholeReads}
 use Rattle.tbl_outside.specs.Streams.{TakesFront}
 use Rattle.tbl_outside.specs.declared.validator.KitEntry.{KitEntry}
-use Rattle.tbl_core.specs.Verdicts.{AreGiven}
+use Rattle.tbl_core.specs.Verdicts.{AreGiven, KeepsToFunctions}
 use Rattle.tbl_top.specs.Playing.{IsBeginning}
 use Rattle.tbl_top.specs.Reading.{StopsReading}
 use Rattle.tbl_kinds.specs.declared.entry.Entry.{Entry}
@@ -73,15 +74,18 @@ pub record Tells (status : ℕ) (entries : List Entry) (would_end : ℕ → Type
   -- 1: a front of the transcript
   pub starved : status ≡ 1 → TakesFront before after (transcript entries 1)
 
--- One legal history, in which each read of a pinned image is whole and each verdict is that of the function which was given
--- under its number, and whose requests are the records of what was read, was told. After 1 and 4 they are the first of them.
+-- One legal history, in which each read of a pinned image is whole, no image goes active that its table's function didn't
+-- answer for, and each verdict, also as a deed tells it, is that of the function which was given under its number, and whose
+-- requests are the records of what was read, was told. After 1 and 4 they are the first of them.
 pub record Session {C : Type 0} (verdict : C → List ℕ → ℤ) (given : List (Option (KitEntry C))) (opening : State) (read : List ℕ) (at_end read_failed : Type 0) (status : ℕ) (before after : Option (List ℕ)) : Type 0 where
   pub entries : List Entry
   pub state : State
   pub rest : List ℕ
   pub legal : IsLegal opening entries state
   pub whole : HasWholeReads opening entries
+  pub vouched : IsVouched opening entries
   pub verdicts : AreGiven verdict given (begins_at opening) entries
+  pub kept : KeepsToFunctions verdict given opening entries
   pub each : AllByRecursion IsRecord (pairs_of entries)
   pub few : length entries ≤ record_limit
   pub parts : read ≡ joined (pairs_of entries) ++ rest

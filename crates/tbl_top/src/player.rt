@@ -2,6 +2,7 @@
 
 ghost use Rattle.std.specs.Prelude.{◌≡◌, ◌≢◌, ℕ, ◌+◌, ◌-◌, ◌<◌, ◌≤◌, ◌==◌, Option, List, [], ◌++◌, length, drop, vec_len, false, IfOk, IfErr};
 ghost use Rattle.tbl_model.specs.State.{State, no_tables};
+ghost use Rattle.tbl_model.specs.Vouched.{IsVouched};
 ghost use Rattle.tbl_model.specs.Whole.{IsWhole as HasWholeReads};
 ghost use Rattle.tbl_kinds.specs.Records.{AreRecords, BeginsWith};
 ghost use Rattle.tbl_kinds.specs.Heads.{IsShort};
@@ -92,7 +93,8 @@ impl<C: Validator> Player<C> {
 
         ensures stands { (opening : State) → StandsFor opening self.old.core → StandsFor opening self.new.core }
 
-        ensures vouched { (opening : State) (given : List (Option (Function C))) → Vouches C.verdict given opening self.old.core → Vouches C.verdict given opening self.new.core }
+        ensures verdicts { (opening : State) (given : List (Option (Function C))) → Vouches C.verdict given opening self.old.core → Vouches C.verdict given opening self.new.core }
+        ensures vouched { (opening : State) → opening.tables ≡ no_tables → opening.pending ≡ [] → StandsFor opening self.old.core → IsVouched opening self.new.core.entries }
         ensures whole { (opening : State) → opening.tables ≡ no_tables → opening.pending ≡ [] → StandsFor opening self.old.core → HasWholeReads opening self.new.core.entries }
         ensures session { IsSession self.new.core }
 

@@ -2,6 +2,7 @@ use Rattle.std.proofs.Common.{List, ℕ, ◌+◌, ◌++◌, length, sym, subst, 
 use Rattle.tbl_kinds.specs.Records.{joined, AreRecords}
 use Rattle.tbl_kinds.specs.Transcript.{pairs_of}
 use Rattle.tbl_core.specs.Service.{StandsFor}
+use Rattle.tbl_laws.proofs.VouchedLaws.{vouched}
 use Rattle.tbl_laws.proofs.WholeLaws.{whole}
 use Rattle.tbl_top.specs.Playing.{Playing, played_before}
 use Rattle.tbl_top.proofs.FeedingLemmas.{beginning_length, begun_rest, open_answer, records_of}
@@ -20,6 +21,11 @@ returns-clause-records g c =
     let old = c.self.inside in
     rw (← c.self.view_is) (λ all. subst (λ (xs : List ℕ). AreRecords xs (pairs_of f.new.playback.entries)) (sym (append_assoc (joined (pairs_of old.playback.entries)) old.kept.items c.args.piece.now))
     (records_of f.new.standing (played_before old.playback (old.kept.items ++ c.args.piece.now)) (length old.kept.items + length c.args.piece.now) f.new.playback f.new.kept.items f.ensures.session f.ensures.feeds all))
+
+pub returns-clause-vouched : goal.returns-clause-vouched
+returns-clause-vouched g c = λ opening at_first unasked stood.
+    let f = c.feed_fields in
+    vouched opening f.new.playback.entries _ at_first unasked (f.ensures.stands opening (subst (λ (p : Playing _). StandsFor opening p.core) (sym c.self.view_is) stood)).legal
 
 pub returns-clause-whole : goal.returns-clause-whole
 returns-clause-whole g c = λ opening at_first unasked stood.

@@ -1,0 +1,256 @@
+-- Each verdict that an entry tells of a table with a function is one that the function was asked for, about the very image.
+use Rattle.std.proofs.Common.{◌≡◌, ◌+◌, ℕ, zero, suc, List, [], ◌∷◌, ◌++◌, length, Bool, true, false, not, cond, eqb, Option, Some, None, is_some, ℤ, pos, refl, sym, ap, subst, ◌∙◌, inl, inr, length-append, arith}
+use Rattle.std.specs.Prelude.{slice_get, slice_index_or}
+use Rattle.std.specs.Option.{option_map}
+use Rattle.std.proofs.lemmas.Option.{same_Some}
+use Rattle.std.proofs.lemmas.Bool.{cases_eq, eqb-true}
+use Rattle.std.proofs.lemmas.List.{append-nil}
+use Rattle.tbl_model.specs.State.{State, Table, Tables, Load}
+use Rattle.tbl_model.specs.Tables.{table_at}
+use Rattle.tbl_model.specs.TableSteps.{set_checked, load_image}
+use Rattle.tbl_model.specs.Pending.{is_pending}
+use Rattle.tbl_model.specs.Deeds.{Question, is_good, verdict_bits, activated, finished}
+use Rattle.tbl_model.specs.Given.{Given, verdict_at}
+use Rattle.tbl_model.specs.Effects.{Effect, answered}
+use Rattle.tbl_model.specs.Dispatch.{effect_of}
+use Rattle.tbl_model.specs.Refusals.{update_refusal}
+use Rattle.tbl_model.specs.Validations.{judged_image, questions, marked, validated_effect}
+use Rattle.tbl_model.specs.AppLoads.{activate_effect, with_verdict, from_file, file_image}
+use Rattle.tbl_model.specs.Management.{Done, nothing_done, is_asked, with_validation, then_validate, with_update, then_update, with_fill, then_fill, all_done}
+use Rattle.tbl_model.specs.Dumps.{dumps_ended, housekeeping_effect}
+use Rattle.tbl_model.specs.Vouched.{verdict_for}
+use Rattle.tbl_model.specs.declared.deeds.Deed.{Deed}
+use Rattle.tbl_model.specs.declared.deeds.Deed.TheVariants.{Judged, Activated, Dumped}
+use Rattle.tbl_kinds.specs.declared.status.TheConstants.Status.{ERR_VALIDATION_FAILED}
+use Rattle.tbl_kinds.specs.declared.request.Actor.{Actor}
+use Rattle.tbl_kinds.specs.declared.request.Actor.TheVariants.{Ground, App}
+use Rattle.tbl_kinds.specs.declared.request.Request.{Request}
+use Rattle.tbl_kinds.specs.declared.request.Request.TheVariants as ask
+use Rattle.tbl_model.proofs.RefusalLaws.{is_refusal}
+use Rattle.tbl_laws.proofs.Changes.{with_found, either}
+use Rattle.tbl_laws.proofs.Rows.{OneRow, changed_row}
+use Rattle.tbl_laws.proofs.Honest.{TellsIn, slice_get_more, get_before, last_tells}
+use Rattle.tbl_laws.proofs.Cases.{OfEffect, Commands, by_command, by_file, by_start, by_register, by_load_image, by_load_file, by_app_validate, by_update, by_manage, by_get_status, by_get, by_read, by_release}
+
+-- the verdict is the answer to a question about this image, for the function of this number
+pub record WasAsked (questions : List Question) (given : Given) (number : ℕ) (image : List ℕ) (v : ℤ) : Type 0 where
+  pub place : ℕ
+  pub question : slice_get questions place ≡ Some (record { number = number; image = image })
+  pub answer : v ≡ verdict_at place given
+
+-- so is each verdict of these deeds, of a table with a function
+abbrev pub AreAsked : State → Given → List Deed → List (Option (List ℕ)) → List Question → Type 0
+AreAsked s given deeds images questions = (place row number : ℕ) (deed : Deed) (image : List ℕ) (v : ℤ) (t : Table) → TellsIn deeds images place deed image → verdict_for row deed ≡ Some v
+    → table_at s.tables row ≡ Some t → t.validator ≡ Some number → WasAsked questions given number image v
+
+abbrev pub IsKept : State → Given → Effect → Type 0
+IsKept s given e = AreAsked s given e.deeds e.images e.asked
+
+-- ---- few deeds
+
+none_told : (s : State) (given : Given) (deeds : List Deed) (images : List (Option (List ℕ))) (questions : List Question) → deeds ≡ [] → AreAsked s given deeds images questions
+none_told s given [] images questions no_deeds zero row number deed image v t tells is there function = absurd (cc tells.deed_is)
+none_told s given [] images questions no_deeds (suc place) row number deed image v t tells is there function = absurd (cc tells.deed_is)
+none_told s given (d ∷ ds) images questions no_deeds place row number deed image v t tells is there function = absurd (cc no_deeds)
+
+-- a deed that tells no verdict
+abbrev IsSilent : Deed → Type 0
+IsSilent d = (row : ℕ) → verdict_for row d ≡ None
+
+one_told : (s : State) (given : Given) (d : Deed) (images : List (Option (List ℕ))) (questions : List Question) → IsSilent d → AreAsked s given (d ∷ []) images questions
+one_told s given d images questions silent zero row number deed image v t tells is there function = absurd (cc (silent row, ap (verdict_for row) (same_Some d deed tells.deed_is), is))
+one_told s given d images questions silent (suc zero) row number deed image v t tells is there function = absurd (cc tells.deed_is)
+one_told s given d images questions silent (suc (suc place)) row number deed image v t tells is there function = absurd (cc tells.deed_is)
+
+-- the row that a verdict is told of
+told_of : (b : Bool) (v w : ℤ) → cond b (Some v) None ≡ Some w → (b ≡ true) × (v ≡ w)
+told_of true v w is = (refl, same_Some v w is)
+told_of false v w is = absurd (cc is)
+
+-- the only verdict is that of a table whose function was asked for it
+judged_told : (s : State) (given : Given) (r : ℕ) (u : Table) (number : ℕ) (image : List ℕ) (verdict : ℤ) (more : List Deed) (images : List (Option (List ℕ))) → table_at s.tables r ≡ Some u → u.validator ≡ Some number
+    → verdict ≡ verdict_at 0 given → ((place : ℕ) (d : Deed) → slice_get more place ≡ Some d → IsSilent d)
+    → AreAsked s given (Judged r verdict ∷ more) (Some image ∷ images) (record { number = number; image = image } ∷ [])
+judged_told s given r u number image verdict more images there function one silent zero row n deed found v t tells is at has =
+    let told = told_of (eqb r row) verdict v (ap (verdict_for row) (same_Some _ deed tells.deed_is) ∙ is) in
+    let here : r ≡ row = eqb-true r row told.0 in
+    let same : u ≡ t = same_Some u t (sym there ∙ ap (λ (j : ℕ). table_at s.tables j) here ∙ at) in
+    let numbers : number ≡ n = same_Some number n (sym function ∙ ap (λ (x : Table). x.validator) same ∙ has) in
+    record { place = 0; question = rw (numbers, same_Some image found tells.image_is) refl; answer = sym told.1 ∙ one }
+judged_told s given r u number image verdict more images there function one silent (suc place) row n deed found v t tells is at has = absurd (cc (silent place deed tells.deed_is row, is))
+
+nothing_silent : (place : ℕ) (d : Deed) → slice_get [] place ≡ Some d → IsSilent d
+nothing_silent zero d is row = absurd (cc is)
+nothing_silent (suc place) d is row = absurd (cc is)
+
+active_silent : (r count : ℕ) (name : List ℕ) (place : ℕ) (d : Deed) → slice_get (Activated r count name ∷ []) place ≡ Some d → IsSilent d
+active_silent r count name zero d is row = ap (verdict_for row) (sym (same_Some _ d is))
+active_silent r count name (suc zero) d is row = absurd (cc is)
+active_silent r count name (suc (suc place)) d is row = absurd (cc is)
+
+-- a validation that came to its end, of a table whose function was asked for it, if it has one
+finished_told : (s : State) (given : Given) (r : ℕ) (u : Table) (active : Bool) (image : List ℕ) (verdict : ℤ) → table_at s.tables r ≡ Some u → (is_some u.validator ≡ true → verdict ≡ verdict_at 0 given)
+    → AreAsked s given (finished r active u image verdict ∷ []) (Some image ∷ []) (questions u image)
+finished_told s given r u active image verdict there one zero row n deed found v t tells is at has =
+    let told = told_of (eqb r row) verdict v (ap (verdict_for row) (same_Some _ deed tells.deed_is) ∙ is) in
+    let here : r ≡ row = eqb-true r row told.0 in
+    let same : u ≡ t = same_Some u t (sym there ∙ ap (λ (j : ℕ). table_at s.tables j) here ∙ at) in
+    let function : u.validator ≡ Some n = ap (λ (x : Table). x.validator) same ∙ has in
+    record { place = 0; question = rw (function, same_Some image found tells.image_is) refl; answer = sym told.1 ∙ one (rw function refl) }
+finished_told s given r u active image verdict there one (suc zero) row n deed found v t tells is at has = absurd (cc tells.deed_is)
+finished_told s given r u active image verdict there one (suc (suc place)) row n deed found v t tells is at has = absurd (cc tells.deed_is)
+
+-- ---- Manage
+
+-- a table keeps its function
+abbrev Keeps : Tables → Tables → Type 0
+Keeps old new = (row : ℕ) (t u : Table) → table_at old row ≡ Some t → table_at new row ≡ Some u → u.validator ≡ t.validator
+
+record SoFar (s : State) (given : Given) (d : Done) : Type 0 where
+  asked : AreAsked s given d.deeds d.images d.asked
+  long : length d.deeds ≡ length d.images
+  keeps : Keeps s.tables d.state.tables
+
+keeps_then : (first mid new : Tables) (row : ℕ) (x y : Table) → Keeps first mid → table_at mid row ≡ Some x → OneRow mid new row (Some y) → y.validator ≡ x.validator → Keeps first new
+keeps_then first mid new row x y keeps at one same k t u there now = elim (cases_eq k row) [
+  | inl here ↦
+      let is : y ≡ u = same_Some y u (sym one.here ∙ ap (λ (j : ℕ). table_at new j) (sym here) ∙ now) in
+      ap (λ (z : Table). z.validator) (sym is) ∙ same ∙ keeps k t x there (ap (λ (j : ℕ). table_at mid j) here ∙ at)
+  | inr other ↦ keeps k t u there (sym (one.others k other) ∙ now)
+]
+
+keeps_marked : (first mid : Tables) (row : ℕ) (active : Bool) (verdict : ℤ) (x : Table) → Keeps first mid → table_at mid row ≡ Some x → Keeps first (marked row active verdict mid)
+keeps_marked first mid row true verdict x keeps at = keeps
+keeps_marked first mid row false verdict x keeps at =
+    let change : Table → Table = λ v. record v { load = option_map (λ (l : Load). record l { checked = is_good verdict }) v.load } in
+    keeps_then first mid (set_checked row (is_good verdict) mid) row x (change x) keeps at (changed_row mid row change x at) refl
+
+-- the image of a deed that stood there before one more
+index_old : {X Y : Type 0} (xs : List X) (ys : List (Option Y)) (x : X) (y z : Y) (place : ℕ) → length xs ≡ length ys → slice_get xs place ≡ Some x → slice_index_or (ys ++ Some y ∷ []) place None ≡ Some z → slice_index_or ys place None ≡ Some z
+index_old [] ys x y z zero same got is = absurd (cc got)
+index_old [] ys x y z (suc place) same got is = absurd (cc got)
+index_old (a ∷ xs) [] x y z place same got is = absurd (omega (arith, same))
+index_old (a ∷ xs) (b ∷ ys) x y z zero same got is = is
+index_old (a ∷ xs) (b ∷ ys) x y z (suc place) same got is = index_old xs ys x y z place (omega (arith, same)) got is
+
+get_last : {X : Type 0} (xs : List X) (x : X) → slice_get (xs ++ x ∷ []) (length xs) ≡ Some x
+get_last [] x = refl
+get_last (z ∷ zs) x = get_last zs x
+
+module _ (s : State) (given : Given) where
+  -- one deed more
+  asked_more : (deeds : List Deed) (images : List (Option (List ℕ))) (questions more : List Question) (new : Deed) (about : List ℕ) → length deeds ≡ length images → AreAsked s given deeds images questions
+      → ((row number : ℕ) (v : ℤ) (t : Table) → verdict_for row new ≡ Some v → table_at s.tables row ≡ Some t → t.validator ≡ Some number → WasAsked (questions ++ more) given number about v)
+      → AreAsked s given (deeds ++ new ∷ []) (images ++ Some about ∷ []) (questions ++ more)
+  asked_more deeds images questions more new about long before last place row number deed image v t tells is there function = elim (slice_get_more deeds new deed place tells.deed_is) [
+    | inl old ↦
+        let was = before place row number deed image v t (record { deed_is = old; image_is = index_old deeds images deed about image place long old tells.image_is }) is there function in
+        record { place = was.place; question = get_before questions more was.place _ was.question; answer = was.answer }
+    | inr end ↦
+        let ends = last_tells deeds images new about long in
+        let same : about ≡ image = same_Some about image (sym ends.image_is ∙ ap (λ (j : ℕ). slice_index_or (images ++ Some about ∷ []) j None) (sym end.0) ∙ tells.image_is) in
+        subst (λ (x : List ℕ). WasAsked (questions ++ more) given number x v) same (last row number v t (ap (verdict_for row) end.1 ∙ is) there function)
+  ]
+
+  module _ (n row : ℕ) where
+    validates : (active : Bool) (d : Done) → SoFar s given d → SoFar s given (then_validate row active given d)
+    validates active d so_far = with_found n row given (SoFar s given) d _ (table_at d.state.tables row) refl so_far (λ u at.
+        either n row given (SoFar s given) (not (is_pending row active d.state.pending)) d (with_validation row active (verdict_at (length d.asked) given) d u) so_far (λ _.
+        let verdict = verdict_at (length d.asked) given in
+        let image = judged_image u active in
+        let new = finished row active u image verdict in record {
+          asked = asked_more d.deeds d.images d.asked (questions u image) new image so_far.long so_far.asked (λ k number v t is there function.
+              let told = told_of (eqb row k) verdict v is in
+              let here : row ≡ k = eqb-true row k told.0 in
+              let has : u.validator ≡ Some number = so_far.keeps k t u there (ap (λ (j : ℕ). table_at d.state.tables j) (sym here) ∙ at) ∙ function in
+              record { place = length d.asked; question = rw has (get_last d.asked (record { number = number; image = image })); answer = sym told.1 });
+          long = omega (arith, so_far.long, length-append d.deeds (new ∷ []), length-append d.images (Some image ∷ []));
+          keeps = keeps_marked s.tables d.state.tables row active verdict u so_far.keeps at;
+        }))
+
+    abbrev Told : Done → Type 0
+    Told d = AreAsked s given d.deeds d.images d.asked
+
+    updates : (d : Done) → SoFar s given d → Told (then_update row d)
+    updates d so_far = with_found n row given Told d _ (table_at d.state.tables row) refl so_far.asked (λ u at.
+        either n row given Told (is_some (update_refusal d.state.tables row u)) d (with_update row d u) so_far.asked (λ _.
+        subst (AreAsked s given (d.deeds ++ activated row u ∷ []) (d.images ++ Some (load_image u) ∷ [])) (append-nil d.asked)
+        (asked_more d.deeds d.images d.asked [] (activated row u) (load_image u) so_far.long so_far.asked (λ k number v t is there function. absurd (cc is)))))
+
+    fills : (d : Done) → Told d → Told (then_fill row d)
+    fills d told = with_found n row given Told d _ (table_at d.state.tables row) refl told (λ u at. either n row given Told (not (is_asked u.dump)) d (with_fill row d) told (λ _. told))
+
+    manages : Told (all_done s given row)
+    manages =
+        let one = then_validate row true given (nothing_done s) in
+        let two = then_validate row false given one in
+        fills (then_update row two) (updates two (validates false one (validates true (nothing_done s) (record {
+          asked = none_told s given [] [] [] refl;
+          long = refl;
+          keeps = λ k t u there now. ap (λ (x : Table). x.validator) (same_Some u t (sym now ∙ there));
+        }))))
+
+  -- ---- all requests
+
+  nothing_told : AreAsked s given [] [] []
+  nothing_told = none_told s given [] [] [] refl
+
+  refused : (e : Effect) → e.next ≡ s → e.deeds ≡ [] → is_refusal e.status ≡ true → IsKept s given e
+  refused e same no_deeds refuses = none_told s given e.deeds e.images e.asked no_deeds
+
+  no_questions : (t : Table) (image : List ℕ) → is_some t.validator ≡ false → questions t image ≡ []
+  no_questions t image none = by t.validator none where
+    by : (function : Option ℕ) → is_some function ≡ false → questions (record t { validator = function }) image ≡ []
+    by None is = refl
+    by (Some number) is = absurd (cc is)
+
+  at_once : (row : ℕ) (t : Table) (active : Bool) → table_at s.tables row ≡ Some t → is_some t.validator ≡ false → IsKept s given (validated_effect s active row t)
+  at_once row t active there none =
+      subst (AreAsked s given (finished row active t (judged_image t active) (pos 0) ∷ []) (Some (judged_image t active) ∷ [])) (no_questions t (judged_image t active) none)
+      (finished_told s given row t active (judged_image t active) (pos 0) there (λ some. absurd (cc (some, none))))
+
+  commands : Commands s (IsKept s given)
+  unfolding housekeeping_effect dumps_ended
+  commands = record {
+    about = λ e table p. p;
+    accepted = nothing_told;
+    housekeeping = nothing_told;
+    loaded = λ name file row t there none. nothing_told;
+    pends = λ row t active there none function. nothing_told;
+    at_once = λ row t active there none no_function. at_once row t active there no_function;
+    asks = λ row t there none. nothing_told;
+    aborted = λ row t there open_load. nothing_told;
+    shown = λ row. nothing_told;
+    written = λ row file bytes free. rw free (one_told s given (Dumped row file (length bytes)) (None ∷ []) [] (λ r. refl));
+    dump_asked = λ file row t there only none. rw none (nothing_told);
+  }
+
+  judged_well : (row : ℕ) (t : Table) (image : List ℕ) (number : ℕ) (verdict : ℤ) (e : Effect) → table_at s.tables row ≡ Some t → t.validator ≡ Some number → verdict ≡ verdict_at 0 given → e.deeds ≡ activated row t ∷ [] → IsKept s given (with_verdict row image number verdict e)
+  judged_well row t image number verdict e there is one deeds =
+      subst (λ (ds : List Deed). AreAsked s given (Judged row verdict ∷ ds) (Some image ∷ e.images) (record { number = number; image = image } ∷ [])) (sym deeds)
+      (judged_told s given row t number image verdict (activated row t ∷ []) e.images there is one (active_silent row (t.count + 1) t.name))
+
+  judged_badly : (row : ℕ) (t : Table) (image : List ℕ) (number : ℕ) (verdict : ℤ) (e : Effect) → table_at s.tables row ≡ Some t → t.validator ≡ Some number → verdict ≡ verdict_at 0 given → e.deeds ≡ [] → IsKept s given (with_verdict row image number verdict e)
+  judged_badly row t image number verdict e there is one deeds =
+      subst (λ (ds : List Deed). AreAsked s given (Judged row verdict ∷ ds) (Some image ∷ e.images) (record { number = number; image = image } ∷ [])) (sym deeds)
+      (judged_told s given row t number image verdict [] e.images there is one nothing_silent)
+
+  pub kept : (actor : Actor) (request : Request) → OfEffect (IsKept s given) (effect_of s actor request given)
+  kept Ground (ask.Command bytes) = by_command s (IsKept s given) refused commands bytes.list
+  kept Ground (ask.File name bytes) = by_file s (IsKept s given) refused name bytes.list (nothing_told)
+  kept Ground (ask.Time seconds sub) = nothing_told
+  kept Ground _ = tt
+  kept (App app) (ask.Start name) = by_start s (IsKept s given) refused app name (nothing_told)
+  kept (App app) (ask.Register short size flags validator) = by_register s (IsKept s given) refused app short size flags validator (λ name row handle may free_row free_handle. nothing_told)
+  kept (App app) (ask.LoadImage handle image) = by_load_image s (IsKept s given) refused given (λ row t bytes number verdict there is one bad. judged_badly row t bytes number verdict (answered s ERR_VALIDATION_FAILED (verdict_bits verdict)) there is one refl) app handle image.list
+      (λ row t there none no_function. one_told s given (activated row t) (Some image.list ∷ []) [] (λ r. refl)) (λ row t number verdict there none is one good. judged_well row t image.list number verdict (activate_effect s row t image.list) there is one refl)
+  kept (App app) (ask.LoadFile handle name) = by_load_file s (IsKept s given) refused given (λ row t bytes number verdict there is one bad. judged_badly row t bytes number verdict (answered s ERR_VALIDATION_FAILED (verdict_bits verdict)) there is one refl) app handle name
+      (λ row t file there open_to none no_function. one_told s given (activated row t) (Some (file_image t file) ∷ []) [] (λ r. refl)) (λ row t file number verdict there open_to none is one good. judged_well row t (file_image t file) number verdict (from_file row name (activate_effect s row t (file_image t file))) there is one refl)
+  kept (App app) (ask.Update handle) = by_update s (IsKept s given) refused app handle (λ row t there none. one_told s given (activated row t) (Some (load_image t) ∷ []) [] (λ r. refl))
+  kept (App app) (ask.Validate handle) = by_app_validate s (IsKept s given) refused app handle given (λ row t active there first. finished_told s given row t active (judged_image t active) (verdict_at 0 given) there (λ some. refl))
+  kept (App app) (ask.Manage handle) = by_manage s (IsKept s given) refused app handle given (λ row t there. manages 0 row)
+  kept (App app) (ask.Get handle) = by_get s (IsKept s given) refused app handle (λ a leads some. nothing_told)
+  kept (App app) (ask.Read handle offset len) = by_read s (IsKept s given) refused app handle offset len (λ a leads pinned inside. nothing_told)
+  kept (App app) (ask.Release handle) = by_release s (IsKept s given) refused app handle (λ a leads pinned. nothing_told)
+  kept (App app) (ask.GetStatus handle) = by_get_status s (IsKept s given) refused app handle (λ row t. nothing_told)
+  kept (App app) _ = tt
