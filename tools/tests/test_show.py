@@ -80,9 +80,9 @@ class Ends(unittest.TestCase):
                                  f"record 1, at byte 12, is bad: {words}")
 
     def test_a_record_that_the_service_does_not_know(self):
-        self.assertEqual(self.end_of(records_of(b"time 5 0"), "FFFFFFFF 05 00000000 00000000"),
+        self.assertEqual(self.end_of(records_of(b"app 1 share A.T"), "FFFFFFFF 05 00000000 00000000"),
                          "end: status 5, a record is bad, or the input ends inside one; 0 entries; "
-                         "record 0, at byte 0, wasn't played: kind 03 Time")
+                         "record 0, at byte 0, wasn't played: kind 12 Share")
 
     def test_transcripts_that_break_off(self):
         whole = content_of(EXAMPLES[0].replace(".session", ".transcript"))
