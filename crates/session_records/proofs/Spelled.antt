@@ -50,7 +50,7 @@ two_alone number len good = grind (arith, nat_tests)
 
 each_two : AllByRecursion HasTwoBytes handle_kinds
 unfolding is_good_head HasTwoBytes
-each_two = (two_alone, (two_alone, (two_alone, (two_alone, (two_alone, (two_alone, tt))))))
+each_two = (two_alone, (two_alone, (two_alone, (two_alone, (two_alone, (two_alone, (two_alone, tt)))))))
 
 pub handle_len : (kind number len : ℕ) → IsTrue (is_handle_kind kind) → is_good_head kind number len ≡ true → len ≡ 2
 unfolding HasTwoBytes
@@ -66,6 +66,8 @@ sender_fits number len (ask.File name bytes) built none good = let ground : numb
 sender_fits number len (ask.Time seconds sub) built none good = let ground : number ≡ 0 = grind (arith, nat_tests) in rw ground tt
 sender_fits number len (ask.Start name) built none good = app_may number len 20 20 (ask.Start name) (λ no. no) none good
 sender_fits number len (ask.Register name size flags validator) built none good = app_may number len 23 23 (ask.Register name size flags validator) (λ no. no) none good
+sender_fits number len (ask.Share name) built none good = app_may number len 40 40 (ask.Share name) (λ no. no) none good
+sender_fits number len (ask.Unregister handle) built none good = app_may number len 2 2 (ask.Unregister handle) (λ no. no) none good
 sender_fits number len (ask.LoadImage handle image) built none good = app_may number len 2 32832 (ask.LoadImage handle image) (λ no. no) none good
 sender_fits number len (ask.LoadFile handle name) built none good = app_may number len 66 66 (ask.LoadFile handle name) (λ no. no) none good
 sender_fits number len (ask.Update handle) built none good = app_may number len 2 2 (ask.Update handle) (λ no. no) none good
@@ -75,6 +77,9 @@ sender_fits number len (ask.Get handle) built none good = app_may number len 2 2
 sender_fits number len (ask.Read handle offset count) built none good = app_may number len 10 10 (ask.Read handle offset count) (λ no. no) none good
 sender_fits number len (ask.Release handle) built none good = app_may number len 2 2 (ask.Release handle) (λ no. no) none good
 sender_fits number len (ask.GetStatus handle) built none good = app_may number len 2 2 (ask.GetStatus handle) (λ no. no) none good
+sender_fits number len (ask.GetInfo name) built none good = app_may number len 40 40 (ask.GetInfo name) (λ no. no) none good
+sender_fits number len (ask.Notify handle msg code parameter) built none good = app_may number len 10 10 (ask.Notify handle msg code parameter) (λ no. no) none good
+sender_fits number len ask.Exit built none good = app_may number len 0 0 ask.Exit (λ no. no) none good
 sender_fits number len request built none good = absurd built
 
 -- a request that a good head and its body spell makes a record with the head's sender

@@ -4,6 +4,7 @@ use Rattle.tbl_kinds.specs.declared.request.Request.TheVariants as ask
 
 -- the requests whose body begins with a handle
 abbrev pub BeginsWithHandle : Request → Type 0
+BeginsWithHandle (ask.Unregister handle) = Unit {0}
 BeginsWithHandle (ask.LoadImage handle image) = Unit {0}
 BeginsWithHandle (ask.LoadFile handle name) = Unit {0}
 BeginsWithHandle (ask.Update handle) = Unit {0}
@@ -13,4 +14,5 @@ BeginsWithHandle (ask.Get handle) = Unit {0}
 BeginsWithHandle (ask.Read handle offset len) = Unit {0}
 BeginsWithHandle (ask.Release handle) = Unit {0}
 BeginsWithHandle (ask.GetStatus handle) = Unit {0}
+BeginsWithHandle (ask.Notify handle msg code parameter) = Unit {0}
 BeginsWithHandle _ = ⊥

@@ -48,10 +48,12 @@ impl Head {
             0x03 => from_ground && self.len == 6,
             0x10 => from_app && self.len == 20,
             0x11 => from_app && self.len == 23,
-            0x16..=0x18 | 0x1B | 0x1D | 0x1E => from_app && self.len == 2,
+            0x12 | 0x1F => from_app && self.len == 40,
+            0x13 | 0x16..=0x18 | 0x1B | 0x1D | 0x1E => from_app && self.len == 2,
             0x14 => from_app && 2 <= self.len && self.len <= BODY_LIMIT,
             0x15 => from_app && self.len == 66,
-            0x1C => from_app && self.len == 10,
+            0x1C | 0x20 => from_app && self.len == 10,
+            0x21 => from_app && self.len == 0,
             _ => false,
         }
     }

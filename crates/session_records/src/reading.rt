@@ -91,6 +91,15 @@ fn register(body: &[u8]) -> Option<Request>
     })
 }
 
+fn share(body: &[u8]) -> Option<Request>
+    requires { length body.now ≡ 40 }
+    ensures right { is_some result ≡ is_name_field body.now }
+    ensures spelled { IfSome result (λ request. IsSpelledBy 0x12 body.now request) }
+{
+    let name = Name::<40>::exact(body)?;
+    Some(Request::Share { name })
+}
+
 fn load_image(alloc: Global, body: &[u8]) -> Result<Request, Memory>
     requires { 2 ≤ length body.now }
     ensures { IfOk result (λ request. IsSpelledBy 0x14 body.now request) }
@@ -124,6 +133,31 @@ fn read(body: &[u8]) -> Request
     }
 }
 
+fn get_info(body: &[u8]) -> Option<Request>
+    requires { length body.now ≡ 40 }
+    ensures right { is_some result ≡ is_name_field body.now }
+    ensures spelled { IfSome result (λ request. IsSpelledBy 0x1F body.now request) }
+{
+    let name = Name::<40>::exact(body)?;
+    Some(Request::GetInfo { name })
+}
+
+fn notify(body: &[u8]) -> Request
+    requires { length body.now ≡ 10 }
+    ensures { IsSpelledBy 0x20 body.now result }
+{
+    let (handle, rest) = read_two(body);
+    let (msg, rest) = read_two(rest);
+    let (code, rest) = read_two(rest);
+    let (parameter, _) = read_four(rest);
+    Request::Notify {
+        handle,
+        msg,
+        code,
+        parameter,
+    }
+}
+
 /// The handle that a body of two bytes is.
 fn handle_in(body: &[u8]) -> u16
     requires { length body.now ≡ 2 }
@@ -142,6 +176,7 @@ fn handle_request(head: Head, body: &[u8]) -> Request
 {
     let handle = handle_in(body);
     match head.kind {
+        0x13 => Request::Unregister { handle },
         0x16 => Request::Update { handle },
         0x17 => Request::Validate { handle },
         0x18 => Request::Manage { handle },
@@ -166,10 +201,14 @@ fn request_of(alloc: Global, head: Head, body: &[u8]) -> Result<Option<Request>,
         0x03 => Ok(Some(time(body))),
         0x10 => Ok(start(body)),
         0x11 => Ok(register(body)),
-        0x16 | 0x17 | 0x18 | 0x1B | 0x1D | 0x1E => { Ok(Some(handle_request(head, body))) }
+        0x12 => Ok(share(body)),
+        0x13 | 0x16 | 0x17 | 0x18 | 0x1B | 0x1D | 0x1E => { Ok(Some(handle_request(head, body))) }
         0x14 => Ok(Some(load_image(alloc, body)?)),
         0x15 => Ok(load_file(body)),
         0x1C => Ok(Some(read(body))),
+        0x1F => Ok(get_info(body)),
+        0x20 => Ok(Some(notify(body))),
+        0x21 => Ok(Some(Request::Exit)),
         _ => Ok(None),
     }
 }

@@ -20,6 +20,8 @@ fn kind_of(request: &Request) -> u8
         Request::Time { .. } => 0x03,
         Request::Start { .. } => 0x10,
         Request::Register { .. } => 0x11,
+        Request::Share { .. } => 0x12,
+        Request::Unregister { .. } => 0x13,
         Request::LoadImage { .. } => 0x14,
         Request::LoadFile { .. } => 0x15,
         Request::Update { .. } => 0x16,
@@ -29,6 +31,9 @@ fn kind_of(request: &Request) -> u8
         Request::Read { .. } => 0x1C,
         Request::Release { .. } => 0x1D,
         Request::GetStatus { .. } => 0x1E,
+        Request::GetInfo { .. } => 0x1F,
+        Request::Notify { .. } => 0x20,
+        Request::Exit => 0x21,
         _ => unreachable!(),
     }
 }
@@ -45,10 +50,13 @@ pub fn body_len(request: &Request) -> usize
         Request::Time { .. } => 6,
         Request::Start { name } => name.field_len(),
         Request::Register { name, .. } => name.field_len() + 7,
+        Request::Share { name } | Request::GetInfo { name } => name.field_len(),
         Request::LoadImage { image, .. } => 2 + image.bytes().len(),
         Request::LoadFile { name, .. } => 2 + name.field_len(),
-        Request::Read { .. } => 10,
-        Request::Update { .. }
+        Request::Read { .. } | Request::Notify { .. } => 10,
+        Request::Exit => 0,
+        Request::Unregister { .. }
+        | Request::Update { .. }
         | Request::Validate { .. }
         | Request::Manage { .. }
         | Request::Get { .. }
@@ -115,6 +123,17 @@ fn append_read(out: &mut Bytes, handle: u16, offset: u32, len: u32)
     append_four(out, len);
 }
 
+fn append_notify(out: &mut Bytes, handle: u16, msg: u16, code: u16, parameter: u32)
+    requires { 10 ≤ out.old.spare }
+    ensures bytes { out.new.list ≡ out.old.list ++ body_of (ask.Notify handle msg code parameter) }
+    ensures sized { IsSized (ask.Notify handle msg code parameter) }
+{
+    append_two(out, handle);
+    append_two(out, msg);
+    append_two(out, code);
+    append_four(out, parameter);
+}
+
 /// The body of a request that begins with a handle.
 fn append_handle_body(out: &mut Bytes, request: &Request)
     requires handle { BeginsWithHandle request.now }
@@ -130,7 +149,14 @@ fn append_handle_body(out: &mut Bytes, request: &Request)
             offset,
             len,
         } => append_read(out, *handle, *offset, *len),
-        Request::Update { handle }
+        Request::Notify {
+            handle,
+            msg,
+            code,
+            parameter,
+        } => append_notify(out, *handle, *msg, *code, *parameter),
+        Request::Unregister { handle }
+        | Request::Update { handle }
         | Request::Validate { handle }
         | Request::Manage { handle }
         | Request::Get { handle }
@@ -157,6 +183,8 @@ fn append_body(out: &mut Bytes, request: &Request)
             flags,
             validator,
         } => append_register(out, name, *size, *flags, *validator),
+        Request::Share { name } | Request::GetInfo { name } => name.append_field(out),
+        Request::Exit => {}
         _ => append_handle_body(out, request),
     }
 }

@@ -61,6 +61,10 @@ good_head (App number) (ask.Start name) built fits sized within =
 good_head (App number) (ask.Register name size flags validator) built fits sized within =
     let len = length-register name size flags (validator_number validator) sized.0 in
     rw (app_allowed number (length (body_of (ask.Register name size flags validator))) 23 23 fits.0 fits.1 (omega (arith, len)) (omega (arith, len))) refl
+good_head (App number) (ask.Share name) built fits sized within =
+    let len = length-name_field 40 name sized in
+    rw (app_allowed number (length (name_field 40 name)) 40 40 fits.0 fits.1 (omega (arith, len)) (omega (arith, len))) refl
+good_head (App number) (ask.Unregister handle) built fits sized within = handle_allowed number fits.0 fits.1
 good_head (App number) (ask.LoadImage handle image) built fits sized within = rw (app_allowed number (length (body_of (ask.LoadImage handle image))) 2 32832 fits.0 fits.1 (omega arith) within) refl
 good_head (App number) (ask.LoadFile handle name) built fits sized within =
     let len = length-name_field 64 name sized.1 in
@@ -72,6 +76,11 @@ good_head (App number) (ask.Get handle) built fits sized within = handle_allowed
 good_head (App number) (ask.Read handle offset len) built fits sized within = rw (app_allowed number 10 10 10 fits.0 fits.1 (omega arith) (omega arith)) refl
 good_head (App number) (ask.Release handle) built fits sized within = handle_allowed number fits.0 fits.1
 good_head (App number) (ask.GetStatus handle) built fits sized within = handle_allowed number fits.0 fits.1
+good_head (App number) (ask.GetInfo name) built fits sized within =
+    let len = length-name_field 40 name sized in
+    rw (app_allowed number (length (name_field 40 name)) 40 40 fits.0 fits.1 (omega (arith, len)) (omega (arith, len))) refl
+good_head (App number) (ask.Notify handle msg code parameter) built fits sized within = rw (app_allowed number 10 10 10 fits.0 fits.1 (omega arith) (omega arith)) refl
+good_head (App number) ask.Exit built fits sized within = rw (app_allowed number 0 0 0 fits.0 fits.1 (omega arith) (omega arith)) refl
 good_head (App number) request built fits sized within = absurd built
 
 -- a body that begins with the field of a name has such a field there
@@ -90,6 +99,8 @@ right_body (ask.Start name) built sized = rw (is_name_field-name_field 20 name s
 right_body (ask.Register name size flags validator) built sized =
     let parts : body_of (ask.Register name size flags validator) ≡ name_field 16 name ++ (four size ++ two flags ++ validator_number validator ∷ []) = simp append_assoc in
     rw (has_name_first 16 name (four size ++ two flags ++ validator_number validator ∷ []) (body_of (ask.Register name size flags validator)) sized.0 parts) refl
+right_body (ask.Share name) built sized = rw (is_name_field-name_field 40 name sized) refl
+right_body (ask.Unregister handle) built sized = refl
 right_body (ask.LoadImage handle image) built sized = refl
 right_body (ask.LoadFile handle name) built sized = rw (is_name_field-name_field 64 name sized.1) refl
 right_body (ask.Update handle) built sized = refl
@@ -99,6 +110,9 @@ right_body (ask.Get handle) built sized = refl
 right_body (ask.Read handle offset len) built sized = refl
 right_body (ask.Release handle) built sized = refl
 right_body (ask.GetStatus handle) built sized = refl
+right_body (ask.GetInfo name) built sized = rw (is_name_field-name_field 40 name sized) refl
+right_body (ask.Notify handle msg code parameter) built sized = refl
+right_body ask.Exit built sized = refl
 right_body request built sized = absurd built
 
 -- what stands at the front of a spelling, whatever follows it
@@ -188,11 +202,12 @@ register_in field rest = ask.Register (name_in field) (four_at 0 rest) (two_at 4
 -- the request of a kind with a handle alone
 handle_request : ℕ → ℕ → Request
 handle_request kind handle =
-    if kind == 0x16 then ask.Update handle else
+    if kind == 0x13 then ask.Unregister handle else
+    (if kind == 0x16 then ask.Update handle else
     (if kind == 0x17 then ask.Validate handle else
     (if kind == 0x18 then ask.Manage handle else
     (if kind == 0x1B then ask.Get handle else
-    (if kind == 0x1D then ask.Release handle else ask.GetStatus handle))))
+    (if kind == 0x1D then ask.Release handle else ask.GetStatus handle)))))
 
 -- the request that a body of a kind spells
 request_in : ℕ → List ℕ → Request
@@ -202,9 +217,13 @@ request_in kind body =
     (if kind == 0x03 then ask.Time (four_at 0 body) (two_at 4 body) else
     (if kind == 0x10 then ask.Start (name_in body) else
     (if kind == 0x11 then register_in (take 16 body) (drop 16 body) else
+    (if kind == 0x12 then ask.Share (name_in body) else
     (if kind == 0x14 then ask.LoadImage (two_at 0 body) (record { list = drop 2 body; spare = 0 }) else
     (if kind == 0x15 then ask.LoadFile (two_at 0 body) (name_in (drop 2 body)) else
-    (if kind == 0x1C then ask.Read (two_at 0 body) (four_at 2 body) (four_at 6 body) else handle_request kind (two_at 0 body))))))))
+    (if kind == 0x1C then ask.Read (two_at 0 body) (four_at 2 body) (four_at 6 body) else
+    (if kind == 0x1F then ask.GetInfo (name_in body) else
+    (if kind == 0x20 then ask.Notify (two_at 0 body) (two_at 2 body) (two_at 4 body) (four_at 6 body) else
+    (if kind == 0x21 then ask.Exit else handle_request kind (two_at 0 body))))))))))))
 
 register_again : (name : List ℕ) (size flags : ℕ) (validator : Option ℕ) → FitsField 16 name → size < 2 ^ 32 → flags < 2 ^ 16 → validator ≢ Some 255
     → register_in (name_field 16 name) (four size ++ two flags ++ validator_number validator ∷ []) ≡ ask.Register name size flags validator
@@ -228,6 +247,8 @@ request_again (ask.Register name size flags validator) built sized v =
     let front : take 16 (body_of (ask.Register name size flags validator)) ≡ field = ap (take 16) body ∙ take_at field rest 16 len in
     let back : drop 16 (body_of (ask.Register name size flags validator)) ≡ rest = ap (drop 16) body ∙ drop_at field rest 16 len in
     rw (front, back) (register_again name size flags validator sized.0 sized.1 sized.2 v)
+request_again (ask.Share name) built sized v = rw (name_in-name_field 40 name sized) refl
+request_again (ask.Unregister handle) built sized v = rw (from_be_bytes-to_be_bytes_2 handle sized) refl
 request_again (ask.LoadImage handle image) built sized v = rw (from_be_bytes-to_be_bytes_2 handle sized) refl
 request_again (ask.LoadFile handle name) built sized v = rw (from_be_bytes-to_be_bytes_2 handle sized.0, name_in-name_field 64 name sized.1) refl
 request_again (ask.Update handle) built sized v = rw (from_be_bytes-to_be_bytes_2 handle sized) refl
@@ -238,6 +259,10 @@ request_again (ask.Read handle offset len) built sized v =
     rw (from_be_bytes-to_be_bytes_2 handle sized.0, from_be_bytes-to_be_bytes_4 offset sized.1, from_be_bytes-to_be_bytes_4 len sized.2) refl
 request_again (ask.Release handle) built sized v = rw (from_be_bytes-to_be_bytes_2 handle sized) refl
 request_again (ask.GetStatus handle) built sized v = rw (from_be_bytes-to_be_bytes_2 handle sized) refl
+request_again (ask.GetInfo name) built sized v = rw (name_in-name_field 40 name sized) refl
+request_again (ask.Notify handle msg code parameter) built sized v =
+    rw (from_be_bytes-to_be_bytes_2 handle sized.0, from_be_bytes-to_be_bytes_2 msg sized.1, from_be_bytes-to_be_bytes_2 code sized.2, from_be_bytes-to_be_bytes_4 parameter sized.3) refl
+request_again ask.Exit built sized v = refl
 request_again request built sized v = absurd built
 
 no_validator_255 : (actor : Actor) (request : Request) → Fits actor request → HasNoValidator255 request

@@ -40,6 +40,8 @@ kinds =
     ∷ record { number = 0x03; from_ground = true; least = 6; most = 6; is_right = any_body }
     ∷ record { number = 0x10; from_ground = false; least = 20; most = 20; is_right = is_name_field }
     ∷ record { number = 0x11; from_ground = false; least = 23; most = 23; is_right = has_name 0 16 }
+    ∷ record { number = 0x12; from_ground = false; least = 40; most = 40; is_right = is_name_field }
+    ∷ handle_kind 0x13
     ∷ record { number = 0x14; from_ground = false; least = 2; most = body_limit; is_right = any_body }
     ∷ record { number = 0x15; from_ground = false; least = 66; most = 66; is_right = has_name_last }
     ∷ handle_kind 0x16
@@ -49,6 +51,9 @@ kinds =
     ∷ record { number = 0x1C; from_ground = false; least = 10; most = 10; is_right = any_body }
     ∷ handle_kind 0x1D
     ∷ handle_kind 0x1E
+    ∷ record { number = 0x1F; from_ground = false; least = 40; most = 40; is_right = is_name_field }
+    ∷ record { number = 0x20; from_ground = false; least = 10; most = 10; is_right = any_body }
+    ∷ record { number = 0x21; from_ground = false; least = 0; most = 0; is_right = any_body }
     ∷ []
 
 -- the ground has the number 0, the applications have 1 to 16

@@ -113,6 +113,8 @@ IsBuilt (ask.File name bytes) = Unit {0}
 IsBuilt (ask.Time seconds sub) = Unit {0}
 IsBuilt (ask.Start name) = Unit {0}
 IsBuilt (ask.Register name size flags validator) = Unit {0}
+IsBuilt (ask.Share name) = Unit {0}
+IsBuilt (ask.Unregister handle) = Unit {0}
 IsBuilt (ask.LoadImage handle image) = Unit {0}
 IsBuilt (ask.LoadFile handle name) = Unit {0}
 IsBuilt (ask.Update handle) = Unit {0}
@@ -122,6 +124,9 @@ IsBuilt (ask.Get handle) = Unit {0}
 IsBuilt (ask.Read handle offset len) = Unit {0}
 IsBuilt (ask.Release handle) = Unit {0}
 IsBuilt (ask.GetStatus handle) = Unit {0}
+IsBuilt (ask.GetInfo name) = Unit {0}
+IsBuilt (ask.Notify handle msg code parameter) = Unit {0}
+IsBuilt ask.Exit = Unit {0}
 IsBuilt _ = ⊥
 
 -- the name is no longer than its field, and has no zero byte
