@@ -1,5 +1,5 @@
 -- What each request does, by cases: it is refused, or it does what it asks. A law of all requests cites a case for each.
-use Rattle.std.proofs.Common.{◌≡◌, ◌≤◌, ℕ, ◌+◌, eqb, nat_lt, List, [], length, Bool, true, false, not, ◌&&◌, ◌||◌, cond, Option, Some, None, is_some, unwrap_or, Result, Ok, Err, refl, sym, subst, ◌⊎◌, inl, inr}
+use Rattle.std.proofs.Common.{◌≡◌, ◌≤◌, ℕ, ◌+◌, eqb, nat_lt, List, [], length, Bool, true, false, not, ◌&&◌, ◌||◌, cond, Option, Some, None, is_some, unwrap_or, Result, Ok, Err, refl, sym, subst, ◌⊎◌, inl, inr, ℤ}
 use Rattle.std.proofs.Common.{ℤ}
 use Rattle.std.specs.Option.{option_map, option_map_or}
 use Rattle.std.specs.Prelude.{◌-◌, slice_set}
@@ -226,10 +226,10 @@ module _ (s : State) (P : Effect → Type 0) (refusal : (e : Effect) → e.next 
   by_exit app done = by_name (name_of s app) _ (λ app_name. done)
 
   pub by_notify : (app m msg code parameter : ℕ)
-      → ((row : ℕ) (t : Table) → table_at s.tables row ≡ Some t → P (record (answered s SUCCESS 0) { next = record s { tables = set_notice row (record { msg = msg; code = code; parameter = parameter }) s.tables } }))
+      → ((row : ℕ) (t : Table) → table_at s.tables row ≡ Some t → is_notice msg code ≡ true → P (record (answered s SUCCESS 0) { next = record s { tables = set_notice row (record { msg = msg; code = code; parameter = parameter }) s.tables } }))
       → P (notify_effect s app m msg code parameter)
   unfolding notify_effect
-  by_notify app m msg code parameter done = by_its_table app m true _ (λ row t there. unless (not (is_notice msg code)) ERR_NOTICE_ID 0 _ refl (done row t there))
+  by_notify app m msg code parameter done = by_its_table app m true _ (λ row t there. unless_then (not (is_notice msg code)) ERR_NOTICE_ID 0 _ refl (λ is. done row t there (not-false (is_notice msg code) is)))
 
   pub by_info : (app : ℕ) (name : List ℕ) → ((t : Table) → P (record (answered s SUCCESS 0) { bytes = registry_record (registry_row t) })) → P (info_effect s app name)
   unfolding info_effect
@@ -400,7 +400,7 @@ module _ (s : State) (P : Effect → Type 0) (refusal : (e : Effect) → e.next 
   by_asked (Ok (validate select table)) refuses = by_validate s P refusal done.about select table done.pends done.at_once
   by_asked (Ok (activate table)) refuses = by_activate s P refusal done.about table done.asks
   by_asked (Ok (dump_registry file)) refuses = refusal _ refl refl refl
-  by_asked (Ok (send_registry table)) refuses = refusal _ refl refl refl
+  by_asked (Ok (send_registry table)) refuses = by_send_registry s P refusal done.about table done.shown
   by_asked (Ok (delete_cds table)) refuses = refusal _ refl refl refl
   by_asked (Ok (abort table)) refuses = by_abort s P refusal done.about table done.aborted
 

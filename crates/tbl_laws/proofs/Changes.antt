@@ -5,13 +5,14 @@ use Rattle.std.proofs.lemmas.Bool.{eqb-false, not-false}
 use Rattle.tbl_kinds.specs.Numbers.{patched}
 use Rattle.tbl_model.specs.State.{State, Table}
 use Rattle.tbl_model.specs.Tables.{table_at}
-use Rattle.tbl_model.specs.TableSteps.{base, unchecked, with_image, changed, put, patch, set_file, set_time, ask, close_load, activate, filled_with, last_image, load_image}
+use Rattle.tbl_model.specs.TableSteps.{base, unchecked, with_image, changed, put, patch, set_file, set_time, ask, close_load, activate, filled_with, last_image, load_image, set_notice}
 use Rattle.tbl_model.specs.Given.{Given, verdict_at}
 use Rattle.tbl_model.specs.Pending.{is_pair, is_pending, without_pair}
 use Rattle.tbl_model.specs.Refusals.{validation_refusal, activation_refusal, update_refusal}
 use Rattle.tbl_model.specs.Management.{Done, nothing_done, with_validation, then_validate, with_update, then_update, with_fill, then_fill, all_done, is_asked}
 use Rattle.tbl_model.proofs.RefusalLaws.{validation_taken, activation_taken, update_taken}
-use Rattle.tbl_laws.specs.Fit.{AreFit}
+use Rattle.tbl_laws.specs.Fit.{AreFit, HasCode}
+use Rattle.tbl_model.specs.declared.deeds.Notice.{Notice}
 use Rattle.tbl_laws.proofs.Rows.{same_rows, changed_row, put_row, time_row, then_row}
 use Rattle.tbl_laws.proofs.Pairs.{both_images, pending_more_other, pending_less_other, pending_gone, fewer}
 use Rattle.tbl_laws.proofs.Fits.{fit_on, fit_same, was, Becomes, kept, unseen, mark, handles_changed, handles_put, handles_time}
@@ -30,6 +31,14 @@ module _ (n : ℕ) (s : State) (fit : AreFit n s) (row : ℕ) (t : Table) (there
   told m change low handle owner validator notice count load activation =
       unseen n s fit row t there m (changed row change s.tables) (change t) low (changes change handle owner validator notice)
       (omega (arith, count)) (let few = (was n s fit row t there).few in omega (arith, count)) load activation
+
+  -- the owner's notice is another one
+  pub noticed : (m : ℕ) (notice : Notice) → n ≤ m → HasCode notice → AreFit m (record s { tables = set_notice row notice s.tables })
+  noticed m notice low coded =
+      let change : Table → Table = λ u. record u { notice = Some notice } in
+      unseen n s fit row t there m (set_notice row notice s.tables) (change t) low
+      (record { changes = changed_row s.tables row change t there; handles = handles_changed s.tables row change; handle = refl; owner = refl; validator = refl; notice = coded })
+      (omega arith) (let few = (was n s fit row t there).few in omega arith) refl refl
 
   -- a new image becomes the last one, at a time
   image_at : (image : List ℕ) (seconds sub : ℕ) → Becomes n s fit row t there (set_time row seconds sub (put row image s.tables)) (record (with_image s.tables.handles row image t) { seconds = seconds; sub = sub })

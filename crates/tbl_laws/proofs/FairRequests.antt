@@ -1,5 +1,5 @@
 -- Each request is fair to pins.
-use Rattle.std.proofs.Common.{◌≡◌, ◌≢◌, ℕ, eqb, nat_lt, List, [], ◌∷◌, length, Bool, true, false, not, ◌&&◌, ◌||◌, cond, Option, Some, None, is_some, refl, ap, sym, ◌∙◌, arith}
+use Rattle.std.proofs.Common.{◌≡◌, ◌≢◌, ℕ, eqb, nat_lt, List, [], ◌∷◌, length, Bool, true, false, not, ◌&&◌, ◌||◌, cond, Option, Some, None, is_some, refl, ap, sym, ◌∙◌, arith, ℤ, pos}
 use Rattle.std.proofs.Common.{ℤ, pos}
 use Rattle.std.specs.List.{fold, range_with_len}
 use Rattle.std.specs.Option.{option_map_or}
@@ -9,7 +9,7 @@ use Rattle.tbl_kinds.specs.Drawer.{is_full_for}
 use Rattle.tbl_kinds.specs.TableFiles.{TableFile}
 use Rattle.tbl_model.specs.State.{State, Load, Table, Handle, Tables, Dump, quiet, asked, filled}
 use Rattle.tbl_model.specs.Tables.{table_at, is_quiet}
-use Rattle.tbl_model.specs.TableSteps.{is_checked, locker, handle_at, last_image, put, set_time, set_file, filled_with, end_dump, new_table}
+use Rattle.tbl_model.specs.TableSteps.{is_checked, locker, handle_at, last_image, put, set_time, set_file, filled_with, end_dump, new_table, new_handle}
 use Rattle.tbl_model.specs.Effects.{Effect, answered}
 use Rattle.tbl_model.specs.Given.{Given, verdict_at}
 use Rattle.tbl_model.specs.Deeds.{is_good}
@@ -36,10 +36,10 @@ use Rattle.tbl_laws.proofs.Fits.{was}
 use Rattle.tbl_laws.proofs.Changes.{with_found, either, validated}
 use Rattle.tbl_laws.proofs.GivingUp.{fewer_handles, given_up, left, no_handle, owned_by_others}
 use Rattle.tbl_laws.proofs.Ordinary.{free_place}
-use Rattle.tbl_laws.proofs.Pins.{AreLoaded, Keeps, stays_keeps, unpinned_set, release_keeps, add_keeps, put_keeps, unseen_keeps, then_keeps, file_keeps, close_keeps, mark_keeps, patched_sized}
+use Rattle.tbl_laws.proofs.Pins.{AreLoaded, Keeps, stays_keeps, unpinned_set, release_keeps, add_keeps, put_keeps, unseen_keeps, then_keeps, file_keeps, close_keeps, mark_keeps, patched_sized, stays_goes_on}
 use Rattle.tbl_laws.proofs.PinsKept.{update_keeps, give_up_keeps, leave_keeps}
 use Rattle.tbl_laws.proofs.Fair.{IsPlain, Fair, fair_keeps, fair_plain, fair_refused, pin_fair, back_fair, granted}
-use Rattle.tbl_laws.proofs.Cases.{OfEffect, Commands, by_command, by_file, by_start, by_register, by_load_image, by_load_file, by_app_validate, by_update, by_manage, by_get_status, by_get, by_read, by_release}
+use Rattle.tbl_laws.proofs.Cases.{OfEffect, Commands, by_command, by_file, by_start, by_register, by_load_image, by_load_file, by_app_validate, by_update, by_manage, by_get_status, by_get, by_read, by_release, by_share, by_unregister, by_info, by_notify, by_exit}
 
 -- a load that is about to go active is open
 pub open_checked : (t : Table) → is_checked t ≡ true → is_some t.load ≡ true
@@ -228,6 +228,14 @@ module _ (s : State) (n : ℕ) (fit : AreFit n s) where
       let plain = plain_of request (λ k. refl) (λ k. refl) (λ k. refl) refl refl in
       by_register s (Fair s (App app) request) (refuses app request plain) app short size flags validator (λ name row handle may free_row free_handle.
       keeps app request plain _ (add_keeps s.tables row handle app (new_table name app size flags validator handle) (free_place s.tables.rows row free_row).1 refl refl refl) refl)
+  request_fair loaded (App app) (ask.Share name) given =
+      let request : Request = ask.Share name in
+      let plain = plain_of request (λ k. refl) (λ k. refl) (λ k. refl) refl refl in
+      by_share s (Fair s (App app) request) (refuses app request plain) app name (λ row handle free. keeps app request plain _ (record {
+        remains = λ k h p at pin. record { was = (unpinned_set s.tables.handles handle (new_handle app row) k h p refl at pin).1; goes_on = λ j t of there near. stays_goes_on s.tables.rows j p t there near };
+        loaded = λ all. all;
+      }) refl)
+  request_fair loaded (App app) (ask.Unregister m) given = by_unregister s (Fair s (App app) (ask.Unregister m)) (fair_refused s (App app) (ask.Unregister m) refl) app m (λ h place own. unregistered app m h place)
   request_fair loaded (App app) (ask.LoadImage handle image) given =
       let request : Request = ask.LoadImage handle image in
       let plain = plain_of request (λ k. refl) (λ k. refl) (λ k. refl) refl refl in
@@ -265,4 +273,13 @@ module _ (s : State) (n : ℕ) (fit : AreFit n s) where
       let request : Request = ask.GetStatus handle in
       let plain = plain_of request (λ k. refl) (λ k. refl) (λ k. refl) refl refl in
       by_get_status s (Fair s (App app) request) (refuses app request plain) app handle (λ row t. quiet_fair app request plain _ refl (status_goes_on s.pending row t))
+  request_fair loaded (App app) (ask.GetInfo name) given =
+      let request : Request = ask.GetInfo name in
+      let plain = plain_of request (λ k. refl) (λ k. refl) (λ k. refl) refl refl in
+      by_info s (Fair s (App app) request) (refuses app request plain) app name (λ t. quiet_fair app request plain _ refl refl)
+  request_fair loaded (App app) (ask.Notify handle msg code parameter) given =
+      let request : Request = ask.Notify handle msg code parameter in
+      let plain = plain_of request (λ k. refl) (λ k. refl) (λ k. refl) refl refl in
+      by_notify s (Fair s (App app) request) (refuses app request plain) app handle msg code parameter (λ row t there is. keeps app request plain _ (unseen_keeps s.tables row (λ u. record u { notice = Some (record { msg = msg; code = code; parameter = parameter }) }) (λ u. refl) (λ u. refl)) refl)
+  request_fair loaded (App app) ask.Exit given = by_exit s (Fair s (App app) ask.Exit) (fair_refused s (App app) ask.Exit refl) app (ended app)
   request_fair loaded (App app) _ given = tt

@@ -1,5 +1,5 @@
 -- Each request is honest about marks and about images that go active.
-use Rattle.std.proofs.Common.{◌≡◌, ℕ, suc, zero, ◌+◌, List, [], ◌∷◌, ◌++◌, length, Bool, true, false, not, cond, Option, Some, None, is_some, refl, ap, sym, ◌∙◌, subst, inl, inr, ◌⊎◌, arith, length-append}
+use Rattle.std.proofs.Common.{◌≡◌, ℕ, suc, zero, ◌+◌, List, [], ◌∷◌, ◌++◌, length, Bool, true, false, not, cond, Option, Some, None, is_some, refl, ap, sym, ◌∙◌, subst, inl, inr, ◌⊎◌, arith, length-append, ℤ, pos}
 use Rattle.std.proofs.Common.{ℤ, pos}
 use Rattle.std.specs.Prelude.{slice_index_or, slice_set, option_and_then}
 use Rattle.std.specs.List.{fold, range_with_len}
@@ -39,7 +39,7 @@ use Rattle.tbl_laws.proofs.Fits.{was}
 use Rattle.tbl_laws.proofs.Changes.{with_found, either, validated}
 use Rattle.tbl_laws.proofs.Ordinary.{free_place}
 use Rattle.tbl_laws.proofs.Honest.{TellsIn, PassesIn, NoneActive, none_active_nil, none_active_one, none_active_more, slice_get_more, passes_more, last_tells, Inherits, inherits_same, then_inherits, inherits_row, inherits_none, IsHonest, honest_plain}
-use Rattle.tbl_laws.proofs.Cases.{OfEffect, Commands, by_command, by_file, by_start, by_register, by_load_image, by_load_file, by_app_validate, by_update, by_manage, by_get_status, by_get, by_read, by_release}
+use Rattle.tbl_laws.proofs.Cases.{OfEffect, Commands, by_command, by_file, by_start, by_register, by_load_image, by_load_file, by_app_validate, by_update, by_manage, by_get_status, by_get, by_read, by_release, by_share, by_unregister, by_info, by_notify, by_exit}
 
 -- ---- changes that make no mark
 
@@ -416,6 +416,8 @@ module _ (s : State) (n : ℕ) (fit : AreFit n s) where
   honest (App app) (ask.Register short size flags validator) given = by_register s (IsHonest s) refused app short size flags validator (λ name row handle may free_row free_handle.
       let u : Table = new_table name app size flags validator handle in
       plain _ refl (inherits_none s.tables (with_handle handle (new_handle app row) (with_table row u s.tables)) row (Some u) (record { here = get_or-set_same s.tables.rows row (Some u) None (free_place s.tables.rows row free_row).0; others = λ k other. get_or-set_other s.tables.rows row k (Some u) None other }) (λ v is. ap (λ (x : Table). x.load) (sym (same_Some u v is)))))
+  honest (App app) (ask.Share name) given = by_share s (IsHonest s) refused app name (λ row handle free. same_rows_of _ refl refl)
+  honest (App app) (ask.Unregister m) given = by_unregister s (IsHonest s) refused app m (λ h place own. plain _ refl (inherits_given_up m s))
   honest (App app) (ask.LoadImage handle image) given = by_load_image s (IsHonest s) refused given (λ row t bytes number verdict there is one bad. judged_badly row bytes number verdict (answered s ERR_VALIDATION_FAILED (verdict_bits verdict)) refl refl) app handle image.list
       (λ row t there none no_function. loaded_image row t image.list there no_function) (λ row t number verdict there none is one good. judged_active s row t image.list verdict _ good refl refl (inherits_imaged s.tables row image.list s.seconds s.sub))
   honest (App app) (ask.LoadFile handle name) given = by_load_file s (IsHonest s) refused given (λ row t bytes number verdict there is one bad. judged_badly row bytes number verdict (answered s ERR_VALIDATION_FAILED (verdict_bits verdict)) refl refl) app handle name
@@ -428,4 +430,7 @@ module _ (s : State) (n : ℕ) (fit : AreFit n s) where
   honest (App app) (ask.Read handle offset len) given = by_read s (IsHonest s) refused app handle offset len (λ a leads pinned inside. same_tables _ refl refl)
   honest (App app) (ask.Release handle) given = by_release s (IsHonest s) refused app handle (λ a leads pinned. rw pinned (plain _ refl (inherits_released s.tables handle a.handle a.row a.table leads.there)))
   honest (App app) (ask.GetStatus handle) given = by_get_status s (IsHonest s) refused app handle (λ row t. same_tables _ refl refl)
+  honest (App app) (ask.GetInfo name) given = by_info s (IsHonest s) refused app name (λ t. same_tables _ refl refl)
+  honest (App app) (ask.Notify handle msg code parameter) given = by_notify s (IsHonest s) refused app handle msg code parameter (λ row t there is. plain _ refl (inherits_unseen s.tables row (λ u. record u { notice = Some (record { msg = msg; code = code; parameter = parameter }) }) (λ u. refl) (λ u. refl)))
+  honest (App app) ask.Exit given = by_exit s (IsHonest s) refused app (plain _ refl (inherits_without app s))
   honest (App app) _ given = tt

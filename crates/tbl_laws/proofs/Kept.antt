@@ -30,7 +30,7 @@ use Rattle.tbl_model.proofs.RefusalLaws.{is_refusal}
 use Rattle.tbl_laws.proofs.Changes.{with_found, either}
 use Rattle.tbl_laws.proofs.Rows.{OneRow, changed_row}
 use Rattle.tbl_laws.proofs.Honest.{TellsIn, slice_get_more, get_before, last_tells}
-use Rattle.tbl_laws.proofs.Cases.{OfEffect, Commands, by_command, by_file, by_start, by_register, by_load_image, by_load_file, by_app_validate, by_update, by_manage, by_get_status, by_get, by_read, by_release}
+use Rattle.tbl_laws.proofs.Cases.{OfEffect, Commands, by_command, by_file, by_start, by_register, by_share, by_unregister, by_load_image, by_load_file, by_app_validate, by_update, by_manage, by_get_status, by_get, by_read, by_release, by_info, by_notify, by_exit}
 
 -- the verdict is the answer to a question about this image, for the function of this number
 pub record WasAsked (questions : List Question) (given : Given) (number : ℕ) (image : List ℕ) (v : ℤ) : Type 0 where
@@ -242,6 +242,8 @@ module _ (s : State) (given : Given) where
   kept Ground _ = tt
   kept (App app) (ask.Start name) = by_start s (IsKept s given) refused app name (nothing_told)
   kept (App app) (ask.Register short size flags validator) = by_register s (IsKept s given) refused app short size flags validator (λ name row handle may free_row free_handle. nothing_told)
+  kept (App app) (ask.Share name) = by_share s (IsKept s given) refused app name (λ row handle free. nothing_told)
+  kept (App app) (ask.Unregister handle) = by_unregister s (IsKept s given) refused app handle (λ h place own. nothing_told)
   kept (App app) (ask.LoadImage handle image) = by_load_image s (IsKept s given) refused given (λ row t bytes number verdict there is one bad. judged_badly row t bytes number verdict (answered s ERR_VALIDATION_FAILED (verdict_bits verdict)) there is one refl) app handle image.list
       (λ row t there none no_function. one_told s given (activated row t) (Some image.list ∷ []) [] (λ r. refl)) (λ row t number verdict there none is one good. judged_well row t image.list number verdict (activate_effect s row t image.list) there is one refl)
   kept (App app) (ask.LoadFile handle name) = by_load_file s (IsKept s given) refused given (λ row t bytes number verdict there is one bad. judged_badly row t bytes number verdict (answered s ERR_VALIDATION_FAILED (verdict_bits verdict)) there is one refl) app handle name
@@ -253,4 +255,7 @@ module _ (s : State) (given : Given) where
   kept (App app) (ask.Read handle offset len) = by_read s (IsKept s given) refused app handle offset len (λ a leads pinned inside. nothing_told)
   kept (App app) (ask.Release handle) = by_release s (IsKept s given) refused app handle (λ a leads pinned. nothing_told)
   kept (App app) (ask.GetStatus handle) = by_get_status s (IsKept s given) refused app handle (λ row t. nothing_told)
+  kept (App app) (ask.GetInfo name) = by_info s (IsKept s given) refused app name (λ t. nothing_told)
+  kept (App app) (ask.Notify handle msg code parameter) = by_notify s (IsKept s given) refused app handle msg code parameter (λ row t there is. nothing_told)
+  kept (App app) ask.Exit = by_exit s (IsKept s given) refused app nothing_told
   kept (App app) _ = tt

@@ -1,5 +1,6 @@
 -- What each request leaves: the service goes on, and what holds of its tables and of pending validations still does.
-use Rattle.std.proofs.Common.{◌≡◌, ℕ, suc, ◌<◌, List, [], ◌∷◌, length, Bool, true, false, Option, Some, None, is_none, refl, sym, ap, ◌∙◌, subst, arith, cond, replicate}
+use Rattle.std.proofs.lemmas.Bool.Decides.{nat_tests}
+use Rattle.std.proofs.Common.{◌≡◌, ℕ, suc, ◌<◌, List, [], ◌∷◌, length, Bool, true, false, Option, Some, None, is_none, refl, sym, ap, ◌∙◌, subst, arith, cond, replicate, pos}
 use Rattle.std.specs.Prelude.{slice_index_or, slice_set, slice_get, option_and_then, IfSome}
 use Rattle.std.specs.List.{fold}
 use Rattle.std.specs.Option.{option_map_or}
@@ -21,12 +22,13 @@ use Rattle.tbl_model.specs.Validations.{first_pending}
 use Rattle.tbl_model.specs.Dumps.{Ended, end_by, then_end, is_filled, dumps_ended, housekeeping_effect}
 use Rattle.tbl_model.specs.Dispatch.{effect_of}
 use Rattle.tbl_model.proofs.RefusalLaws.{is_refusal, load_taken, validation_taken, update_taken, plan_taken}
+use Rattle.tbl_model.specs.Sharing.{is_notice}
 use Rattle.tbl_laws.specs.Fit.{FitAt, AreFit}
 use Rattle.tbl_laws.proofs.Rows.{nothing_at, set_row}
 use Rattle.tbl_laws.proofs.Fits.{fit_on, fit_same, was, unseen, mark}
-use Rattle.tbl_laws.proofs.Changes.{grown, told, imaged, imaged_from, loads, pends, asks, aborts, updates, managed, goes_on}
-use Rattle.tbl_laws.proofs.GivingUp.{kept_with}
-use Rattle.tbl_laws.proofs.Cases.{OfEffect, Leads, Commands, by_command, by_file, by_start, by_register, by_load_image, by_load_file, by_app_validate, by_update, by_manage, by_get_status, by_get, by_read, by_release}
+use Rattle.tbl_laws.proofs.Changes.{grown, told, imaged, imaged_from, loads, pends, asks, aborts, updates, managed, goes_on, noticed}
+use Rattle.tbl_laws.proofs.GivingUp.{kept_with, given_up, fewer_handles, exited, still_live}
+use Rattle.tbl_laws.proofs.Cases.{OfEffect, Leads, Commands, by_command, by_file, by_start, by_register, by_load_image, by_load_file, by_app_validate, by_update, by_manage, by_get_status, by_get, by_read, by_release, by_share, by_unregister, by_info, by_notify, by_exit}
 use Rattle.tbl_kinds.specs.declared.request.Actor.{Actor}
 use Rattle.tbl_kinds.specs.declared.request.Actor.TheVariants.{Ground, App}
 use Rattle.tbl_kinds.specs.declared.request.Request.{Request}
@@ -60,6 +62,10 @@ usable kit app (Some number) may = by (slice_get kit number) refl may where
   by None at is = absurd (cc is)
   by (Some None) at is = absurd (cc is)
   by (Some (Some owner)) at is = get_or_from_slice_get kit number (Some owner) None at ∙ ap (λ (k : ℕ). Some k) (eqb-true owner app is)
+
+-- the function code of a notice that may be set has seven bits
+seven_bits : (msg code : ℕ) → is_notice msg code ≡ true → code < 128
+seven_bits msg code is = grind (arith, nat_tests)
 
 -- what is done first is pending
 pub pending_first : (pending : List (ℕ × Bool)) (row : ℕ) (active : Bool) → first_pending pending row ≡ Some active → is_pending row active pending ≡ true
@@ -184,6 +190,11 @@ module _ (s : State) (n : ℕ) (live : s.ended ≡ false) (fit : AreFit n s) whe
     fit = new_row full row handle app size flags validator free_row free_handle (plan_taken s.kit app name size flags validator plan).may;
     live = live;
   })
+  ordinary (App app) (ask.Share name) given = by_share s (IsOrdinary n) refused app name (λ row handle free. record {
+    fit = grown n _ (with_this_handle handle (new_handle app row) (λ g at. absurd (cc (at, (free_place s.tables.handles handle free).1))));
+    live = live;
+  })
+  ordinary (App app) (ask.Unregister handle) given = by_unregister s (IsOrdinary n) refused app handle (λ h place own. record { fit = grown n _ (given_up n handle s fit); live = (fewer_handles s handle).ended ∙ live })
   ordinary (App app) (ask.LoadImage handle image) given = by_load_image s (IsOrdinary n) refused given (λ row t bytes number verdict there is one bad. record { fit = grown n s fit; live = live }) app handle image.list
       (λ row t there none plain. record { fit = imaged n s fit row t there image.list s.seconds s.sub; live = live }) (λ row t number verdict there none is one good. record { fit = imaged n s fit row t there image.list s.seconds s.sub; live = live })
   ordinary (App app) (ask.LoadFile handle name) given = by_load_file s (IsOrdinary n) refused given (λ row t bytes number verdict there is one bad. record { fit = grown n s fit; live = live }) app handle name
@@ -204,4 +215,10 @@ module _ (s : State) (n : ℕ) (live : s.ended ≡ false) (fit : AreFit n s) whe
     live = live;
   }))
   ordinary (App app) (ask.GetStatus handle) given = by_get_status s (IsOrdinary n) refused app handle (λ row t. same _ refl)
+  ordinary (App app) (ask.GetInfo name) given = by_info s (IsOrdinary n) refused app name (λ t. same _ refl)
+  ordinary (App app) (ask.Notify handle msg code parameter) given = by_notify s (IsOrdinary n) refused app handle msg code parameter (λ row t there is. record {
+    fit = noticed n s fit row t there (suc n) (record { msg = msg; code = code; parameter = parameter }) (omega arith) (seven_bits msg code is);
+    live = live;
+  })
+  ordinary (App app) ask.Exit given = by_exit s (IsOrdinary n) refused app (record { fit = grown n _ (exited app n s fit); live = still_live app n s fit ∙ live })
   ordinary (App app) request given = tt

@@ -5,6 +5,7 @@ use Rattle.tbl_model.specs.Effects.{Effect, answered}
 use Rattle.tbl_model.specs.GroundLoads.{load_effect}
 use Rattle.tbl_model.specs.Validations.{validate_effect}
 use Rattle.tbl_model.specs.Activations.{activate_command_effect, abort_effect}
+use Rattle.tbl_model.specs.Sharing.{send_registry_effect}
 use Rattle.tbl_kinds.specs.GroundCommands.{GroundCommand, housekeeping, noop, reset_counters, load, dump, validate, activate, dump_registry, send_registry, abort, code_of, command_in}
 use Rattle.tbl_model.specs.declared.deeds.Shown.TheVariants.{Housekeeping}
 use Rattle.tbl_kinds.specs.declared.entry.Answer.{Answer}
@@ -55,6 +56,7 @@ effect_by s (Ok reset_counters) = answered s SUCCESS 0
 effect_by s (Ok (load file)) = load_effect s file
 effect_by s (Ok (validate select table)) = validate_effect s select table
 effect_by s (Ok (activate table)) = activate_command_effect s table
+effect_by s (Ok (send_registry table)) = send_registry_effect s table
 effect_by s (Ok (abort table)) = abort_effect s table
 effect_by s (Ok command) = answered s ERR_BAD_CODE (code_of command)
 

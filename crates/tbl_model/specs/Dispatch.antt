@@ -11,6 +11,7 @@ use Rattle.tbl_model.specs.Addresses.{get_effect, read_effect, release_effect}
 use Rattle.tbl_model.specs.Validations.{app_validate_effect}
 use Rattle.tbl_model.specs.Activations.{update_effect}
 use Rattle.tbl_model.specs.Management.{manage_effect, get_status_effect}
+use Rattle.tbl_model.specs.Sharing.{share_effect, unregister_effect, exit_effect, notify_effect, info_effect}
 use Rattle.tbl_kinds.specs.declared.request.Actor.{Actor}
 use Rattle.tbl_kinds.specs.declared.request.Actor.TheVariants.{Ground, App}
 use Rattle.tbl_kinds.specs.declared.request.Request.{Request}
@@ -28,8 +29,8 @@ ground_effect s _ given = None
 abbrev pub app_effect : State → ℕ → Request → Given → Option Effect
 app_effect s app (ask.Start name) given = Some (start_effect s app name)
 app_effect s app (ask.Register name size flags validator) given = Some (register_effect s app name size flags validator)
-app_effect s app (ask.Share name) given = None
-app_effect s app (ask.Unregister handle) given = None
+app_effect s app (ask.Share name) given = Some (share_effect s app name)
+app_effect s app (ask.Unregister handle) given = Some (unregister_effect s app handle)
 app_effect s app (ask.LoadImage handle image) given = Some (load_image_effect s app handle image.list given)
 app_effect s app (ask.LoadFile handle name) given = Some (app_file_effect s app handle name given)
 app_effect s app (ask.Update handle) given = Some (update_effect s app handle)
@@ -41,9 +42,9 @@ app_effect s app (ask.Get handle) given = Some (get_effect s app handle)
 app_effect s app (ask.Read handle offset len) given = Some (read_effect s app handle offset len)
 app_effect s app (ask.Release handle) given = Some (release_effect s app handle)
 app_effect s app (ask.GetStatus handle) given = Some (get_status_effect s app handle)
-app_effect s app (ask.GetInfo name) given = None
-app_effect s app (ask.Notify handle msg code parameter) given = None
-app_effect s app ask.Exit given = None
+app_effect s app (ask.GetInfo name) given = Some (info_effect s app name)
+app_effect s app (ask.Notify handle msg code parameter) given = Some (notify_effect s app handle msg code parameter)
+app_effect s app ask.Exit given = Some (exit_effect s app)
 app_effect s app (ask.CdsRegister name size) given = None
 app_effect s app (ask.CdsCopy slot image) given = None
 app_effect s app (ask.CdsRestore slot) given = None
