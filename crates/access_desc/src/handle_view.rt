@@ -16,7 +16,7 @@ pub struct HandleView {
 }
 
 impl HandleView {
-    ghost use Rattle.access_desc.specs.Steps.{is_of, pins, pins_old, after_new_image, after_end};
+    ghost use Rattle.access_desc.specs.Steps.{is_of, pins, pins_old, with_pin, with_no_pin, with_told, after_new_image, after_end};
 
     /// Whether it is a handle of the table in this row.
     fn is_of(&self, row: u8) -> bool
@@ -37,6 +37,38 @@ impl HandleView {
         ensures { result ≡ pins_old row self.now }
     {
         self.pins(row) && self.old
+    }
+
+    /// What it is once it pins the last image of its table.
+    pub(crate) fn with_pin(&self) -> HandleView
+        ensures { result ≡ with_pin self.now }
+    {
+        HandleView {
+            pinned: true,
+            old: false,
+            ..*self
+        }
+    }
+
+    /// What it is once it pins nothing.
+    pub(crate) fn with_no_pin(&self) -> HandleView
+        ensures { result ≡ with_no_pin self.now }
+    {
+        HandleView {
+            pinned: false,
+            old: false,
+            ..*self
+        }
+    }
+
+    /// What it is once it was told of this many images.
+    pub(crate) fn with_told(&self, count: u32) -> HandleView
+        ensures { result ≡ with_told count self.now }
+    {
+        HandleView {
+            told: count,
+            ..*self
+        }
     }
 
     /// What it is after a new image of the table in this row.

@@ -1,8 +1,10 @@
 ghost use Rattle.std.specs.Prelude.{◌≡◌, ◌^◌, ◌<◌, ◌↔◌, None, Some, is_some, is_none, IsSome, IsNone, IfOk, IfSome, IfNone, OnSome, map, position, count_by, length, replicate, slice_set};
 ghost use Rattle.std.specs.Option.{option_map};
+ghost use Rattle.access_desc.specs.Counts.{AreCounted};
 ghost use Rattle.access_desc.specs.Steps.{at_place, changed_at, has, new_handle, pins, pins_old, with_pin, with_no_pin, with_told, after_new_image, after_end};
 
 use crate::handle_view::HandleView;
+use crate::pins::{no_pins, put};
 use std::alloc::{AllocError, Global};
 use std::marker::Model;
 use tbl_kinds::Memory;
@@ -14,17 +16,20 @@ const PLACES: usize = 256;
 #[derive(Debug, Drop)]
 pub struct Handles {
     places: Vec<Option<HandleView>>,
+    /// How many of the handles pin an image of the table in each row.
+    pins: Vec<u16>,
 }
 
 impl Model for Handles {
-    ghost use Rattle.std.specs.Prelude.{◌≡◌, List, Option, length};
+    ghost use Rattle.std.specs.Prelude.{List, Option};
     ghost use Rattle.access_desc.specs.declared.handle_view.HandleView.{HandleView};
+    ghost use Rattle.access_desc.specs.Counts.{AreCounted};
 
     ghost Value = { List (Option HandleView) };
 
     ghost view = { λ h. h.places.items };
 
-    ghost invariant = { λ h. length h.places.items ≡ 256 };
+    ghost invariant = { λ h. AreCounted h.places.items h.pins.items };
 }
 
 /// The first place that is free.
@@ -96,6 +101,27 @@ fn end_table(places: &mut [Option<HandleView>], row: u8)
     }
 }
 
+/// Tells the handles of a row that its table has a new image, where any of them pins one.
+fn move_row(places: &mut [Option<HandleView>], counts: &[u16], row: u8)
+    requires { AreCounted places.old counts.now }
+    ensures places { places.new ≡ map (option_map (after_new_image row)) places.old }
+    ensures counted { AreCounted places.new counts.now }
+{
+    if counts[row as usize] > 0 {
+        move_pins(places, row);
+    }
+}
+
+/// Takes their table and their pin from the handles of a row, of which none is counted any more.
+fn end_row(places: &mut [Option<HandleView>], counts: &mut [u16], row: u8)
+    requires { AreCounted places.old counts.old }
+    ensures places { places.new ≡ map (option_map (after_end row)) places.old }
+    ensures counted { AreCounted places.new counts.new }
+{
+    end_table(places, row);
+    counts[row as usize] = 0;
+}
+
 /// Frees every place.
 fn free_all(places: &mut [Option<HandleView>])
     requires { length places.old ≡ 256 }
@@ -120,6 +146,7 @@ impl Handles {
     {
         Ok(Handles {
             places: free_places(alloc)?,
+            pins: no_pins(alloc)?,
         })
     }
 
@@ -133,13 +160,14 @@ impl Handles {
         ensures full { IfNone result (self.new ≡ self.old) }
     {
         let free = first_free(&self.places)?;
-        self.places[free] = Some(HandleView {
+        let handle = HandleView {
             app,
             row: Some(row),
             pinned: false,
             old: false,
             told: 0,
-        });
+        };
+        put(&mut self.places, &mut self.pins, free, Some(handle));
         Some(free as u16)
     }
 
@@ -148,6 +176,7 @@ impl Handles {
         ensures { self.new ≡ replicate 256 None }
     {
         free_all(&mut self.places);
+        self.pins.fill(0);
     }
 
     /// Frees the number of a handle.
@@ -155,14 +184,14 @@ impl Handles {
         requires { IsSome (at_place self.old handle) }
         ensures { self.new ≡ slice_set self.old handle None }
     {
-        self.places[handle as usize] = None;
+        put(&mut self.places, &mut self.pins, handle as usize, None);
     }
 
     /// Each handle of a row loses its table and its pin.
     pub fn orphan(&mut self, row: u8)
         ensures { self.new ≡ map (option_map (after_end row)) self.old }
     {
-        end_table(&mut self.places, row);
+        end_row(&mut self.places, &mut self.pins, row);
     }
 
     /// From now on the handle pins the last image of its table.
@@ -170,10 +199,8 @@ impl Handles {
         requires { IsSome (at_place self.old handle) }
         ensures { self.new ≡ changed_at with_pin self.old handle }
     {
-        if let Some(entry) = &mut self.places[handle as usize] {
-            entry.pinned = true;
-            entry.old = false;
-        }
+        let place = self.places[handle as usize].map(|entry| entry.with_pin());
+        put(&mut self.places, &mut self.pins, handle as usize, place);
     }
 
     /// From now on the handle pins nothing.
@@ -181,10 +208,8 @@ impl Handles {
         requires { IsSome (at_place self.old handle) }
         ensures { self.new ≡ changed_at with_no_pin self.old handle }
     {
-        if let Some(entry) = &mut self.places[handle as usize] {
-            entry.pinned = false;
-            entry.old = false;
-        }
+        let place = self.places[handle as usize].map(|entry| entry.with_no_pin());
+        put(&mut self.places, &mut self.pins, handle as usize, place);
     }
 
     /// The handle was told of this many images.
@@ -192,16 +217,22 @@ impl Handles {
         requires { IsSome (at_place self.old handle) }
         ensures { self.new ≡ changed_at (with_told count) self.old handle }
     {
-        if let Some(entry) = &mut self.places[handle as usize] {
-            entry.told = count;
-        }
+        let place = self.places[handle as usize].map(|entry| entry.with_told(count));
+        put(&mut self.places, &mut self.pins, handle as usize, place);
+    }
+
+    /// How many handles pin an image of this row's table.
+    fn pin_count(&self, row: u8) -> u16
+        ensures { result ≡ count_by (has (pins row)) self.now }
+    {
+        self.pins[row as usize]
     }
 
     /// The table of a row has a new image: each pin of one of its images is from now on of the image before.
     pub fn moved(&mut self, row: u8)
         ensures { self.new ≡ map (option_map (after_new_image row)) self.old }
     {
-        move_pins(&mut self.places, row);
+        move_row(&mut self.places, &self.pins, row);
     }
 
     /// The least handle that pins an image of this row's table.
@@ -209,6 +240,9 @@ impl Handles {
         ensures least { result ≡ position (has (pins row)) self.now }
         ensures within { IfSome result (λ n. n < 256) }
     {
+        if self.pin_count(row) == 0 {
+            return None;
+        }
         number(first_pin(&self.places, row))
     }
 
@@ -217,7 +251,17 @@ impl Handles {
         ensures least { result ≡ position (has (pins_old row)) self.now }
         ensures within { IfSome result (λ n. n < 256) }
     {
+        if self.pin_count(row) == 0 {
+            return None;
+        }
         number(first_old_pin(&self.places, row))
+    }
+
+    /// How many handles there can be.
+    pub fn limit(&self) -> u16
+        ensures { result ≡ length self.now }
+    {
+        self.places.len() as u16
     }
 
     /// What a handle stands for, None where no such handle is given.

@@ -3,6 +3,7 @@
 
 mod handle_view;
 mod handles;
+mod pins;
 
 pub use handle_view::HandleView;
 pub use handles::Handles;

@@ -15,6 +15,7 @@ fn unpin(rt: &impl Abort, handles: &mut Handles, handle: u16) {
 #[test]
 fn least_free_number(rt: HostRuntime) -> Result<(), Fail> {
     let mut handles = Handles::make(rt.alloc())?;
+    assert_eq!(rt; handles.limit(), 256);
     for n in 0..256 {
         assert_eq!(rt; handles.add(1, 0), Some(n));
     }

@@ -1,4 +1,4 @@
-ghost use Rattle.std.specs.Prelude.{◌≡◌, ◌<◌, ◌+◌, ◌-◌, ◌≤◌, ◌^◌, ℕ, List, [], true, false, None, Some, IsSome, IfSome, length, unwrap_or, bit_and, if◌then◌else◌};
+ghost use Rattle.std.specs.Prelude.{◌≡◌, ◌<◌, ◌+◌, ◌-◌, ◌≤◌, ◌^◌, ℕ, List, [], true, false, None, Some, IsSome, IfSome, is_some, length, unwrap_or, bit_and, if◌then◌else◌};
 ghost use Rattle.std.specs.Option.{option_map, option_copied};
 ghost use Rattle.std.specs.Borrow.{Bor};
 ghost use Rattle.std.specs.Str.{bytes_eq};
@@ -310,6 +310,13 @@ impl Row {
     {
         self.buffers.put(image);
         self.count += 1;
+    }
+
+    /// Whether it has an image before the last.
+    pub(crate) fn has_before(&self) -> bool
+        ensures { result ≡ is_some self.now.before }
+    {
+        self.buffers.before().is_some()
     }
 
     /// Drops the image before the last.

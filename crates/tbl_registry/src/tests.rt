@@ -265,7 +265,7 @@ fn handles_and_tables_go(rt: HostRuntime) -> Result<(), Fail> {
     assert!(rt; give_up(&mut tables, second));
     assert_eq!(rt; tables.app_of(second), None);
     tables.clear();
-    assert_eq!(rt; tables.app_of(first), None);
+    assert_eq!(rt; (tables.app_of(first), tables.handle_limit()), (None, 256));
     Ok(())
 }
 

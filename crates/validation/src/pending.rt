@@ -1,5 +1,5 @@
 ghost use Rattle.std.specs.Prelude.{◌≡◌, ◌↔◌, ◌≤◌, ℕ, List, [], ◌∷◌, ◌++◌, length, false, true, Err, OnOk, OnErr};
-ghost use Rattle.tbl_model.specs.Pending.{is_pair, is_pending, without_pair};
+ghost use Rattle.tbl_model.specs.Pending.{is_pair, is_pending, without_pair, of_other_rows};
 
 use arrayvec::ArrayVec;
 use std::marker::Model;
@@ -74,6 +74,13 @@ impl Pending {
         ensures { self.new ≡ without_pair row active self.old }
     {
         self.pairs.retain(|pair| pair.0 != row || pair.1 != active);
+    }
+
+    /// No validation of the table of a row is pending any more.
+    pub fn drop_row(&mut self, row: u8)
+        ensures { self.new ≡ of_other_rows row self.old }
+    {
+        self.pairs.retain(|pair| pair.0 != row);
     }
 
     /// No validation is pending any more.

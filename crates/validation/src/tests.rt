@@ -29,7 +29,10 @@ fn pending_validations_are_a_list(rt: HostRuntime) -> Result<(), Fail> {
     assert_eq!(rt; pending.request(3, false), Ok(()));
     pending.drop_pair(3, true);
     assert!(rt; !pending.has(3, true) && pending.has(3, false));
+    assert_eq!(rt; pending.request(4, true), Ok(()));
+    pending.drop_row(3);
+    assert!(rt; !pending.has(3, false) && pending.has(4, true));
     pending.clear();
-    assert!(rt; !pending.has(3, false));
+    assert!(rt; !pending.has(4, true));
     Ok(())
 }

@@ -47,7 +47,7 @@ fn pin_last(handles: &mut Handles, handle: u16, count: u32)
 pub(super) fn let_go(table: &mut Row, handles: &Handles, row: u8)
     ensures { table.new ≡ let_go_unless (is_some (position (has (pins_old row)) handles.now)) table.old }
 {
-    if handles.pinned_old(row).is_none() {
+    if table.has_before() && handles.pinned_old(row).is_none() {
         table.let_go();
     }
 }
@@ -157,6 +157,13 @@ impl Tables {
         ensures { result ≡ option_map (λ (h : Handle). h.app) (handle_at self.now handle) }
     {
         Some(self.handles.view(handle)?.app)
+    }
+
+    /// How many handles there can be: their numbers are below it.
+    pub fn handle_limit(&self) -> u16
+        ensures { result ≡ length self.now.handles }
+    {
+        self.handles.limit()
     }
 
     /// What is pending for the table of a handle, as `CFE_TBL_GetStatus` tells, where no validation is.
