@@ -1,3 +1,5 @@
 pub mod Functions
+pub mod GivenUp
 pub mod Names
 pub mod Passing
+pub mod Running

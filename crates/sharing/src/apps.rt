@@ -1,4 +1,4 @@
-ghost use Rattle.std.specs.Prelude.{◌≡◌, ◌≤◌, ◌+◌, ◌++◌, None, Some, IsNone, IfSome, ◌↔◌, length, replicate};
+ghost use Rattle.std.specs.Prelude.{◌≡◌, ◌≤◌, ◌+◌, ◌-◌, ◌++◌, None, Some, IsNone, IfSome, ◌↔◌, length, replicate, slice_set};
 ghost use Rattle.arrayvec.specs.ArrayVec.{array_vec_len};
 ghost use Rattle.std.specs.Option.{option_copied, option_map};
 ghost use Rattle.std.specs.List.{list_any};
@@ -56,6 +56,17 @@ fn full_name(app: &Name20, short: &Name16) -> Name40
     Name::of(bytes.as_slice())
 }
 
+/// No name stands at a place any more, if there is such a place.
+fn free(names: &mut [Option<Name20>], place: usize)
+    ensures { names.new ≡ slice_set names.old place None }
+{
+    let past = names.len() <= place;
+    if past {
+        return;
+    }
+    names[place] = None;
+}
+
 impl Apps {
     /// No application runs.
     pub fn make() -> Apps
@@ -84,6 +95,13 @@ impl Apps {
         }
         self.names[app as usize - 1] = Some(name.copy());
         Status::SUCCESS
+    }
+
+    /// An application doesn't run any more, under whatever name it ran.
+    pub fn end(&mut self, app: u8)
+        ensures { self.new ≡ slice_set self.old (app - 1) None }
+    {
+        free(&mut self.names, (app as usize).saturating_sub(1));
     }
 
     /// The name under which an application runs.

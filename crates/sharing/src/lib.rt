@@ -2,9 +2,13 @@
 #![tactic(auto)]
 
 mod apps;
+mod handles;
+mod leaving;
 mod registering;
 
 pub use apps::{Apps, plan_name};
+pub use handles::{info, notify, share};
+pub use leaving::{app_exit, unregister};
 pub use registering::register;
 
 #[cfg(test)]

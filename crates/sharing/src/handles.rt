@@ -1,0 +1,89 @@
+//! Further handles on registered tables, and what their registration tells.
+
+ghost use Rattle.std.specs.Prelude.{◌≡◌, ◌<◌, ◌-◌, IsSome, IfOk, IfErr, not, if◌then◌else◌};
+ghost use Rattle.tbl_kinds.specs.Free.{least_free};
+ghost use Rattle.tbl_kinds.specs.Telemetry.{registry_record};
+ghost use Rattle.tbl_model.specs.State.{State};
+ghost use Rattle.tbl_model.specs.Tables.{table_at};
+ghost use Rattle.tbl_model.specs.TableSteps.{set_notice};
+ghost use Rattle.tbl_model.specs.Effects.{answered};
+ghost use Rattle.tbl_model.specs.Sharing.{share_by, share_effect, is_notice, info_effect};
+ghost use Rattle.sharing.specs.Registering.{answered_with};
+
+use crate::apps::Apps;
+use tbl_kinds::{Answer, Name40, RegistryRow, Status};
+use tbl_model::Notice;
+use tbl_registry::Tables;
+
+/// Gives an application a further handle on the table of a row.
+fn share_row(tables: &mut Tables, app: u8, row: u8) -> Answer
+    requires { IsSome (table_at tables.old row) }
+    ensures { (s : State) → s.tables ≡ tables.old → share_by s app row (least_free tables.old.handles) ≡ answered_with s result tables.new }
+{
+    match tables.new_handle(app, row) {
+        Some(handle) => Answer {
+            status: Status::SUCCESS,
+            detail: u32::from(handle),
+        },
+        None => Answer::plain(Status::ERR_HANDLES_FULL),
+    }
+}
+
+/// Gives an application a further handle on the table of this full name (`CFE_TBL_Share`), whoever owns it: the least free
+/// one, which is the detail. It was told of no image. `ERR_BAD_APP`: the application doesn't run; `ERR_INVALID_NAME`: no
+/// table has this name; `ERR_HANDLES_FULL`: 256 handles are given.
+#[tactic(auto, unfolding(tbl_model::specs::Sharing::share_effect))]
+pub fn share(tables: &mut Tables, apps: &Apps, app: u8, name: &Name40) -> Answer
+    ensures { (s : State) → s.tables ≡ tables.old → s.apps ≡ apps.now → share_effect s app name.now ≡ answered_with s result tables.new }
+{
+    if apps.name(app).is_none() {
+        return Answer::plain(Status::ERR_BAD_APP);
+    }
+    match tables.find(name.bytes()) {
+        Some(row) => share_row(tables, app, row),
+        None => Answer::plain(Status::ERR_INVALID_NAME),
+    }
+}
+
+/// The record of the table of this full name in the registry (`CFE_TBL_GetInfo`), for any application that runs.
+/// `ERR_BAD_APP`: the application doesn't run; `ERR_INVALID_NAME`: no table has this name.
+#[tactic(auto, unfolding(tbl_model::specs::Sharing::info_effect))]
+pub fn info(tables: &Tables, apps: &Apps, app: u8, name: &Name40) -> Result<RegistryRow, Status>
+    ensures ok { IfOk result (λ row. (s : State) → s.tables ≡ tables.now → s.apps ≡ apps.now → info_effect s app name.now ≡ record (answered s Status.SUCCESS 0) { bytes = registry_record row }) }
+    ensures err { IfErr result (λ status. (s : State) → s.tables ≡ tables.now → s.apps ≡ apps.now → info_effect s app name.now ≡ answered s status 0) }
+{
+    if apps.name(app).is_none() {
+        return Err(Status::ERR_BAD_APP);
+    }
+    match tables.find(name.bytes()) {
+        Some(row) => Ok(tables.info(row)),
+        None => Err(Status::ERR_INVALID_NAME),
+    }
+}
+
+/// Whether a packet of this message id, with this function code, can tell an owner of pending work: the id is that of a
+/// command, 0x1800 to 0x1FFF, and the code has seven bits.
+fn is_notice(msg: u16, code: u16) -> bool
+    ensures { result ≡ is_notice msg code }
+{
+    0x1800 <= msg && msg <= 0x1FFF && code <= 127
+}
+
+/// From now on the owner of the table of a row is told of work that the ground asks for, by a command packet with this
+/// message id, function code and parameter (`CFE_TBL_NotifyByMessage`). `ERR_NOTICE_ID`: the id isn't one of a command,
+/// 0x1800 to 0x1FFF, or the code is above 127.
+pub fn notify(tables: &mut Tables, row: u8, msg: u16, code: u16, parameter: u32) -> Answer
+    requires { IsSome (table_at tables.old row) }
+    ensures { (s : State) → s.tables ≡ tables.old → (if not (is_notice msg code) then answered s Status.ERR_NOTICE_ID 0 else record (answered s Status.SUCCESS 0) { next = record s { tables = set_notice row (record { msg = msg; code = code; parameter = parameter }) s.tables } }) ≡ answered_with s result tables.new }
+{
+    if !is_notice(msg, code) {
+        return Answer::plain(Status::ERR_NOTICE_ID);
+    }
+    let notice = Notice {
+        msg,
+        code: code as u8,
+        parameter,
+    };
+    tables.set_notice(row, notice);
+    Answer::plain(Status::SUCCESS)
+}

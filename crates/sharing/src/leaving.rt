@@ -1,0 +1,142 @@
+//! Handles that are given back, tables that go with them, and applications that end.
+
+ghost use Rattle.std.specs.Prelude.{◌≡◌, ◌-◌, IsSome, None, Some, length, slice_set, if◌then◌else◌};
+ghost use Rattle.tbl_kinds.specs.Statuses.{is_success};
+ghost use Rattle.tbl_model.specs.State.{State};
+ghost use Rattle.tbl_model.specs.TableSteps.{handle_at, registered_by, without_handle, remove};
+ghost use Rattle.tbl_model.specs.Sharing.{is_handle_of, give_up, give_up_if, without_handles_of, unregister_by, unregister_effect, exit_effect};
+ghost use Rattle.tbl_model.specs.Effects.{answered};
+ghost use Rattle.validation.specs.Kits.{owners, dropped};
+ghost use Rattle.validation.specs.Ready.{ArePending, HaveLoads};
+ghost use Rattle.sharing.specs.Leaving.{left_with, answered_left, ended_with};
+
+use crate::apps::Apps;
+use tbl_kinds::{Answer, Status};
+use tbl_outside::Validator;
+use tbl_registry::Tables;
+use validation::{Kit, Pending};
+
+/// The table of a row goes, and the handle that registered it.
+fn take_away(tables: &mut Tables, handle: u16, row: u8)
+    requires { registered_by tables.old handle ≡ Some row }
+    ensures { tables.new ≡ without_handle handle (remove row tables.old) }
+{
+    tables.remove(row);
+    tables.free_handle(handle);
+}
+
+/// Gives a handle up. That of a table's registration takes the table with it, and all validations that are pending for it.
+fn give_up(tables: &mut Tables, pending: &mut Pending, handle: u16)
+    requires { IsSome (handle_at tables.old handle) }
+    ensures effect { (s : State) → s.tables ≡ tables.old → s.pending ≡ pending.old → give_up handle s ≡ left_with s tables.new pending.new }
+    ensures pending { ArePending tables.old pending.old → ArePending tables.new pending.new }
+    ensures loads { HaveLoads tables.old → HaveLoads tables.new }
+{
+    match tables.registered_by(handle) {
+        Some(row) => {
+            take_away(tables, handle, row);
+            pending.drop_row(row);
+        }
+        None => tables.free_handle(handle),
+    }
+}
+
+/// Gives a handle up for an application, if it is that application's.
+fn give_back(tables: &mut Tables, pending: &mut Pending, app: u8, handle: u16) -> Status
+    ensures effect { (s : State) → s.tables ≡ tables.old → s.pending ≡ pending.old → unregister_by s app handle (handle_at tables.old handle) ≡ record (answered s result 0) { next = left_with s tables.new pending.new } }
+    ensures pending { ArePending tables.old pending.old → ArePending tables.new pending.new }
+    ensures loads { HaveLoads tables.old → HaveLoads tables.new }
+{
+    let Some(_holder) = tables.app_of(handle) else {
+        return Status::ERR_INVALID_HANDLE;
+    };
+    if !is_handle_of(tables, app, handle) {
+        return Status::ERR_NO_ACCESS;
+    }
+    give_up(tables, pending, handle);
+    Status::SUCCESS
+}
+
+/// Takes a handle back (`CFE_TBL_Unregister`), which is free again; its pin ends. Where its table was registered with it,
+/// that table is gone, with its load and all that is pending for it, and every other handle on it leads to none.
+/// `ERR_BAD_APP`: the application doesn't run; `ERR_INVALID_HANDLE`: no such handle is given; `ERR_NO_ACCESS`: the handle
+/// is another application's.
+#[tactic(auto, unfolding(tbl_model::specs::Sharing::unregister_effect))]
+pub fn unregister(
+    tables: &mut Tables,
+    pending: &mut Pending,
+    apps: &Apps,
+    app: u8,
+    handle: u16,
+) -> Answer
+    ensures effect { (s : State) → s.tables ≡ tables.old → s.pending ≡ pending.old → s.apps ≡ apps.now → unregister_effect s app handle ≡ answered_left s result (left_with s tables.new pending.new) }
+    ensures pending { ArePending tables.old pending.old → ArePending tables.new pending.new }
+    ensures loads { HaveLoads tables.old → HaveLoads tables.new }
+{
+    if apps.name(app).is_none() {
+        return Answer::plain(Status::ERR_BAD_APP);
+    }
+    Answer {
+        status: give_back(tables, pending, app, handle),
+        detail: 0,
+    }
+}
+
+/// Whether the handle is this application's.
+#[tactic(auto, using(crate::proofs::GivenUp::is_holder))]
+fn is_handle_of(tables: &Tables, app: u8, handle: u16) -> bool
+    ensures { result ≡ is_handle_of app (handle_at tables.now handle) }
+{
+    tables.app_of(handle) == Some(app)
+}
+
+/// Gives a handle up if it is this application's.
+fn give_up_if(tables: &mut Tables, pending: &mut Pending, app: u8, handle: u16)
+    ensures effect { (s : State) → s.tables ≡ tables.old → s.pending ≡ pending.old → give_up_if app s handle ≡ left_with s tables.new pending.new }
+    ensures pending { ArePending tables.old pending.old → ArePending tables.new pending.new }
+    ensures loads { HaveLoads tables.old → HaveLoads tables.new }
+{
+    if !is_handle_of(tables, app, handle) {
+        return;
+    }
+    give_up(tables, pending, handle);
+}
+
+/// Gives up the handles of an application, one after another, and so its tables.
+fn give_up_all(tables: &mut Tables, pending: &mut Pending, app: u8)
+    ensures effect { (s : State) → s.tables ≡ tables.old → s.pending ≡ pending.old → without_handles_of app s ≡ left_with s tables.new pending.new }
+    ensures pending { ArePending tables.old pending.old → ArePending tables.new pending.new }
+    ensures loads { HaveLoads tables.old → HaveLoads tables.new }
+{
+    for handle in 0..tables.handle_limit() {
+        give_up_if(tables, pending, app, handle);
+    }
+}
+
+/// An application ends (`CFE_ES_ExitApp`, which calls Table Services' `CFE_TBL_CleanUpApp`): its handles are given back, its
+/// tables go with all that is pending for them, its validation functions are dropped, and its name is free again. What is
+/// another application's stays. `ERR_BAD_APP`: the application doesn't run.
+#[tactic(auto, unfolding(tbl_model::specs::Sharing::exit_effect))]
+pub fn app_exit<C: Validator>(
+    tables: &mut Tables,
+    pending: &mut Pending,
+    kit: &mut Kit<C>,
+    apps: &mut Apps,
+    app: u8,
+) -> Answer
+    ensures effect { (s : State) → s.tables ≡ tables.old → s.pending ≡ pending.old → s.apps ≡ apps.old → s.kit ≡ owners kit.old → exit_effect s app ≡ answered_left s result (ended_with s tables.new pending.new apps.new (owners kit.new)) }
+    ensures kit { kit.new ≡ (if is_success result.status then dropped app kit.old else kit.old) }
+    ensures pending { ArePending tables.old pending.old → ArePending tables.new pending.new }
+    ensures loads { HaveLoads tables.old → HaveLoads tables.new }
+{
+    if apps.name(app).is_none() {
+        return Answer::plain(Status::ERR_BAD_APP);
+    }
+    give_up_all(tables, pending, app);
+    kit.drop_app(app);
+    apps.end(app);
+    Answer {
+        status: Status::SUCCESS,
+        detail: 0,
+    }
+}
