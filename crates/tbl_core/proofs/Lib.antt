@@ -5,6 +5,7 @@ pub mod Few
 pub mod Functions
 pub mod Keeping
 pub mod Managing
+pub mod Owners
 pub mod Places
 pub mod Ready
 pub mod Steps

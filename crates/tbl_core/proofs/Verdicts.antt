@@ -1,5 +1,5 @@
 -- What is known of the kit of validation functions after an entry.
-use Rattle.std.proofs.Common.{◌≡◌, ◌<◌, ◌≤◌, ◌+◌, ◌*◌, ◌^◌, ℕ, suc, List, [], ◌∷◌, length, count_by, Option, Some, None, ℤ, refl, ap, subst, arith}
+use Rattle.std.proofs.Common.{◌≡◌, ◌==◌, ◌<◌, ◌≤◌, ◌+◌, ◌*◌, ◌^◌, ℕ, zero, suc, Bool, true, false, cond, List, [], ◌∷◌, length, count_by, Option, Some, None, ℤ, refl, ap, subst, arith}
 use Rattle.std.specs.Option.{ForSome, option_map}
 use Rattle.std.proofs.lemmas.List.Sums.{count_by-le-length}
 use Rattle.tbl_model.specs.Deeds.{Question}
@@ -8,7 +8,7 @@ use Rattle.tbl_kinds.specs.declared.note.BankNote.{BankNote}
 use Rattle.tbl_model.specs.State.{Tables}
 use Rattle.tbl_model.specs.Tables.{table_at}
 use Rattle.tbl_outside.specs.declared.validator.KitEntry.{KitEntry}
-use Rattle.validation.specs.Kits.{entry_at, owners, MayAsk, FewAsked}
+use Rattle.validation.specs.Kits.{entry_at, unless_of, dropped, owners, MayAsk, FewAsked}
 use Rattle.validation.specs.Ready.{HaveFunctions}
 use Rattle.validation.specs.Asked.{is_for, GivesEach, Stays, WasAsked}
 use Rattle.validation.proofs.Asking.{asked_nothing}
@@ -85,6 +85,28 @@ module _ {C : Type 0} (verdict : C → List ℕ → ℤ) (asked : C → ℕ) whe
   none_judged kit questions note verdicts none given =
       let unsaid : verdicts ≡ None ∷ None ∷ [] = ap (λ (g : Given). g.verdicts) given in
       rw (none, unsaid) (was_judged kit kit [] (None ∷ None ∷ []) (asked_nothing verdict asked kit))
+
+  -- where an application's are dropped, each that still stands is one that stood there
+  kept_there : (app : ℕ) (found : Option (KitEntry C)) → StoodThere verdict asked 0 found (unless_of app found)
+  kept_there app None = tt
+  kept_there app (Some entry) = by (entry.app == app)
+    where
+      by : (gone : Bool) → StoodThere verdict asked 0 (Some entry) (cond gone None (Some entry))
+      by true = tt
+      by false = record { owner = refl; steady = λ image. refl; counted = omega arith }
+
+  dropped_there : (app : ℕ) (kit : List (Option (KitEntry C))) (number : ℕ) → StoodThere verdict asked 0 (entry_at kit number) (entry_at (dropped app kit) number)
+  dropped_there app [] number = tt
+  dropped_there app (x ∷ kit) zero = kept_there app x
+  dropped_there app (x ∷ kit) (suc number) = dropped_there app kit number
+
+  -- an application that ends asks nothing
+  pub end_judged : (app : ℕ) (ends : Bool) (old new : List (Option (KitEntry C))) (questions : List Question) (note : BankNote) (verdicts : List (Option ℤ)) → new ≡ cond ends (dropped app old) old
+      → questions ≡ [] → record { note = note; verdicts = verdicts } ≡ nothing_given → Judged verdict asked old new questions verdicts
+  end_judged app true old new questions note verdicts is none given =
+      let unsaid : verdicts ≡ None ∷ None ∷ [] = ap (λ (g : Given). g.verdicts) given in
+      rw (is, none, unsaid) (record { gives = tt; each = λ number. dropped_there app old number })
+  end_judged app false old new questions note verdicts is none given = rw is (none_judged old questions note verdicts none given)
 
 -- the function of each table can be asked
 pub may_ask_there : {C : Type 0} (asked : C → ℕ) (kit : List (Option (KitEntry C))) (tables : Tables) (row : ℕ) → HaveFunctions tables kit → FewAsked asked 2 kit → ForSome (table_at tables row) (λ t. ForSome t.validator (MayAsk asked 1 kit))

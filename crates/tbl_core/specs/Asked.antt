@@ -1,7 +1,7 @@
 -- What a request asks, as far as telemetry looks at it.
-use Rattle.std.specs.Prelude.{ℕ, Bool, true, false, if◌then◌else◌, Option, Some, Result, Ok, Err}
+use Rattle.std.specs.Prelude.{ℕ, Bool, true, false, Option, Some, None, Result, Ok, Err}
 use Rattle.std.specs.Option.{option_map}
-use Rattle.tbl_kinds.specs.GroundCommands.{GroundCommand, validate, activate}
+use Rattle.tbl_kinds.specs.GroundCommands.{GroundCommand, housekeeping, validate, activate, send_registry}
 use Rattle.tbl_model.specs.Commands as model
 use Rattle.cmd_packets.specs.Views.{command_of, answer_of}
 use Rattle.cmd_packets.specs.declared.commands.Ground.{Ground}
@@ -24,9 +24,20 @@ asks_notice (Some (Ok (validate select table))) = true
 asks_notice (Some (Ok (activate table))) = true
 asks_notice _ = false
 
+-- how long the packet is that a command shows behind its events, if it is accepted
+abbrev pub shown_room : model.Asked → ℕ
+shown_room (Some (Ok housekeeping)) = 290
+shown_room (Some (Ok (send_registry table))) = 156
+shown_room _ = 0
+
+-- the most deeds of a command
+abbrev pub command_deeds : model.Asked → ℕ
+command_deeds (Some (Ok (validate select table))) = 1
+command_deeds _ = 0
+
 -- the most deeds of a request
 abbrev pub most_deeds : Request → model.Asked → ℕ
-most_deeds (ask.Command bytes) asked = if model.asks_validate asked then 1 else 0
+most_deeds (ask.Command bytes) asked = command_deeds asked
 most_deeds (ask.LoadImage handle image) asked = 2
 most_deeds (ask.LoadFile handle name) asked = 2
 most_deeds (ask.Update handle) asked = 1
@@ -34,11 +45,12 @@ most_deeds (ask.Validate handle) asked = 1
 most_deeds (ask.Manage handle) asked = 3
 most_deeds _ asked = 0
 
--- a call by which the owner of a table loads, judges or updates it
-abbrev pub is_owners : Request → Bool
-is_owners (ask.LoadImage handle image) = true
-is_owners (ask.LoadFile handle name) = true
-is_owners (ask.Update handle) = true
-is_owners (ask.Validate handle) = true
-is_owners (ask.Manage handle) = true
-is_owners _ = false
+-- the handle of a call that the owner of its table alone may make
+abbrev pub owners_handle : Request → Option ℕ
+owners_handle (ask.LoadImage handle image) = Some handle
+owners_handle (ask.LoadFile handle name) = Some handle
+owners_handle (ask.Update handle) = Some handle
+owners_handle (ask.Validate handle) = Some handle
+owners_handle (ask.Manage handle) = Some handle
+owners_handle (ask.Notify handle msg code parameter) = Some handle
+owners_handle _ = None

@@ -6,10 +6,11 @@ use Rattle.tbl_model.specs.Deeds.{Question}
 use Rattle.tbl_model.specs.Given.{Given, nothing_given}
 use Rattle.tbl_model.specs.Commands.{Asked}
 use Rattle.tbl_model.specs.Events.{deed_event, command_events}
-use Rattle.tbl_model.specs.Counts.{Told, is_registry}
+use Rattle.tbl_model.specs.Counts.{Told}
 use Rattle.tbl_model.specs.History.{told}
 use Rattle.tbl_laws.specs.Fit.{HasCode}
-use Rattle.tbl_model.specs.declared.deeds.Shown.TheVariants.{Nothing}
+use Rattle.tbl_model.specs.declared.deeds.Shown.{Shown}
+use Rattle.tbl_model.specs.declared.deeds.Shown.TheVariants.{Nothing, Housekeeping, Registry}
 use Rattle.tbl_kinds.specs.declared.telemetry.Event.{Event}
 use Rattle.tbl_kinds.specs.declared.request.Actor.TheVariants.{Ground}
 use Rattle.tbl_kinds.specs.declared.request.Request.{Request}
@@ -71,12 +72,17 @@ listed (Some event) = event ∷ []
 
 -- ---- how much it tells
 
--- it has so many deeds at most, shows a housekeeping packet and gives a notice only where these are true, and a notice can be
--- sent. No request that is built shows a registry packet
-pub record IsWithin (most : ℕ) (shows owes : Bool) (done : Effect) : Type 0 where
+-- the length of the packet behind the events
+abbrev pub shown_len : Shown → ℕ
+shown_len Nothing = 0
+shown_len Housekeeping = 290
+shown_len (Registry row) = 156
+
+-- it has so many deeds at most, its packet behind the events is so long at most, it gives a notice only where it may owe one,
+-- and that can be sent
+pub record IsWithin (most room : ℕ) (owes : Bool) (done : Effect) : Type 0 where
   pub deeds : length done.deeds.items ≤ most
-  pub shown : shows ≡ false → done.shown ≡ Nothing
-  pub no_registry : is_registry done.shown ≡ false
+  pub shown : shown_len done.shown ≤ room
   pub no_notice : owes ≡ false → done.notice ≡ None
   pub notice : IfSome done.notice HasCode
 

@@ -1,20 +1,23 @@
 -- How a request is told, and how much room its packets take.
 use Rattle.std.specs.Prelude.{◌≡◌, ℕ, ◌+◌, ◌*◌, List, if◌then◌else◌, is_some}
 use Rattle.tbl_model.specs.State.{Tables}
-use Rattle.tbl_model.specs.Commands.{Asked, asks_housekeeping}
+use Rattle.tbl_model.specs.Commands.{Asked}
 use Rattle.tbl_model.specs.CountsAfter.{tally_of, counts_after}
 use Rattle.tbl_model.specs.Replies.{packets_by}
 use Rattle.tbl_kinds.specs.declared.request.Request.{Request}
-use Rattle.tbl_core.specs.Asked.{asks_notice, most_deeds}
+use Rattle.tbl_core.specs.Asked.{asks_notice, shown_room, most_deeds}
 use Rattle.tbl_core.specs.Effects.{told_at}
 use Rattle.tbl_core.specs.Log.{Logged}
 use Rattle.tbl_core.specs.declared.effect.Effect.{Effect}
 use Rattle.tbl_core.specs.declared.parts.Clock.{Clock}
 
--- an event of 24 bytes for a command and for each deed, a housekeeping packet of 290, and a notice of 12
+-- a notice of 12 bytes
+abbrev pub notice_room : Asked → ℕ
+notice_room asked = if asks_notice asked then 12 else 0
+
+-- an event of 24 bytes for a command and for each deed, the packet behind them, and a notice
 abbrev pub packets_room : Request → Asked → ℕ
-packets_room request asked =
-    (if is_some asked then 24 else 0) + 24 * most_deeds request asked + (if asks_housekeeping asked then 290 else 0) + (if asks_notice asked then 12 else 0)
+packets_room request asked = (if is_some asked then 24 else 0) + 24 * most_deeds request asked + shown_room asked + notice_room asked
 
 -- these packets tell the effect, and it is counted
 pub record Reports (old new : Logged) (clock : Clock) (tables : Tables) (request : Request) (done : Effect) (sent : List ℕ) : Type 0 where

@@ -5,6 +5,7 @@ pub mod Finish
 pub mod Loads
 pub mod Log
 pub mod Managed
+pub mod Owned
 pub mod Rows
 pub mod Service
 pub mod Verdicts

@@ -1,5 +1,5 @@
 -- What the core keeps, and which histories it stands for.
-use Rattle.std.specs.Prelude.{◌≡◌, ℕ, ◌+◌, ◌-◌, ◌*◌, ◌^◌, ◌<◌, List, [], ◌∷◌, ◌++◌, length, Bool, false, Option, Some, None, IfSome}
+use Rattle.std.specs.Prelude.{◌≡◌, ℕ, ◌+◌, ◌-◌, ◌*◌, ◌^◌, ◌<◌, ◌≤◌, List, [], ◌∷◌, ◌++◌, length, Bool, false, Option, Some, None, IfSome}
 use Rattle.std.specs.Option.{ForSome}
 use Rattle.std.proofs.Common.{ℤ}
 use Rattle.tbl_model.specs.State.{State, Tables}
@@ -18,8 +18,10 @@ use Rattle.tbl_kinds.specs.declared.entry.Entry.{Entry}
 use Rattle.tbl_kinds.specs.declared.entry.Reply.{Reply}
 use Rattle.tbl_kinds.specs.declared.request.Actor.{Actor}
 use Rattle.tbl_kinds.specs.declared.request.Request.{Request}
-use Rattle.tbl_core.specs.Log.{Logged, entry_of}
-use Rattle.tbl_core.specs.Effects.{IsEffect, given_of, told_at}
+use Rattle.tbl_core.specs.Log.{Logged, reply_limit, entry_of}
+use Rattle.tbl_core.specs.Effects.{IsEffect, IsWithin, given_of, told_at}
+use Rattle.tbl_kinds.specs.Notes.{untouched}
+use Rattle.tbl_model.specs.Given.{Given}
 use Rattle.tbl_core.specs.Verdicts.{Judged, questions_in, AreGiven, AreOf}
 use Rattle.tbl_core.specs.declared.effect.Effect.{Effect}
 use Rattle.tbl_core.specs.declared.parts.Clock.{Clock}
@@ -144,6 +146,16 @@ Leaves done held (Some e) = IsEffect done e.asked e.next e × Stands held e.next
 abbrev pub Asks : {C : Type 0} → (C → List ℕ → ℤ) → (C → ℕ) → List (Option (KitEntry C)) → List (Option (KitEntry C)) → List (Option ℤ) → Option model.Effect → Type 0
 Asks verdict asked old new verdicts None = ⊥
 Asks verdict asked old new verdicts (Some e) = Judged verdict asked old new e.asked verdicts
+
+-- the request was done: this was its effect, the kit gave what it was asked for, no more is told than there is room for, and
+-- the store stayed untouched
+pub record Does {C : Type 0} (verdict : C → List ℕ → ℤ) (asked : C → ℕ) (most room : ℕ) (owes : Bool) (old new : Held C) (means : State → Given → Option model.Effect) (done : Effect) : Type 0 where
+  pub effect : (s : State) → Stands old s → Leaves done new (means s (given_of done))
+  pub asks : (s : State) → Stands old s → Asks verdict asked old.kit new.kit done.verdicts (means s (given_of done))
+  pub note : done.note ≡ untouched
+  pub two : length done.verdicts ≡ 2
+  pub within : IsWithin most room owes done
+  pub bytes : length done.bytes.list ≤ reply_limit
 
 -- an entry tells the effect, and it is counted
 pub record Finishes (old new : Logged) (clock : Clock) (tables : Tables) (actor : Actor) (request : Request) (done : Effect) : Type 0 where

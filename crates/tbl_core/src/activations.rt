@@ -8,18 +8,16 @@ ghost use Rattle.tbl_model.specs.Given.{nothing_given};
 ghost use Rattle.tbl_model.specs.Deeds.{activated};
 ghost use Rattle.tbl_model.specs.Effects.{answered};
 ghost use Rattle.tbl_model.specs.Refusals.{by_answer, activation_refusal, update_refusal};
-ghost use Rattle.tbl_model.specs.Activations.{ask_effect, activate_command_effect, updated_effect, update_effect, aborted_effect, abort_effect};
+ghost use Rattle.tbl_model.specs.Activations.{ask_effect, activate_command_effect, updated_effect, aborted_effect, abort_effect};
 ghost use Rattle.validation.specs.Ready.{ArePending, HaveLoads};
 ghost use Rattle.table_update.specs.Answers.{updated};
 ghost use Rattle.tbl_core.specs.Effects.{IsEffect, IsWithin, IsQuiet, given_of};
 ghost use Rattle.tbl_core.specs.Service.{AreCounted, AreSendable};
 
-use crate::checks::check;
 use crate::effect::Effect;
 use crate::loads::{activated, named, stamp};
 use crate::parts::Clock;
 use crate::subjects::{notice, subject};
-use sharing::Apps;
 use table_update::request_activation;
 use tbl_kinds::{Answer, Bytes, Name40, Status};
 use tbl_model::{Deed, Named};
@@ -34,7 +32,7 @@ fn activate_found(tables: &mut Tables, pending: &Pending, table: Named, empty: B
     requires empty { empty.list ≡ [] }
     ensures effect { (s : State) → s.tables ≡ tables.old → s.pending ≡ pending.now
         → ForSome (table_at tables.old table.row) (λ t. IsEffect result [] (record s { tables = tables.new }) (record (by_answer s (activation_refusal s.pending table.row t) (ask_effect s table.row t)) { table = Some table })) }
-    ensures within { IsWithin 0 false true result }
+    ensures within { IsWithin 0 0 true result }
     ensures given { given_of result ≡ nothing_given }
     ensures bytes { result.bytes ≡ empty }
 {
@@ -64,7 +62,7 @@ pub(crate) fn activate(
     requires notices { AreSendable tables.old }
     requires empty { empty.list ≡ [] }
     ensures effect { (s : State) → s.tables ≡ tables.old → s.pending ≡ pending.now → IsEffect result [] (record s { tables = tables.new }) (activate_command_effect s name.now) }
-    ensures within { IsWithin 0 false true result }
+    ensures within { IsWithin 0 0 true result }
     ensures given { given_of result ≡ nothing_given }
     ensures bytes { result.bytes ≡ empty }
 {
@@ -118,7 +116,7 @@ fn made(answer: Answer, table: Named, active: Deed, mut deeds: Vec<Deed>, empty:
     requires empty { empty.list ≡ [] }
     ensures effect { (s : State) (row : ℕ) (t : Table) (tables : Registry) → table ≡ record { row = row; name = t.name } → active ≡ activated row t
         → IsEffect result [] (updated s row t answer tables).next (updated s row t answer tables) }
-    ensures within { IsWithin 1 false false result }
+    ensures within { IsWithin 1 0 false result }
     ensures given { given_of result ≡ nothing_given }
     ensures bytes { result.bytes ≡ empty }
 {
@@ -133,8 +131,14 @@ fn made(answer: Answer, table: Named, active: Deed, mut deeds: Vec<Deed>, empty:
     }
 }
 
-/// The owner of the table in the row updates it.
-fn update_row(tables: &mut Tables, clock: Clock, row: u8, deeds: Vec<Deed>, empty: Bytes) -> Effect
+/// The owner of the table in the row makes its load active (`CFE_TBL_Update`), where the ground asked for it.
+pub(crate) fn update(
+    tables: &mut Tables,
+    clock: Clock,
+    row: u8,
+    deeds: Vec<Deed>,
+    empty: Bytes,
+) -> Effect
     requires table { IsSome (table_at tables.old row) }
     requires loads { HaveLoads tables.old }
     requires counted { AreCounted tables.old }
@@ -143,7 +147,7 @@ fn update_row(tables: &mut Tables, clock: Clock, row: u8, deeds: Vec<Deed>, empt
     requires empty { empty.list ≡ [] }
     ensures effect { (s : State) → s.tables ≡ tables.old → s.seconds ≡ clock.seconds → s.sub ≡ clock.sub
         → ForSome (table_at tables.old row) (λ t. IsEffect result [] (record s { tables = tables.new }) (by_answer s (update_refusal s.tables row t) (updated_effect s row t))) }
-    ensures within { IsWithin 1 false false result }
+    ensures within { IsWithin 1 0 false result }
     ensures given { given_of result ≡ nothing_given }
     ensures bytes { result.bytes ≡ empty }
 {
@@ -152,32 +156,4 @@ fn update_row(tables: &mut Tables, clock: Clock, row: u8, deeds: Vec<Deed>, empt
     let answer = table_update::update(tables, row);
     stamp(tables, row, answer.status == Status::SUCCESS, clock);
     made(answer, table, active, deeds, empty)
-}
-
-/// The owner of a table makes its load active (`CFE_TBL_Update`), where the ground asked for it.
-#[tactic(auto, unfolding(tbl_model::specs::Activations::update_effect))]
-pub(crate) fn update(
-    tables: &mut Tables,
-    apps: &Apps,
-    clock: Clock,
-    app: u8,
-    handle: u16,
-    deeds: Vec<Deed>,
-    empty: Bytes,
-) -> Effect
-    requires loads { HaveLoads tables.old }
-    requires counted { AreCounted tables.old }
-    requires no_deeds { deeds.items ≡ [] }
-    requires room { 1 ≤ vec_capacity deeds }
-    requires empty { empty.list ≡ [] }
-    ensures effect { (s : State) → s.tables ≡ tables.old → s.apps ≡ apps.now → s.seconds ≡ clock.seconds → s.sub ≡ clock.sub
-        → IsEffect result [] (record s { tables = tables.new }) (update_effect s app handle) }
-    ensures within { IsWithin 1 false false result }
-    ensures given { given_of result ≡ nothing_given }
-    ensures bytes { result.bytes ≡ empty }
-{
-    match check(tables, apps, app, handle, true) {
-        Err(status) => Effect::of(Answer::plain(status), empty),
-        Ok(row) => update_row(tables, clock, row, deeds, empty),
-    }
 }

@@ -1,17 +1,19 @@
-//! Applications start, and register their tables.
+//! Applications start, register their tables and share others', give handles back, and end.
 
-ghost use Rattle.std.specs.Prelude.{◌≡◌, ◌≤◌, [], IfOk, OnErr};
+ghost use Rattle.std.specs.Prelude.{◌≡◌, ◌≤◌, [], if◌then◌else◌, IfOk, OnErr};
+ghost use Rattle.tbl_kinds.specs.Statuses.{is_success};
 ghost use Rattle.tbl_model.specs.State.{State};
 ghost use Rattle.tbl_model.specs.Applications.{start_effect, register_effect};
-ghost use Rattle.validation.specs.Kits.{owners};
+ghost use Rattle.tbl_model.specs.Sharing.{share_effect, unregister_effect, exit_effect};
+ghost use Rattle.validation.specs.Kits.{owners, dropped};
 ghost use Rattle.tbl_core.specs.Effects.{IsEffect, IsQuiet};
 
 use crate::effect::Effect;
 use sharing::Apps;
-use tbl_kinds::{Answer, Bytes, Memory, Name16, Name20};
+use tbl_kinds::{Answer, Bytes, Memory, Name16, Name20, Name40};
 use tbl_outside::Validator;
 use tbl_registry::Tables;
-use validation::Kit;
+use validation::{Kit, Pending};
 
 /// An application begins to run (`CFE_ES_CreateApp` calls its entry).
 pub(crate) fn start(apps: &mut Apps, app: u8, name: &Name20, empty: Bytes) -> Effect
@@ -46,4 +48,59 @@ pub(crate) fn register<C: Validator>(
 {
     let answer = sharing::register(tables, kit, apps, app, name, size, flags, validator)?;
     Ok(Effect::of(answer, empty))
+}
+
+/// An application gets a further handle on a table (`CFE_TBL_Share`).
+pub(crate) fn share(
+    tables: &mut Tables,
+    apps: &Apps,
+    app: u8,
+    name: &Name40,
+    empty: Bytes,
+) -> Effect
+    requires { empty.list ≡ [] }
+    ensures effect { (s : State) → s.tables ≡ tables.old → s.apps ≡ apps.now → IsEffect result [] (record s { tables = tables.new }) (share_effect s app name.now) }
+    ensures quiet { IsQuiet result }
+    ensures bytes { result.bytes ≡ empty }
+{
+    Effect::of(sharing::share(tables, apps, app, name), empty)
+}
+
+/// An application gives a handle back (`CFE_TBL_Unregister`), and with that of its registration the table.
+pub(crate) fn unregister(
+    tables: &mut Tables,
+    pending: &mut Pending,
+    apps: &Apps,
+    app: u8,
+    handle: u16,
+    empty: Bytes,
+) -> Effect
+    requires { empty.list ≡ [] }
+    ensures effect { (s : State) → s.tables ≡ tables.old → s.pending ≡ pending.old → s.apps ≡ apps.now → IsEffect result [] (record s { tables = tables.new; pending = pending.new }) (unregister_effect s app handle) }
+    ensures quiet { IsQuiet result }
+    ensures bytes { result.bytes ≡ empty }
+{
+    Effect::of(
+        sharing::unregister(tables, pending, apps, app, handle),
+        empty,
+    )
+}
+
+/// An application ends (`CFE_ES_ExitApp`): its handles, tables, validation functions and name go.
+pub(crate) fn exit<C: Validator>(
+    tables: &mut Tables,
+    pending: &mut Pending,
+    kit: &mut Kit<C>,
+    apps: &mut Apps,
+    app: u8,
+    empty: Bytes,
+) -> Effect
+    requires { empty.list ≡ [] }
+    ensures effect { (s : State) → s.tables ≡ tables.old → s.pending ≡ pending.old → s.apps ≡ apps.old → s.kit ≡ owners kit.old
+        → IsEffect result [] (record s { tables = tables.new; pending = pending.new; apps = apps.new; kit = owners kit.new }) (exit_effect s app) }
+    ensures kit { kit.new ≡ (if is_success result.answer.status then dropped app kit.old else kit.old) }
+    ensures quiet { IsQuiet result }
+    ensures bytes { result.bytes ≡ empty }
+{
+    Effect::of(sharing::app_exit(tables, pending, kit, apps, app), empty)
 }

@@ -6,8 +6,9 @@ ghost use Rattle.tbl_kinds.specs.GroundCommands.{code_of, command_in};
 ghost use Rattle.tbl_model.specs.Commands.{asked_in, asks_housekeeping, asks_reset_counters, asks_validate, asked_file, asked_code};
 ghost use Rattle.tbl_model.specs.Counts.{is_reset, asks_load, load_file_of};
 ghost use Rattle.cmd_packets.specs.Views.{command_of};
-ghost use Rattle.tbl_core.specs.Asked.{read_of, asked_of, asks_notice, most_deeds};
+ghost use Rattle.tbl_core.specs.Asked.{read_of, asked_of, asks_notice, shown_room, owners_handle, command_deeds, most_deeds};
 
+use crate::packets::{HOUSEKEEPING_LENGTH, REGISTRY_LENGTH};
 use cmd_packets::{CmdFault, Ground, read_command};
 use tbl_kinds::{Name64, Request};
 
@@ -125,12 +126,48 @@ pub(crate) fn asks_notice(asked: &Asked) -> bool
     )
 }
 
+/// How long the packet is that a command shows behind its events, if it is accepted.
+pub(crate) fn shown_room(asked: &Asked) -> usize
+    ensures { result ≡ shown_room (asked_of asked.now) }
+{
+    match asked {
+        Some(Ok(Ground::Housekeeping)) => HOUSEKEEPING_LENGTH,
+        Some(Ok(Ground::SendRegistry { .. })) => REGISTRY_LENGTH,
+        _ => 0,
+    }
+}
+
+/// The handle of a call that the owner of its table alone may make.
+pub(crate) fn owners_handle(request: &Request) -> Option<u16>
+    ensures { result ≡ owners_handle request.now }
+{
+    match request {
+        Request::LoadImage { handle, .. }
+        | Request::LoadFile { handle, .. }
+        | Request::Update { handle }
+        | Request::Validate { handle }
+        | Request::Manage { handle }
+        | Request::Notify { handle, .. } => Some(*handle),
+        _ => None,
+    }
+}
+
+/// The most deeds of a command.
+fn command_deeds(asked: &Asked) -> usize
+    ensures { result ≡ command_deeds (asked_of asked.now) }
+{
+    match asked {
+        Some(Ok(Ground::Validate { .. })) => 1,
+        _ => 0,
+    }
+}
+
 /// The most deeds of a request.
 pub(crate) fn most_deeds(request: &Request, asked: &Asked) -> usize
     ensures { result ≡ most_deeds request.now (asked_of asked.now) }
 {
     match request {
-        Request::Command { .. } => { if asks_validate(asked) { 1 } else { 0 } }
+        Request::Command { .. } => command_deeds(asked),
         Request::LoadImage { .. } => 2,
         Request::LoadFile { .. } => 2,
         Request::Update { .. } => 1,

@@ -1,18 +1,19 @@
 //! What a command does.
 
-ghost use Rattle.std.specs.Prelude.{◌≡◌, ◌≤◌, [], ◌∷◌, Some, length, true, if◌then◌else◌, vec_capacity, IfOk, OnErr};
+ghost use Rattle.std.specs.Prelude.{◌≡◌, ◌≤◌, [], Some, length, vec_capacity, IfOk, OnErr};
 ghost use Rattle.tbl_model.specs.State.{State};
-ghost use Rattle.tbl_model.specs.Commands.{asks_housekeeping, asks_validate, effect_by};
+ghost use Rattle.tbl_model.specs.Commands.{effect_by};
 ghost use Rattle.tbl_model.specs.Given.{nothing_given};
 ghost use Rattle.validation.specs.Ready.{ArePending};
 ghost use Rattle.tbl_core.specs.Service.{AreSendable};
-ghost use Rattle.tbl_core.specs.Asked.{read_of, asks_notice};
+ghost use Rattle.tbl_core.specs.Asked.{read_of, asks_notice, shown_room, command_deeds};
 ghost use Rattle.tbl_core.specs.Effects.{IsEffect, IsWithin, given_of};
 
 use crate::activations::{abort, activate};
 use crate::asked::code_of;
 use crate::effect::Effect;
 use crate::ground_loads::load;
+use crate::registry::send_registry;
 use crate::validations::validate;
 use cmd_packets::{CmdFault, Ground};
 use file_drawer::Drawer;
@@ -46,10 +47,10 @@ pub(crate) fn command(
     requires pending { ArePending tables.old pending.old }
     requires notices { AreSendable tables.old }
     requires no_deeds { deeds.items ≡ [] }
-    requires room { asks_validate (Some (read_of asked.now)) ≡ true → 1 ≤ vec_capacity deeds }
+    requires room { vec_capacity deeds ≡ command_deeds (Some (read_of asked.now)) }
     requires empty { empty.list ≡ [] }
     ensures effect { IfOk result (λ done. (s : State) → s.tables ≡ tables.old → s.pending ≡ pending.old → s.drawer ≡ drawer.now → IsEffect done [] (record s { tables = tables.new; pending = pending.new }) (effect_by s (read_of asked.now))) }
-    ensures within { IfOk result (IsWithin (if asks_validate (Some (read_of asked.now)) then 1 else 0) (asks_housekeeping (Some (read_of asked.now))) (asks_notice (Some (read_of asked.now)))) }
+    ensures within { IfOk result (IsWithin (command_deeds (Some (read_of asked.now))) (shown_room (Some (read_of asked.now))) (asks_notice (Some (read_of asked.now)))) }
     ensures given { IfOk result (λ done. given_of done ≡ nothing_given) }
     ensures bytes { IfOk result (λ done. length done.bytes.list ≤ 4) }
     ensures err { OnErr result (tables.new ≡ tables.old) }
@@ -68,6 +69,7 @@ pub(crate) fn command(
             Ok(validate(tables, pending, *select, table, deeds, empty))
         }
         Ok(Ground::Activate { table }) => Ok(activate(tables, pending, table, empty)),
+        Ok(Ground::SendRegistry { table }) => Ok(send_registry(tables, table, empty)),
         Ok(Ground::Abort { table }) => Ok(abort(tables, pending, table, empty)),
         Ok(command) => Ok(Effect::of(not_built(code_of(command)), empty)),
     }

@@ -6,7 +6,7 @@ ghost use Rattle.tbl_model.specs.CountsAfter.{bit, counts_after};
 ghost use Rattle.tbl_model.specs.Counts.{no_counts};
 
 use crate::parts::Clock;
-use crate::telemetry::{latest_dump, latest_validation, update_in};
+use crate::tally::{latest_dump, latest_validation, update_in};
 use std::marker::Model;
 use tbl_kinds::{Name, Name40, Name64};
 use tbl_model::Deed;

@@ -1,46 +1,32 @@
 //! Which request is played by what.
 
-ghost use Rattle.std.specs.Prelude.{◌≡◌, ◌≤◌, [], length, true, false, vec_capacity, IfOk, OnErr};
+ghost use Rattle.std.specs.Prelude.{◌≡◌, [], false, None, Some, IsSome, vec_capacity, IfOk, OnErr};
 ghost use Rattle.tbl_kinds.specs.Requests.{Fits};
 ghost use Rattle.tbl_kinds.specs.Records.{IsBuilt};
-ghost use Rattle.tbl_model.specs.State.{State};
-ghost use Rattle.tbl_model.specs.Commands.{asked_in, asks_housekeeping};
-ghost use Rattle.tbl_kinds.specs.Notes.{untouched};
+ghost use Rattle.tbl_model.specs.Tables.{table_at};
+ghost use Rattle.tbl_model.specs.Commands.{asked_in};
 ghost use Rattle.tbl_kinds.specs.declared.request.Actor.TheVariants.{Ground, App};
 ghost use Rattle.tbl_model.specs.Dispatch.{ground_effect, app_effect, effect_of};
-ghost use Rattle.tbl_core.specs.Asked.{asked_of, asks_notice, is_owners, most_deeds};
-ghost use Rattle.tbl_core.specs.Effects.{IsWithin, given_of};
-ghost use Rattle.tbl_core.specs.Log.{reply_limit};
-ghost use Rattle.tbl_core.specs.Service.{MayPlay, Stands, Leaves, Asks, held_of};
+ghost use Rattle.tbl_core.specs.Asked.{asked_of, asks_notice, shown_room, owners_handle, most_deeds};
+ghost use Rattle.tbl_core.specs.Owned.{owned_at};
+ghost use Rattle.tbl_core.specs.Service.{MayPlay, Does, held_of};
 
 use crate::activations::update;
 use crate::addresses::{get, read, release};
-use crate::applications::{register, start};
-use crate::asked::Asked;
+use crate::applications::{exit, register, share, start, unregister};
+use crate::asked::{Asked, owners_handle};
+use crate::checks::check;
 use crate::commands::command;
 use crate::effect::{Effect, room_for_deeds};
 use crate::files::file;
 use crate::loads::{load_file, load_image};
-use crate::management::{get_status, manage};
+use crate::management::{get_status, manage, notify};
 use crate::parts::{Clock, Parts};
+use crate::registry::get_info;
 use crate::validations::app_validate;
 use tbl_kinds::{Actor, Answer, Bytes, Memory, Request, Status};
 use tbl_model::Deed;
 use tbl_outside::Validator;
-
-/// Whether it is a call by which the owner of a table loads, judges or updates it.
-fn is_owners(request: &Request) -> bool
-    ensures { result ≡ is_owners request.now }
-{
-    matches!(
-        request,
-        Request::LoadImage { .. }
-            | Request::LoadFile { .. }
-            | Request::Update { .. }
-            | Request::Validate { .. }
-            | Request::Manage { .. }
-    )
-}
 
 impl<C: Validator> Parts<C> {
     /// Does what the ground asks.
@@ -59,12 +45,7 @@ impl<C: Validator> Parts<C> {
         requires no_deeds { deeds.items ≡ [] }
         requires room { vec_capacity deeds ≡ most_deeds request.now (asked_of asked.now) }
         requires empty { empty.list ≡ [] }
-        ensures effect { IfOk result (λ done. (s : State) → Stands (held_of self.old) s → Leaves done (held_of self.new) (ground_effect s request.now (given_of done))) }
-        ensures asks { IfOk result (λ done. (s : State) → Stands (held_of self.old) s → Asks C.verdict C.asked self.old.kit self.new.kit done.verdicts (ground_effect s request.now (given_of done))) }
-        ensures note { IfOk result (λ done. done.note ≡ untouched) }
-        ensures two { IfOk result (λ done. length done.verdicts ≡ 2) }
-        ensures within { IfOk result (IsWithin (most_deeds request.now (asked_of asked.now)) (asks_housekeeping (asked_of asked.now)) (asks_notice (asked_of asked.now))) }
-        ensures bytes { IfOk result (λ done. length done.bytes.list ≤ reply_limit) }
+        ensures does { IfOk result (Does C.verdict C.asked (most_deeds request.now (asked_of asked.now)) (shown_room (asked_of asked.now)) (asks_notice (asked_of asked.now)) (held_of self.old) (held_of self.new) (λ s given. ground_effect s request.now given)) }
         ensures log { self.new.log ≡ self.old.log }
         ensures err { OnErr result (held_of self.new ≡ held_of self.old) }
     {
@@ -95,26 +76,22 @@ impl<C: Validator> Parts<C> {
         }
     }
 
-    /// Does what the owner of a table asks for it.
+    /// Does what the owner of the table of a row asks for it.
     #[tactic(auto, using(crate::proofs::Verdicts::none_judged, crate::proofs::Verdicts::was_judged))]
-    fn owner(
+    fn owned(
         &mut self,
-        app: u8,
+        row: u8,
         request: &Request,
         deeds: Vec<Deed>,
         empty: Bytes,
     ) -> Result<Effect, Memory>
-        requires owners { is_owners request.now ≡ true }
+        requires owners { IsSome (owners_handle request.now) }
+        requires table { IsSome (table_at self.old.tables row) }
         requires ready { MayPlay C.asked (held_of self.old) }
         requires no_deeds { deeds.items ≡ [] }
         requires room { vec_capacity deeds ≡ most_deeds request.now None }
         requires empty { empty.list ≡ [] }
-        ensures effect { IfOk result (λ done. (s : State) → Stands (held_of self.old) s → Leaves done (held_of self.new) (app_effect s app request.now (given_of done))) }
-        ensures asks { IfOk result (λ done. (s : State) → Stands (held_of self.old) s → Asks C.verdict C.asked self.old.kit self.new.kit done.verdicts (app_effect s app request.now (given_of done))) }
-        ensures note { IfOk result (λ done. done.note ≡ untouched) }
-        ensures two { IfOk result (λ done. length done.verdicts ≡ 2) }
-        ensures within { IfOk result (IsWithin (most_deeds request.now None) false false) }
-        ensures bytes { IfOk result (λ done. length done.bytes.list ≤ reply_limit) }
+        ensures does { IfOk result (Does C.verdict C.asked (most_deeds request.now None) 0 false (held_of self.old) (held_of self.new) (λ s given. owned_at (table_at s.tables row) s row request.now given)) }
         ensures log { self.new.log ≡ self.old.log }
         ensures err { OnErr result (held_of self.new ≡ held_of self.old) }
     {
@@ -123,37 +100,101 @@ impl<C: Validator> Parts<C> {
         let tables = &mut self.tables;
         let kit = &mut self.kit;
         let pending = &mut self.pending;
-        let apps = &self.apps;
         let drawer = &self.drawer;
         match request {
-            Request::LoadImage { handle, image } => {
+            Request::LoadImage { image, .. } => {
                 let image = image.bytes();
-                load_image(
-                    alloc, tables, kit, apps, clock, app, *handle, image, deeds, empty,
-                )
+                load_image(alloc, tables, kit, clock, row, image, deeds, empty)
             }
-            Request::LoadFile { handle, name } => {
-                load_file(
-                    alloc, tables, kit, apps, drawer, clock, app, *handle, name, deeds, empty,
-                )
+            Request::LoadFile { name, .. } => {
+                load_file(alloc, tables, kit, drawer, clock, row, name, deeds, empty)
             }
-            Request::Update { handle } => {
-                Ok(update(tables, apps, clock, app, *handle, deeds, empty))
+            Request::Update { .. } => Ok(update(tables, clock, row, deeds, empty)),
+            Request::Validate { .. } => {
+                Ok(app_validate(tables, kit, pending, row, deeds, empty))
             }
-            Request::Validate { handle } => {
-                Ok(app_validate(tables, kit, pending, apps, app, *handle, deeds, empty))
+            Request::Manage { .. } => manage(tables, kit, pending, clock, row, deeds, empty),
+            Request::Notify {
+                msg,
+                code,
+                parameter,
+                ..
+            } => Ok(notify(tables, row, *msg, *code, *parameter, empty)),
+            _ => unreachable!(),
+        }
+    }
+
+    /// Does what an application asks for the table of a handle, whose owner alone may.
+    #[tactic(auto, using(crate::proofs::Verdicts::none_judged))]
+    fn owner(
+        &mut self,
+        app: u8,
+        handle: u16,
+        request: &Request,
+        deeds: Vec<Deed>,
+        empty: Bytes,
+    ) -> Result<Effect, Memory>
+        requires owners { owners_handle request.now ≡ Some handle }
+        requires ready { MayPlay C.asked (held_of self.old) }
+        requires no_deeds { deeds.items ≡ [] }
+        requires room { vec_capacity deeds ≡ most_deeds request.now None }
+        requires empty { empty.list ≡ [] }
+        ensures does { IfOk result (Does C.verdict C.asked (most_deeds request.now None) 0 false (held_of self.old) (held_of self.new) (λ s given. app_effect s app request.now given)) }
+        ensures log { self.new.log ≡ self.old.log }
+        ensures err { OnErr result (held_of self.new ≡ held_of self.old) }
+    {
+        match check(&self.tables, &self.apps, app, handle, true) {
+            Ok(row) => self.owned(row, request, deeds, empty),
+            Err(status) => Ok(Effect::of(Answer::plain(status), empty)),
+        }
+    }
+
+    /// Does what an application asks that doesn't take the owner of a table.
+    #[tactic(auto, using(crate::proofs::Verdicts::none_judged))]
+    fn user(&mut self, app: u8, request: &Request, empty: Bytes) -> Result<Effect, Memory>
+        requires users { owners_handle request.now ≡ None }
+        requires fits { Fits (App app) request.now }
+        requires built { IsBuilt request.now }
+        requires ready { MayPlay C.asked (held_of self.old) }
+        requires empty { empty.list ≡ [] }
+        ensures does { IfOk result (Does C.verdict C.asked 0 0 false (held_of self.old) (held_of self.new) (λ s given. app_effect s app request.now given)) }
+        ensures log { self.new.log ≡ self.old.log }
+        ensures err { OnErr result (held_of self.new ≡ held_of self.old) }
+    {
+        let tables = &mut self.tables;
+        let pending = &mut self.pending;
+        let apps = &mut self.apps;
+        match request {
+            Request::Start { name } => Ok(start(apps, app, name, empty)),
+            Request::Register {
+                name,
+                size,
+                flags,
+                validator,
+            } => register(
+                tables, &self.kit, apps, app, name, *size, *flags, *validator, empty,
+            ),
+            Request::Share { name } => Ok(share(tables, apps, app, name, empty)),
+            Request::Unregister { handle } => {
+                Ok(unregister(tables, pending, apps, app, *handle, empty))
             }
-            Request::Manage { handle } => {
-                manage(
-                    tables, kit, pending, apps, clock, app, *handle, deeds, empty,
-                )
+            Request::Get { handle } => Ok(get(tables, apps, app, *handle, empty)),
+            Request::Read {
+                handle,
+                offset,
+                len,
+            } => read(tables, apps, app, *handle, *offset, *len, empty),
+            Request::Release { handle } => Ok(release(tables, apps, app, *handle, empty)),
+            Request::GetStatus { handle } => {
+                Ok(get_status(tables, pending, apps, app, *handle, empty))
             }
+            Request::GetInfo { name } => get_info(tables, apps, app, name, empty),
+            Request::Exit => Ok(exit(tables, pending, &mut self.kit, apps, app, empty)),
             _ => unreachable!(),
         }
     }
 
     /// Does what an application asks.
-    #[tactic(auto, using(crate::proofs::Verdicts::none_judged))]
     fn app(
         &mut self,
         app: u8,
@@ -167,41 +208,13 @@ impl<C: Validator> Parts<C> {
         requires no_deeds { deeds.items ≡ [] }
         requires room { vec_capacity deeds ≡ most_deeds request.now None }
         requires empty { empty.list ≡ [] }
-        ensures effect { IfOk result (λ done. (s : State) → Stands (held_of self.old) s → Leaves done (held_of self.new) (app_effect s app request.now (given_of done))) }
-        ensures asks { IfOk result (λ done. (s : State) → Stands (held_of self.old) s → Asks C.verdict C.asked self.old.kit self.new.kit done.verdicts (app_effect s app request.now (given_of done))) }
-        ensures note { IfOk result (λ done. done.note ≡ untouched) }
-        ensures two { IfOk result (λ done. length done.verdicts ≡ 2) }
-        ensures within { IfOk result (IsWithin (most_deeds request.now None) false false) }
-        ensures bytes { IfOk result (λ done. length done.bytes.list ≤ reply_limit) }
+        ensures does { IfOk result (Does C.verdict C.asked (most_deeds request.now None) 0 false (held_of self.old) (held_of self.new) (λ s given. app_effect s app request.now given)) }
         ensures log { self.new.log ≡ self.old.log }
         ensures err { OnErr result (held_of self.new ≡ held_of self.old) }
     {
-        if is_owners(request) {
-            return self.owner(app, request, deeds, empty);
-        }
-        let tables = &mut self.tables;
-        let apps = &mut self.apps;
-        match request {
-            Request::Start { name } => Ok(start(apps, app, name, empty)),
-            Request::Register {
-                name,
-                size,
-                flags,
-                validator,
-            } => register(
-                tables, &self.kit, apps, app, name, *size, *flags, *validator, empty,
-            ),
-            Request::Get { handle } => Ok(get(tables, apps, app, *handle, empty)),
-            Request::Read {
-                handle,
-                offset,
-                len,
-            } => read(tables, apps, app, *handle, *offset, *len, empty),
-            Request::Release { handle } => Ok(release(tables, apps, app, *handle, empty)),
-            Request::GetStatus { handle } => {
-                Ok(get_status(tables, &self.pending, apps, app, *handle, empty))
-            }
-            _ => unreachable!(),
+        match owners_handle(request) {
+            Some(handle) => self.owner(app, handle, request, deeds, empty),
+            None => self.user(app, request, empty),
         }
     }
 
@@ -216,12 +229,7 @@ impl<C: Validator> Parts<C> {
         requires built { IsBuilt request.now }
         requires asked { asked_of asked.now ≡ asked_in request.now }
         requires ready { MayPlay C.asked (held_of self.old) }
-        ensures effect { IfOk result (λ done. (s : State) → Stands (held_of self.old) s → Leaves done (held_of self.new) (effect_of s actor request.now (given_of done))) }
-        ensures asks { IfOk result (λ done. (s : State) → Stands (held_of self.old) s → Asks C.verdict C.asked self.old.kit self.new.kit done.verdicts (effect_of s actor request.now (given_of done))) }
-        ensures note { IfOk result (λ done. done.note ≡ untouched) }
-        ensures two { IfOk result (λ done. length done.verdicts ≡ 2) }
-        ensures within { IfOk result (IsWithin (most_deeds request.now (asked_of asked.now)) (asks_housekeeping (asked_of asked.now)) (asks_notice (asked_of asked.now))) }
-        ensures bytes { IfOk result (λ done. length done.bytes.list ≤ reply_limit) }
+        ensures does { IfOk result (Does C.verdict C.asked (most_deeds request.now (asked_of asked.now)) (shown_room (asked_of asked.now)) (asks_notice (asked_of asked.now)) (held_of self.old) (held_of self.new) (λ s given. effect_of s actor request.now given)) }
         ensures log { self.new.log ≡ self.old.log }
         ensures err { OnErr result (held_of self.new ≡ held_of self.old) }
     {

@@ -1,23 +1,26 @@
 //! The end of each request: what it did is told and counted, and entered into the history.
 
-ghost use Rattle.std.specs.Prelude.{◌≡◌, ◌+◌, ◌*◌, ◌<◌, ◌≤◌, [], length, is_some, if◌then◌else◌};
-ghost use Rattle.tbl_model.specs.Commands.{asked_in, asks_housekeeping};
-ghost use Rattle.tbl_core.specs.Asked.{asked_of, asks_notice, most_deeds};
+ghost use Rattle.std.specs.Prelude.{◌≡◌, ◌+◌, ◌*◌, ◌<◌, ◌≤◌, [], length};
+ghost use Rattle.tbl_model.specs.Commands.{asked_in};
+ghost use Rattle.tbl_core.specs.Asked.{asked_of, asks_notice, shown_room, most_deeds};
 ghost use Rattle.tbl_model.specs.State.{no_tables};
 ghost use Rattle.tbl_model.specs.CountsAfter.{counts_after, tally_of};
+ghost use Rattle.tbl_model.specs.Replies.{sent_of};
+ghost use Rattle.tbl_core.specs.Counters.{counts_view};
 ghost use Rattle.tbl_core.specs.Effects.{IsWithin, told_at};
 ghost use Rattle.tbl_core.specs.Finish.{packets_room, Reports};
 ghost use Rattle.tbl_core.specs.Log.{reply_limit};
 ghost use Rattle.tbl_core.specs.Service.{Finishes, held_of};
 
-use crate::asked::{Asked, asks_housekeeping, asks_notice, most_deeds};
+use crate::asked::{Asked, asks_notice, most_deeds, shown_room};
+use crate::counters::Counters;
 use crate::effect::Effect;
+use crate::events::{EVENT_LENGTH, head_at, put_events};
+use crate::packets::{NOTICE_LENGTH, put_notice, put_shown};
 use crate::parts::{Clock, Parts};
-use crate::telemetry::{
-    EVENT_LENGTH, HOUSEKEEPING_LENGTH, NOTICE_LENGTH, head_at, loaded_file, loaded_name,
-    put_events, put_notice, put_shown, tally,
-};
+use crate::tally::{loaded_file, loaded_name, tally};
 use tbl_kinds::{Actor, Bytes, Entry, Reply, Request, Status};
+use tbl_model::Shown;
 use tbl_outside::Validator;
 
 /// How many bytes of packets a request can send.
@@ -25,13 +28,19 @@ pub(crate) fn packets_room(request: &Request, asked: &Asked) -> usize
     ensures { result ≡ packets_room request.now (asked_of asked.now) }
 {
     let own = if asked.is_some() { EVENT_LENGTH } else { 0 };
-    let shown = if asks_housekeeping(asked) {
-        HOUSEKEEPING_LENGTH
-    } else {
-        0
-    };
     let notice = if asks_notice(asked) { NOTICE_LENGTH } else { 0 };
-    own + EVENT_LENGTH * most_deeds(request, asked) + shown + notice
+    own + EVENT_LENGTH * most_deeds(request, asked) + shown_room(asked) + notice
+}
+
+/// How many packets were sent before of the kind that is shown.
+fn shown_before(counters: &Counters, shown: Shown) -> u32
+    ensures { result ≡ sent_of (counts_view counters.now) shown }
+{
+    match shown {
+        Shown::Nothing => 0,
+        Shown::Housekeeping => u32::from(counters.housekeepings),
+        Shown::Registry { .. } => u32::from(counters.registries),
+    }
 }
 
 impl<C: Validator> Parts<C> {
@@ -62,7 +71,7 @@ impl<C: Validator> Parts<C> {
         packets: &mut Bytes,
     )
         requires asked { asked_of asked.now ≡ asked_in request.now }
-        requires within { IsWithin (most_deeds request.now (asked_of asked.now)) (asks_housekeeping (asked_of asked.now)) (asks_notice (asked_of asked.now)) effect.now }
+        requires within { IsWithin (most_deeds request.now (asked_of asked.now)) (shown_room (asked_of asked.now)) (asks_notice (asked_of asked.now)) effect.now }
         requires no_packets { packets.old.list ≡ [] }
         requires packets { packets_room request.now (asked_of asked.now) ≤ packets.old.spare }
         ensures reports { Reports self.old.log self.new.log clock self.old.tables request.now effect.now packets.new.list }
@@ -74,7 +83,7 @@ impl<C: Validator> Parts<C> {
             return;
         }
         let counters = self.log.counters();
-        let head = head_at(clock, u32::from(counters.housekeepings));
+        let head = head_at(clock, shown_before(counters, effect.shown));
         let notices = counters.notices;
         put_events(packets, clock, counters.events, asked, effect);
         self.count(clock, request, asked, effect);
@@ -100,7 +109,7 @@ impl<C: Validator> Parts<C> {
         mut packets: Bytes,
     )
         requires asked { asked_of asked.now ≡ asked_in request }
-        requires within { IsWithin (most_deeds request (asked_of asked.now)) (asks_housekeeping (asked_of asked.now)) (asks_notice (asked_of asked.now)) effect }
+        requires within { IsWithin (most_deeds request (asked_of asked.now)) (shown_room (asked_of asked.now)) (asks_notice (asked_of asked.now)) effect }
         requires small { length effect.bytes.list ≤ reply_limit }
         requires room { 0 < self.old.log.spare }
         requires no_packets { packets.list ≡ [] }

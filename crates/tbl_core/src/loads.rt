@@ -1,6 +1,6 @@
 //! Images and files that applications load.
 
-ghost use Rattle.std.specs.Prelude.{◌≡◌, ◌-◌, ◌^◌, ◌≤◌, ◌<◌, ◌∷◌, [], ◌++◌, length, false, if◌then◌else◌, vec_capacity, None, Some, IsSome, OnErr, IfOk};
+ghost use Rattle.std.specs.Prelude.{◌≡◌, ◌-◌, ◌^◌, ◌≤◌, ◌<◌, [], ◌++◌, length, false, if◌then◌else◌, vec_capacity, None, Some, IsSome, OnErr, IfOk};
 ghost use Rattle.std.specs.Option.{ForSome};
 ghost use Rattle.tbl_model.specs.State.{State};
 ghost use Rattle.tbl_model.specs.Tables.{table_at, in_use};
@@ -10,7 +10,7 @@ ghost use Rattle.tbl_model.specs.Refusals.{by_answer, closed_refusal};
 ghost use Rattle.tbl_model.specs.Subjects.{if_file};
 ghost use Rattle.table_files.specs.Files.{with_image};
 ghost use Rattle.tbl_kinds.specs.Notes.{untouched};
-ghost use Rattle.tbl_model.specs.AppLoads.{load_image_of, load_image_effect, load_file_of, app_file_effect};
+ghost use Rattle.tbl_model.specs.AppLoads.{load_image_of, load_file_of};
 ghost use Rattle.validation.specs.Kits.{owners, FewAsked};
 ghost use Rattle.validation.specs.Ready.{HaveFunctions};
 ghost use Rattle.validation.specs.Asked.{WasAsked};
@@ -18,12 +18,11 @@ ghost use Rattle.tbl_core.specs.Effects.{IsEffect, IsWithin, given_of};
 ghost use Rattle.tbl_core.specs.Loads.{verdict_deeds, IsLoaded};
 ghost use Rattle.tbl_core.specs.Service.{AreCounted};
 
-use crate::checks::{BUFFERS, answered_load, check};
+use crate::checks::{BUFFERS, answered_load};
 use crate::effect::Effect;
 use crate::parts::Clock;
 use file_drawer::Drawer;
 use partial_load::Loaded;
-use sharing::Apps;
 use std::alloc::Global;
 use table_files::{IMAGE_PLACE, TableFile, read_table_file};
 use tbl_kinds::{Answer, Bytes, Memory, Name64, Note, Status};
@@ -126,8 +125,9 @@ pub(crate) fn stamp(tables: &mut Tables, row: u8, updated: bool, clock: Clock)
     }
 }
 
-/// An image for the table of a row, which its owner loads.
-fn load_row<C: Validator>(
+/// The owner of the table of a row loads an image of it (`CFE_TBL_Load` from an address).
+#[inline(never)]
+pub(crate) fn load_image<C: Validator>(
     alloc: Global,
     tables: &mut Tables,
     kit: &mut Kit<C>,
@@ -135,13 +135,12 @@ fn load_row<C: Validator>(
     row: u8,
     image: &[u8],
     deeds: Vec<Deed>,
-    empty: Bytes,
+    mut empty: Bytes,
 ) -> Result<Effect, Memory>
     requires table { IsSome (table_at tables.old row) }
     requires no_deeds { deeds.items ≡ [] }
     requires two { 2 ≤ vec_capacity deeds }
     requires empty { empty.list ≡ [] }
-    requires room { 4 ≤ empty.spare }
     requires counted { AreCounted tables.old }
     requires functions { HaveFunctions tables.old kit.old }
     requires kit { FewAsked C.asked 2 kit.old }
@@ -150,49 +149,7 @@ fn load_row<C: Validator>(
     ensures asks { IfOk result (λ done. (s : State) → s.tables ≡ tables.old
         → ForSome (table_at tables.old row) (λ t. WasAsked C.verdict C.asked kit.old kit.new (load_image_of s image.now (given_of done) row t).asked done.verdicts)) }
     ensures owners { owners kit.new ≡ owners kit.old }
-    ensures within { IfOk result (IsWithin 2 false false) }
-    ensures note { IfOk result (λ done. done.note ≡ untouched) }
-    ensures two { IfOk result (λ done. length done.verdicts ≡ 2) }
-    ensures bytes { IfOk result (λ done. length done.bytes.list ≤ 4) }
-    ensures err { OnErr result (tables.new ≡ tables.old) }
-    ensures not_asked { OnErr result (kit.new ≡ kit.old) }
-{
-    let table = named(tables, row);
-    let active = activated(tables, row);
-    let loaded = partial_load::load_image(alloc, tables, kit, row, image)?;
-    let taken = loaded.answer.status == Status::SUCCESS;
-    let done = told(tables, row, taken, loaded, table, active, deeds, empty);
-    stamp(tables, row, taken, clock);
-    Ok(done)
-}
-
-/// The owner of a table loads an image of it (`CFE_TBL_Load` from an address).
-#[tactic(auto, unfolding(tbl_model::specs::AppLoads::load_image_effect))]
-#[inline(never)]
-pub(crate) fn load_image<C: Validator>(
-    alloc: Global,
-    tables: &mut Tables,
-    kit: &mut Kit<C>,
-    apps: &Apps,
-    clock: Clock,
-    app: u8,
-    handle: u16,
-    image: &[u8],
-    deeds: Vec<Deed>,
-    mut empty: Bytes,
-) -> Result<Effect, Memory>
-    requires no_deeds { deeds.items ≡ [] }
-    requires two { 2 ≤ vec_capacity deeds }
-    requires empty { empty.list ≡ [] }
-    requires counted { AreCounted tables.old }
-    requires functions { HaveFunctions tables.old kit.old }
-    requires kit { FewAsked C.asked 2 kit.old }
-    ensures effect { IfOk result (λ done. (s : State) → s.tables ≡ tables.old → s.apps ≡ apps.now → s.seconds ≡ clock.seconds → s.sub ≡ clock.sub
-        → IsEffect done (load_image_effect s app handle image.now (given_of done)).asked (record s { tables = tables.new }) (load_image_effect s app handle image.now (given_of done))) }
-    ensures asks { IfOk result (λ done. (s : State) → s.tables ≡ tables.old → s.apps ≡ apps.now
-        → WasAsked C.verdict C.asked kit.old kit.new (load_image_effect s app handle image.now (given_of done)).asked done.verdicts) }
-    ensures owners { owners kit.new ≡ owners kit.old }
-    ensures within { IfOk result (IsWithin 2 false false) }
+    ensures within { IfOk result (IsWithin 2 0 false) }
     ensures note { IfOk result (λ done. done.note ≡ untouched) }
     ensures two { IfOk result (λ done. length done.verdicts ≡ 2) }
     ensures bytes { IfOk result (λ done. length done.bytes.list ≤ 4) }
@@ -200,10 +157,13 @@ pub(crate) fn load_image<C: Validator>(
     ensures not_asked { OnErr result (kit.new ≡ kit.old) }
 {
     empty.reserve(BUFFERS)?;
-    match check(tables, apps, app, handle, true) {
-        Err(status) => Ok(Effect::of(Answer::plain(status), empty)),
-        Ok(row) => load_row(alloc, tables, kit, clock, row, image, deeds, empty),
-    }
+    let table = named(tables, row);
+    let active = activated(tables, row);
+    let loaded = partial_load::load_image(alloc, tables, kit, row, image)?;
+    let taken = loaded.answer.status == Status::SUCCESS;
+    let done = told(tables, row, taken, loaded, table, active, deeds, empty);
+    stamp(tables, row, taken, clock);
+    Ok(done)
 }
 
 /// The table of a row has this file as that of its last load, if it was loaded.
@@ -244,7 +204,7 @@ fn load_part<C: Validator>(
     ensures asks { IfOk result (λ done. (s : State) → s.tables ≡ tables.old
         → ForSome (table_at tables.old row) (λ t. WasAsked C.verdict C.asked kit.old kit.new (load_file_of s file.now (given_of done) row t (with_image parsed.now image.now)).asked done.verdicts)) }
     ensures owners { owners kit.new ≡ owners kit.old }
-    ensures within { IfOk result (IsWithin 2 false false) }
+    ensures within { IfOk result (IsWithin 2 0 false) }
     ensures note { IfOk result (λ done. done.note ≡ untouched) }
     ensures two { IfOk result (λ done. length done.verdicts ≡ 2) }
     ensures bytes { IfOk result (λ done. length done.bytes.list ≤ 4) }
@@ -261,8 +221,8 @@ fn load_part<C: Validator>(
     Ok(done)
 }
 
-/// A file in the drawer for the table of a row, which its owner loads.
-fn load_file_row<C: Validator>(
+/// The owner of the table of a row loads a file of it, or of a part of it (`CFE_TBL_Load` from a file).
+pub(crate) fn load_file<C: Validator>(
     alloc: Global,
     tables: &mut Tables,
     kit: &mut Kit<C>,
@@ -271,13 +231,12 @@ fn load_file_row<C: Validator>(
     row: u8,
     file: &Name64,
     deeds: Vec<Deed>,
-    empty: Bytes,
+    mut empty: Bytes,
 ) -> Result<Effect, Memory>
     requires table { IsSome (table_at tables.old row) }
     requires no_deeds { deeds.items ≡ [] }
     requires two { 2 ≤ vec_capacity deeds }
     requires empty { empty.list ≡ [] }
-    requires room { 4 ≤ empty.spare }
     requires counted { AreCounted tables.old }
     requires functions { HaveFunctions tables.old kit.old }
     requires kit { FewAsked C.asked 2 kit.old }
@@ -286,13 +245,14 @@ fn load_file_row<C: Validator>(
     ensures asks { IfOk result (λ done. (s : State) → s.tables ≡ tables.old → s.drawer ≡ drawer.now
         → ForSome (table_at tables.old row) (λ t. WasAsked C.verdict C.asked kit.old kit.new (by_answer s (closed_refusal t) (if_file s file.now (load_file_of s file.now (given_of done) row t))).asked done.verdicts)) }
     ensures owners { owners kit.new ≡ owners kit.old }
-    ensures within { IfOk result (IsWithin 2 false false) }
+    ensures within { IfOk result (IsWithin 2 0 false) }
     ensures note { IfOk result (λ done. done.note ≡ untouched) }
     ensures two { IfOk result (λ done. length done.verdicts ≡ 2) }
     ensures bytes { IfOk result (λ done. length done.bytes.list ≤ 4) }
     ensures err { OnErr result (tables.new ≡ tables.old) }
     ensures not_asked { OnErr result (kit.new ≡ kit.old) }
 {
+    empty.reserve(BUFFERS)?;
     if let Some(answer) = partial_load::closed_refusal(tables, row) {
         return Ok(Effect::of(answer, empty));
     }
@@ -307,45 +267,5 @@ fn load_file_row<C: Validator>(
             )
         }
         Err(fault) => Ok(Effect::of(Answer::plain(fault.status()), empty)),
-    }
-}
-
-/// The owner of a table loads a file of it, or of a part of it (`CFE_TBL_Load` from a file).
-#[tactic(auto, unfolding(tbl_model::specs::AppLoads::app_file_effect))]
-pub(crate) fn load_file<C: Validator>(
-    alloc: Global,
-    tables: &mut Tables,
-    kit: &mut Kit<C>,
-    apps: &Apps,
-    drawer: &Drawer,
-    clock: Clock,
-    app: u8,
-    handle: u16,
-    file: &Name64,
-    deeds: Vec<Deed>,
-    mut empty: Bytes,
-) -> Result<Effect, Memory>
-    requires no_deeds { deeds.items ≡ [] }
-    requires two { 2 ≤ vec_capacity deeds }
-    requires empty { empty.list ≡ [] }
-    requires counted { AreCounted tables.old }
-    requires functions { HaveFunctions tables.old kit.old }
-    requires kit { FewAsked C.asked 2 kit.old }
-    ensures effect { IfOk result (λ done. (s : State) → s.tables ≡ tables.old → s.apps ≡ apps.now → s.drawer ≡ drawer.now → s.seconds ≡ clock.seconds → s.sub ≡ clock.sub
-        → IsEffect done (app_file_effect s app handle file.now (given_of done)).asked (record s { tables = tables.new }) (app_file_effect s app handle file.now (given_of done))) }
-    ensures asks { IfOk result (λ done. (s : State) → s.tables ≡ tables.old → s.apps ≡ apps.now → s.drawer ≡ drawer.now
-        → WasAsked C.verdict C.asked kit.old kit.new (app_file_effect s app handle file.now (given_of done)).asked done.verdicts) }
-    ensures owners { owners kit.new ≡ owners kit.old }
-    ensures within { IfOk result (IsWithin 2 false false) }
-    ensures note { IfOk result (λ done. done.note ≡ untouched) }
-    ensures two { IfOk result (λ done. length done.verdicts ≡ 2) }
-    ensures bytes { IfOk result (λ done. length done.bytes.list ≤ 4) }
-    ensures err { OnErr result (tables.new ≡ tables.old) }
-    ensures not_asked { OnErr result (kit.new ≡ kit.old) }
-{
-    empty.reserve(BUFFERS)?;
-    match check(tables, apps, app, handle, true) {
-        Err(status) => Ok(Effect::of(Answer::plain(status), empty)),
-        Ok(row) => load_file_row(alloc, tables, kit, drawer, clock, row, file, deeds, empty),
     }
 }

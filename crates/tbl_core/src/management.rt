@@ -5,12 +5,13 @@ ghost use Rattle.std.specs.Option.{ForSome};
 ghost use Rattle.tbl_kinds.specs.Notes.{untouched};
 ghost use Rattle.tbl_model.specs.State.{State};
 ghost use Rattle.tbl_model.specs.Tables.{table_at};
-ghost use Rattle.tbl_model.specs.Management.{managed_effect, manage_answer, all_done, manage_effect, pending_status, get_status_effect};
+ghost use Rattle.tbl_model.specs.Management.{managed_effect, manage_answer, all_done, pending_status, get_status_effect};
 ghost use Rattle.validation.specs.Kits.{FewAsked, owners};
 ghost use Rattle.validation.specs.Asked.{WasAsked};
 ghost use Rattle.validation.specs.Ready.{ArePending, HaveFunctions, HaveLoads};
 ghost use Rattle.table_update.specs.Answers.{verdicts_of};
 ghost use Rattle.tbl_core.specs.Effects.{IsEffect, IsWithin, IsQuiet, given_of};
+ghost use Rattle.tbl_core.specs.Owned.{noticed_effect};
 ghost use Rattle.tbl_core.specs.Managed.{judged_deeds, managed_deeds};
 ghost use Rattle.tbl_core.specs.Service.{AreCounted};
 
@@ -22,7 +23,7 @@ use crate::validations::finished;
 use sharing::Apps;
 use table_update::{Judgement, Managed};
 use tbl_kinds::{Answer, Bytes, Memory, Name40, Status};
-use tbl_model::{Deed, Named};
+use tbl_model::{Deed, Named, Shown};
 use tbl_outside::Validator;
 use tbl_registry::{Dump, Tables};
 use validation::{Kit, Pending};
@@ -78,7 +79,8 @@ fn told(
     ensures bytes { result.bytes.list ≡ done.did ∷ [] }
     ensures table { result.table ≡ None }
     ensures notice { result.notice ≡ None }
-    ensures within { IsWithin 3 false false result }
+    ensures shown { result.shown ≡ Shown.Nothing }
+    ensures within { IsWithin 3 0 false result }
     ensures note { result.note ≡ untouched }
     ensures verdicts { result.verdicts ≡ verdicts_of done.first done.second }
 {
@@ -97,16 +99,17 @@ fn told(
     }
 }
 
-/// The owner of the table in the row has all done that is pending for it.
-fn manage_row<C: Validator>(
+/// The owner of the table in the row has all done that is pending for it (`CFE_TBL_Manage`). The reply is one byte: bit 0
+/// for the validation of the last image, bit 1 for that of the load's, bit 2 for the update, bit 3 for the filling of a dump.
+pub(crate) fn manage<C: Validator>(
     tables: &mut Tables,
     kit: &mut Kit<C>,
     pending: &mut Pending,
     clock: Clock,
     row: u8,
     deeds: Vec<Deed>,
-    empty: Bytes,
-) -> Effect
+    mut empty: Bytes,
+) -> Result<Effect, Memory>
     requires table { IsSome (table_at tables.old row) }
     requires pending { ArePending tables.old pending.old }
     requires kit { HaveFunctions tables.old kit.old }
@@ -116,17 +119,20 @@ fn manage_row<C: Validator>(
     requires no_deeds { deeds.items ≡ [] }
     requires three { 3 ≤ vec_capacity deeds }
     requires empty { empty.list ≡ [] }
-    requires room { 1 ≤ empty.spare }
-    ensures effect { (s : State) → s.tables ≡ tables.old → s.pending ≡ pending.old → s.seconds ≡ clock.seconds → s.sub ≡ clock.sub
-        → ForSome (table_at tables.old row) (λ t. IsEffect result (managed_effect s (manage_answer s.tables row t) (all_done s (given_of result) row)).asked (record s { tables = tables.new; pending = pending.new }) (managed_effect s (manage_answer s.tables row t) (all_done s (given_of result) row))) }
-    ensures asks { (s : State) → s.tables ≡ tables.old → s.pending ≡ pending.old
-        → ForSome (table_at tables.old row) (λ t. WasAsked C.verdict C.asked kit.old kit.new (managed_effect s (manage_answer s.tables row t) (all_done s (given_of result) row)).asked result.verdicts) }
+    ensures effect { IfOk result (λ done. (s : State) → s.tables ≡ tables.old → s.pending ≡ pending.old → s.seconds ≡ clock.seconds → s.sub ≡ clock.sub
+        → ForSome (table_at tables.old row) (λ t. IsEffect done (managed_effect s (manage_answer s.tables row t) (all_done s (given_of done) row)).asked (record s { tables = tables.new; pending = pending.new }) (managed_effect s (manage_answer s.tables row t) (all_done s (given_of done) row)))) }
+    ensures asks { IfOk result (λ done. (s : State) → s.tables ≡ tables.old → s.pending ≡ pending.old
+        → ForSome (table_at tables.old row) (λ t. WasAsked C.verdict C.asked kit.old kit.new (managed_effect s (manage_answer s.tables row t) (all_done s (given_of done) row)).asked done.verdicts)) }
     ensures owners { owners kit.new ≡ owners kit.old }
-    ensures within { IsWithin 3 false false result }
-    ensures note { result.note ≡ untouched }
-    ensures two { length result.verdicts ≡ 2 }
-    ensures bytes { length result.bytes.list ≤ 1 }
+    ensures within { IfOk result (IsWithin 3 0 false) }
+    ensures note { IfOk result (λ done. done.note ≡ untouched) }
+    ensures two { IfOk result (λ done. length done.verdicts ≡ 2) }
+    ensures bytes { IfOk result (λ done. length done.bytes.list ≤ 1) }
+    ensures err { OnErr result (tables.new ≡ tables.old) }
+    ensures still_pending { OnErr result (pending.new ≡ pending.old) }
+    ensures not_asked { OnErr result (kit.new ≡ kit.old) }
 {
+    empty.reserve(1)?;
     let Named { name, .. } = named(tables, row);
     let active = activated(tables, row);
     let done = table_update::manage(tables, kit, pending, row);
@@ -136,49 +142,26 @@ fn manage_row<C: Validator>(
         done.answer.status == Status::INFO_UPDATED,
         clock,
     );
-    told(row, done, &name, active, deeds, empty)
+    Ok(told(row, done, &name, active, deeds, empty))
 }
 
-/// The owner of a table has all done that is pending for it (`CFE_TBL_Manage`). The reply is one byte: bit 0 for the
-/// validation of the last image, bit 1 for that of the load's, bit 2 for the update, bit 3 for the filling of a dump.
-#[tactic(auto, unfolding(tbl_model::specs::Management::manage_effect))]
-pub(crate) fn manage<C: Validator>(
+/// The owner of the table in the row is told of work that the ground asks for, by a command packet, from now on
+/// (`CFE_TBL_NotifyByMessage`).
+pub(crate) fn notify(
     tables: &mut Tables,
-    kit: &mut Kit<C>,
-    pending: &mut Pending,
-    apps: &Apps,
-    clock: Clock,
-    app: u8,
-    handle: u16,
-    deeds: Vec<Deed>,
-    mut empty: Bytes,
-) -> Result<Effect, Memory>
-    requires pending { ArePending tables.old pending.old }
-    requires kit { HaveFunctions tables.old kit.old }
-    requires few { FewAsked C.asked 2 kit.old }
-    requires loads { HaveLoads tables.old }
-    requires counted { AreCounted tables.old }
-    requires no_deeds { deeds.items ≡ [] }
-    requires three { 3 ≤ vec_capacity deeds }
+    row: u8,
+    msg: u16,
+    code: u16,
+    parameter: u32,
+    empty: Bytes,
+) -> Effect
+    requires table { IsSome (table_at tables.old row) }
     requires empty { empty.list ≡ [] }
-    ensures effect { IfOk result (λ done. (s : State) → s.tables ≡ tables.old → s.pending ≡ pending.old → s.apps ≡ apps.now → s.seconds ≡ clock.seconds → s.sub ≡ clock.sub
-        → IsEffect done (manage_effect s app handle (given_of done)).asked (record s { tables = tables.new; pending = pending.new }) (manage_effect s app handle (given_of done))) }
-    ensures asks { IfOk result (λ done. (s : State) → s.tables ≡ tables.old → s.pending ≡ pending.old → s.apps ≡ apps.now
-        → WasAsked C.verdict C.asked kit.old kit.new (manage_effect s app handle (given_of done)).asked done.verdicts) }
-    ensures owners { owners kit.new ≡ owners kit.old }
-    ensures within { IfOk result (IsWithin 3 false false) }
-    ensures note { IfOk result (λ done. done.note ≡ untouched) }
-    ensures two { IfOk result (λ done. length done.verdicts ≡ 2) }
-    ensures bytes { IfOk result (λ done. length done.bytes.list ≤ 1) }
-    ensures err { OnErr result (tables.new ≡ tables.old) }
-    ensures still_pending { OnErr result (pending.new ≡ pending.old) }
-    ensures not_asked { OnErr result (kit.new ≡ kit.old) }
+    ensures effect { (s : State) → s.tables ≡ tables.old → IsEffect result [] (record s { tables = tables.new }) (noticed_effect s row msg code parameter) }
+    ensures quiet { IsQuiet result }
+    ensures bytes { result.bytes ≡ empty }
 {
-    empty.reserve(1)?;
-    match check(tables, apps, app, handle, true) {
-        Err(status) => Ok(Effect::of(Answer::plain(status), empty)),
-        Ok(row) => Ok(manage_row(tables, kit, pending, clock, row, deeds, empty)),
-    }
+    Effect::of(sharing::notify(tables, row, msg, code, parameter), empty)
 }
 
 /// What is pending for the table in the row.

@@ -6,7 +6,7 @@ ghost use Rattle.tbl_kinds.specs.Notes.{untouched};
 ghost use Rattle.tbl_model.specs.State.{State, Table, Tables as Registry};
 ghost use Rattle.tbl_model.specs.Tables.{table_at};
 ghost use Rattle.tbl_model.specs.Given.{nothing_given};
-ghost use Rattle.tbl_model.specs.Validations.{selected, validate_by, validate_effect, first_pending, do_validation, app_validate_effect};
+ghost use Rattle.tbl_model.specs.Validations.{selected, validate_by, validate_effect, first_pending, do_validation};
 ghost use Rattle.validation.specs.Kits.{FewAsked, owners};
 ghost use Rattle.validation.specs.Asked.{WasAsked};
 ghost use Rattle.validation.specs.Ready.{ArePending, HaveFunctions};
@@ -15,12 +15,10 @@ ghost use Rattle.tbl_laws.specs.Fit.{HasCode};
 ghost use Rattle.tbl_core.specs.Effects.{IsEffect, IsWithin, given_of};
 ghost use Rattle.tbl_core.specs.Service.{AreSendable};
 
-use crate::checks::check;
 use crate::effect::Effect;
 use crate::loads::named;
 use crate::subjects::{notice, subject};
 use bitflags::Flags;
-use sharing::Apps;
 use table_update::{Judgement, Requested, Validated, request_validation};
 use tbl_kinds::{Answer, Bytes, Name40, Options, Status};
 use tbl_model::{Deed, Named, Notice};
@@ -71,7 +69,7 @@ fn told(
     requires empty { empty.list ≡ [] }
     ensures effect { (s : State) (t : Table) (tables : Registry) (pending : List (ℕ × Bool)) → t.name ≡ name → t.notice ≡ notice
         → IsEffect result [] (record s { tables = tables; pending = pending }) (record (requested s table.row t came tables pending) { table = Some table }) }
-    ensures within { IsWithin 1 false true result }
+    ensures within { IsWithin 1 0 true result }
     ensures given { given_of result ≡ nothing_given }
     ensures bytes { result.bytes ≡ empty }
 {
@@ -115,7 +113,7 @@ fn validate_found(
     requires empty { empty.list ≡ [] }
     ensures effect { (s : State) → s.tables ≡ tables.old → s.pending ≡ pending.old
         → ForSome (table_at tables.old table.row) (λ t. IsEffect result [] (record s { tables = tables.new; pending = pending.new }) (record (validate_by s table.row t (selected t select)) { table = Some table })) }
-    ensures within { IsWithin 1 false true result }
+    ensures within { IsWithin 1 0 true result }
     ensures given { given_of result ≡ nothing_given }
     ensures bytes { result.bytes ≡ empty }
 {
@@ -148,7 +146,7 @@ pub(crate) fn validate(
     requires room { 1 ≤ vec_capacity deeds }
     requires empty { empty.list ≡ [] }
     ensures effect { (s : State) → s.tables ≡ tables.old → s.pending ≡ pending.old → IsEffect result [] (record s { tables = tables.new; pending = pending.new }) (validate_effect s select name.now) }
-    ensures within { IsWithin 1 false true result }
+    ensures within { IsWithin 1 0 true result }
     ensures given { given_of result ≡ nothing_given }
     ensures bytes { result.bytes ≡ empty }
 {
@@ -165,7 +163,7 @@ fn done(row: u8, came: Validated, name: Name40, mut deeds: Vec<Deed>, empty: Byt
     requires empty { empty.list ≡ [] }
     ensures effect { (s : State) (t : Table) (tables : Registry) (pending : List (ℕ × Bool)) → t.name ≡ name
         → IsEffect result (validated s row t came tables pending).asked (record s { tables = tables; pending = pending }) (validated s row t came tables pending) }
-    ensures within { IsWithin 1 false false result }
+    ensures within { IsWithin 1 0 false result }
     ensures note { result.note ≡ untouched }
     ensures verdicts { result.verdicts ≡ verdicts_of came.judgement None }
     ensures bytes { result.bytes ≡ empty }
@@ -181,8 +179,9 @@ fn done(row: u8, came: Validated, name: Name40, mut deeds: Vec<Deed>, empty: Byt
     }
 }
 
-/// The owner of the table in a row has its validation done.
-fn app_validate_row<C: Validator>(
+/// The owner of the table in a row has a validation of it done that is pending (`CFE_TBL_Validate`), that of the last
+/// image first.
+pub(crate) fn app_validate<C: Validator>(
     tables: &mut Tables,
     kit: &mut Kit<C>,
     pending: &mut Pending,
@@ -202,7 +201,7 @@ fn app_validate_row<C: Validator>(
     ensures asks { (s : State) → s.tables ≡ tables.old → s.pending ≡ pending.old
         → ForSome (table_at tables.old row) (λ t. WasAsked C.verdict C.asked kit.old kit.new (do_validation s (given_of result) row t (first_pending s.pending row)).asked result.verdicts) }
     ensures owners { owners kit.new ≡ owners kit.old }
-    ensures within { IsWithin 1 false false result }
+    ensures within { IsWithin 1 0 false result }
     ensures note { result.note ≡ untouched }
     ensures two { length result.verdicts ≡ 2 }
     ensures bytes { result.bytes ≡ empty }
@@ -210,38 +209,4 @@ fn app_validate_row<C: Validator>(
     let Named { name, .. } = named(tables, row);
     let came = table_update::validate(tables, kit, pending, row);
     done(row, came, name, deeds, empty)
-}
-
-/// The owner of a table has a validation of it done that is pending (`CFE_TBL_Validate`), that of the last image first.
-#[tactic(auto, unfolding(tbl_model::specs::Validations::app_validate_effect))]
-pub(crate) fn app_validate<C: Validator>(
-    tables: &mut Tables,
-    kit: &mut Kit<C>,
-    pending: &mut Pending,
-    apps: &Apps,
-    app: u8,
-    handle: u16,
-    deeds: Vec<Deed>,
-    empty: Bytes,
-) -> Effect
-    requires pending { ArePending tables.old pending.old }
-    requires kit { HaveFunctions tables.old kit.old }
-    requires few { FewAsked C.asked 2 kit.old }
-    requires no_deeds { deeds.items ≡ [] }
-    requires room { 1 ≤ vec_capacity deeds }
-    requires empty { empty.list ≡ [] }
-    ensures effect { (s : State) → s.tables ≡ tables.old → s.pending ≡ pending.old → s.apps ≡ apps.now
-        → IsEffect result (app_validate_effect s app handle (given_of result)).asked (record s { tables = tables.new; pending = pending.new }) (app_validate_effect s app handle (given_of result)) }
-    ensures asks { (s : State) → s.tables ≡ tables.old → s.pending ≡ pending.old → s.apps ≡ apps.now
-        → WasAsked C.verdict C.asked kit.old kit.new (app_validate_effect s app handle (given_of result)).asked result.verdicts }
-    ensures owners { owners kit.new ≡ owners kit.old }
-    ensures within { IsWithin 1 false false result }
-    ensures note { result.note ≡ untouched }
-    ensures two { length result.verdicts ≡ 2 }
-    ensures bytes { result.bytes ≡ empty }
-{
-    match check(tables, apps, app, handle, true) {
-        Err(status) => Effect::of(Answer::plain(status), empty),
-        Ok(row) => app_validate_row(tables, kit, pending, row, deeds, empty),
-    }
 }

@@ -12,7 +12,8 @@ effect-requires-clause-ready g c = may_play g.C.Validator.asked (view_of c.args.
 
 pub returns-clause-plays : goal.returns-clause-plays
 returns-clause-plays g c =
-    let did = c.in_ok-effect.ensures in
+    let did = c.in_ok-effect.ensures.does in
+    let log = c.in_ok-effect.ensures.log in
     let stays = c.finish.ensures.stays in
     let before = c.effect.new.self.log in
     let after = c.finish.new.self.log in
@@ -31,8 +32,8 @@ returns-clause-plays g c =
       effect = λ s stands. rw stays (did.effect s stands);
       before = before;
       after = after;
-      entries = ap (λ (l : Logged). l.entries) did.log ∙ c.in_ok-reserve.ensures.entries;
-      counts = ap (λ (l : Logged). l.counts) did.log ∙ c.in_ok-reserve.ensures.counts;
+      entries = ap (λ (l : Logged). l.entries) log ∙ c.in_ok-reserve.ensures.entries;
+      counts = ap (λ (l : Logged). l.counts) log ∙ c.in_ok-reserve.ensures.counts;
       entered = refl;
       counted = refl;
       finishes = subst (λ (h : Held _). Finishes before after clock h.tables c.args.actor c.args.request done) (sym stays) c.finish.ensures.finishes;

@@ -5,7 +5,7 @@ use Rattle.tbl_model.specs.State.{State, Table, Tables}
 use Rattle.tbl_model.specs.TableSteps.{set_time}
 use Rattle.tbl_model.specs.Effects as model
 use Rattle.table_update.specs.Answers.{updated}
-use Rattle.tbl_core.proofs.activations.update_row.Goals as goal
+use Rattle.tbl_core.proofs.activations.update.Goals as goal
 
 -- the tables have the time of the update, if it was made
 stamped : (s : State) (row : ℕ) (t : Table) (answer : Answer) (old new : Tables) (seconds sub : ℕ) → s.seconds ≡ seconds → s.sub ≡ sub

@@ -5,7 +5,7 @@ use Rattle.tbl_model.specs.Given.{Given}
 use Rattle.tbl_core.specs.Effects.{seen_at}
 use Rattle.tbl_core.proofs.Places.{some_is}
 use Rattle.tbl_core.proofs.Verdicts.{may_ask_there, same_owners}
-use Rattle.tbl_core.proofs.loads.load_row.Goals as goal
+use Rattle.tbl_core.proofs.loads.load_image.Goals as goal
 
 pub load_image-requires-clause-kit : goal.load_image-requires-clause-kit
 load_image-requires-clause-kit g c = may_ask_there g.C.Validator.asked c.args.kit.now c.args.tables.now c.args.row c.requires.functions c.requires.kit

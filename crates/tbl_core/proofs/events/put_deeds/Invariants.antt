@@ -1,7 +1,7 @@
 use Rattle.std.proofs.Common.{◌≡◌, ◌+◌, ◌*◌, ◌≤◌, ◌++◌, length, map, drop}
 use Rattle.tbl_model.specs.Events.{deed_event}
 use Rattle.tbl_model.specs.Replies.{event_packets}
-use Rattle.tbl_core.proofs.telemetry.put_deeds.Given as goal
+use Rattle.tbl_core.proofs.events.put_deeds.Given as goal
 
 abbrev pub invariant-loop-deed : goal.invariant-loop-deed
 invariant-loop-deed l = record {

@@ -10,7 +10,7 @@ use Rattle.table_files.specs.Files.{with_image, flaw_of}
 use Rattle.validation.proofs.Asking.{asked_nothing}
 use Rattle.tbl_core.specs.Effects.{IsEffect, given_of}
 use Rattle.tbl_core.proofs.Uplinked.{of_file, of_flaw}
-use Rattle.tbl_core.proofs.loads.load_file_row.Goals as goal
+use Rattle.tbl_core.proofs.loads.load_file.Goals as goal
 
 pub returns-in-Ok-clause-effect : goal.returns-in-Ok-clause-effect
 returns-in-Ok-clause-effect g c = IfOk-weaker c.load_part.result _ _ (λ done is s same_tables same_drawer same_seconds same_sub t there.

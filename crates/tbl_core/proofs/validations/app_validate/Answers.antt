@@ -4,7 +4,7 @@ use Rattle.tbl_model.specs.Tables.{table_at}
 use Rattle.tbl_core.specs.Effects.{seen_at, given_of}
 use Rattle.tbl_core.proofs.Places.{some_is}
 use Rattle.tbl_core.proofs.Verdicts.{same_owners}
-use Rattle.tbl_core.proofs.validations.app_validate_row.Goals as goal
+use Rattle.tbl_core.proofs.validations.app_validate.Goals as goal
 
 pub returns-clause-effect : goal.returns-clause-effect
 returns-clause-effect g c = λ s same_tables same_pending t there.

@@ -1,0 +1,78 @@
+-- A call that the owner of a table alone may make is what is done to the table of its handle, or why that isn't done.
+use Rattle.std.proofs.Common.{◌≡◌, ◌∙◌, ℕ, List, true, Option, Some, refl, sym, ap, subst}
+use Rattle.std.proofs.lemmas.Option.{same_Some}
+use Rattle.tbl_model.specs.State.{State, Table}
+use Rattle.tbl_model.specs.Tables.{table_at}
+use Rattle.tbl_model.specs.Effects.{Effect, answered}
+use Rattle.tbl_model.specs.Deeds.{Question}
+use Rattle.tbl_model.specs.Given.{Given}
+use Rattle.tbl_model.specs.Refusals.{by_answer, closed_refusal, update_refusal}
+use Rattle.tbl_model.specs.Subjects.{by_table, if_handle, if_owner, if_file}
+use Rattle.tbl_model.specs.AppLoads.{load_image_of, load_image_effect, load_file_of, app_file_effect}
+use Rattle.tbl_model.specs.Activations.{updated_effect, update_effect}
+use Rattle.tbl_model.specs.Validations.{first_pending, do_validation, app_validate_effect}
+use Rattle.tbl_model.specs.Management.{managed_effect, manage_answer, all_done, manage_effect}
+use Rattle.tbl_model.specs.Sharing.{notify_effect}
+use Rattle.tbl_model.specs.Dispatch.{app_effect}
+use Rattle.tbl_kinds.specs.declared.status.Status.{Status}
+use Rattle.tbl_kinds.specs.declared.status.TheConstants.Status.{ERR_UNREGISTERED}
+use Rattle.tbl_kinds.specs.declared.request.Request.{Request}
+use Rattle.tbl_kinds.specs.declared.request.Request.TheVariants as ask
+use Rattle.tbl_core.specs.Asked.{owners_handle}
+use Rattle.tbl_core.specs.Effects.{IsEffect}
+use Rattle.tbl_core.specs.Service.{Held, Stands, Leaves}
+use Rattle.tbl_core.specs.declared.effect.Effect.{Effect as Done}
+use Rattle.tbl_core.specs.Owned.{noticed_effect, owned_effect, owned_at}
+
+module _ (s : State) (app handle : ℕ) (given : Given) where
+  module _ (status : Status) (no : (effect : ℕ → Effect) → if_handle s app handle true effect ≡ answered s status 0) where
+    not_done : (h : ℕ) → Some h ≡ Some handle → (effect : ℕ → Table → Effect) → Some (if_owner s app h effect) ≡ Some (answered s status 0)
+    not_done h is effect = ap (λ n. Some (if_owner s app n effect)) (same_Some h handle is) ∙ ap (λ (e : Effect). Some e) (no (λ row. by_table s ERR_UNREGISTERED (table_at s.tables row) (effect row)))
+
+    -- the handle may not be used so
+    pub refused : (request : Request) → owners_handle request ≡ Some handle → app_effect s app request given ≡ Some (answered s status 0)
+    unfolding load_image_effect app_file_effect update_effect app_validate_effect manage_effect notify_effect
+    refused (ask.LoadImage h image) is = not_done h is (load_image_of s image.list given)
+    refused (ask.LoadFile h name) is = not_done h is (λ row t. by_answer s (closed_refusal t) (if_file s name (load_file_of s name given row t)))
+    refused (ask.Update h) is = not_done h is (λ row t. by_answer s (update_refusal s.tables row t) (updated_effect s row t))
+    refused (ask.Validate h) is = not_done h is (λ row t. do_validation s given row t (first_pending s.pending row))
+    refused (ask.Manage h) is = not_done h is (λ row t. managed_effect s (manage_answer s.tables row t) (all_done s given row))
+    refused (ask.Notify h msg code parameter) is = not_done h is (λ row t. noticed_effect s row msg code parameter)
+    refused request is = absurd (cc is)
+
+  module _ (row : ℕ) (t : Table) (may : (effect : ℕ → Effect) → if_handle s app handle true effect ≡ effect row) (there : table_at s.tables row ≡ Some t) where
+    done_to : (h : ℕ) → Some h ≡ Some handle → (effect : ℕ → Table → Effect) → Some (if_owner s app h effect) ≡ Some (effect row t)
+    done_to h is effect =
+        ap (λ n. Some (if_owner s app n effect)) (same_Some h handle is) ∙ ap (λ (e : Effect). Some e) (may (λ r. by_table s ERR_UNREGISTERED (table_at s.tables r) (effect r)))
+        ∙ ap (λ (found : Option Table). Some (by_table s ERR_UNREGISTERED found (effect row))) there
+
+    -- it leads to this table
+    pub taken : (request : Request) → owners_handle request ≡ Some handle → app_effect s app request given ≡ owned_at (table_at s.tables row) s row request given
+    unfolding load_image_effect app_file_effect update_effect app_validate_effect manage_effect notify_effect
+    taken request is = by request is ∙ ap (λ (found : Option Table). owned_at found s row request given) (sym there)
+      where
+        by : (request : Request) → owners_handle request ≡ Some handle → app_effect s app request given ≡ owned_effect s row t request given
+        by (ask.LoadImage h image) is = done_to h is (load_image_of s image.list given)
+        by (ask.LoadFile h name) is = done_to h is (λ row t. by_answer s (closed_refusal t) (if_file s name (load_file_of s name given row t)))
+        by (ask.Update h) is = done_to h is (λ row t. by_answer s (update_refusal s.tables row t) (updated_effect s row t))
+        by (ask.Validate h) is = done_to h is (λ row t. do_validation s given row t (first_pending s.pending row))
+        by (ask.Manage h) is = done_to h is (λ row t. managed_effect s (manage_answer s.tables row t) (all_done s given row))
+        by (ask.Notify h msg code parameter) is = done_to h is (λ row t. noticed_effect s row msg code parameter)
+        by request is = absurd (cc is)
+
+-- an effect that leaves a state which the parts stand for
+pub leaves_of : {C : Type 0} (done : Done) (new : Held C) (questions : List Question) (e : Effect) (after : State) → IsEffect done questions after e → Stands new after → Leaves done new (Some e)
+leaves_of done new questions e after is stands = (
+  record {
+    status = is.status;
+    detail = is.detail;
+    bytes = is.bytes;
+    table = is.table;
+    deeds = is.deeds;
+    shown = is.shown;
+    asked = refl;
+    notice = is.notice;
+    next = refl;
+  },
+  subst (Stands new) (sym is.next) stands,
+)

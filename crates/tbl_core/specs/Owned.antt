@@ -1,0 +1,36 @@
+-- What the owner of a table asks for it, by the table that its handle leads to.
+use Rattle.std.specs.Prelude.{ℕ, not, if◌then◌else◌, Option, Some, None}
+use Rattle.tbl_model.specs.State.{State, Table}
+use Rattle.tbl_model.specs.TableSteps.{set_notice}
+use Rattle.tbl_model.specs.Effects.{Effect, answered}
+use Rattle.tbl_model.specs.Given.{Given}
+use Rattle.tbl_model.specs.Refusals.{by_answer, closed_refusal, update_refusal}
+use Rattle.tbl_model.specs.Subjects.{if_file}
+use Rattle.tbl_model.specs.AppLoads.{load_image_of, load_file_of}
+use Rattle.tbl_model.specs.Activations.{updated_effect}
+use Rattle.tbl_model.specs.Validations.{first_pending, do_validation}
+use Rattle.tbl_model.specs.Management.{managed_effect, manage_answer, all_done}
+use Rattle.tbl_model.specs.Sharing.{is_notice}
+use Rattle.tbl_kinds.specs.declared.status.TheConstants.Status.{SUCCESS, ERR_NOTICE_ID}
+use Rattle.tbl_kinds.specs.declared.request.Request.{Request}
+use Rattle.tbl_kinds.specs.declared.request.Request.TheVariants as ask
+
+-- the owner is told of pending work from now on
+abbrev pub noticed_effect : State → ℕ → ℕ → ℕ → ℕ → Effect
+noticed_effect s row msg code parameter =
+    if not (is_notice msg code) then answered s ERR_NOTICE_ID 0
+    else record (answered s SUCCESS 0) { next = record s { tables = set_notice row (record { msg = msg; code = code; parameter = parameter }) s.tables } }
+
+-- no other call is the owner's alone
+abbrev pub owned_effect : State → ℕ → Table → Request → Given → Option Effect
+owned_effect s row t (ask.LoadImage handle image) given = Some (load_image_of s image.list given row t)
+owned_effect s row t (ask.LoadFile handle name) given = Some (by_answer s (closed_refusal t) (if_file s name (load_file_of s name given row t)))
+owned_effect s row t (ask.Update handle) given = Some (by_answer s (update_refusal s.tables row t) (updated_effect s row t))
+owned_effect s row t (ask.Validate handle) given = Some (do_validation s given row t (first_pending s.pending row))
+owned_effect s row t (ask.Manage handle) given = Some (managed_effect s (manage_answer s.tables row t) (all_done s given row))
+owned_effect s row t (ask.Notify handle msg code parameter) given = Some (noticed_effect s row msg code parameter)
+owned_effect s row t _ given = None
+
+abbrev pub owned_at : Option Table → State → ℕ → Request → Given → Option Effect
+owned_at None s row request given = None
+owned_at (Some t) s row request given = owned_effect s row t request given
