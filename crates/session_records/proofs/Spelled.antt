@@ -50,7 +50,7 @@ two_alone number len good = grind (arith, nat_tests)
 
 each_two : AllByRecursion HasTwoBytes handle_kinds
 unfolding is_good_head HasTwoBytes
-each_two = (two_alone, (two_alone, (two_alone, (two_alone, (two_alone, (two_alone, (two_alone, tt)))))))
+each_two = (two_alone, (two_alone, (two_alone, (two_alone, (two_alone, (two_alone, (two_alone, (two_alone, tt))))))))
 
 pub handle_len : (kind number len : ℕ) → IsTrue (is_handle_kind kind) → is_good_head kind number len ≡ true → len ≡ 2
 unfolding HasTwoBytes
@@ -73,6 +73,8 @@ sender_fits number len (ask.LoadFile handle name) built none good = app_may numb
 sender_fits number len (ask.Update handle) built none good = app_may number len 2 2 (ask.Update handle) (λ no. no) none good
 sender_fits number len (ask.Validate handle) built none good = app_may number len 2 2 (ask.Validate handle) (λ no. no) none good
 sender_fits number len (ask.Manage handle) built none good = app_may number len 2 2 (ask.Manage handle) (λ no. no) none good
+sender_fits number len (ask.DumpToBuffer handle) built none good = app_may number len 2 2 (ask.DumpToBuffer handle) (λ no. no) none good
+sender_fits number len (ask.Edit handle offset bytes) built none good = app_may number len 6 32832 (ask.Edit handle offset bytes) (λ no. no) none good
 sender_fits number len (ask.Get handle) built none good = app_may number len 2 2 (ask.Get handle) (λ no. no) none good
 sender_fits number len (ask.Read handle offset count) built none good = app_may number len 10 10 (ask.Read handle offset count) (λ no. no) none good
 sender_fits number len (ask.Release handle) built none good = app_may number len 2 2 (ask.Release handle) (λ no. no) none good

@@ -15,7 +15,7 @@ actor_at number = if number == 0 then Ground else App number
 
 -- the kinds whose body is a handle alone
 abbrev pub handle_kinds : List ℕ
-handle_kinds = 0x13 ∷ 0x16 ∷ 0x17 ∷ 0x18 ∷ 0x1B ∷ 0x1D ∷ 0x1E ∷ []
+handle_kinds = 0x13 ∷ 0x16 ∷ 0x17 ∷ 0x18 ∷ 0x19 ∷ 0x1B ∷ 0x1D ∷ 0x1E ∷ []
 
 abbrev pub is_handle_kind : ℕ → Bool
 is_handle_kind number = list_any (λ kind. number == kind) handle_kinds

@@ -119,6 +119,20 @@ fn load_file(body: &[u8]) -> Option<Request>
     Some(Request::LoadFile { handle, name })
 }
 
+fn edit(alloc: Global, body: &[u8]) -> Result<Request, Memory>
+    requires { 6 ≤ length body.now }
+    ensures { IfOk result (λ request. IsSpelledBy 0x1A body.now request) }
+{
+    let (handle, rest) = read_two(body);
+    let (offset, rest) = read_four(rest);
+    let bytes = copy_of(alloc, rest)?;
+    Ok(Request::Edit {
+        handle,
+        offset,
+        bytes,
+    })
+}
+
 fn read(body: &[u8]) -> Request
     requires { length body.now ≡ 10 }
     ensures { IsSpelledBy 0x1C body.now result }
@@ -180,6 +194,7 @@ fn handle_request(head: Head, body: &[u8]) -> Request
         0x16 => Request::Update { handle },
         0x17 => Request::Validate { handle },
         0x18 => Request::Manage { handle },
+        0x19 => Request::DumpToBuffer { handle },
         0x1B => Request::Get { handle },
         0x1D => Request::Release { handle },
         0x1E => Request::GetStatus { handle },
@@ -202,9 +217,12 @@ fn request_of(alloc: Global, head: Head, body: &[u8]) -> Result<Option<Request>,
         0x10 => Ok(start(body)),
         0x11 => Ok(register(body)),
         0x12 => Ok(share(body)),
-        0x13 | 0x16 | 0x17 | 0x18 | 0x1B | 0x1D | 0x1E => { Ok(Some(handle_request(head, body))) }
+        0x13 | 0x16 | 0x17 | 0x18 | 0x19 | 0x1B | 0x1D | 0x1E => {
+            Ok(Some(handle_request(head, body)))
+        }
         0x14 => Ok(Some(load_image(alloc, body)?)),
         0x15 => Ok(load_file(body)),
+        0x1A => Ok(Some(edit(alloc, body)?)),
         0x1C => Ok(Some(read(body))),
         0x1F => Ok(get_info(body)),
         0x20 => Ok(Some(notify(body))),

@@ -27,6 +27,8 @@ fn kind_of(request: &Request) -> u8
         Request::Update { .. } => 0x16,
         Request::Validate { .. } => 0x17,
         Request::Manage { .. } => 0x18,
+        Request::DumpToBuffer { .. } => 0x19,
+        Request::Edit { .. } => 0x1A,
         Request::Get { .. } => 0x1B,
         Request::Read { .. } => 0x1C,
         Request::Release { .. } => 0x1D,
@@ -53,12 +55,14 @@ pub fn body_len(request: &Request) -> usize
         Request::Share { name } | Request::GetInfo { name } => name.field_len(),
         Request::LoadImage { image, .. } => 2 + image.bytes().len(),
         Request::LoadFile { name, .. } => 2 + name.field_len(),
+        Request::Edit { bytes, .. } => 6 + bytes.bytes().len(),
         Request::Read { .. } | Request::Notify { .. } => 10,
         Request::Exit => 0,
         Request::Unregister { .. }
         | Request::Update { .. }
         | Request::Validate { .. }
         | Request::Manage { .. }
+        | Request::DumpToBuffer { .. }
         | Request::Get { .. }
         | Request::Release { .. }
         | Request::GetStatus { .. } => 2,
@@ -113,6 +117,16 @@ fn append_load_file(out: &mut Bytes, handle: u16, name: &Name64)
     name.append_field(out);
 }
 
+fn append_edit(out: &mut Bytes, handle: u16, offset: u32, bytes: &Bytes)
+    requires { 6 + length bytes.now.list ≤ out.old.spare }
+    ensures bytes { out.new.list ≡ out.old.list ++ body_of (ask.Edit handle offset bytes.now) }
+    ensures sized { IsSized (ask.Edit handle offset bytes.now) }
+{
+    append_two(out, handle);
+    append_four(out, offset);
+    out.append(bytes.bytes());
+}
+
 fn append_read(out: &mut Bytes, handle: u16, offset: u32, len: u32)
     requires { 10 ≤ out.old.spare }
     ensures bytes { out.new.list ≡ out.old.list ++ body_of (ask.Read handle offset len) }
@@ -144,6 +158,11 @@ fn append_handle_body(out: &mut Bytes, request: &Request)
     match request {
         Request::LoadImage { handle, image } => append_image(out, *handle, image),
         Request::LoadFile { handle, name } => append_load_file(out, *handle, name),
+        Request::Edit {
+            handle,
+            offset,
+            bytes,
+        } => append_edit(out, *handle, *offset, bytes),
         Request::Read {
             handle,
             offset,
@@ -159,6 +178,7 @@ fn append_handle_body(out: &mut Bytes, request: &Request)
         | Request::Update { handle }
         | Request::Validate { handle }
         | Request::Manage { handle }
+        | Request::DumpToBuffer { handle }
         | Request::Get { handle }
         | Request::Release { handle }
         | Request::GetStatus { handle } => append_two(out, *handle),

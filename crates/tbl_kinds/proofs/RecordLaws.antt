@@ -72,6 +72,8 @@ good_head (App number) (ask.LoadFile handle name) built fits sized within =
 good_head (App number) (ask.Update handle) built fits sized within = handle_allowed number fits.0 fits.1
 good_head (App number) (ask.Validate handle) built fits sized within = handle_allowed number fits.0 fits.1
 good_head (App number) (ask.Manage handle) built fits sized within = handle_allowed number fits.0 fits.1
+good_head (App number) (ask.DumpToBuffer handle) built fits sized within = handle_allowed number fits.0 fits.1
+good_head (App number) (ask.Edit handle offset bytes) built fits sized within = rw (app_allowed number (length (body_of (ask.Edit handle offset bytes))) 6 32832 fits.0 fits.1 (omega arith) within) refl
 good_head (App number) (ask.Get handle) built fits sized within = handle_allowed number fits.0 fits.1
 good_head (App number) (ask.Read handle offset len) built fits sized within = rw (app_allowed number 10 10 10 fits.0 fits.1 (omega arith) (omega arith)) refl
 good_head (App number) (ask.Release handle) built fits sized within = handle_allowed number fits.0 fits.1
@@ -106,6 +108,8 @@ right_body (ask.LoadFile handle name) built sized = rw (is_name_field-name_field
 right_body (ask.Update handle) built sized = refl
 right_body (ask.Validate handle) built sized = refl
 right_body (ask.Manage handle) built sized = refl
+right_body (ask.DumpToBuffer handle) built sized = refl
+right_body (ask.Edit handle offset bytes) built sized = refl
 right_body (ask.Get handle) built sized = refl
 right_body (ask.Read handle offset len) built sized = refl
 right_body (ask.Release handle) built sized = refl
@@ -206,8 +210,9 @@ handle_request kind handle =
     (if kind == 0x16 then ask.Update handle else
     (if kind == 0x17 then ask.Validate handle else
     (if kind == 0x18 then ask.Manage handle else
+    (if kind == 0x19 then ask.DumpToBuffer handle else
     (if kind == 0x1B then ask.Get handle else
-    (if kind == 0x1D then ask.Release handle else ask.GetStatus handle)))))
+    (if kind == 0x1D then ask.Release handle else ask.GetStatus handle))))))
 
 -- the request that a body of a kind spells
 request_in : ℕ → List ℕ → Request
@@ -220,10 +225,11 @@ request_in kind body =
     (if kind == 0x12 then ask.Share (name_in body) else
     (if kind == 0x14 then ask.LoadImage (two_at 0 body) (record { list = drop 2 body; spare = 0 }) else
     (if kind == 0x15 then ask.LoadFile (two_at 0 body) (name_in (drop 2 body)) else
+    (if kind == 0x1A then ask.Edit (two_at 0 body) (four_at 2 body) (record { list = drop 6 body; spare = 0 }) else
     (if kind == 0x1C then ask.Read (two_at 0 body) (four_at 2 body) (four_at 6 body) else
     (if kind == 0x1F then ask.GetInfo (name_in body) else
     (if kind == 0x20 then ask.Notify (two_at 0 body) (two_at 2 body) (two_at 4 body) (four_at 6 body) else
-    (if kind == 0x21 then ask.Exit else handle_request kind (two_at 0 body))))))))))))
+    (if kind == 0x21 then ask.Exit else handle_request kind (two_at 0 body)))))))))))))
 
 register_again : (name : List ℕ) (size flags : ℕ) (validator : Option ℕ) → FitsField 16 name → size < 2 ^ 32 → flags < 2 ^ 16 → validator ≢ Some 255
     → register_in (name_field 16 name) (four size ++ two flags ++ validator_number validator ∷ []) ≡ ask.Register name size flags validator
@@ -254,6 +260,8 @@ request_again (ask.LoadFile handle name) built sized v = rw (from_be_bytes-to_be
 request_again (ask.Update handle) built sized v = rw (from_be_bytes-to_be_bytes_2 handle sized) refl
 request_again (ask.Validate handle) built sized v = rw (from_be_bytes-to_be_bytes_2 handle sized) refl
 request_again (ask.Manage handle) built sized v = rw (from_be_bytes-to_be_bytes_2 handle sized) refl
+request_again (ask.DumpToBuffer handle) built sized v = rw (from_be_bytes-to_be_bytes_2 handle sized) refl
+request_again (ask.Edit handle offset bytes) built sized v = rw (from_be_bytes-to_be_bytes_2 handle sized.0, from_be_bytes-to_be_bytes_4 offset sized.1) refl
 request_again (ask.Get handle) built sized v = rw (from_be_bytes-to_be_bytes_2 handle sized) refl
 request_again (ask.Read handle offset len) built sized v =
     rw (from_be_bytes-to_be_bytes_2 handle sized.0, from_be_bytes-to_be_bytes_4 offset sized.1, from_be_bytes-to_be_bytes_4 len sized.2) refl

@@ -47,6 +47,8 @@ kinds =
     ∷ handle_kind 0x16
     ∷ handle_kind 0x17
     ∷ handle_kind 0x18
+    ∷ handle_kind 0x19
+    ∷ record { number = 0x1A; from_ground = false; least = 6; most = body_limit; is_right = any_body }
     ∷ handle_kind 0x1B
     ∷ record { number = 0x1C; from_ground = false; least = 10; most = 10; is_right = any_body }
     ∷ handle_kind 0x1D

@@ -27,12 +27,12 @@ use Rattle.tbl_model.specs.GroundLoads.{loaded_effect, load_file_effect, load_ef
 use Rattle.tbl_model.specs.Validations.{selected, validated_effect, pending_effect, validate_by, validate_effect, first_pending, do_validation, app_validate_effect}
 use Rattle.tbl_model.specs.Activations.{ask_effect, activate_command_effect, updated_effect, update_effect, aborted_effect, abort_effect}
 use Rattle.tbl_model.specs.Management.{manage_answer, all_done, managed_effect, manage_effect, pending_status, get_status_effect, is_asked}
-use Rattle.tbl_model.specs.Dumps.{written_effect, dump_refusal, ask_dump_effect, dump_file, image_dump_effect, dump_by, dump_effect, registry_file, dump_registry_effect, dump_to_buffer_effect, edit_refusal, edit_effect}
+use Rattle.tbl_model.specs.Dumps.{written_effect, dump_refusal, ask_dump_effect, dump_file, image_dump_effect, dump_by, dump_effect, registry_file, dump_registry_effect, dump_to_buffer_effect, edit_refusal, edit_effect, housekeeping_effect}
 use Rattle.tbl_model.specs.Sharing.{share_by, share_found, share_effect, give_up, unregister_by, unregister_effect, without_handles_of, ended_app, exit_effect, is_notice, notify_effect, info_of, info_effect, send_registry_effect}
 use Rattle.tbl_model.specs.Uplinks.{file_effect}
 use Rattle.tbl_model.specs.Commands.{effect_by, command_effect}
 use Rattle.tbl_model.specs.declared.deeds.Named.{Named}
-use Rattle.tbl_model.specs.declared.deeds.Shown.TheVariants.{Housekeeping, Registry}
+use Rattle.tbl_model.specs.declared.deeds.Shown.TheVariants.{Registry}
 use Rattle.tbl_kinds.specs.declared.entry.Answer.{Answer}
 use Rattle.tbl_kinds.specs.declared.status.Status.{Status}
 use Rattle.tbl_kinds.specs.declared.status.TheConstants.Status.{SUCCESS, WARN_DUPLICATE, ERR_BAD_APP, ERR_INVALID_HANDLE, ERR_NO_ACCESS, ERR_UNREGISTERED, ERR_INVALID_NAME, ERR_DUPLICATE_NOT_OWNED, ERR_DUPLICATE_DIFF_SIZE, ERR_REGISTRY_FULL, ERR_HANDLES_FULL, ERR_ALREADY_PINNED, ERR_NEVER_LOADED, ERR_NOT_PINNED, ERR_OUT_OF_RANGE, ERR_APP_RUNNING, ERR_BAD_NAME, ERR_FILE_TOO_LARGE, ERR_DRAWER_FULL, ERR_FILE_NOT_FOUND, ERR_NO_SUCH_TABLE, INFO_NO_VALIDATION_PENDING, INFO_NO_DUMP_PENDING, ERR_BAD_SELECT, ERR_NO_LOAD, ERR_NOTICE_ID, ERR_VALIDATION_FAILED}
@@ -379,7 +379,7 @@ module _ (s : State) (P : Effect → Type 0) (refusal : (e : Effect) → e.next 
 pub record Commands (s : State) (P : Effect → Type 0) : Type 0 where
   pub about : (e : Effect) (table : Option Named) → P e → P (record e { table = table })
   pub accepted : P (answered s SUCCESS 0)
-  pub housekeeping : P (record (answered s SUCCESS 0) { shown = Housekeeping })
+  pub housekeeping : P (housekeeping_effect s)
   pub loaded : (name : List ℕ) (file : TableFile) (row : ℕ) (t : Table) → table_at s.tables row ≡ Some t → load_refusal s.tables row t file.offset (length file.image) ≡ None → P (loaded_effect s name file row)
   pub pends : (row : ℕ) (t : Table) (active : Bool) → table_at s.tables row ≡ Some t → validation_refusal s.pending row t active ≡ None → is_some t.validator ≡ true → P (pending_effect s active row t)
   pub at_once : (row : ℕ) (t : Table) (active : Bool) → table_at s.tables row ≡ Some t → validation_refusal s.pending row t active ≡ None → is_some t.validator ≡ false → P (validated_effect s active row t)
@@ -396,10 +396,10 @@ module _ (s : State) (P : Effect → Type 0) (refusal : (e : Effect) → e.next 
   by_asked (Ok noop) refuses = done.accepted
   by_asked (Ok reset_counters) refuses = done.accepted
   by_asked (Ok (load file)) refuses = by_load s P refusal done.about file (done.loaded file)
-  by_asked (Ok (dump select table file)) refuses = refusal _ refl refl refl
+  by_asked (Ok (dump select table file)) refuses = by_dump s P refusal done.about done.written select table file (done.dump_asked file)
   by_asked (Ok (validate select table)) refuses = by_validate s P refusal done.about select table done.pends done.at_once
   by_asked (Ok (activate table)) refuses = by_activate s P refusal done.about table done.asks
-  by_asked (Ok (dump_registry file)) refuses = refusal _ refl refl refl
+  by_asked (Ok (dump_registry file)) refuses = by_dump_registry s P refusal done.about done.written file
   by_asked (Ok (send_registry table)) refuses = by_send_registry s P refusal done.about table done.shown
   by_asked (Ok (delete_cds table)) refuses = refusal _ refl refl refl
   by_asked (Ok (abort table)) refuses = by_abort s P refusal done.about table done.aborted

@@ -1,4 +1,5 @@
 -- Each request is fair to pins.
+use Rattle.tbl_kinds.specs.Numbers.{patched}
 use Rattle.std.proofs.Common.{◌≡◌, ◌≢◌, ℕ, eqb, nat_lt, List, [], ◌∷◌, length, Bool, true, false, not, ◌&&◌, ◌||◌, cond, Option, Some, None, is_some, refl, ap, sym, ◌∙◌, arith, ℤ, pos}
 use Rattle.std.proofs.Common.{ℤ, pos}
 use Rattle.std.specs.List.{fold, range_with_len}
@@ -8,8 +9,8 @@ use Rattle.tbl_kinds.specs.Buffers.{Buffer}
 use Rattle.tbl_kinds.specs.Drawer.{is_full_for}
 use Rattle.tbl_kinds.specs.TableFiles.{TableFile}
 use Rattle.tbl_model.specs.State.{State, Load, Table, Handle, Tables, Dump, quiet, asked, filled}
-use Rattle.tbl_model.specs.Tables.{table_at, is_quiet}
-use Rattle.tbl_model.specs.TableSteps.{is_checked, locker, handle_at, last_image, put, set_time, set_file, filled_with, end_dump, new_table, new_handle}
+use Rattle.tbl_model.specs.Tables.{table_at, is_quiet, rows_where}
+use Rattle.tbl_model.specs.TableSteps.{is_checked, locker, handle_at, last_image, put, set_time, set_file, filled_with, end_dump, new_table, base, new_handle}
 use Rattle.tbl_model.specs.Effects.{Effect, answered}
 use Rattle.tbl_model.specs.Given.{Given, verdict_at}
 use Rattle.tbl_model.specs.Deeds.{is_good}
@@ -18,7 +19,7 @@ use Rattle.tbl_model.specs.Refusals.{image_refusal, file_refusal, update_refusal
 use Rattle.tbl_model.specs.Validations.{marked}
 use Rattle.tbl_model.specs.AppLoads.{file_image}
 use Rattle.tbl_model.specs.Management.{Done, nothing_done, with_validation, then_validate, with_update, then_update, with_fill, then_fill, all_done, is_asked, manage_answer, pending_status}
-use Rattle.tbl_model.specs.Dumps.{Ended, end_by, then_end, dumps_ended, housekeeping_effect}
+use Rattle.tbl_model.specs.Dumps.{Ended, end_by, then_end, dumps_ended, housekeeping_effect, is_filled}
 use Rattle.tbl_model.specs.Sharing.{give_up, give_up_if, without_handles_of, ended_app}
 use Rattle.tbl_model.specs.Dispatch.{effect_of}
 use Rattle.tbl_model.specs.Counts.{is_reset}
@@ -29,7 +30,7 @@ use Rattle.tbl_kinds.specs.declared.request.Actor.TheVariants.{Ground, App}
 use Rattle.tbl_kinds.specs.declared.request.Request.{Request}
 use Rattle.tbl_kinds.specs.declared.request.Request.TheVariants as ask
 use Rattle.tbl_kinds.specs.declared.status.TheConstants.Status.{SUCCESS, INFO_UPDATED, INFO_TABLE_LOCKED, INFO_STOPPED, INFO_UPDATE_PENDING, INFO_VALIDATION_PENDING, INFO_DUMP_PENDING, ERR_VALIDATION_FAILED}
-use Rattle.tbl_model.proofs.RefusalLaws.{is_refusal, image_taken, file_taken, load_taken, update_taken}
+use Rattle.tbl_model.proofs.RefusalLaws.{is_refusal, image_taken, file_taken, load_taken, update_taken, edit_taken}
 use Rattle.tbl_laws.specs.Fit.{AreFit}
 use Rattle.tbl_laws.proofs.Rows.{within}
 use Rattle.tbl_laws.proofs.Fits.{was}
@@ -37,9 +38,9 @@ use Rattle.tbl_laws.proofs.Changes.{with_found, either, validated}
 use Rattle.tbl_laws.proofs.GivingUp.{fewer_handles, given_up, left, no_handle, owned_by_others}
 use Rattle.tbl_laws.proofs.Ordinary.{free_place}
 use Rattle.tbl_laws.proofs.Pins.{AreLoaded, Keeps, stays_keeps, unpinned_set, release_keeps, add_keeps, put_keeps, unseen_keeps, then_keeps, file_keeps, close_keeps, mark_keeps, patched_sized, stays_goes_on}
-use Rattle.tbl_laws.proofs.PinsKept.{update_keeps, give_up_keeps, leave_keeps}
+use Rattle.tbl_laws.proofs.PinsKept.{update_keeps, give_up_keeps, leave_keeps, put_alone_keeps}
 use Rattle.tbl_laws.proofs.Fair.{IsPlain, Fair, fair_keeps, fair_plain, fair_refused, pin_fair, back_fair, granted}
-use Rattle.tbl_laws.proofs.Cases.{OfEffect, Commands, by_command, by_file, by_start, by_register, by_load_image, by_load_file, by_app_validate, by_update, by_manage, by_get_status, by_get, by_read, by_release, by_share, by_unregister, by_info, by_notify, by_exit}
+use Rattle.tbl_laws.proofs.Cases.{OfEffect, Commands, by_command, by_file, by_start, by_register, by_load_image, by_load_file, by_app_validate, by_update, by_manage, by_get_status, by_get, by_read, by_release, by_share, by_unregister, by_dump_to_buffer, by_edit, by_info, by_notify, by_exit}
 
 -- a load that is about to go active is open
 pub open_checked : (t : Table) → is_checked t ≡ true → is_some t.load ≡ true
@@ -115,7 +116,7 @@ module _ (s : State) (n : ℕ) (fit : AreFit n s) where
       let keeps = fair_plain s Ground request plain in record {
         about = λ e table p. record { pins = p.pins; loaded = p.loaded };
         accepted = keeps _ (stays_keeps s.tables) refl;
-        housekeeping = keeps _ (stays_keeps s.tables) refl;
+        housekeeping = keeps _ (ends_keep (rows_where is_filled 0 s.tables.rows) (record { state = s; bytes = []; deeds = [] })) refl;
         loaded = λ name file row t there none. keeps _ (file_keeps s.tables row file.offset file.image name t there (load_taken s.tables row t file.offset (length file.image) none).within) refl;
         pends = λ row t active there none function. keeps _ (stays_keeps s.tables) refl;
         at_once = λ row t active there none no_function. keeps _ (marks_at_once row active) refl;
@@ -227,7 +228,7 @@ module _ (s : State) (n : ℕ) (fit : AreFit n s) where
       let request : Request = ask.Register short size flags validator in
       let plain = plain_of request (λ k. refl) (λ k. refl) (λ k. refl) refl refl in
       by_register s (Fair s (App app) request) (refuses app request plain) app short size flags validator (λ name row handle may free_row free_handle.
-      keeps app request plain _ (add_keeps s.tables row handle app (new_table name app size flags validator handle) (free_place s.tables.rows row free_row).1 refl refl refl) refl)
+      keeps app request plain _ (add_keeps s.tables row handle app (new_table name app size flags validator handle) (free_place s.tables.rows row free_row).1 refl) refl)
   request_fair loaded (App app) (ask.Share name) given =
       let request : Request = ask.Share name in
       let plain = plain_of request (λ k. refl) (λ k. refl) (λ k. refl) refl refl in
@@ -260,6 +261,16 @@ module _ (s : State) (n : ℕ) (fit : AreFit n s) where
       let request : Request = ask.Manage handle in
       let plain = plain_of request (λ k. refl) (λ k. refl) (λ k. refl) refl refl in
       by_manage s (Fair s (App app) request) (refuses app request plain) app handle given (λ row t there. keeps app request plain _ (manage_keeps n row given s fit) (manage_goes_on s.tables row t))
+  request_fair loaded (App app) (ask.DumpToBuffer handle) given =
+      let request : Request = ask.DumpToBuffer handle in
+      let plain = plain_of request (λ k. refl) (λ k. refl) (λ k. refl) refl refl in
+      by_dump_to_buffer s (Fair s (App app) request) (refuses app request plain) app handle (λ row t there is. keeps app request plain _ (unseen_keeps s.tables row (λ u. record u { dump = filled_with (last_image u) u.dump }) (λ u. refl) (λ u. refl)) refl)
+  request_fair loaded (App app) (ask.Edit handle offset bytes) given =
+      let request : Request = ask.Edit handle offset bytes in
+      let plain = plain_of request (λ k. refl) (λ k. refl) (λ k. refl) refl refl in
+      by_edit s (Fair s (App app) request) (refuses app request plain) app handle offset bytes.list (λ row t there none.
+      let taken = edit_taken s.tables row t offset (length bytes.list) none in
+      keeps app request plain _ (put_alone_keeps s.tables row t (patched (base t) offset bytes.list) there taken.2 (patched_sized t offset bytes.list (loaded row t there) taken.1)) refl)
   request_fair loaded (App app) (ask.Get handle) given = by_get s (Fair s (App app) (ask.Get handle)) (fair_refused s (App app) (ask.Get handle) refl) app handle (pin_fair s app handle)
   request_fair loaded (App app) (ask.Read handle offset len) given =
       let request : Request = ask.Read handle offset len in

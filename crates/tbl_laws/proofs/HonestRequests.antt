@@ -10,8 +10,8 @@ use Rattle.std.proofs.lemmas.Option.{same_Some}
 use Rattle.tbl_kinds.specs.Drawer.{is_full_for}
 use Rattle.tbl_kinds.specs.Numbers.{patched}
 use Rattle.tbl_model.specs.State.{State, Load, Table, Handle, Tables, Dump, quiet, asked, filled}
-use Rattle.tbl_model.specs.Tables.{table_at}
-use Rattle.tbl_model.specs.TableSteps.{handle_at, base, unchecked, last_image, load_image, let_go, with_image, put, put_in, set_time, set_time_in, set_file, set_checked, patch, activate, changed, changed_in, filled_with, end_dump, without_handle, give_back_by, remove, registered_by, with_table, with_handle, new_table, new_handle}
+use Rattle.tbl_model.specs.Tables.{table_at, rows_where}
+use Rattle.tbl_model.specs.TableSteps.{handle_at, base, unchecked, last_image, load_image, let_go, with_image, put, put_in, set_time, set_time_in, set_file, set_checked, patch, activate, changed, changed_in, filled_with, end_dump, without_handle, give_back_by, remove, registered_by, with_table, with_handle, new_table, new_handle, as_registered}
 use Rattle.tbl_model.specs.Effects.{Effect, answered}
 use Rattle.tbl_model.specs.Deeds.{is_good, verdict_bits, activated, finished}
 use Rattle.tbl_model.specs.Given.{Given, verdict_at}
@@ -21,7 +21,7 @@ use Rattle.tbl_model.specs.Validations.{judged_image, marked, validated_effect}
 use Rattle.tbl_model.specs.AppLoads.{activate_effect, with_verdict, file_image}
 use Rattle.tbl_model.specs.Activations.{updated_effect}
 use Rattle.tbl_model.specs.Management.{Done, nothing_done, with_validation, then_validate, with_update, then_update, with_fill, then_fill, all_done, is_asked}
-use Rattle.tbl_model.specs.Dumps.{Ended, end_by, then_end, dumps_ended, housekeeping_effect}
+use Rattle.tbl_model.specs.Dumps.{Ended, end_by, then_end, dumps_ended, housekeeping_effect, is_filled}
 use Rattle.tbl_model.specs.Sharing.{give_up, give_up_by, give_up_if, is_handle_of, without_handles_of}
 use Rattle.tbl_model.specs.Dispatch.{effect_of}
 use Rattle.tbl_model.specs.declared.deeds.Deed.{Deed}
@@ -39,7 +39,7 @@ use Rattle.tbl_laws.proofs.Fits.{was}
 use Rattle.tbl_laws.proofs.Changes.{with_found, either, validated}
 use Rattle.tbl_laws.proofs.Ordinary.{free_place}
 use Rattle.tbl_laws.proofs.Honest.{TellsIn, PassesIn, NoneActive, none_active_nil, none_active_one, none_active_more, slice_get_more, passes_more, last_tells, Inherits, inherits_same, then_inherits, inherits_row, inherits_none, IsHonest, honest_plain}
-use Rattle.tbl_laws.proofs.Cases.{OfEffect, Commands, by_command, by_file, by_start, by_register, by_load_image, by_load_file, by_app_validate, by_update, by_manage, by_get_status, by_get, by_read, by_release, by_share, by_unregister, by_info, by_notify, by_exit}
+use Rattle.tbl_laws.proofs.Cases.{OfEffect, Commands, by_command, by_file, by_start, by_register, by_load_image, by_load_file, by_app_validate, by_update, by_manage, by_get_status, by_get, by_read, by_release, by_share, by_unregister, by_dump_to_buffer, by_edit, by_info, by_notify, by_exit}
 
 -- ---- changes that make no mark
 
@@ -383,7 +383,7 @@ module _ (s : State) (n : ℕ) (fit : AreFit n s) where
   commands = record {
     about = λ e table p. record { active = p.active; marks = p.marks };
     accepted = same_tables _ refl refl;
-    housekeeping = same_tables _ refl refl;
+    housekeeping = let files = only_files s (rows_where is_filled 0 s.tables.rows) (record { state = s; bytes = []; deeds = [] }) (record { none = none_active_nil [] refl; inherits = inherits_same s.tables s.tables refl }) in honest_plain s _ files.none files.inherits;
     loaded = λ name file row t there none. plain _ refl (then_inherits s.tables (patch row file.offset file.image s.tables) (set_file row name (patch row file.offset file.image s.tables))
         (inherits_changed s.tables row (λ u. record u { load = unchecked (patched (base u) file.offset file.image) }) (λ u. refl) (λ u l is checked. absurd (cc (ap (λ (x : Load). x.checked) (same_Some _ l is), checked))))
         (inherits_file (patch row file.offset file.image s.tables) row name));
@@ -414,7 +414,7 @@ module _ (s : State) (n : ℕ) (fit : AreFit n s) where
   honest Ground _ given = tt
   honest (App app) (ask.Start name) given = by_start s (IsHonest s) refused app name (same_tables _ refl refl)
   honest (App app) (ask.Register short size flags validator) given = by_register s (IsHonest s) refused app short size flags validator (λ name row handle may free_row free_handle.
-      let u : Table = new_table name app size flags validator handle in
+      let u : Table = as_registered (new_table name app size flags validator handle) in
       plain _ refl (inherits_none s.tables (with_handle handle (new_handle app row) (with_table row u s.tables)) row (Some u) (record { here = get_or-set_same s.tables.rows row (Some u) None (free_place s.tables.rows row free_row).0; others = λ k other. get_or-set_other s.tables.rows row k (Some u) None other }) (λ v is. ap (λ (x : Table). x.load) (sym (same_Some u v is)))))
   honest (App app) (ask.Share name) given = by_share s (IsHonest s) refused app name (λ row handle free. same_rows_of _ refl refl)
   honest (App app) (ask.Unregister m) given = by_unregister s (IsHonest s) refused app m (λ h place own. plain _ refl (inherits_given_up m s))
@@ -426,6 +426,8 @@ module _ (s : State) (n : ℕ) (fit : AreFit n s) where
   honest (App app) (ask.Update handle) given = by_update s (IsHonest s) refused app handle (λ row t there none. loaded_active s n fit row t there (update_taken s.tables row t none).0)
   honest (App app) (ask.Validate handle) given = by_app_validate s (IsHonest s) refused app handle given (λ row t active there first. validated_mark s row t active (verdict_at 0 given) _ there refl refl refl)
   honest (App app) (ask.Manage handle) given = by_manage s (IsHonest s) refused app handle given (λ row t there. let end = managed_end n row given s fit in record { active = end.active; marks = λ k u l at load checked function. end.marks k u l at load checked })
+  honest (App app) (ask.DumpToBuffer handle) given = by_dump_to_buffer s (IsHonest s) refused app handle (λ row t there is. plain _ refl (inherits_unseen s.tables row (λ u. record u { dump = filled_with (last_image u) u.dump }) (λ u. refl) (λ u. refl)))
+  honest (App app) (ask.Edit handle offset bytes) given = by_edit s (IsHonest s) refused app handle offset bytes.list (λ row t there none. plain _ refl (inherits_put s.tables row (patched (base t) offset bytes.list)))
   honest (App app) (ask.Get handle) given = by_get s (IsHonest s) refused app handle (λ a leads some. same_rows_of _ refl refl)
   honest (App app) (ask.Read handle offset len) given = by_read s (IsHonest s) refused app handle offset len (λ a leads pinned inside. same_tables _ refl refl)
   honest (App app) (ask.Release handle) given = by_release s (IsHonest s) refused app handle (λ a leads pinned. rw pinned (plain _ refl (inherits_released s.tables handle a.handle a.row a.table leads.there)))

@@ -1,12 +1,14 @@
 -- Each verdict that an entry tells of a table with a function is one that the function was asked for, about the very image.
 use Rattle.std.proofs.Common.{◌≡◌, ◌+◌, ℕ, zero, suc, List, [], ◌∷◌, ◌++◌, length, Bool, true, false, not, cond, eqb, Option, Some, None, is_some, ℤ, pos, refl, sym, ap, subst, ◌∙◌, inl, inr, length-append, arith}
 use Rattle.std.specs.Prelude.{slice_get, slice_index_or}
-use Rattle.std.specs.Option.{option_map}
+use Rattle.std.specs.Option.{option_map, option_map_or}
+use Rattle.std.specs.List.{fold}
+use Rattle.tbl_kinds.specs.Drawer.{is_full_for}
 use Rattle.std.proofs.lemmas.Option.{same_Some}
-use Rattle.std.proofs.lemmas.Bool.{cases_eq, eqb-true}
+use Rattle.std.proofs.lemmas.Bool.{cases_eq, eqb-true, cond_both}
 use Rattle.std.proofs.lemmas.List.{append-nil}
-use Rattle.tbl_model.specs.State.{State, Table, Tables, Load}
-use Rattle.tbl_model.specs.Tables.{table_at}
+use Rattle.tbl_model.specs.State.{State, Table, Tables, Load, Dump, quiet, asked, filled}
+use Rattle.tbl_model.specs.Tables.{table_at, rows_where}
 use Rattle.tbl_model.specs.TableSteps.{set_checked, load_image}
 use Rattle.tbl_model.specs.Pending.{is_pending}
 use Rattle.tbl_model.specs.Deeds.{Question, is_good, verdict_bits, activated, finished}
@@ -17,10 +19,10 @@ use Rattle.tbl_model.specs.Refusals.{update_refusal}
 use Rattle.tbl_model.specs.Validations.{judged_image, questions, marked, validated_effect}
 use Rattle.tbl_model.specs.AppLoads.{activate_effect, with_verdict, from_file, file_image}
 use Rattle.tbl_model.specs.Management.{Done, nothing_done, is_asked, with_validation, then_validate, with_update, then_update, with_fill, then_fill, all_done}
-use Rattle.tbl_model.specs.Dumps.{dumps_ended, housekeeping_effect}
+use Rattle.tbl_model.specs.Dumps.{Ended, end_by, then_end, is_filled, dumps_ended, housekeeping_effect}
 use Rattle.tbl_model.specs.Vouched.{verdict_for}
 use Rattle.tbl_model.specs.declared.deeds.Deed.{Deed}
-use Rattle.tbl_model.specs.declared.deeds.Deed.TheVariants.{Judged, Activated, Dumped}
+use Rattle.tbl_model.specs.declared.deeds.Deed.TheVariants.{Judged, Activated, Dumped, NotDumped}
 use Rattle.tbl_kinds.specs.declared.status.TheConstants.Status.{ERR_VALIDATION_FAILED}
 use Rattle.tbl_kinds.specs.declared.request.Actor.{Actor}
 use Rattle.tbl_kinds.specs.declared.request.Actor.TheVariants.{Ground, App}
@@ -30,7 +32,7 @@ use Rattle.tbl_model.proofs.RefusalLaws.{is_refusal}
 use Rattle.tbl_laws.proofs.Changes.{with_found, either}
 use Rattle.tbl_laws.proofs.Rows.{OneRow, changed_row}
 use Rattle.tbl_laws.proofs.Honest.{TellsIn, slice_get_more, get_before, last_tells}
-use Rattle.tbl_laws.proofs.Cases.{OfEffect, Commands, by_command, by_file, by_start, by_register, by_share, by_unregister, by_load_image, by_load_file, by_app_validate, by_update, by_manage, by_get_status, by_get, by_read, by_release, by_info, by_notify, by_exit}
+use Rattle.tbl_laws.proofs.Cases.{OfEffect, Commands, by_command, by_file, by_start, by_register, by_share, by_unregister, by_load_image, by_load_file, by_app_validate, by_update, by_manage, by_dump_to_buffer, by_edit, by_get_status, by_get, by_read, by_release, by_info, by_notify, by_exit}
 
 -- the verdict is the answer to a question about this image, for the function of this number
 pub record WasAsked (questions : List Question) (given : Given) (number : ℕ) (image : List ℕ) (v : ℤ) : Type 0 where
@@ -204,6 +206,30 @@ module _ (s : State) (given : Given) where
     by None is = refl
     by (Some number) is = absurd (cc is)
 
+  -- deeds of files alone
+  abbrev AreSilent : List Deed → Type 0
+  AreSilent deeds = (place : ℕ) (d : Deed) → slice_get deeds place ≡ Some d → IsSilent d
+
+  silent_more : (deeds : List Deed) (new : Deed) → AreSilent deeds → IsSilent new → AreSilent (deeds ++ new ∷ [])
+  silent_more deeds new before last place d is = elim (slice_get_more deeds new d place is) [
+    | inl there ↦ before place d there
+    | inr end ↦ subst IsSilent end.1 last
+  ]
+
+  ends_silent : (rows : List ℕ) (e : Ended) → AreSilent e.deeds → AreSilent (fold then_end e rows).deeds
+  ends_silent [] e silent = silent
+  ends_silent (row ∷ rows) e silent = ends_silent rows (then_end e row) (one (table_at e.state.tables row)) where
+    of : (name : List ℕ) (d : Dump) → AreSilent (end_by e row name d).deeds
+    of name quiet = silent
+    of name (asked file) = silent
+    of name (filled file image) = cond_both (is_full_for e.state.drawer file) _ _ (λ (after : Ended). AreSilent after.deeds)
+        (λ _. silent_more e.deeds (NotDumped row) silent (λ r. refl))
+        (λ _. silent_more e.deeds _ silent (λ r. refl))
+
+    one : (found : Option Table) → AreSilent (option_map_or (λ (t : Table). end_by e row t.name t.dump) found e).deeds
+    one None = silent
+    one (Some t) = of t.name t.dump
+
   at_once : (row : ℕ) (t : Table) (active : Bool) → table_at s.tables row ≡ Some t → is_some t.validator ≡ false → IsKept s given (validated_effect s active row t)
   at_once row t active there none =
       subst (AreAsked s given (finished row active t (judged_image t active) (pos 0) ∷ []) (Some (judged_image t active) ∷ [])) (no_questions t (judged_image t active) none)
@@ -214,7 +240,7 @@ module _ (s : State) (given : Given) where
   commands = record {
     about = λ e table p. p;
     accepted = nothing_told;
-    housekeeping = nothing_told;
+    housekeeping = λ place row number deed image v t tells is there function. absurd (cc (ends_silent (rows_where is_filled 0 s.tables.rows) (record { state = s; bytes = []; deeds = [] }) nothing_silent place deed tells.deed_is row, is));
     loaded = λ name file row t there none. nothing_told;
     pends = λ row t active there none function. nothing_told;
     at_once = λ row t active there none no_function. at_once row t active there no_function;
@@ -251,6 +277,8 @@ module _ (s : State) (given : Given) where
   kept (App app) (ask.Update handle) = by_update s (IsKept s given) refused app handle (λ row t there none. one_told s given (activated row t) (Some (load_image t) ∷ []) [] (λ r. refl))
   kept (App app) (ask.Validate handle) = by_app_validate s (IsKept s given) refused app handle given (λ row t active there first. finished_told s given row t active (judged_image t active) (verdict_at 0 given) there (λ some. refl))
   kept (App app) (ask.Manage handle) = by_manage s (IsKept s given) refused app handle given (λ row t there. manages 0 row)
+  kept (App app) (ask.DumpToBuffer handle) = by_dump_to_buffer s (IsKept s given) refused app handle (λ row t there is. nothing_told)
+  kept (App app) (ask.Edit handle offset bytes) = by_edit s (IsKept s given) refused app handle offset bytes.list (λ row t there none. nothing_told)
   kept (App app) (ask.Get handle) = by_get s (IsKept s given) refused app handle (λ a leads some. nothing_told)
   kept (App app) (ask.Read handle offset len) = by_read s (IsKept s given) refused app handle offset len (λ a leads pinned inside. nothing_told)
   kept (App app) (ask.Release handle) = by_release s (IsKept s given) refused app handle (λ a leads pinned. nothing_told)

@@ -1,6 +1,6 @@
 -- What each request leaves: the service goes on, and what holds of its tables and of pending validations still does.
 use Rattle.std.proofs.lemmas.Bool.Decides.{nat_tests}
-use Rattle.std.proofs.Common.{◌≡◌, ℕ, suc, ◌<◌, List, [], ◌∷◌, length, Bool, true, false, Option, Some, None, is_none, refl, sym, ap, ◌∙◌, subst, arith, cond, replicate, pos}
+use Rattle.std.proofs.Common.{◌≡◌, ℕ, suc, ◌<◌, List, [], ◌∷◌, length, Bool, true, false, Option, Some, None, is_none, refl, sym, ap, ◌∙◌, subst, arith, cond, replicate, ◌≤◌, is_some, pos}
 use Rattle.std.specs.Prelude.{slice_index_or, slice_set, slice_get, option_and_then, IfSome}
 use Rattle.std.specs.List.{fold}
 use Rattle.std.specs.Option.{option_map_or}
@@ -13,7 +13,7 @@ use Rattle.std.proofs.lemmas.Option.{same_Some, get_or_from_slice_get}
 use Rattle.tbl_kinds.specs.Free.{least_free}
 use Rattle.tbl_model.specs.State.{State, Table, Handle, Tables, Dump, quiet, asked, filled, no_tables}
 use Rattle.tbl_model.specs.Tables.{table_at, rows_where}
-use Rattle.tbl_model.specs.TableSteps.{is_that, end_dump, handle_at, Access, let_go, with_table, with_handle, new_table, new_handle}
+use Rattle.tbl_model.specs.TableSteps.{is_that, end_dump, handle_at, Access, let_go, with_table, with_handle, new_table, new_handle, filled_with, last_image, as_registered, first_image}
 use Rattle.tbl_model.specs.Effects.{Effect}
 use Rattle.tbl_model.specs.Given.{Given, verdict_at}
 use Rattle.tbl_model.specs.Pending.{is_pending}
@@ -26,9 +26,9 @@ use Rattle.tbl_model.specs.Sharing.{is_notice}
 use Rattle.tbl_laws.specs.Fit.{FitAt, AreFit}
 use Rattle.tbl_laws.proofs.Rows.{nothing_at, set_row}
 use Rattle.tbl_laws.proofs.Fits.{fit_on, fit_same, was, unseen, mark}
-use Rattle.tbl_laws.proofs.Changes.{grown, told, imaged, imaged_from, loads, pends, asks, aborts, updates, managed, goes_on, noticed}
+use Rattle.tbl_laws.proofs.Changes.{grown, told, imaged, imaged_from, loads, pends, asks, aborts, updates, managed, goes_on, put_alone, noticed}
 use Rattle.tbl_laws.proofs.GivingUp.{kept_with, given_up, fewer_handles, exited, still_live}
-use Rattle.tbl_laws.proofs.Cases.{OfEffect, Leads, Commands, by_command, by_file, by_start, by_register, by_load_image, by_load_file, by_app_validate, by_update, by_manage, by_get_status, by_get, by_read, by_release, by_share, by_unregister, by_info, by_notify, by_exit}
+use Rattle.tbl_laws.proofs.Cases.{OfEffect, Leads, Commands, by_command, by_file, by_start, by_register, by_load_image, by_load_file, by_app_validate, by_update, by_manage, by_get_status, by_get, by_read, by_release, by_share, by_unregister, by_dump_to_buffer, by_edit, by_info, by_notify, by_exit}
 use Rattle.tbl_kinds.specs.declared.request.Actor.{Actor}
 use Rattle.tbl_kinds.specs.declared.request.Actor.TheVariants.{Ground, App}
 use Rattle.tbl_kinds.specs.declared.request.Request.{Request}
@@ -144,7 +144,7 @@ module _ (s : State) (n : ℕ) (live : s.ended ≡ false) (fit : AreFit n s) whe
   commands = record {
     about = λ e table p. record { fit = p.fit; live = p.live };
     accepted = same _ refl;
-    housekeeping = same _ refl;
+    housekeeping = housekept;
     loaded = λ name file row t there none. record { fit = loads n s fit row t there file.offset file.image name (load_taken s.tables row t file.offset (length file.image) none).unasked; live = live };
     pends = λ row t active there none function. record { fit = pends n s fit row t there active none function; live = live };
     at_once = λ row t active there none no_function. record { fit = grown n _ (mark n s fit row t there active (pos 0) (validation_taken s.pending row t active none).unasked); live = live };
@@ -158,11 +158,11 @@ module _ (s : State) (n : ℕ) (live : s.ended ≡ false) (fit : AreFit n s) whe
   -- ---- a registration
 
   new_row : (name : List ℕ) (row handle app size flags : ℕ) (validator : Option ℕ) → least_free s.tables.rows ≡ Some row → least_free s.tables.handles ≡ Some handle → may_use s.kit app validator ≡ true
-      → AreFit (suc n) (record s { tables = with_handle handle (new_handle app row) (with_table row (new_table name app size flags validator handle) s.tables) })
+      → AreFit (suc n) (record s { tables = with_handle handle (new_handle app row) (with_table row (as_registered (new_table name app size flags validator handle)) s.tables) })
   new_row name row handle app size flags validator free_row free_handle may =
       let place = free_place s.tables.rows row free_row in
       let number = free_place s.tables.handles handle free_handle in
-      let u : Table = new_table name app size flags validator handle in
+      let u : Table = as_registered (new_table name app size flags validator handle) in
       fit_on n (suc n) s _ row (Some u) (omega arith) fit (record {
         rows = record { here = get_or-set_same s.tables.rows row (Some u) None place.0; others = λ k other. get_or-set_other s.tables.rows row k (Some u) None other };
         pending = λ k active other. refl;
@@ -170,13 +170,17 @@ module _ (s : State) (n : ℕ) (live : s.ended ≡ false) (fit : AreFit n s) whe
         kit = refl;
         few_pending = fit.few_pending;
       }) (record {
-        few = omega arith;
+        few = first_alone (first_image (new_table name app size flags validator handle));
         registered = record { handle = new_handle app row; place = get_or-set_same s.tables.handles handle (Some (new_handle app row)) None number.0; app = refl; leads = refl };
         function = usable s.kit app validator may;
         notice = tt;
         checked = λ asked_now. cc asked_now;
         pends = λ active pending. absurd (cc (pending, (subst (FitAt n s.kit s.pending s.tables.handles row) place.1 (fit.each row)) active));
       })
+    where
+      first_alone : (first : Option (List ℕ)) → cond (is_some first) 1 0 ≤ suc n
+      first_alone None = omega arith
+      first_alone (Some image) = omega arith
 
   -- ---- all requests
 
@@ -205,6 +209,11 @@ module _ (s : State) (n : ℕ) (live : s.ended ≡ false) (fit : AreFit n s) whe
     live = live;
   })
   ordinary (App app) (ask.Manage handle) given = by_manage s (IsOrdinary n) refused app handle given (λ row t there. record { fit = managed n row given s fit; live = goes_on n row given s ∙ live })
+  ordinary (App app) (ask.DumpToBuffer handle) given = by_dump_to_buffer s (IsOrdinary n) refused app handle (λ row t there is. record {
+    fit = told n s fit row t there (suc n) (λ u. record u { dump = filled_with (last_image u) u.dump }) (omega arith) refl refl refl refl refl refl refl;
+    live = live;
+  })
+  ordinary (App app) (ask.Edit handle offset bytes) given = by_edit s (IsOrdinary n) refused app handle offset bytes.list (λ row t there none. record { fit = put_alone n s fit row t there _; live = live })
   ordinary (App app) (ask.Get handle) given = by_get s (IsOrdinary n) refused app handle (λ a leads some. record {
     fit = grown n _ (with_this_handle handle (record a.handle { pin = Some a.table.count; told = a.table.count }) (λ g at. same_handle_of handle a.handle g leads.place at));
     live = live;

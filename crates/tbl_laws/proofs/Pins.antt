@@ -1,4 +1,5 @@
 -- What changes of the tables do to pins: each handle that pins an image goes on to lead to that image.
+use Rattle.std.specs.Prelude.{replicate}
 use Rattle.std.proofs.Common.{◌≡◌, ◌≢◌, ◌<◌, ◌≤◌, ℕ, ◌+◌, ◌-◌, eqb, nat_lt, zero, suc, List, [], ◌∷◌, ◌++◌, length, take, drop, replicate, unwrap_or, length-append, position, slice_index_or, slice_set, Bool, true, false, cond, Option, Some, None, is_some, is_none, IsSome, refl, ap, sym, ◌∙◌, subst, ◌⊎◌, inl, inr, arith}
 use Rattle.std.specs.List.{list_any, position_or_len}
 use Rattle.std.specs.Option.{option_map, option_map_or}
@@ -10,8 +11,8 @@ use Rattle.std.proofs.lemmas.List.Sums.{fails_before_first}
 use Rattle.std.proofs.lemmas.Option.{same_Some}
 use Rattle.tbl_kinds.specs.Numbers.{patched}
 use Rattle.tbl_model.specs.State.{Load, Table, Handle, Tables}
-use Rattle.tbl_model.specs.Tables.{table_at, is_double}
-use Rattle.tbl_model.specs.TableSteps.{handle_at, pins, is_in_way, locker, image_of, let_go, with_table, with_handle, with_image, put, set_time, base, unchecked, changed, changed_in, patch, set_file, set_checked, new_handle}
+use Rattle.tbl_model.specs.Tables.{table_at, is_double, is_dump_only}
+use Rattle.tbl_model.specs.TableSteps.{handle_at, pins, is_in_way, locker, image_of, let_go, with_table, with_handle, with_image, put, set_time, base, unchecked, changed, changed_in, patch, set_file, set_checked, new_handle, as_registered, with_first}
 
 -- ---- places
 
@@ -180,11 +181,15 @@ release_keeps tables m h row t there =
     (λ all. let loaded = all row t there in record { some = loaded.some; sized = loaded.sized; load_sized = loaded.load_sized })
 
 -- a table comes into a free row, with a handle that pins nothing
-pub add_keeps : (tables : Tables) (row m app : ℕ) (t : Table) → table_at tables row ≡ None → t.count ≡ 0 → t.last ≡ None → t.load ≡ None → Keeps tables (with_handle m (new_handle app row) (with_table row t tables))
-add_keeps tables row m app t free none empty no_load =
-    set_keeps tables row t (slice_set tables.handles m (Some (new_handle app row))) (λ n g p at pin. (unpinned_set tables.handles m (new_handle app row) n g p refl at pin).1)
+pub add_keeps : (tables : Tables) (row m app : ℕ) (t : Table) → table_at tables row ≡ None → t.load ≡ None → Keeps tables (with_handle m (new_handle app row) (with_table row (as_registered t) tables))
+add_keeps tables row m app t free no_load =
+    set_keeps tables row (as_registered t) (slice_set tables.handles m (Some (new_handle app row))) (λ n g p at pin. (unpinned_set tables.handles m (new_handle app row) n g p refl at pin).1)
     (λ n g p u is stood near. absurd (cc (stood, free)))
-    (λ all. record { some = λ some. absurd (some none); sized = λ image is. absurd (cc (is, empty)); load_sized = λ load is. absurd (cc (is, no_load)) })
+    (λ all. begins (is_dump_only t))
+  where
+    begins : (zeros : Bool) → IsLoaded (with_first (cond zeros (Some (replicate t.size 0)) None) t)
+    begins true = record { some = λ some. refl; sized = λ image is. ap length (sym (same_Some _ image is)) ∙ length-replicate t.size 0; load_sized = λ load is. absurd (cc (is, no_load)) }
+    begins false = record { some = λ some. absurd (some refl); sized = λ image is. absurd (cc is); load_sized = λ load is. absurd (cc (is, no_load)) }
 
 -- a new image and its time are put into the table's row
 put_is : (tables : Tables) (row : ℕ) (t : Table) (image : List ℕ) (seconds sub : ℕ) → table_at tables row ≡ Some t

@@ -5,7 +5,7 @@ use Rattle.tbl_kinds.specs.Names.{is_name}
 use Rattle.tbl_kinds.specs.Free.{least_free}
 use Rattle.tbl_model.specs.State.{State, Table}
 use Rattle.tbl_model.specs.Tables.{table_at}
-use Rattle.tbl_model.specs.TableSteps.{find, with_table, with_handle, new_table, new_handle}
+use Rattle.tbl_model.specs.TableSteps.{find, with_table, with_handle, new_table, as_registered, new_handle}
 use Rattle.tbl_model.specs.Effects.{Effect, answered}
 use Rattle.tbl_model.specs.Subjects.{name_of, if_running}
 use Rattle.tbl_model.specs.Refusals.{by_answer, plan_refusal}
@@ -41,7 +41,7 @@ abbrev pub add_effect : State → ℕ → List ℕ → ℕ → ℕ → Option �
 add_effect s app name size options validator None free_handle = answered s ERR_REGISTRY_FULL 0
 add_effect s app name size options validator (Some row) None = answered s ERR_HANDLES_FULL 0
 add_effect s app name size options validator (Some row) (Some handle) = record (answered s SUCCESS handle) {
-  next = record s { tables = with_handle handle (new_handle app row) (with_table row (new_table name app size options validator handle) s.tables) };
+  next = record s { tables = with_handle handle (new_handle app row) (with_table row (as_registered (new_table name app size options validator handle)) s.tables) };
 }
 
 abbrev pub by_name_effect : State → ℕ → List ℕ → ℕ → ℕ → Option ℕ → Option ℕ → Effect

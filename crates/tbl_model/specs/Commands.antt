@@ -5,9 +5,9 @@ use Rattle.tbl_model.specs.Effects.{Effect, answered}
 use Rattle.tbl_model.specs.GroundLoads.{load_effect}
 use Rattle.tbl_model.specs.Validations.{validate_effect}
 use Rattle.tbl_model.specs.Activations.{activate_command_effect, abort_effect}
+use Rattle.tbl_model.specs.Dumps.{dump_effect, dump_registry_effect, housekeeping_effect}
 use Rattle.tbl_model.specs.Sharing.{send_registry_effect}
 use Rattle.tbl_kinds.specs.GroundCommands.{GroundCommand, housekeeping, noop, reset_counters, load, dump, validate, activate, dump_registry, send_registry, abort, code_of, command_in}
-use Rattle.tbl_model.specs.declared.deeds.Shown.TheVariants.{Housekeeping}
 use Rattle.tbl_kinds.specs.declared.entry.Answer.{Answer}
 use Rattle.tbl_kinds.specs.declared.request.Request.{Request}
 use Rattle.tbl_kinds.specs.declared.request.Request.TheVariants as ask
@@ -50,12 +50,14 @@ asked_code _ = 0
 -- a command of the right form that isn't built is refused with its code
 abbrev pub effect_by : State → Result GroundCommand Answer → Effect
 effect_by s (Err answer) = answered s answer.status answer.detail
-effect_by s (Ok housekeeping) = record (answered s SUCCESS 0) { shown = Housekeeping }
+effect_by s (Ok housekeeping) = housekeeping_effect s
 effect_by s (Ok noop) = answered s SUCCESS 0
 effect_by s (Ok reset_counters) = answered s SUCCESS 0
 effect_by s (Ok (load file)) = load_effect s file
+effect_by s (Ok (dump select table file)) = dump_effect s select table file
 effect_by s (Ok (validate select table)) = validate_effect s select table
 effect_by s (Ok (activate table)) = activate_command_effect s table
+effect_by s (Ok (dump_registry file)) = dump_registry_effect s file
 effect_by s (Ok (send_registry table)) = send_registry_effect s table
 effect_by s (Ok (abort table)) = abort_effect s table
 effect_by s (Ok command) = answered s ERR_BAD_CODE (code_of command)

@@ -12,6 +12,7 @@ use Rattle.tbl_model.specs.Validations.{app_validate_effect}
 use Rattle.tbl_model.specs.Activations.{update_effect}
 use Rattle.tbl_model.specs.Management.{manage_effect, get_status_effect}
 use Rattle.tbl_model.specs.Sharing.{share_effect, unregister_effect, exit_effect, notify_effect, info_effect}
+use Rattle.tbl_model.specs.Dumps.{dump_to_buffer_effect, edit_effect}
 use Rattle.tbl_kinds.specs.declared.request.Actor.{Actor}
 use Rattle.tbl_kinds.specs.declared.request.Actor.TheVariants.{Ground, App}
 use Rattle.tbl_kinds.specs.declared.request.Request.{Request}
@@ -36,8 +37,8 @@ app_effect s app (ask.LoadFile handle name) given = Some (app_file_effect s app 
 app_effect s app (ask.Update handle) given = Some (update_effect s app handle)
 app_effect s app (ask.Validate handle) given = Some (app_validate_effect s app handle given)
 app_effect s app (ask.Manage handle) given = Some (manage_effect s app handle given)
-app_effect s app (ask.DumpToBuffer handle) given = None
-app_effect s app (ask.Edit handle offset bytes) given = None
+app_effect s app (ask.DumpToBuffer handle) given = Some (dump_to_buffer_effect s app handle)
+app_effect s app (ask.Edit handle offset bytes) given = Some (edit_effect s app handle offset bytes.list)
 app_effect s app (ask.Get handle) given = Some (get_effect s app handle)
 app_effect s app (ask.Read handle offset len) given = Some (read_effect s app handle offset len)
 app_effect s app (ask.Release handle) given = Some (release_effect s app handle)

@@ -6,7 +6,7 @@ use Rattle.std.specs.Str.{bytes_eq}
 use Rattle.tbl_kinds.specs.Numbers.{piece, patched}
 use Rattle.tbl_model.specs.State.{Load, Table, Handle, Tables, Dump, quiet, asked, filled}
 use Rattle.tbl_model.specs.declared.deeds.Notice.{Notice}
-use Rattle.tbl_model.specs.Tables.{table_at, is_double}
+use Rattle.tbl_model.specs.Tables.{table_at, is_double, is_dump_only}
 use Rattle.tbl_kinds.specs.declared.status.Status.{Status}
 use Rattle.tbl_kinds.specs.declared.status.TheConstants.Status.{SUCCESS, INFO_UPDATED, ERR_INVALID_HANDLE, ERR_NO_ACCESS, ERR_UNREGISTERED, ERR_ALREADY_PINNED, ERR_NEVER_LOADED, ERR_NOT_PINNED, ERR_OUT_OF_RANGE}
 
@@ -297,6 +297,13 @@ new_table name owner size options validator handle = record {
 -- it begins with this image, or with none
 abbrev pub with_first : Option (List ℕ) → Table → Table
 with_first first t = record t { count = if is_some first then 1 else 0; last = first }
+
+-- a dump-only table begins with an image of zeros, another with none
+abbrev pub first_image : Table → Option (List ℕ)
+first_image t = if is_dump_only t then Some (replicate t.size 0) else None
+
+abbrev pub as_registered : Table → Table
+as_registered t = with_first (first_image t) t
 
 -- a handle that was told of no image and pins none
 abbrev pub new_handle : ℕ → ℕ → Handle

@@ -48,10 +48,10 @@ abbrev pub is_quiet : Dump → Bool
 is_quiet quiet = true
 is_quiet _ = false
 
--- an open load of a single-buffered table and a pending dump of a dump-only table use one each
+-- an open load of a single-buffered table and a pending dump, which dump-only tables alone have, use one each
 abbrev pub uses_buffer : Option Table → Bool
 uses_buffer None = false
-uses_buffer (Some t) = not (is_double t) && is_some t.load || is_dump_only t && not (is_quiet t.dump)
+uses_buffer (Some t) = not (is_double t) && is_some t.load || not (is_quiet t.dump)
 
 -- the rows that pass a test, ascending, of those from this one on
 abbrev pub rows_where : (Option Table → Bool) → ℕ → List (Option Table) → List ℕ
