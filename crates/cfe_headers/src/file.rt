@@ -12,7 +12,7 @@ use thiserror::Error;
 const CONTENT_TYPE: u32 = 0x6346_4531;
 
 /// How many bytes the header has.
-const HEADER_LENGTH: usize = 64;
+pub const HEADER_LENGTH: usize = 64;
 
 /// The file header of cFE (`CFE_FS_Header_t`), without its content type, which is always the same.
 #[derive(Clone, Copy, Debug, PartialEq, Eq)]
@@ -85,6 +85,7 @@ fn put_u32(out: &mut Bytes, number: u32)
     requires { 4 ≤ out.old.spare }
     ensures bytes { out.new.list ≡ out.old.list ++ four number }
     ensures room { out.old.spare ≤ out.new.spare + 4 }
+    ensures len { length out.new.list ≡ length out.old.list + 4 }
 {
     out.append(&number.to_be_bytes());
 }
@@ -95,6 +96,7 @@ pub fn write_file_header(out: &mut Bytes, header: &FileHeader)
     requires { header_len ≤ out.old.spare }
     ensures bytes { out.new.list ≡ out.old.list ++ file_header (header_of header.now) }
     ensures room { out.old.spare ≤ out.new.spare + header_len }
+    ensures len { length out.new.list ≡ length out.old.list + header_len }
 {
     put_u32(out, CONTENT_TYPE);
     put_u32(out, header.subtype);

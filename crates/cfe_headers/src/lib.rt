@@ -9,7 +9,7 @@ mod primary;
 mod telemetry;
 
 pub use command::{CmdPacket, PacketFault, read_packet, write_cmd};
-pub use file::{FileHeader, HeaderFault, read_file_header, write_file_header};
+pub use file::{FileHeader, HEADER_LENGTH, HeaderFault, read_file_header, write_file_header};
 pub use laws::{
     command_packets_are_read, what_is_read_is_a_command_packet, what_is_read_is_a_header,
     written_commands_are_command_packets, written_headers_are_read,

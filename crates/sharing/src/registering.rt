@@ -1,6 +1,6 @@
-ghost use Rattle.std.specs.Prelude.{◌≡◌, ◌<◌, ◌≤◌, true, Some, IfOk, OnErr};
+ghost use Rattle.std.specs.Prelude.{◌≡◌, ◌<◌, ◌≤◌, true, None, Some, IfOk, OnErr, IfNone, replicate, if◌then◌else◌};
 ghost use Rattle.tbl_model.specs.State.{State};
-ghost use Rattle.tbl_model.specs.Tables.{option_bits, table_at};
+ghost use Rattle.tbl_model.specs.Tables.{option_bits, has_option, table_at};
 ghost use Rattle.tbl_kinds.specs.Free.{least_free};
 ghost use Rattle.tbl_model.specs.TableSteps.{find};
 ghost use Rattle.tbl_kinds.specs.Limits.{table_limit};
@@ -11,6 +11,8 @@ ghost use Rattle.sharing.specs.Registering.{answered_with};
 
 use crate::apps::{Apps, plan_name};
 use bitflags::Flags;
+use buffer_pairs::Image;
+use std::alloc::{AllocError, Global};
 use tbl_kinds::{Answer, Memory, Name16, Name40, Options, Status};
 use tbl_outside::Validator;
 use tbl_registry::{AddFault, NewTable, RowView, Tables};
@@ -37,6 +39,13 @@ fn may_use<C: Validator>(kit: &Kit<C>, app: u8, validator: Option<u8>) -> bool
     }
 }
 
+/// Whether these options can be asked for: none, two buffers, or dump-only.
+fn are_options(flags: u16) -> bool
+    ensures { result ≡ are_options flags }
+{
+    flags == 0 || flags == Options::DOUBLE.bits() || flags == Options::DUMP_ONLY.bits()
+}
+
 /// The first thing that can't be asked for: the name, the size, the options, the validation function.
 fn plan_refusal<C: Validator>(
     kit: &Kit<C>,
@@ -46,7 +55,8 @@ fn plan_refusal<C: Validator>(
     flags: u16,
     validator: Option<u8>,
 ) -> Option<Answer>
-    ensures { result ≡ plan_refusal (owners kit.now) app short.now size flags validator }
+    ensures refusal { result ≡ plan_refusal (owners kit.now) app short.now size flags validator }
+    ensures options { IfNone result (are_options flags ≡ true) }
 {
     if !short.is_name() {
         return refusal(Status::ERR_INVALID_NAME);
@@ -54,7 +64,7 @@ fn plan_refusal<C: Validator>(
     if size == 0 || size > TABLE_LIMIT {
         return refusal(Status::ERR_INVALID_SIZE);
     }
-    if flags != 0 && flags != Options::DOUBLE.bits() {
+    if !are_options(flags) {
         return refusal(Status::ERR_INVALID_OPTIONS);
     }
     if !may_use(kit, app, validator) {
@@ -63,16 +73,29 @@ fn plan_refusal<C: Validator>(
     None
 }
 
-/// The options of a registration that isn't refused: two buffers, or none.
+/// The options of a registration.
 fn options(flags: u16) -> Options
-    requires { are_options flags ≡ true }
     ensures { option_bits result ≡ flags }
 {
-    if flags == 0 {
-        Options::from_bits_retain(0)
-    } else {
-        Options::DOUBLE
+    Options::from_bits_retain(flags)
+}
+
+/// As many zeros as a table has bytes.
+fn zeros(alloc: Global, size: u32) -> Result<Vec<u8>, AllocError>
+    ensures { IfOk result (λ v. v.items ≡ replicate size 0) }
+{
+    vec![in alloc; 0; size as usize]
+}
+
+/// What a new table begins with: an image of zeros if it is dump-only, else none.
+fn first_image(alloc: Global, size: u32, flags: Options) -> Result<Option<Image>, Memory>
+    ensures { IfOk result (λ first. first ≡ (if has_option 0x0002 (option_bits flags) then Some (replicate size 0) else None)) }
+{
+    if !flags.contains(Options::DUMP_ONLY) {
+        return Ok(None);
     }
+    let zeros = zeros(alloc, size)?;
+    Ok(Some(Image::of(alloc, &zeros)?))
 }
 
 /// The answer where a table of this name is there.
@@ -96,6 +119,7 @@ fn duplicate(tables: &Tables, row: u8, app: u8, size: u32) -> Answer
 
 /// Adds a table whose name is new.
 fn add(
+    alloc: Global,
     tables: &mut Tables,
     app: u8,
     name: Name40,
@@ -106,6 +130,7 @@ fn add(
     requires new { find name tables.old ≡ None }
     requires some_bytes { 0 < size }
     requires within { size ≤ table_limit }
+    requires options { are_options (option_bits flags) ≡ true }
     ensures effect { IfOk result (λ answer. (s : State) → s.tables ≡ tables.old → add_effect s app name size (option_bits flags) validator (least_free tables.old.rows) (least_free tables.old.handles) ≡ answered_with s answer tables.new) }
     ensures err { OnErr result (tables.new ≡ tables.old) }
 {
@@ -114,7 +139,7 @@ fn add(
         size,
         flags,
         validator,
-        first: None,
+        first: first_image(alloc, size, flags)?,
     };
     match tables.add(app, plan) {
         Ok(handle) => Ok(Answer {
@@ -129,6 +154,7 @@ fn add(
 
 /// Registers a table under its full name.
 fn by_name(
+    alloc: Global,
     tables: &mut Tables,
     app: u8,
     name: Name40,
@@ -138,21 +164,24 @@ fn by_name(
 ) -> Result<Answer, Memory>
     requires some_bytes { 0 < size }
     requires within { size ≤ table_limit }
+    requires options { are_options (option_bits flags) ≡ true }
     ensures effect { IfOk result (λ answer. (s : State) → s.tables ≡ tables.old → by_name_effect s app name size (option_bits flags) validator (find name s.tables) ≡ answered_with s answer tables.new) }
     ensures err { OnErr result (tables.new ≡ tables.old) }
 {
     match tables.find(name.bytes()) {
         Some(row) => Ok(duplicate(tables, row, app, size)),
-        None => add(tables, app, name, size, flags, validator),
+        None => add(alloc, tables, app, name, size, flags, validator),
     }
 }
 
 /// Registers a table for an application, under its name, a dot and the short name (`CFE_TBL_Register`). Where it asks for
 /// a validation function, that is one of its own in the kit. A new table's handle is the detail, and also that of a table which
-/// the application has registered already under this name and with this size (`WARN_DUPLICATE`).
-/// After want of memory nothing was changed.
+/// the application has registered already under this name and with this size (`WARN_DUPLICATE`). A new table that is
+/// dump-only (`CFE_TBL_OPT_DUMP_ONLY`) begins with an image of zeros, another with none.
+/// Out of memory: nothing was changed.
 #[tactic(auto, unfolding(tbl_model::specs::Applications::register_effect))]
 pub fn register<C: Validator>(
+    alloc: Global,
     tables: &mut Tables,
     kit: &Kit<C>,
     apps: &Apps,
@@ -171,5 +200,5 @@ pub fn register<C: Validator>(
     if let Some(answer) = plan_refusal(kit, app, short, size, flags, validator) {
         return Ok(answer);
     }
-    by_name(tables, app, name, size, options(flags), validator)
+    by_name(alloc, tables, app, name, size, options(flags), validator)
 }

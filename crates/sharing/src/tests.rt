@@ -81,12 +81,13 @@ fn registered(rt: HostRuntime) -> Result<(), Fail> {
     assert_eq!(rt; apps.start(3, &app_name(&rt, b"A")), Status::SUCCESS);
     for (app, size, status) in [(1, 16_384, 0), (1, 16_384, 16), (1, 8, 41), (3, 16_384, 40)] {
         assert_eq!(rt;
-            register(&mut tables, &kit, &apps, app, &t, size, 0, None),
+            register(rt.alloc(), &mut tables, &kit, &apps, app, &t, size, 0, None),
             answer(Status(status), 0)
         );
     }
     assert_eq!(rt;
         register(
+            rt.alloc(),
             &mut tables,
             &kit,
             &apps,
@@ -112,24 +113,66 @@ fn refused(rt: HostRuntime) -> Result<(), Fail> {
         (16_385, 0, None, 37),
         (0, 0, None, 37),
         (8, 4, None, 38),
-        (8, 2, None, 38),
         (8, 3, None, 38),
         (8, 10, None, 38),
         (8, 0, Some(1), 39),
     ] {
         assert_eq!(rt;
-            register(&mut tables, &kit, &apps, 1, &t, size, flags, validator),
+            register(
+                rt.alloc(),
+                &mut tables,
+                &kit,
+                &apps,
+                1,
+                &t,
+                size,
+                flags,
+                validator
+            ),
             answer(Status(status), 0)
         );
     }
     assert_eq!(rt;
-        register(&mut tables, &kit, &apps, 3, &t, 8, 0, None),
+        register(rt.alloc(), &mut tables, &kit, &apps, 3, &t, 8, 0, None),
         answer(Status(32), 0)
     );
     assert_eq!(rt;
-        register(&mut tables, &kit, &apps, 1, &short(&rt, b""), 8, 0, None),
+        register(
+            rt.alloc(),
+            &mut tables,
+            &kit,
+            &apps,
+            1,
+            &short(&rt, b""),
+            8,
+            0,
+            None
+        ),
         answer(Status(36), 0)
     );
+    Ok(())
+}
+
+#[test]
+fn dump_only_begins_with_zeros(rt: HostRuntime) -> Result<(), Fail> {
+    let mut tables = Tables::make(rt.alloc())?;
+    let apps = running(&rt);
+    let kit = one_function(rt.alloc())?;
+    assert_eq!(rt;
+        register(
+            rt.alloc(),
+            &mut tables,
+            &kit,
+            &apps,
+            1,
+            &short(&rt, b"T"),
+            4,
+            2,
+            None
+        ),
+        answer(Status(0), 0)
+    );
+    assert_eq!(rt; tables.last(0).ok_or("image")?, [0; 4].as_slice());
     Ok(())
 }
 
@@ -143,7 +186,7 @@ fn two(
     let mut apps = running(rt);
     assert_eq!(rt; apps.start(2, &app_name(rt, b"B")), Status::SUCCESS);
     assert_eq!(rt;
-        register(tables, &kit, &apps, 1, &short(rt, b"T"), 8, 0, None),
+        register(alloc, tables, &kit, &apps, 1, &short(rt, b"T"), 8, 0, None),
         answer(Status(0), 0)
     );
     Ok((apps, kit))

@@ -10,7 +10,7 @@ pub use laws::{
     nothing_else_is_looked_at, table_files_are_read, what_is_read_is_a_table_file,
     written_files_are_read,
 };
-pub use reading::{FileFault, IMAGE_PLACE, TableFile, read_table_file};
+pub use reading::{FileFault, IMAGE_PLACE, TABLE_SUBTYPE, TableFile, read_table_file};
 pub use writing::write_table_file;
 
 #[cfg(test)]

@@ -11,7 +11,7 @@ use tbl_kinds::{Name, Name40, Status, u32_at};
 use thiserror::Error;
 
 /// The subtype of a table file (cFE's `CFE_FS_SubType_TBL_IMG`).
-pub(crate) const TABLE_SUBTYPE: u32 = 8;
+pub const TABLE_SUBTYPE: u32 = 8;
 
 /// Where the image bytes begin: behind the file header and the table file header.
 pub const IMAGE_PLACE: usize = 116;

@@ -142,4 +142,4 @@ module _ {rows : List (Option Table)} {handles : List (Option HandleView)} {buff
   -- ---- an option goes, and the others stay
 
   pub uncritical_sound : IsSound (slice_set rows n (Some (record t { options = bit_and t.options 0xFFF7 }))) handles buffers
-  uncritical_sound = quiet_sound _ refl refl refl (λ none. none) (rw (other_option t.options 0x0001 refl, other_option t.options 0x0002 refl) refl)
+  uncritical_sound = quiet_sound _ refl refl refl (λ none. none) (rw (other_option t.options 0x0001 refl) refl)

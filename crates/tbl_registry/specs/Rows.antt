@@ -1,15 +1,15 @@
 -- What a registry row shows, and what holds of it.
-use Rattle.std.specs.Prelude.{◌≡◌, ◌<◌, ◌≤◌, ◌==◌, ℕ, List, [], length, unwrap_or, false, not, Option, None, is_some, IfSome}
+use Rattle.std.specs.Prelude.{◌≡◌, ◌<◌, ◌≤◌, ◌==◌, ℕ, List, [], length, unwrap_or, true, false, not, Option, None, is_some, IfSome}
 use Rattle.tbl_kinds.specs.Limits.{table_limit}
 use Rattle.tbl_model.specs.State.{Table, Dump, quiet, asked, filled}
-use Rattle.tbl_model.specs.Tables.{option_bits, is_double}
+use Rattle.tbl_model.specs.Tables.{option_bits, is_double, is_dump_only}
 use Rattle.tbl_registry.specs.Views.{filled_image}
 use Rattle.tbl_registry.specs.declared.row.DumpFile.{DumpFile}
 use Rattle.tbl_registry.specs.declared.row.DumpFile.TheVariants.{Quiet, Asked, Filled}
 use Rattle.tbl_registry.specs.declared.row.Row.TheInside.{Inside}
 
 -- a table of 1 to 16,384 bytes, whose images all have its size. It has a last one once it had one, and one before that
--- only where it has two buffers
+-- only where it has two buffers. A dump-only table has one buffer and no load
 pub record IsTable (t : Table) : Type 0 where
   pub some_bytes : 0 < t.size
   pub within : t.size ≤ table_limit
@@ -18,6 +18,8 @@ pub record IsTable (t : Table) : Type 0 where
   pub before : IfSome t.before (λ image. length image ≡ t.size)
   pub load : IfSome t.load (λ load. length load.image ≡ t.size)
   pub single : is_double t ≡ false → t.before ≡ None
+  pub one : is_dump_only t ≡ true → is_double t ≡ false
+  pub closed : is_dump_only t ≡ true → t.load ≡ None
   pub filled : IfSome (filled_image t.dump) (λ image. length image ≤ t.size)
 
 -- a dump, by its file and the image that is kept for it

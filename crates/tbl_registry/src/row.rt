@@ -7,6 +7,7 @@ ghost use Rattle.tbl_kinds.specs.Numbers.{patched};
 ghost use Rattle.tbl_model.specs.State.{Load, quiet, asked};
 ghost use Rattle.tbl_model.specs.Tables.{option_bits, is_double, is_dump_only, is_quiet, uses_buffer};
 ghost use Rattle.tbl_model.specs.Management.{pending_status};
+ghost use Rattle.tbl_model.specs.Refusals.{are_options};
 ghost use Rattle.tbl_model.specs.TableSteps.{new_table, with_first, unchecked, base, filled_with, last_image};
 
 use bitflags::Flags;
@@ -128,9 +129,11 @@ impl Row {
     ghost use Rattle.tbl_registry.specs.Rows.{IsTable};
 
     /// A table as its registration makes it.
+    #[tactic(auto, using(crate::proofs::Add::one_buffer))]
     pub(crate) fn make(app: u8, handle: u16, plan: NewTable) -> Row
         requires some_bytes { 0 < plan.size }
         requires within { plan.size ≤ table_limit }
+        requires options { are_options (option_bits plan.flags) ≡ true }
         requires first { IfSome plan.first (λ image. length image ≡ plan.size) }
         ensures { result ≡ with_first plan.first (new_table plan.name app plan.size (option_bits plan.flags) plan.validator handle) }
     {
@@ -205,11 +208,11 @@ impl Row {
     pub(crate) fn uses_buffer(&self) -> bool
         ensures { result ≡ uses_buffer (Some self.now) }
     {
-        !self.is_double() && self.load.is_some() || self.is_dump_only() && !self.is_quiet()
+        !self.is_double() && self.load.is_some() || !self.is_quiet()
     }
 
     /// Whether it is dump-only.
-    fn is_dump_only(&self) -> bool
+    pub(crate) fn is_dump_only(&self) -> bool
         ensures { result ≡ is_dump_only self.now }
     {
         self.flags.contains(Options::DUMP_ONLY)
@@ -251,6 +254,7 @@ impl Row {
     pub(crate) fn filled(&self) -> Option<&[u8]>
         ensures image { option_map (λ (image : Bor (List ℕ)). image.now) result ≡ filled_image self.now.dump }
         ensures within { IfSome result (λ image. length image.now ≤ self.now.size) }
+        ensures limit { IfSome result (λ image. length image.now ≤ table_limit) }
     {
         match self.dump {
             DumpFile::Filled(_) => Some(kept_bytes(&self.buffers)),
@@ -377,6 +381,7 @@ impl Row {
 
     /// Closes its load, whose activation isn't asked any more, and gives the load's image.
     pub(crate) fn end_load(&mut self) -> Option<Image>
+        ensures table { IsTable self.old }
         ensures image { result ≡ option_map (λ (load : Load). load.image) self.old.load }
         ensures size { IfSome result (λ image. length image ≡ self.old.size) }
         ensures closed { self.new ≡ record self.old { load = None; activation = false } }
@@ -402,6 +407,7 @@ impl Row {
     pub(crate) fn load(&self) -> Option<&[u8]>
         ensures image { option_map (λ (image : Bor (List ℕ)). image.now) result ≡ option_map (λ (load : Load). load.image) self.now.load }
         ensures size { IfSome result (λ image. length image.now ≡ self.now.size) }
+        ensures within { self.now.size ≤ table_limit }
     {
         match &self.load {
             Some(load) => Some(load.image.bytes()),
@@ -411,7 +417,8 @@ impl Row {
 
     /// Opens a load with this image, or puts it in the place of the open load's.
     pub(crate) fn set_load(&mut self, image: Image)
-        requires { length image ≡ self.old.size }
+        requires size { length image ≡ self.old.size }
+        requires loadable { is_dump_only self.old ≡ false }
         ensures table { IsTable self.old }
         ensures load { self.new ≡ record self.old { load = unchecked image } }
     {

@@ -1,4 +1,4 @@
-ghost use Rattle.std.specs.Prelude.{◌==◌, ◌≡◌, ◌≢◌, ◌<◌, ◌≤◌, ◌↔◌, ◌+◌, ◌-◌, ◌^◌, ℕ, List, None, Some, Ok, Err, IsTrue, IsSome, IfOk, OnOk, OnErr, IfSome, IfNone, length, option_and_then};
+ghost use Rattle.std.specs.Prelude.{◌==◌, ◌≡◌, ◌≢◌, ◌<◌, ◌≤◌, ◌↔◌, ◌+◌, ◌-◌, ◌^◌, ℕ, List, true, None, Some, Ok, Err, IsTrue, IsSome, IfOk, OnOk, OnErr, IfSome, IfNone, length, option_and_then};
 ghost use Rattle.std.specs.Option.{option_copied, option_map, ForSome};
 ghost use Rattle.std.specs.Borrow.{Bor};
 ghost use Rattle.tbl_kinds.specs.Free.{least_free};
@@ -7,6 +7,8 @@ ghost use Rattle.tbl_model.specs.State.{no_tables, Load, Table};
 ghost use Rattle.tbl_model.specs.Tables.{table_count, handle_count, load_count, in_use, option_bits, table_at};
 ghost use Rattle.tbl_model.specs.TableSteps.{find, new_table, with_first, new_handle, with_table, with_handle};
 ghost use Rattle.tbl_model.specs.Registry.{registry_row};
+ghost use Rattle.tbl_model.specs.Refusals.{are_options};
+ghost use Rattle.tbl_model.specs.Validations.{selected};
 ghost use Rattle.tbl_registry.specs.Rows.{IsTable};
 ghost use Rattle.tbl_registry.specs.Seen.{padded};
 
@@ -87,6 +89,14 @@ impl Tables {
         }
     }
 
+    /// How many rows there are: their numbers are below it.
+    pub fn row_limit(&self) -> u8
+        ensures limit { result ≡ length self.now.rows }
+        ensures rows { result ≡ 128 }
+    {
+        self.rows.len() as u8
+    }
+
     /// How many tables are registered.
     pub fn count(&self) -> u16
         ensures tables { result ≡ table_count self.now }
@@ -108,6 +118,7 @@ impl Tables {
         requires new { find plan.name self.old ≡ None }
         requires some_bytes { 0 < plan.size }
         requires within { plan.size ≤ table_limit }
+        requires options { are_options (option_bits plan.flags) ≡ true }
         requires first { IfSome plan.first (λ image. length image ≡ plan.size) }
         ensures row_free { OnOk result (IsSome (least_free self.old.rows)) }
         ensures handle_free { IfOk result (λ handle. least_free self.old.handles ≡ Some handle) }
@@ -139,6 +150,21 @@ impl Tables {
         Some(table_in(&self.rows, row)?.view())
     }
 
+    /// Which image of the table of a row the ground means by a selector: the last one by 1, that of the open load by 0. A
+    /// dump-only table has one image alone. None for any other selector.
+    pub fn selected(&self, row: u8, select: u16) -> Option<bool>
+        requires { IsSome (table_at self.now row) }
+        ensures { ForSome (table_at self.now row) (λ t. result ≡ selected t select) }
+    {
+        let Some(table) = table_in(&self.rows, row) else {
+            unreachable!();
+        };
+        if select > 1 {
+            return None;
+        }
+        Some(table.is_dump_only() || select == 1)
+    }
+
     /// The record of the table of a row, as the registry tells it (`CFE_TBL_GetInfo`).
     pub fn info(&self, row: u8) -> RegistryRow
         requires { IsSome (table_at self.now row) }
@@ -161,6 +187,7 @@ impl Tables {
     pub fn last(&self, row: u8) -> Option<&[u8]>
         ensures image { option_map (λ (image : Bor (List ℕ)). image.now) result ≡ option_and_then (λ (t : Table). t.last) (table_at self.now row) }
         ensures size { IfSome result (λ image. ForSome (table_at self.now row) (λ t. length image.now ≡ t.size)) }
+        ensures within { IfSome result (λ image. length image.now ≤ table_limit) }
         ensures none { IfNone result (ForSome (table_at self.now row) (λ t. t.count ≡ 0)) }
     {
         table_in(&self.rows, row)?.image(false)
@@ -170,6 +197,7 @@ impl Tables {
     pub fn load(&self, row: u8) -> Option<&[u8]>
         ensures image { option_map (λ (image : Bor (List ℕ)). image.now) result ≡ option_map (λ (load : Load). load.image) (option_and_then (λ (t : Table). t.load) (table_at self.now row)) }
         ensures size { IfSome result (λ image. ForSome (table_at self.now row) (λ t. length image.now ≡ t.size)) }
+        ensures within { IfSome result (λ image. length image.now ≤ table_limit) }
     {
         table_in(&self.rows, row)?.load()
     }
@@ -185,6 +213,7 @@ impl Tables {
     pub fn filled(&self, row: u8) -> Option<&[u8]>
         ensures image { option_map (λ (image : Bor (List ℕ)). image.now) result ≡ option_and_then (λ (t : Table). filled_image t.dump) (table_at self.now row) }
         ensures size { IfSome result (λ image. ForSome (table_at self.now row) (λ t. length image.now ≤ t.size)) }
+        ensures within { IfSome result (λ image. length image.now ≤ table_limit) }
     {
         table_in(&self.rows, row)?.filled()
     }

@@ -37,7 +37,8 @@ fn begin(
         validator: None,
         first,
     };
-    if !fits || size == 0 || size > 16_384 || tables.find(plan.name.bytes()).is_some() {
+    let options = flags == 0 || flags == 1 || flags == 2;
+    if !fits || !options || size == 0 || size > 16_384 || tables.find(plan.name.bytes()).is_some() {
         return Err(AddFault::Memory);
     }
     tables.add(1, plan)

@@ -60,6 +60,7 @@ fn take_load(table: &mut Row, working: &mut Working, row: u8, image: Image)
 /// Closes the load, and gives its image. The buffer that it used is free again.
 fn end_load(table: &mut Row, working: &mut Working, row: u8) -> Option<Image>
     requires { HasItsBuffer working.old row table.old }
+    ensures well { IsTable table.old }
     ensures image { result ≡ option_map (λ (load : Load). load.image) table.old.load }
     ensures size { IfSome result (λ image. length image ≡ table.old.size) }
     ensures table { table.new ≡ record table.old { load = None; activation = false } }

@@ -7,6 +7,6 @@ pub returns-clause-effect : goal.returns-clause-effect
 returns-clause-effect g c =
     IfOk-weaker c.by_name.result _ _
     (λ answer told s tables apps kit.
-    rw (registers s (owners c.args.kit.now) c.args.apps.now c.args.app c.args.short.now c.in-Some.name c.args.size c.args.flags c.args.validator apps kit c.in-Some.ensures.name c.in_default-plan_refusal.ensures, ← c.options.ensures)
+    rw (registers s (owners c.args.kit.now) c.args.apps.now c.args.app c.args.short.now c.in-Some.name c.args.size c.args.flags c.args.validator apps kit c.in-Some.ensures.name c.in_default-plan_refusal.ensures.refusal, ← c.options.ensures)
     (told s tables))
     c.by_name.ensures.effect

@@ -1,8 +1,8 @@
-use Rattle.std.proofs.Common.{◌≡◌, ◌∙◌, sym, Some, rules}
+use Rattle.std.proofs.Common.{◌≡◌, ◌∙◌, sym, Some}
 use Rattle.std.proofs.lemmas.Option.{same_Some}
 use Rattle.tbl_kinds.specs.Free.{least_free}
 use Rattle.tbl_kinds.proofs.FreeLaws.{least_free-map}
-use Rattle.tbl_registry.proofs.Add.{add_sound, add_seen}
+use Rattle.tbl_registry.proofs.Add.{no_buffer, add_sound, add_seen}
 use Rattle.tbl_registry.proofs.tables.Tables.add.Goals as goal
 
 pub returns-in_default-add-clause-no_handle : goal.returns-in_default-add-clause-no_handle
@@ -12,7 +12,7 @@ pub invariant_of-self-2 : goal.invariant_of-self-2
 invariant_of-self-2 c =
     let free : least_free c.self.inside.rows.items ≡ Some c.in-Some.row = rw (← c.deref.ensures.value) (sym c.in-Some.ensures.row) in
     rw (c.in-Some-add.ensures.added, c.make.ensures)
-    (add_sound c.self.inside.rows.items c.self.inside.handles c.self.inside.working c.in-Some.row c.in-Some-add.handle c.args.app _ c.self.invariant free (search rules) (rw (← c.self.view_is) at c.requires.new))
+    (add_sound c.self.inside.rows.items c.self.inside.handles c.self.inside.working c.in-Some.row c.in-Some-add.handle c.args.app _ c.self.invariant free (no_buffer _) (rw (← c.self.view_is) at c.requires.new))
 
 pub returns-clause-handle_free : goal.returns-clause-handle_free
 returns-clause-handle_free c = rw (← c.self.view_is, least_free-map _ c.self.inside.handles) (sym c.in-Some-add.ensures.least_free)
