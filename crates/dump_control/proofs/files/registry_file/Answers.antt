@@ -1,0 +1,9 @@
+use Rattle.std.proofs.Common.{◌≡◌, ◌∙◌, refl, ap, length, arith}
+use Rattle.std.proofs.lemmas.List.{append_assoc}
+use Rattle.tbl_model.specs.Dumps.{registry_file}
+use Rattle.dump_control.proofs.files.registry_file.Goals as goal
+
+pub returns-clause-bytes : goal.returns-clause-bytes
+unfolding registry_file
+returns-clause-bytes c = λ s tables seconds sub.
+    rw (c.write_records.ensures.bytes, c.write_file_header.ensures.bytes, c.header-header.ensures.header s seconds sub, tables) (append_assoc c.args.out.now.list _ _)

@@ -1,0 +1,43 @@
+-- The images that are dumped, and how long their files are.
+use Rattle.std.specs.Prelude.{◌<◌, ℕ, ◌+◌, List, [], length, Bool, true, false, Option, Some, None, IsSome, option_and_then}
+use Rattle.std.specs.Option.{option_map, option_map_or}
+use Rattle.tbl_kinds.specs.TableFiles.{image_place}
+use Rattle.tbl_model.specs.State.{State, Table, Dump, quiet, asked, filled}
+use Rattle.tbl_model.specs.TableSteps.{last_image, load_image}
+use Rattle.tbl_model.specs.Dumps.{dump_file}
+use Rattle.tbl_registry.specs.Views.{filled_image}
+
+-- the last image, or that of the open load
+abbrev pub dumped_image : Table → Bool → List ℕ
+dumped_image t true = last_image t
+dumped_image t false = load_image t
+
+-- it is there
+abbrev pub CanBeDumped : Table → Bool → Type 0
+CanBeDumped t true = 0 < t.count
+CanBeDumped t false = IsSome t.load
+
+-- ---- filled dumps of the table of a row, if there is one
+
+abbrev pub name_of_filled : Dump → Option (List ℕ)
+name_of_filled quiet = None
+name_of_filled (asked file) = None
+name_of_filled (filled file image) = Some file
+
+-- under which name it is written
+abbrev pub filled_name : Option Table → Option (List ℕ)
+filled_name found = option_and_then (λ (t : Table). name_of_filled t.dump) found
+
+-- the bytes of its file, none where no filled dump stands
+abbrev pub filled_file : State → Option Table → List ℕ
+filled_file s found = option_map_or (λ (t : Table). option_map_or (dump_file s t.name) (filled_image t.dump) []) found []
+
+-- how many these are
+abbrev pub filled_file_len : Option Table → Option ℕ
+filled_file_len found = option_map (λ (image : List ℕ). image_place + length image) (option_and_then (λ (t : Table). filled_image t.dump) found)
+
+-- ---- the registry's file
+
+-- the record of a table
+abbrev pub record_len : ℕ
+record_len = 144

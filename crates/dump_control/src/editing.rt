@@ -1,0 +1,112 @@
+//! Bytes that the owners of dump-only tables write over their images.
+
+ghost use Rattle.std.specs.Prelude.{◌≡◌, ◌<◌, ◌-◌, ◌+◌, ◌^◌, ◌≤◌, ℕ, List, Bool, not, nat_lt, length, replicate, Some, None, IsSome, IfSome, IfNone, IfOk, OnErr};
+ghost use Rattle.std.specs.Option.{ForSome};
+ghost use Rattle.tbl_kinds.specs.Numbers.{patched};
+ghost use Rattle.tbl_model.specs.State.{State};
+ghost use Rattle.tbl_model.specs.Tables.{table_at, is_dump_only};
+ghost use Rattle.tbl_model.specs.TableSteps.{put, base, locker};
+ghost use Rattle.tbl_model.specs.Effects.{answered};
+ghost use Rattle.tbl_model.specs.Refusals.{by_answer};
+ghost use Rattle.tbl_model.specs.Dumps.{edit_refusal};
+ghost use Rattle.validation.specs.Ready.{ArePending, HaveLoads, HaveSameFunctions};
+ghost use Rattle.dump_control.specs.Answers.{answered_with};
+
+use bitflags::Flags;
+use buffer_pairs::Image;
+use std::alloc::{AllocError, Global};
+use tbl_kinds::{Answer, Memory, Options, Status};
+use tbl_registry::Tables;
+
+/// Why so many bytes from this offset on aren't written over the image of the table of a row, if they aren't.
+fn edit_refusal(tables: &Tables, row: u8, offset: u32, len: usize) -> Option<Answer>
+    requires { IsSome (table_at tables.now row) }
+    ensures refusal { ForSome (table_at tables.now row) (λ t. result ≡ edit_refusal tables.now row t offset len) }
+    ensures closed { IfNone result (ForSome (table_at tables.now row) (λ t. t.load ≡ None)) }
+{
+    let Some(table) = tables.row(row) else {
+        unreachable!();
+    };
+    if !table.flags.contains(Options::DUMP_ONLY) {
+        return Some(Answer::plain(Status::ERR_NOT_DUMP_ONLY));
+    }
+    if len == 0 || !fits(table.size, offset, len) {
+        return Some(Answer::plain(Status::ERR_OUT_OF_RANGE));
+    }
+    match tables.locker(row) {
+        Some(handle) => Some(Answer {
+            status: Status::INFO_TABLE_LOCKED,
+            detail: u32::from(handle),
+        }),
+        None => None,
+    }
+}
+
+/// Whether an image of this size has so many bytes from this offset on.
+fn fits(size: u32, offset: u32, len: usize) -> bool
+    ensures { result ≡ not (nat_lt size (offset + len)) }
+{
+    match (offset as usize).checked_add(len) {
+        Some(end) => end <= size as usize,
+        None => false,
+    }
+}
+
+/// As many zeros as a table has bytes.
+fn zeros(alloc: Global, size: u32) -> Result<Vec<u8>, AllocError>
+    ensures { IfOk result (λ zeros. zeros.items ≡ replicate size 0) }
+{
+    vec![in alloc; 0; size as usize]
+}
+
+/// The last image of the table of a row, or zeros, with bytes over some of it.
+fn edited(
+    alloc: Global,
+    tables: &Tables,
+    row: u8,
+    offset: u32,
+    bytes: &[u8],
+) -> Result<Image, Memory>
+    requires table { IsSome (table_at tables.now row) }
+    requires closed { ForSome (table_at tables.now row) (λ t. t.load ≡ None) }
+    requires within { ForSome (table_at tables.now row) (λ t. offset + length bytes.now ≤ t.size) }
+    ensures image { IfOk result (λ image. ForSome (table_at tables.now row) (λ t. image ≡ patched (base t) offset bytes.now)) }
+    ensures size { IfOk result (λ image. ForSome (table_at tables.now row) (λ t. length image ≡ t.size)) }
+{
+    if let Some(last) = tables.last(row) {
+        return Image::patched(alloc, last, offset, bytes);
+    }
+    let Some(table) = tables.row(row) else {
+        unreachable!();
+    };
+    let zeros = zeros(alloc, table.size)?;
+    Image::patched(alloc, &zeros, offset, bytes)
+}
+
+/// The owner of the dump-only table of a row writes bytes over its image, from an offset on, in a new image that becomes
+/// the last one: tables at an address of their owner's own, which it writes as it likes, are not offered here.
+/// `ERR_NOT_DUMP_ONLY`: the table is loaded, and not edited. `ERR_OUT_OF_RANGE`: there are no bytes, or they go past the
+/// table's end. `INFO_TABLE_LOCKED`: the detail is the handle that pins the image. Out of memory: nothing was changed.
+pub fn edit(
+    alloc: Global,
+    tables: &mut Tables,
+    row: u8,
+    offset: u32,
+    bytes: &[u8],
+) -> Result<Answer, Memory>
+    requires table { IsSome (table_at tables.old row) }
+    requires few { ForSome (table_at tables.old row) (λ t. t.count < 2 ^ 32 - 1) }
+    ensures effect { IfOk result (λ answer. (s : State) → s.tables ≡ tables.old → ForSome (table_at tables.old row) (λ t. by_answer s (edit_refusal s.tables row t offset (length bytes.now)) (record (answered s Status.SUCCESS 0) { next = record s { tables = put row (patched (base t) offset bytes.now) s.tables } }) ≡ answered_with s answer tables.new)) }
+    ensures err { OnErr result (tables.new ≡ tables.old) }
+    ensures table { IsSome (table_at tables.new row) }
+    ensures pending { (pending : List (ℕ × Bool)) → ArePending tables.old pending → ArePending tables.new pending }
+    ensures loads { HaveLoads tables.old → HaveLoads tables.new }
+    ensures functions { HaveSameFunctions tables.old tables.new }
+{
+    if let Some(answer) = edit_refusal(tables, row, offset, bytes.len()) {
+        return Ok(answer);
+    }
+    let image = edited(alloc, tables, row, offset, bytes)?;
+    tables.put(row, image);
+    Ok(Answer::plain(Status::SUCCESS))
+}

@@ -1,0 +1,163 @@
+//! The files that dumps are written as.
+
+ghost use Rattle.std.specs.Prelude.{◌≡◌, ◌<◌, ◌≤◌, ◌+◌, ◌*◌, ◌++◌, ℕ, length, Some, None, IsSome, is_some, if◌then◌else◌, codes};
+ghost use Rattle.std.specs.Option.{ForSome};
+ghost use Rattle.std.specs.List.{flat_map};
+ghost use Rattle.tbl_kinds.specs.Limits.{table_limit};
+ghost use Rattle.tbl_kinds.specs.Names.{HasNoZero};
+ghost use Rattle.tbl_kinds.specs.Headers.{header_len};
+ghost use Rattle.tbl_kinds.specs.TableFiles.{image_place};
+ghost use Rattle.tbl_model.specs.State.{State};
+ghost use Rattle.tbl_model.specs.Tables.{table_at, table_count};
+ghost use Rattle.tbl_model.specs.Dumps.{written_header, dump_file, record_of, registry_file};
+ghost use Rattle.cfe_headers.specs.FileHeaders.{header_of};
+ghost use Rattle.dump_control.specs.Images.{CanBeDumped, dumped_image, record_len};
+
+use cfe_headers::{FileHeader, HEADER_LENGTH, write_file_header};
+use table_files::{IMAGE_PLACE, TABLE_SUBTYPE, TableFile, write_table_file};
+use tbl_kinds::{Bytes, Name, Name40};
+use tbl_registry::Tables;
+use tlm_packets::registry_bytes;
+
+/// The subtype of a registry file (cFE's `CFE_FS_SubType_TBL_REG`).
+const REGISTRY_SUBTYPE: u32 = 9;
+
+/// The spacecraft that files are from.
+const SPACECRAFT: u32 = 66;
+
+/// The processor that files are from.
+const PROCESSOR: u32 = 1;
+
+/// How many bytes the record of a table has.
+const RECORD_LENGTH: usize = 144;
+
+/// The header of a file of this kind that is written at this time.
+fn header(subtype: u32, text: &[u8], seconds: u32, sub: u16) -> FileHeader
+    requires fits { length text.now ≤ 32 }
+    requires no_zero { HasNoZero text.now }
+    ensures header { (s : State) → s.seconds ≡ seconds → s.sub ≡ sub → header_of result ≡ written_header subtype text.now s }
+    ensures subtype { result.subtype ≡ subtype }
+{
+    FileHeader {
+        subtype,
+        length: HEADER_LENGTH as u32,
+        spacecraft: SPACECRAFT,
+        processor: PROCESSOR,
+        application: 0,
+        seconds,
+        sub: u32::from(sub) * 0x1_0000,
+        description: Name::<32>::of(text).field(),
+    }
+}
+
+/// Appends the file of a whole image of the table of this name.
+#[tactic(auto, unfolding(tbl_model::specs::Dumps::dump_file))]
+pub(crate) fn write_image(out: &mut Bytes, name: &Name40, image: &[u8], seconds: u32, sub: u16)
+    requires room { image_place + length image.now ≤ out.old.spare }
+    requires within { length image.now ≤ table_limit }
+    ensures bytes { (s : State) → s.seconds ≡ seconds → s.sub ≡ sub → out.new.list ≡ out.old.list ++ dump_file s name.now image.now }
+    ensures room { out.old.spare ≤ out.new.spare + (image_place + length image.now) }
+    ensures len { length out.new.list ≡ length out.old.list + (image_place + length image.now) }
+{
+    let header = header(TABLE_SUBTYPE, b"Table image", seconds, sub);
+    let file = TableFile {
+        offset: 0,
+        count: image.len() as u32,
+        name: name.copy(),
+    };
+    write_table_file(out, &header, &file, image);
+}
+
+/// The image that is dumped: the last one of the table of a row, or that of its open load.
+fn dumped_image(tables: &Tables, row: u8, active: bool) -> &[u8]
+    requires table { IsSome (table_at tables.now row) }
+    requires image { ForSome (table_at tables.now row) (λ t. CanBeDumped t active) }
+    ensures image { ForSome (table_at tables.now row) (λ t. result.now ≡ dumped_image t active) }
+    ensures size { ForSome (table_at tables.now row) (λ t. length result.now ≡ t.size) }
+    ensures within { length result.now ≤ table_limit }
+{
+    let found = if active {
+        tables.last(row)
+    } else {
+        tables.load(row)
+    };
+    let Some(image) = found else {
+        unreachable!();
+    };
+    image
+}
+
+/// How many bytes the file of an image of the table of a row has: 116 and those of the image.
+pub fn dump_len(tables: &Tables, row: u8) -> usize
+    requires { IsSome (table_at tables.now row) }
+    ensures len { ForSome (table_at tables.now row) (λ t. result ≡ image_place + t.size) }
+    ensures within { result ≤ image_place + table_limit }
+{
+    let Some(table) = tables.row(row) else {
+        unreachable!();
+    };
+    IMAGE_PLACE + table.size as usize
+}
+
+/// Appends the table file of the last image of the table of a row (`active`), or of that of its open load: the file
+/// header with the text `Table image` and this time, the table file header with offset 0 and the table's full name, and
+/// the image (cFE's `CFE_FS_Header_t`, `CFE_TBL_File_Hdr_t`). `dump_len` tells how much room it needs.
+pub fn dump_file(tables: &Tables, row: u8, active: bool, out: &mut Bytes, seconds: u32, sub: u16)
+    requires table { IsSome (table_at tables.now row) }
+    requires image { ForSome (table_at tables.now row) (λ t. CanBeDumped t active) }
+    requires room { ForSome (table_at tables.now row) (λ t. image_place + t.size ≤ out.old.spare) }
+    ensures bytes { (s : State) → s.seconds ≡ seconds → s.sub ≡ sub → ForSome (table_at tables.now row) (λ t. out.new.list ≡ out.old.list ++ dump_file s t.name (dumped_image t active)) }
+    ensures room { ForSome (table_at tables.now row) (λ t. out.old.spare ≤ out.new.spare + (image_place + t.size)) }
+    ensures len { ForSome (table_at tables.now row) (λ t. length out.new.list ≡ length out.old.list + (image_place + t.size)) }
+{
+    let Some(name) = tables.name(row) else {
+        unreachable!();
+    };
+    write_image(out, name, dumped_image(tables, row, active), seconds, sub);
+}
+
+/// How many bytes the registry's file has: 64, and 144 for each registered table.
+pub fn registry_file_len(tables: &Tables) -> usize
+    ensures len { result ≡ header_len + record_len * table_count tables.now }
+    ensures within { result ≤ header_len + record_len * 128 }
+{
+    HEADER_LENGTH + RECORD_LENGTH * usize::from(tables.count())
+}
+
+/// Appends the record of the table of a row, if there is one.
+fn write_record(tables: &Tables, row: u8, out: &mut Bytes)
+    requires { IsSome (table_at tables.now row) → record_len ≤ out.old.spare }
+    ensures bytes { out.new.list ≡ out.old.list ++ record_of (table_at tables.now row) }
+    ensures room { out.old.spare ≤ out.new.spare + record_len * (if is_some (table_at tables.now row) then 1 else 0) }
+    ensures len { length out.new.list ≡ length out.old.list + record_len * (if is_some (table_at tables.now row) then 1 else 0) }
+{
+    if tables.name(row).is_some() {
+        registry_bytes(out, &tables.info(row));
+    }
+}
+
+/// Appends the record of each table, in order of rows.
+fn write_records(tables: &Tables, out: &mut Bytes)
+    requires { record_len * table_count tables.now ≤ out.old.spare }
+    ensures bytes { out.new.list ≡ out.old.list ++ flat_map record_of tables.now.rows }
+    ensures room { out.old.spare ≤ out.new.spare + record_len * table_count tables.now }
+    ensures len { length out.new.list ≡ length out.old.list + record_len * table_count tables.now }
+{
+    for row in 0..tables.row_limit() {
+        write_record(tables, row, out);
+    }
+}
+
+/// Appends the registry's file (`CFE_TBL_DUMP_REGISTRY_CC`): the file header with the text `Table registry` and this time,
+/// and the registry record of each table, in order of rows. `registry_file_len` tells how much room it needs.
+#[tactic(auto, unfolding(tbl_model::specs::Dumps::registry_file))]
+pub fn registry_file(tables: &Tables, out: &mut Bytes, seconds: u32, sub: u16)
+    requires { header_len + record_len * table_count tables.now ≤ out.old.spare }
+    ensures bytes { (s : State) → s.tables ≡ tables.now → s.seconds ≡ seconds → s.sub ≡ sub → out.new.list ≡ out.old.list ++ registry_file s }
+    ensures room { out.old.spare ≤ out.new.spare + (header_len + record_len * table_count tables.now) }
+    ensures len { length out.new.list ≡ length out.old.list + (header_len + record_len * table_count tables.now) }
+{
+    let header = header(REGISTRY_SUBTYPE, b"Table registry", seconds, sub);
+    write_file_header(out, &header);
+    write_records(tables, out);
+}
