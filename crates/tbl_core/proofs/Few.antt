@@ -1,7 +1,7 @@
 -- How many deeds a request has, and how much room its packets take.
 use Rattle.std.proofs.Common.{◌≡◌, ◌≤◌, ◌+◌, ◌*◌, ℕ, [], ◌∷◌, length, map, Bool, true, false, Option, Some, None, Ok, Err, is_some, refl, arith, if◌then◌else◌}
 use Rattle.std.proofs.lemmas.List.{length-append, length-map}
-use Rattle.tbl_kinds.specs.GroundCommands.{validate}
+use Rattle.tbl_kinds.specs.GroundCommands.{housekeeping, dump, validate, dump_registry}
 use Rattle.tbl_model.specs.Commands.{Asked, asks_housekeeping}
 use Rattle.tbl_model.specs.Events.{deed_event, command_events}
 use Rattle.tbl_model.specs.declared.deeds.Notice.{Notice}
@@ -15,7 +15,10 @@ use Rattle.tbl_core.specs.declared.effect.Effect.{Effect}
 of_command : (asked : Asked) (n : ℕ) → n ≤ command_deeds asked → n ≤ 8
 of_command None n few = omega (arith, few)
 of_command (Some (Err answer)) n few = omega (arith, few)
+of_command (Some (Ok housekeeping)) n few = omega (arith, few)
+of_command (Some (Ok (dump select table file))) n few = omega (arith, few)
 of_command (Some (Ok (validate select table))) n few = omega (arith, few)
+of_command (Some (Ok (dump_registry file))) n few = omega (arith, few)
 of_command (Some (Ok command)) n few = omega (arith, few)
 
 -- no request has more than 8

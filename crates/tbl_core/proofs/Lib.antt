@@ -1,6 +1,8 @@
 pub mod Both
 pub mod Buffers
 pub mod CommandReadings
+pub mod Doing
+pub mod Dumping
 pub mod Few
 pub mod Functions
 pub mod Keeping

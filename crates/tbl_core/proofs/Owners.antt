@@ -13,6 +13,7 @@ use Rattle.tbl_model.specs.Activations.{updated_effect, update_effect}
 use Rattle.tbl_model.specs.Validations.{first_pending, do_validation, app_validate_effect}
 use Rattle.tbl_model.specs.Management.{managed_effect, manage_answer, all_done, manage_effect}
 use Rattle.tbl_model.specs.Sharing.{notify_effect}
+use Rattle.tbl_model.specs.Dumps.{dump_to_buffer_effect, edit_effect}
 use Rattle.tbl_model.specs.Dispatch.{app_effect}
 use Rattle.tbl_kinds.specs.declared.status.Status.{Status}
 use Rattle.tbl_kinds.specs.declared.status.TheConstants.Status.{ERR_UNREGISTERED}
@@ -22,7 +23,7 @@ use Rattle.tbl_core.specs.Asked.{owners_handle}
 use Rattle.tbl_core.specs.Effects.{IsEffect}
 use Rattle.tbl_core.specs.Service.{Held, Stands, Leaves}
 use Rattle.tbl_core.specs.declared.effect.Effect.{Effect as Done}
-use Rattle.tbl_core.specs.Owned.{noticed_effect, owned_effect, owned_at}
+use Rattle.tbl_core.specs.Owned.{filled_effect, edited_effect, noticed_effect, owned_effect, owned_at}
 
 module _ (s : State) (app handle : ℕ) (given : Given) where
   module _ (status : Status) (no : (effect : ℕ → Effect) → if_handle s app handle true effect ≡ answered s status 0) where
@@ -31,12 +32,14 @@ module _ (s : State) (app handle : ℕ) (given : Given) where
 
     -- the handle may not be used so
     pub refused : (request : Request) → owners_handle request ≡ Some handle → app_effect s app request given ≡ Some (answered s status 0)
-    unfolding load_image_effect app_file_effect update_effect app_validate_effect manage_effect notify_effect
+    unfolding load_image_effect app_file_effect update_effect app_validate_effect manage_effect notify_effect dump_to_buffer_effect edit_effect
     refused (ask.LoadImage h image) is = not_done h is (load_image_of s image.list given)
     refused (ask.LoadFile h name) is = not_done h is (λ row t. by_answer s (closed_refusal t) (if_file s name (load_file_of s name given row t)))
     refused (ask.Update h) is = not_done h is (λ row t. by_answer s (update_refusal s.tables row t) (updated_effect s row t))
     refused (ask.Validate h) is = not_done h is (λ row t. do_validation s given row t (first_pending s.pending row))
     refused (ask.Manage h) is = not_done h is (λ row t. managed_effect s (manage_answer s.tables row t) (all_done s given row))
+    refused (ask.DumpToBuffer h) is = not_done h is (filled_effect s)
+    refused (ask.Edit h offset bytes) is = not_done h is (λ row t. edited_effect s row t offset bytes.list)
     refused (ask.Notify h msg code parameter) is = not_done h is (λ row t. noticed_effect s row msg code parameter)
     refused request is = absurd (cc is)
 
@@ -48,7 +51,7 @@ module _ (s : State) (app handle : ℕ) (given : Given) where
 
     -- it leads to this table
     pub taken : (request : Request) → owners_handle request ≡ Some handle → app_effect s app request given ≡ owned_at (table_at s.tables row) s row request given
-    unfolding load_image_effect app_file_effect update_effect app_validate_effect manage_effect notify_effect
+    unfolding load_image_effect app_file_effect update_effect app_validate_effect manage_effect notify_effect dump_to_buffer_effect edit_effect
     taken request is = by request is ∙ ap (λ (found : Option Table). owned_at found s row request given) (sym there)
       where
         by : (request : Request) → owners_handle request ≡ Some handle → app_effect s app request given ≡ owned_effect s row t request given
@@ -57,6 +60,8 @@ module _ (s : State) (app handle : ℕ) (given : Given) where
         by (ask.Update h) is = done_to h is (λ row t. by_answer s (update_refusal s.tables row t) (updated_effect s row t))
         by (ask.Validate h) is = done_to h is (λ row t. do_validation s given row t (first_pending s.pending row))
         by (ask.Manage h) is = done_to h is (λ row t. managed_effect s (manage_answer s.tables row t) (all_done s given row))
+        by (ask.DumpToBuffer h) is = done_to h is (filled_effect s)
+        by (ask.Edit h offset bytes) is = done_to h is (λ row t. edited_effect s row t offset bytes.list)
         by (ask.Notify h msg code parameter) is = done_to h is (λ row t. noticed_effect s row msg code parameter)
         by request is = absurd (cc is)
 

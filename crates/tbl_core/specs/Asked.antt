@@ -1,7 +1,7 @@
 -- What a request asks, as far as telemetry looks at it.
 use Rattle.std.specs.Prelude.{ℕ, Bool, true, false, Option, Some, None, Result, Ok, Err}
 use Rattle.std.specs.Option.{option_map}
-use Rattle.tbl_kinds.specs.GroundCommands.{GroundCommand, housekeeping, validate, activate, send_registry}
+use Rattle.tbl_kinds.specs.GroundCommands.{GroundCommand, housekeeping, dump, validate, activate, dump_registry, send_registry}
 use Rattle.tbl_model.specs.Commands as model
 use Rattle.cmd_packets.specs.Views.{command_of, answer_of}
 use Rattle.cmd_packets.specs.declared.commands.Ground.{Ground}
@@ -20,6 +20,7 @@ asked_of asked = option_map read_of asked
 
 -- a command of which the owner of a table is told
 abbrev pub asks_notice : model.Asked → Bool
+asks_notice (Some (Ok (dump select table file))) = true
 asks_notice (Some (Ok (validate select table))) = true
 asks_notice (Some (Ok (activate table))) = true
 asks_notice _ = false
@@ -30,9 +31,12 @@ shown_room (Some (Ok housekeeping)) = 290
 shown_room (Some (Ok (send_registry table))) = 156
 shown_room _ = 0
 
--- the most deeds of a command
+-- the most deeds of a command. A dump that comes to its end has one of the four shared buffers
 abbrev pub command_deeds : model.Asked → ℕ
+command_deeds (Some (Ok housekeeping)) = 4
+command_deeds (Some (Ok (dump select table file))) = 1
 command_deeds (Some (Ok (validate select table))) = 1
+command_deeds (Some (Ok (dump_registry file))) = 1
 command_deeds _ = 0
 
 -- the most deeds of a request
@@ -52,5 +56,7 @@ owners_handle (ask.LoadFile handle name) = Some handle
 owners_handle (ask.Update handle) = Some handle
 owners_handle (ask.Validate handle) = Some handle
 owners_handle (ask.Manage handle) = Some handle
+owners_handle (ask.DumpToBuffer handle) = Some handle
+owners_handle (ask.Edit handle offset bytes) = Some handle
 owners_handle (ask.Notify handle msg code parameter) = Some handle
 owners_handle _ = None

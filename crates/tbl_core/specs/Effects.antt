@@ -14,6 +14,7 @@ use Rattle.tbl_model.specs.declared.deeds.Shown.TheVariants.{Nothing, Housekeepi
 use Rattle.tbl_kinds.specs.declared.telemetry.Event.{Event}
 use Rattle.tbl_kinds.specs.declared.request.Actor.TheVariants.{Ground}
 use Rattle.tbl_kinds.specs.declared.request.Request.{Request}
+use Rattle.tbl_core.specs.Log.{reply_limit}
 use Rattle.tbl_core.specs.declared.effect.Effect.{Effect}
 
 -- ---- what it stands for
@@ -79,16 +80,18 @@ shown_len Housekeeping = 290
 shown_len (Registry row) = 156
 
 -- it has so many deeds at most, its packet behind the events is so long at most, it gives a notice only where it may owe one,
--- and that can be sent
+-- that can be sent, and its reply isn't too long
 pub record IsWithin (most room : ℕ) (owes : Bool) (done : Effect) : Type 0 where
   pub deeds : length done.deeds.items ≤ most
   pub shown : shown_len done.shown ≤ room
   pub no_notice : owes ≡ false → done.notice ≡ None
   pub notice : IfSome done.notice HasCode
+  pub bytes : length done.bytes.list ≤ reply_limit
 
--- it answers, and no more is told of it
+-- it answers, with a reply that is not too long, and no more is told of it
 pub record IsQuiet (done : Effect) : Type 0 where
   pub deeds : done.deeds.items ≡ []
   pub shown : done.shown ≡ Nothing
   pub notice : done.notice ≡ None
   pub given : given_of done ≡ nothing_given
+  pub bytes : length done.bytes.list ≤ reply_limit

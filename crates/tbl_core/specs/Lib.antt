@@ -2,6 +2,7 @@ pub mod Asked
 pub mod Counters
 pub mod Effects
 pub mod Finish
+pub mod Housekeeping
 pub mod Loads
 pub mod Log
 pub mod Managed

@@ -1,7 +1,7 @@
 -- What the owner of a table asks for it, by the table that its handle leads to.
-use Rattle.std.specs.Prelude.{ℕ, not, if◌then◌else◌, Option, Some, None}
+use Rattle.std.specs.Prelude.{ℕ, not, if◌then◌else◌, Option, Some, None, List, length}
 use Rattle.tbl_model.specs.State.{State, Table}
-use Rattle.tbl_model.specs.TableSteps.{set_notice}
+use Rattle.tbl_model.specs.TableSteps.{base, put, fill_dump, set_notice}
 use Rattle.tbl_model.specs.Effects.{Effect, answered}
 use Rattle.tbl_model.specs.Given.{Given}
 use Rattle.tbl_model.specs.Refusals.{by_answer, closed_refusal, update_refusal}
@@ -9,11 +9,25 @@ use Rattle.tbl_model.specs.Subjects.{if_file}
 use Rattle.tbl_model.specs.AppLoads.{load_image_of, load_file_of}
 use Rattle.tbl_model.specs.Activations.{updated_effect}
 use Rattle.tbl_model.specs.Validations.{first_pending, do_validation}
-use Rattle.tbl_model.specs.Management.{managed_effect, manage_answer, all_done}
+use Rattle.tbl_model.specs.Management.{managed_effect, manage_answer, all_done, is_asked}
+use Rattle.tbl_model.specs.Dumps.{edit_refusal}
+use Rattle.tbl_kinds.specs.Numbers.{patched}
 use Rattle.tbl_model.specs.Sharing.{is_notice}
-use Rattle.tbl_kinds.specs.declared.status.TheConstants.Status.{SUCCESS, ERR_NOTICE_ID}
+use Rattle.tbl_kinds.specs.declared.status.TheConstants.Status.{SUCCESS, INFO_NO_DUMP_PENDING, ERR_NOTICE_ID}
 use Rattle.tbl_kinds.specs.declared.request.Request.{Request}
 use Rattle.tbl_kinds.specs.declared.request.Request.TheVariants as ask
+
+-- the asked dump is filled
+abbrev pub filled_effect : State → ℕ → Table → Effect
+filled_effect s row t =
+    if not (is_asked t.dump) then answered s INFO_NO_DUMP_PENDING 0
+    else record (answered s SUCCESS 0) { next = record s { tables = fill_dump row s.tables } }
+
+-- bytes of the image of a dump-only table are written over
+abbrev pub edited_effect : State → ℕ → Table → ℕ → List ℕ → Effect
+edited_effect s row t offset bytes =
+    by_answer s (edit_refusal s.tables row t offset (length bytes))
+    (record (answered s SUCCESS 0) { next = record s { tables = put row (patched (base t) offset bytes) s.tables } })
 
 -- the owner is told of pending work from now on
 abbrev pub noticed_effect : State → ℕ → ℕ → ℕ → ℕ → Effect
@@ -28,6 +42,8 @@ owned_effect s row t (ask.LoadFile handle name) given = Some (by_answer s (close
 owned_effect s row t (ask.Update handle) given = Some (by_answer s (update_refusal s.tables row t) (updated_effect s row t))
 owned_effect s row t (ask.Validate handle) given = Some (do_validation s given row t (first_pending s.pending row))
 owned_effect s row t (ask.Manage handle) given = Some (managed_effect s (manage_answer s.tables row t) (all_done s given row))
+owned_effect s row t (ask.DumpToBuffer handle) given = Some (filled_effect s row t)
+owned_effect s row t (ask.Edit handle offset bytes) given = Some (edited_effect s row t offset bytes.list)
 owned_effect s row t (ask.Notify handle msg code parameter) given = Some (noticed_effect s row msg code parameter)
 owned_effect s row t _ given = None
 

@@ -1,5 +1,5 @@
 -- What the core keeps, and which histories it stands for.
-use Rattle.std.specs.Prelude.{◌≡◌, ℕ, ◌+◌, ◌-◌, ◌*◌, ◌^◌, ◌<◌, ◌≤◌, List, [], ◌∷◌, ◌++◌, length, Bool, false, Option, Some, None, IfSome}
+use Rattle.std.specs.Prelude.{◌≡◌, ℕ, ◌+◌, ◌-◌, ◌*◌, ◌^◌, ◌<◌, List, [], ◌∷◌, ◌++◌, length, Bool, false, Option, Some, None, IfSome}
 use Rattle.std.specs.Option.{ForSome}
 use Rattle.std.proofs.Common.{ℤ}
 use Rattle.tbl_model.specs.State.{State, Tables}
@@ -18,7 +18,7 @@ use Rattle.tbl_kinds.specs.declared.entry.Entry.{Entry}
 use Rattle.tbl_kinds.specs.declared.entry.Reply.{Reply}
 use Rattle.tbl_kinds.specs.declared.request.Actor.{Actor}
 use Rattle.tbl_kinds.specs.declared.request.Request.{Request}
-use Rattle.tbl_core.specs.Log.{Logged, reply_limit, entry_of}
+use Rattle.tbl_core.specs.Log.{Logged, entry_of}
 use Rattle.tbl_core.specs.Effects.{IsEffect, IsWithin, given_of, told_at}
 use Rattle.tbl_kinds.specs.Notes.{untouched}
 use Rattle.tbl_model.specs.Given.{Given}
@@ -155,7 +155,6 @@ pub record Does {C : Type 0} (verdict : C → List ℕ → ℤ) (asked : C → �
   pub note : done.note ≡ untouched
   pub two : length done.verdicts ≡ 2
   pub within : IsWithin most room owes done
-  pub bytes : length done.bytes.list ≤ reply_limit
 
 -- an entry tells the effect, and it is counted
 pub record Finishes (old new : Logged) (clock : Clock) (tables : Tables) (actor : Actor) (request : Request) (done : Effect) : Type 0 where

@@ -34,7 +34,6 @@ fn activate_found(tables: &mut Tables, pending: &Pending, table: Named, empty: B
         → ForSome (table_at tables.old table.row) (λ t. IsEffect result [] (record s { tables = tables.new }) (record (by_answer s (activation_refusal s.pending table.row t) (ask_effect s table.row t)) { table = Some table })) }
     ensures within { IsWithin 0 0 true result }
     ensures given { given_of result ≡ nothing_given }
-    ensures bytes { result.bytes ≡ empty }
 {
     let owed = notice(tables, table.row);
     let answer = request_activation(tables, pending, table.row);
@@ -64,7 +63,6 @@ pub(crate) fn activate(
     ensures effect { (s : State) → s.tables ≡ tables.old → s.pending ≡ pending.now → IsEffect result [] (record s { tables = tables.new }) (activate_command_effect s name.now) }
     ensures within { IsWithin 0 0 true result }
     ensures given { given_of result ≡ nothing_given }
-    ensures bytes { result.bytes ≡ empty }
 {
     match subject(tables, name) {
         None => Effect::of(Answer::plain(Status::ERR_NO_SUCH_TABLE), empty),
@@ -80,7 +78,6 @@ fn abort_found(tables: &mut Tables, pending: &mut Pending, table: Named, empty: 
     ensures effect { (s : State) → s.tables ≡ tables.old → s.pending ≡ pending.old
         → ForSome (table_at tables.old table.row) (λ t. IsEffect result [] (record s { tables = tables.new; pending = pending.new }) (record (if is_some t.load then aborted_effect s table.row else answered s Status.ERR_NO_LOAD 0) { table = Some table })) }
     ensures quiet { IsQuiet result }
-    ensures bytes { result.bytes ≡ empty }
 {
     let answer = partial_load::abort(tables, pending, table.row);
     Effect {
@@ -101,7 +98,6 @@ pub(crate) fn abort(
     requires empty { empty.list ≡ [] }
     ensures effect { (s : State) → s.tables ≡ tables.old → s.pending ≡ pending.old → IsEffect result [] (record s { tables = tables.new; pending = pending.new }) (abort_effect s name.now) }
     ensures quiet { IsQuiet result }
-    ensures bytes { result.bytes ≡ empty }
 {
     match subject(tables, name) {
         None => Effect::of(Answer::plain(Status::ERR_NO_SUCH_TABLE), empty),
@@ -118,7 +114,6 @@ fn made(answer: Answer, table: Named, active: Deed, mut deeds: Vec<Deed>, empty:
         → IsEffect result [] (updated s row t answer tables).next (updated s row t answer tables) }
     ensures within { IsWithin 1 0 false result }
     ensures given { given_of result ≡ nothing_given }
-    ensures bytes { result.bytes ≡ empty }
 {
     if answer.status != Status::SUCCESS {
         return Effect::of(answer, empty);
@@ -149,7 +144,6 @@ pub(crate) fn update(
         → ForSome (table_at tables.old row) (λ t. IsEffect result [] (record s { tables = tables.new }) (by_answer s (update_refusal s.tables row t) (updated_effect s row t))) }
     ensures within { IsWithin 1 0 false result }
     ensures given { given_of result ≡ nothing_given }
-    ensures bytes { result.bytes ≡ empty }
 {
     let table = named(tables, row);
     let active = activated(tables, row);

@@ -19,7 +19,6 @@ pub(crate) fn get(tables: &mut Tables, apps: &Apps, app: u8, handle: u16, empty:
     requires { empty.list ≡ [] }
     ensures effect { (s : State) → s.tables ≡ tables.old → s.apps ≡ apps.now → IsEffect result [] (record s { tables = tables.new }) (get_effect s app handle) }
     ensures quiet { IsQuiet result }
-    ensures bytes { result.bytes ≡ empty }
 {
     match check(tables, apps, app, handle, false) {
         Ok(_) => Effect::of(tables.get_address(handle), empty),
@@ -39,7 +38,6 @@ pub(crate) fn release(
     requires { empty.list ≡ [] }
     ensures effect { (s : State) → s.tables ≡ tables.old → s.apps ≡ apps.now → IsEffect result [] (record s { tables = tables.new }) (release_effect s app handle) }
     ensures quiet { IsQuiet result }
-    ensures bytes { result.bytes ≡ empty }
 {
     match check(tables, apps, app, handle, false) {
         Ok(_) => Effect::of(tables.release(handle), empty),
@@ -80,7 +78,6 @@ pub(crate) fn read(
     requires { empty.list ≡ [] }
     ensures effect { IfOk result (λ done. (s : State) → s.tables ≡ tables.now → s.apps ≡ apps.now → IsEffect done [] s (read_effect s app handle offset len)) }
     ensures quiet { IfOk result IsQuiet }
-    ensures bytes { IfOk result (λ done. length done.bytes.list ≤ table_limit) }
 {
     match piece(tables, apps, app, handle, offset, len) {
         Ok(piece) => {

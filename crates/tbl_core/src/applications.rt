@@ -10,6 +10,7 @@ ghost use Rattle.tbl_core.specs.Effects.{IsEffect, IsQuiet};
 
 use crate::effect::Effect;
 use sharing::Apps;
+use std::alloc::Global;
 use tbl_kinds::{Answer, Bytes, Memory, Name16, Name20, Name40};
 use tbl_outside::Validator;
 use tbl_registry::Tables;
@@ -22,7 +23,6 @@ pub(crate) fn start(apps: &mut Apps, app: u8, name: &Name20, empty: Bytes) -> Ef
     requires empty { empty.list ≡ [] }
     ensures effect { (s : State) → s.apps ≡ apps.old → IsEffect result [] (record s { apps = apps.new }) (start_effect s app name.now) }
     ensures quiet { IsQuiet result }
-    ensures bytes { result.bytes ≡ empty }
 {
     Effect::of(Answer::plain(apps.start(app, name)), empty)
 }
@@ -30,6 +30,7 @@ pub(crate) fn start(apps: &mut Apps, app: u8, name: &Name20, empty: Bytes) -> Ef
 /// An application registers a table (`CFE_TBL_Register`).
 #[inline(never)]
 pub(crate) fn register<C: Validator>(
+    alloc: Global,
     tables: &mut Tables,
     kit: &Kit<C>,
     apps: &Apps,
@@ -43,10 +44,9 @@ pub(crate) fn register<C: Validator>(
     requires { empty.list ≡ [] }
     ensures effect { IfOk result (λ done. (s : State) → s.tables ≡ tables.old → s.apps ≡ apps.now → s.kit ≡ owners kit.now → IsEffect done [] (record s { tables = tables.new }) (register_effect s app name.now size flags validator)) }
     ensures quiet { IfOk result IsQuiet }
-    ensures bytes { IfOk result (λ done. done.bytes ≡ empty) }
     ensures err { OnErr result (tables.new ≡ tables.old) }
 {
-    let answer = sharing::register(tables, kit, apps, app, name, size, flags, validator)?;
+    let answer = sharing::register(alloc, tables, kit, apps, app, name, size, flags, validator)?;
     Ok(Effect::of(answer, empty))
 }
 
@@ -61,7 +61,6 @@ pub(crate) fn share(
     requires { empty.list ≡ [] }
     ensures effect { (s : State) → s.tables ≡ tables.old → s.apps ≡ apps.now → IsEffect result [] (record s { tables = tables.new }) (share_effect s app name.now) }
     ensures quiet { IsQuiet result }
-    ensures bytes { result.bytes ≡ empty }
 {
     Effect::of(sharing::share(tables, apps, app, name), empty)
 }
@@ -78,7 +77,6 @@ pub(crate) fn unregister(
     requires { empty.list ≡ [] }
     ensures effect { (s : State) → s.tables ≡ tables.old → s.pending ≡ pending.old → s.apps ≡ apps.now → IsEffect result [] (record s { tables = tables.new; pending = pending.new }) (unregister_effect s app handle) }
     ensures quiet { IsQuiet result }
-    ensures bytes { result.bytes ≡ empty }
 {
     Effect::of(
         sharing::unregister(tables, pending, apps, app, handle),
@@ -100,7 +98,6 @@ pub(crate) fn exit<C: Validator>(
         → IsEffect result [] (record s { tables = tables.new; pending = pending.new; apps = apps.new; kit = owners kit.new }) (exit_effect s app) }
     ensures kit { kit.new ≡ (if is_success result.answer.status then dropped app kit.old else kit.old) }
     ensures quiet { IsQuiet result }
-    ensures bytes { result.bytes ≡ empty }
 {
     Effect::of(sharing::app_exit(tables, pending, kit, apps, app), empty)
 }

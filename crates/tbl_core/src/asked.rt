@@ -122,7 +122,7 @@ pub(crate) fn asks_notice(asked: &Asked) -> bool
 {
     matches!(
         asked,
-        Some(Ok(Ground::Validate { .. } | Ground::Activate { .. }))
+        Some(Ok(Ground::Dump { .. } | Ground::Validate { .. } | Ground::Activate { .. }))
     )
 }
 
@@ -147,17 +147,20 @@ pub(crate) fn owners_handle(request: &Request) -> Option<u16>
         | Request::Update { handle }
         | Request::Validate { handle }
         | Request::Manage { handle }
+        | Request::DumpToBuffer { handle }
+        | Request::Edit { handle, .. }
         | Request::Notify { handle, .. } => Some(*handle),
         _ => None,
     }
 }
 
-/// The most deeds of a command.
+/// The most deeds of a command. A dump that comes to its end has one of the four shared buffers.
 fn command_deeds(asked: &Asked) -> usize
     ensures { result ≡ command_deeds (asked_of asked.now) }
 {
     match asked {
-        Some(Ok(Ground::Validate { .. })) => 1,
+        Some(Ok(Ground::Housekeeping)) => 4,
+        Some(Ok(Ground::Dump { .. } | Ground::Validate { .. } | Ground::DumpRegistry { .. })) => 1,
         _ => 0,
     }
 }

@@ -8,18 +8,22 @@ ghost use Rattle.validation.specs.Ready.{ArePending};
 ghost use Rattle.tbl_core.specs.Service.{AreSendable};
 ghost use Rattle.tbl_core.specs.Asked.{read_of, asks_notice, shown_room, command_deeds};
 ghost use Rattle.tbl_core.specs.Effects.{IsEffect, IsWithin, given_of};
+ghost use Rattle.tbl_core.specs.Log.{reply_limit};
 
 use crate::activations::{abort, activate};
 use crate::asked::code_of;
+use crate::dumps::{dump, dump_registry};
 use crate::effect::Effect;
 use crate::ground_loads::load;
+use crate::housekeeping::housekeeping;
+use crate::parts::Clock;
 use crate::registry::send_registry;
 use crate::validations::validate;
 use cmd_packets::{CmdFault, Ground};
 use file_drawer::Drawer;
 use std::alloc::Global;
 use tbl_kinds::{Answer, Bytes, Memory, Status};
-use tbl_model::{Deed, Shown};
+use tbl_model::Deed;
 use tbl_registry::Tables;
 use validation::Pending;
 
@@ -39,7 +43,8 @@ pub(crate) fn command(
     alloc: Global,
     tables: &mut Tables,
     pending: &mut Pending,
-    drawer: &Drawer,
+    drawer: &mut Drawer,
+    clock: Clock,
     asked: &Result<Ground, CmdFault>,
     deeds: Vec<Deed>,
     empty: Bytes,
@@ -49,26 +54,36 @@ pub(crate) fn command(
     requires no_deeds { deeds.items ≡ [] }
     requires room { vec_capacity deeds ≡ command_deeds (Some (read_of asked.now)) }
     requires empty { empty.list ≡ [] }
-    ensures effect { IfOk result (λ done. (s : State) → s.tables ≡ tables.old → s.pending ≡ pending.old → s.drawer ≡ drawer.now → IsEffect done [] (record s { tables = tables.new; pending = pending.new }) (effect_by s (read_of asked.now))) }
+    ensures effect { IfOk result (λ done. (s : State) → s.tables ≡ tables.old → s.pending ≡ pending.old → s.drawer ≡ drawer.old → s.seconds ≡ clock.seconds → s.sub ≡ clock.sub
+        → IsEffect done [] (record s { tables = tables.new; pending = pending.new; drawer = drawer.new }) (effect_by s (read_of asked.now))) }
     ensures within { IfOk result (IsWithin (command_deeds (Some (read_of asked.now))) (shown_room (Some (read_of asked.now))) (asks_notice (Some (read_of asked.now)))) }
     ensures given { IfOk result (λ done. given_of done ≡ nothing_given) }
-    ensures bytes { IfOk result (λ done. length done.bytes.list ≤ 4) }
     ensures err { OnErr result (tables.new ≡ tables.old) }
     ensures still_pending { OnErr result (pending.new ≡ pending.old) }
+    ensures drawer { OnErr result (drawer.new ≡ drawer.old) }
 {
     match asked {
         Err(fault) => Ok(Effect::of(fault.answer(), empty)),
-        Ok(Ground::Housekeeping) => Ok(Effect {
-            shown: Shown::Housekeeping,
-            ..Effect::of(Answer::plain(Status::SUCCESS), empty)
-        }),
+        Ok(Ground::Housekeeping) => housekeeping(alloc, tables, drawer, clock, deeds, empty),
         Ok(Ground::Noop) => Ok(Effect::of(Answer::plain(Status::SUCCESS), empty)),
         Ok(Ground::ResetCounters) => Ok(Effect::of(Answer::plain(Status::SUCCESS), empty)),
         Ok(Ground::Load { file }) => load(alloc, tables, drawer, file, empty),
+        Ok(
+            Ground::Dump {
+                select,
+                table,
+                file,
+            },
+        ) => dump(
+            alloc, tables, drawer, clock, *select, table, file, deeds, empty,
+        ),
         Ok(Ground::Validate { select, table }) => {
             Ok(validate(tables, pending, *select, table, deeds, empty))
         }
         Ok(Ground::Activate { table }) => Ok(activate(tables, pending, table, empty)),
+        Ok(Ground::DumpRegistry { file }) => {
+            dump_registry(alloc, tables, drawer, clock, file, deeds, empty)
+        }
         Ok(Ground::SendRegistry { table }) => Ok(send_registry(tables, table, empty)),
         Ok(Ground::Abort { table }) => Ok(abort(tables, pending, table, empty)),
         Ok(command) => Ok(Effect::of(not_built(code_of(command)), empty)),

@@ -17,6 +17,7 @@ use crate::applications::{exit, register, share, start, unregister};
 use crate::asked::{Asked, owners_handle};
 use crate::checks::check;
 use crate::commands::command;
+use crate::dumps::{dump_to_buffer, edit};
 use crate::effect::{Effect, room_for_deeds};
 use crate::files::file;
 use crate::loads::{load_file, load_image};
@@ -57,7 +58,8 @@ impl<C: Validator> Parts<C> {
                     self.alloc,
                     tables,
                     pending,
-                    &self.drawer,
+                    &mut self.drawer,
+                    self.clock,
                     asked,
                     deeds,
                     empty,
@@ -114,6 +116,10 @@ impl<C: Validator> Parts<C> {
                 Ok(app_validate(tables, kit, pending, row, deeds, empty))
             }
             Request::Manage { .. } => manage(tables, kit, pending, clock, row, deeds, empty),
+            Request::DumpToBuffer { .. } => Ok(dump_to_buffer(tables, row, empty)),
+            Request::Edit { offset, bytes, .. } => {
+                edit(alloc, tables, row, *offset, bytes.bytes(), empty)
+            }
             Request::Notify {
                 msg,
                 code,
@@ -172,7 +178,7 @@ impl<C: Validator> Parts<C> {
                 flags,
                 validator,
             } => register(
-                tables, &self.kit, apps, app, name, *size, *flags, *validator, empty,
+                self.alloc, tables, &self.kit, apps, app, name, *size, *flags, *validator, empty,
             ),
             Request::Share { name } => Ok(share(tables, apps, app, name, empty)),
             Request::Unregister { handle } => {
@@ -191,30 +197,6 @@ impl<C: Validator> Parts<C> {
             Request::GetInfo { name } => get_info(tables, apps, app, name, empty),
             Request::Exit => Ok(exit(tables, pending, &mut self.kit, apps, app, empty)),
             _ => unreachable!(),
-        }
-    }
-
-    /// Does what an application asks.
-    fn app(
-        &mut self,
-        app: u8,
-        request: &Request,
-        deeds: Vec<Deed>,
-        empty: Bytes,
-    ) -> Result<Effect, Memory>
-        requires fits { Fits (App app) request.now }
-        requires built { IsBuilt request.now }
-        requires ready { MayPlay C.asked (held_of self.old) }
-        requires no_deeds { deeds.items ≡ [] }
-        requires room { vec_capacity deeds ≡ most_deeds request.now None }
-        requires empty { empty.list ≡ [] }
-        ensures does { IfOk result (Does C.verdict C.asked (most_deeds request.now None) 0 false (held_of self.old) (held_of self.new) (λ s given. app_effect s app request.now given)) }
-        ensures log { self.new.log ≡ self.old.log }
-        ensures err { OnErr result (held_of self.new ≡ held_of self.old) }
-    {
-        match owners_handle(request) {
-            Some(handle) => self.owner(app, handle, request, deeds, empty),
-            None => self.user(app, request, empty),
         }
     }
 
@@ -237,7 +219,10 @@ impl<C: Validator> Parts<C> {
         let deeds = room_for_deeds(self.alloc, request, asked)?;
         match actor {
             Actor::Ground => self.ground(request, asked, deeds, empty),
-            Actor::App(app) => self.app(app, request, deeds, empty),
+            Actor::App(app) => match owners_handle(request) {
+                Some(handle) => self.owner(app, handle, request, deeds, empty),
+                None => self.user(app, request, empty),
+            },
         }
     }
 }

@@ -42,7 +42,6 @@ pub(crate) fn file(
     requires { empty.list ≡ [] }
     ensures effect { IfOk result (λ done. (s : State) → s.drawer ≡ drawer.old → IsEffect done [] (record s { drawer = drawer.new }) (file_effect s name.now bytes.now.list)) }
     ensures quiet { IfOk result IsQuiet }
-    ensures bytes { IfOk result (λ done. done.bytes ≡ empty) }
     ensures err { OnErr result (drawer.new ≡ drawer.old) }
 {
     let status = put(drawer, name, bytes)?;

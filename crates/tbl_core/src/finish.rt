@@ -110,7 +110,6 @@ impl<C: Validator> Parts<C> {
     )
         requires asked { asked_of asked.now ≡ asked_in request }
         requires within { IsWithin (most_deeds request (asked_of asked.now)) (shown_room (asked_of asked.now)) (asks_notice (asked_of asked.now)) effect }
-        requires small { length effect.bytes.list ≤ reply_limit }
         requires room { 0 < self.old.log.spare }
         requires no_packets { packets.list ≡ [] }
         requires packets { packets_room request (asked_of asked.now) ≤ packets.spare }

@@ -34,7 +34,6 @@ fn load_found(
     requires room { 4 ≤ empty.spare }
     ensures effect { IfOk result (λ done. (s : State) → s.tables ≡ tables.old → IsEffect done [] (record s { tables = tables.new }) (by_row s parsed.now.name row (load_into s file.now (with_image parsed.now image.now)))) }
     ensures quiet { IfOk result IsQuiet }
-    ensures bytes { IfOk result (λ done. length done.bytes.list ≤ 4) }
     ensures err { OnErr result (tables.new ≡ tables.old) }
 {
     let Some(row) = row else {
@@ -65,7 +64,6 @@ fn load_parsed(
     requires room { 4 ≤ empty.spare }
     ensures effect { IfOk result (λ done. (s : State) → s.tables ≡ tables.old → IsEffect done [] (record s { tables = tables.new }) (load_file_effect s file.now (with_image parsed.now image.now))) }
     ensures quiet { IfOk result IsQuiet }
-    ensures bytes { IfOk result (λ done. length done.bytes.list ≤ 4) }
     ensures err { OnErr result (tables.new ≡ tables.old) }
 {
     let row = tables.find(parsed.name.bytes());
@@ -85,7 +83,6 @@ pub(crate) fn load(
     requires { empty.list ≡ [] }
     ensures effect { IfOk result (λ done. (s : State) → s.tables ≡ tables.old → s.drawer ≡ drawer.now → IsEffect done [] (record s { tables = tables.new }) (load_effect s file.now)) }
     ensures quiet { IfOk result IsQuiet }
-    ensures bytes { IfOk result (λ done. length done.bytes.list ≤ 4) }
     ensures err { OnErr result (tables.new ≡ tables.old) }
 {
     empty.reserve(BUFFERS)?;

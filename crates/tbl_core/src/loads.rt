@@ -152,7 +152,6 @@ pub(crate) fn load_image<C: Validator>(
     ensures within { IfOk result (IsWithin 2 0 false) }
     ensures note { IfOk result (λ done. done.note ≡ untouched) }
     ensures two { IfOk result (λ done. length done.verdicts ≡ 2) }
-    ensures bytes { IfOk result (λ done. length done.bytes.list ≤ 4) }
     ensures err { OnErr result (tables.new ≡ tables.old) }
     ensures not_asked { OnErr result (kit.new ≡ kit.old) }
 {
@@ -207,7 +206,6 @@ fn load_part<C: Validator>(
     ensures within { IfOk result (IsWithin 2 0 false) }
     ensures note { IfOk result (λ done. done.note ≡ untouched) }
     ensures two { IfOk result (λ done. length done.verdicts ≡ 2) }
-    ensures bytes { IfOk result (λ done. length done.bytes.list ≤ 4) }
     ensures err { OnErr result (tables.new ≡ tables.old) }
     ensures not_asked { OnErr result (kit.new ≡ kit.old) }
 {
@@ -248,7 +246,6 @@ pub(crate) fn load_file<C: Validator>(
     ensures within { IfOk result (IsWithin 2 0 false) }
     ensures note { IfOk result (λ done. done.note ≡ untouched) }
     ensures two { IfOk result (λ done. length done.verdicts ≡ 2) }
-    ensures bytes { IfOk result (λ done. length done.bytes.list ≤ 4) }
     ensures err { OnErr result (tables.new ≡ tables.old) }
     ensures not_asked { OnErr result (kit.new ≡ kit.old) }
 {

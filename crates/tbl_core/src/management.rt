@@ -127,7 +127,6 @@ pub(crate) fn manage<C: Validator>(
     ensures within { IfOk result (IsWithin 3 0 false) }
     ensures note { IfOk result (λ done. done.note ≡ untouched) }
     ensures two { IfOk result (λ done. length done.verdicts ≡ 2) }
-    ensures bytes { IfOk result (λ done. length done.bytes.list ≤ 1) }
     ensures err { OnErr result (tables.new ≡ tables.old) }
     ensures still_pending { OnErr result (pending.new ≡ pending.old) }
     ensures not_asked { OnErr result (kit.new ≡ kit.old) }
@@ -159,7 +158,6 @@ pub(crate) fn notify(
     requires empty { empty.list ≡ [] }
     ensures effect { (s : State) → s.tables ≡ tables.old → IsEffect result [] (record s { tables = tables.new }) (noticed_effect s row msg code parameter) }
     ensures quiet { IsQuiet result }
-    ensures bytes { result.bytes ≡ empty }
 {
     Effect::of(sharing::notify(tables, row, msg, code, parameter), empty)
 }
@@ -197,7 +195,6 @@ pub(crate) fn get_status(
     requires { empty.list ≡ [] }
     ensures effect { (s : State) → s.tables ≡ tables.now → s.pending ≡ pending.now → s.apps ≡ apps.now → IsEffect result [] s (get_status_effect s app handle) }
     ensures quiet { IsQuiet result }
-    ensures bytes { result.bytes ≡ empty }
 {
     match check(tables, apps, app, handle, false) {
         Err(status) => Effect::of(Answer::plain(status), empty),

@@ -29,7 +29,6 @@ pub(crate) fn get_info(
     requires { empty.list ≡ [] }
     ensures effect { IfOk result (λ done. (s : State) → s.tables ≡ tables.now → s.apps ≡ apps.now → IsEffect done [] s (info_effect s app name.now)) }
     ensures quiet { IfOk result IsQuiet }
-    ensures bytes { IfOk result (λ done. length done.bytes.list ≤ 144) }
 {
     match sharing::info(tables, apps, app, name) {
         Ok(row) => {
@@ -48,7 +47,6 @@ pub(crate) fn send_registry(tables: &Tables, name: &Name40, empty: Bytes) -> Eff
     ensures effect { (s : State) → s.tables ≡ tables.now → IsEffect result [] s (send_registry_effect s name.now) }
     ensures within { IsWithin 0 156 false result }
     ensures given { given_of result ≡ nothing_given }
-    ensures bytes { result.bytes ≡ empty }
 {
     match subject(tables, name) {
         None => Effect::of(Answer::plain(Status::ERR_NO_SUCH_TABLE), empty),

@@ -18,9 +18,8 @@ ghost use Rattle.tbl_core.specs.Service.{AreSendable};
 use crate::effect::Effect;
 use crate::loads::named;
 use crate::subjects::{notice, subject};
-use bitflags::Flags;
 use table_update::{Judgement, Requested, Validated, request_validation};
-use tbl_kinds::{Answer, Bytes, Name40, Options, Status};
+use tbl_kinds::{Answer, Bytes, Name40, Status};
 use tbl_model::{Deed, Named, Notice};
 use tbl_outside::Validator;
 use tbl_registry::Tables;
@@ -37,21 +36,6 @@ pub(crate) fn finished(row: u8, judgement: Judgement, name: Name40) -> Deed
         verdict: judgement.verdict,
         name,
     }
-}
-
-/// Whether a selector means the last image of the table of a row (1), or that of its open load (0). A dump-only table has
-/// one image alone.
-fn selected(tables: &Tables, row: u8, select: u16) -> Option<bool>
-    requires { IsSome (table_at tables.now row) }
-    ensures { ForSome (table_at tables.now row) (λ t. result ≡ selected t select) }
-{
-    let Some(table) = tables.row(row) else {
-        unreachable!();
-    };
-    if select > 1 {
-        return None;
-    }
-    Some(table.flags.contains(Options::DUMP_ONLY) || select == 1)
 }
 
 /// What VALIDATE is answered about a table, which has this name of its own and gives this notice.
@@ -71,7 +55,6 @@ fn told(
         → IsEffect result [] (record s { tables = tables; pending = pending }) (record (requested s table.row t came tables pending) { table = Some table }) }
     ensures within { IsWithin 1 0 true result }
     ensures given { given_of result ≡ nothing_given }
-    ensures bytes { result.bytes ≡ empty }
 {
     let row = table.row;
     let table = Some(table);
@@ -115,9 +98,8 @@ fn validate_found(
         → ForSome (table_at tables.old table.row) (λ t. IsEffect result [] (record s { tables = tables.new; pending = pending.new }) (record (validate_by s table.row t (selected t select)) { table = Some table })) }
     ensures within { IsWithin 1 0 true result }
     ensures given { given_of result ≡ nothing_given }
-    ensures bytes { result.bytes ≡ empty }
 {
-    let Some(active) = selected(tables, table.row, select) else {
+    let Some(active) = tables.selected(table.row, select) else {
         return Effect {
             table: Some(table),
             ..Effect::of(Answer::plain(Status::ERR_BAD_SELECT), empty)
@@ -148,7 +130,6 @@ pub(crate) fn validate(
     ensures effect { (s : State) → s.tables ≡ tables.old → s.pending ≡ pending.old → IsEffect result [] (record s { tables = tables.new; pending = pending.new }) (validate_effect s select name.now) }
     ensures within { IsWithin 1 0 true result }
     ensures given { given_of result ≡ nothing_given }
-    ensures bytes { result.bytes ≡ empty }
 {
     match subject(tables, name) {
         None => Effect::of(Answer::plain(Status::ERR_NO_SUCH_TABLE), empty),
@@ -166,7 +147,6 @@ fn done(row: u8, came: Validated, name: Name40, mut deeds: Vec<Deed>, empty: Byt
     ensures within { IsWithin 1 0 false result }
     ensures note { result.note ≡ untouched }
     ensures verdicts { result.verdicts ≡ verdicts_of came.judgement None }
-    ensures bytes { result.bytes ≡ empty }
 {
     let Some(judgement) = came.judgement else {
         return Effect::of(came.answer, empty);
@@ -204,7 +184,6 @@ pub(crate) fn app_validate<C: Validator>(
     ensures within { IsWithin 1 0 false result }
     ensures note { result.note ≡ untouched }
     ensures two { length result.verdicts ≡ 2 }
-    ensures bytes { result.bytes ≡ empty }
 {
     let Named { name, .. } = named(tables, row);
     let came = table_update::validate(tables, kit, pending, row);

@@ -1,15 +1,15 @@
-use Rattle.std.proofs.Common.{◌∙◌, refl, sym, ap, arith, length}
+use Rattle.std.proofs.Common.{◌∙◌, refl, sym, ap, length, rules}
 use Rattle.tbl_model.specs.State.{Tables}
 use Rattle.tbl_model.specs.Tables.{table_at}
 use Rattle.tbl_model.specs.Given.{Given}
-use Rattle.tbl_core.proofs.Both.{six}
+use Rattle.tbl_core.proofs.Both.{both, five}
 use Rattle.tbl_core.proofs.Places.{some_is}
 use Rattle.tbl_core.proofs.Owners.{leaves_of}
 use Rattle.tbl_core.proofs.Verdicts.{none_judged, was_judged}
 use Rattle.tbl_core.proofs.parts.Parts.owned.Goals as goal
 
 pub returns-in-LoadImage-clause-does : goal.returns-in-LoadImage-clause-does
-returns-in-LoadImage-clause-does g c = six c.load_image.result _ _ _ _ _ _ _ c.load_image.ensures.effect c.load_image.ensures.asks c.load_image.ensures.note c.load_image.ensures.two c.load_image.ensures.within c.load_image.ensures.bytes (λ done effect asks note two within bytes.
+returns-in-LoadImage-clause-does g c = five c.load_image.result _ _ _ _ _ _ c.load_image.ensures.effect c.load_image.ensures.asks c.load_image.ensures.note c.load_image.ensures.two c.load_image.ensures.within (λ done effect asks note two within.
     let t = some_is (table_at c.args.self.now.tables c.args.row) c.requires.table in record {
       effect = λ s stands. rw (ap (λ (tables : Tables). table_at tables c.args.row) stands.tables ∙ t.1, c.in-LoadImage.is, ← c.bytes-image.ensures)
           (leaves_of done _ _ _ _ (effect s stands.tables stands.seconds stands.sub t.0 t.1) (record { tables = refl; pending = stands.pending; store = stands.store; drawer = stands.drawer; apps = stands.apps; kit = stands.kit ∙ sym c.load_image.ensures.owners; seconds = stands.seconds; sub = stands.sub; ended = stands.ended }));
@@ -18,11 +18,10 @@ returns-in-LoadImage-clause-does g c = six c.load_image.result _ _ _ _ _ _ _ c.l
       note = note;
       two = two;
       within = rw c.in-LoadImage.is within;
-      bytes = omega (arith, bytes);
     })
 
 pub returns-in-LoadFile-clause-does : goal.returns-in-LoadFile-clause-does
-returns-in-LoadFile-clause-does g c = six c.load_file.result _ _ _ _ _ _ _ c.load_file.ensures.effect c.load_file.ensures.asks c.load_file.ensures.note c.load_file.ensures.two c.load_file.ensures.within c.load_file.ensures.bytes (λ done effect asks note two within bytes.
+returns-in-LoadFile-clause-does g c = five c.load_file.result _ _ _ _ _ _ c.load_file.ensures.effect c.load_file.ensures.asks c.load_file.ensures.note c.load_file.ensures.two c.load_file.ensures.within (λ done effect asks note two within.
     let t = some_is (table_at c.args.self.now.tables c.args.row) c.requires.table in record {
       effect = λ s stands. rw (ap (λ (tables : Tables). table_at tables c.args.row) stands.tables ∙ t.1, c.in-LoadFile.is)
           (leaves_of done _ _ _ _ (effect s stands.tables stands.drawer stands.seconds stands.sub t.0 t.1) (record { tables = refl; pending = stands.pending; store = stands.store; drawer = stands.drawer; apps = stands.apps; kit = stands.kit ∙ sym c.load_file.ensures.owners; seconds = stands.seconds; sub = stands.sub; ended = stands.ended }));
@@ -31,11 +30,10 @@ returns-in-LoadFile-clause-does g c = six c.load_file.result _ _ _ _ _ _ _ c.loa
       note = note;
       two = two;
       within = rw c.in-LoadFile.is within;
-      bytes = omega (arith, bytes);
     })
 
 pub returns-in-Manage-clause-does : goal.returns-in-Manage-clause-does
-returns-in-Manage-clause-does g c = six c.manage.result _ _ _ _ _ _ _ c.manage.ensures.effect c.manage.ensures.asks c.manage.ensures.note c.manage.ensures.two c.manage.ensures.within c.manage.ensures.bytes (λ done effect asks note two within bytes.
+returns-in-Manage-clause-does g c = five c.manage.result _ _ _ _ _ _ c.manage.ensures.effect c.manage.ensures.asks c.manage.ensures.note c.manage.ensures.two c.manage.ensures.within (λ done effect asks note two within.
     let t = some_is (table_at c.args.self.now.tables c.args.row) c.requires.table in record {
       effect = λ s stands. rw (ap (λ (tables : Tables). table_at tables c.args.row) stands.tables ∙ t.1, c.in-Manage.is)
           (leaves_of done _ _ _ _ (effect s stands.tables stands.pending stands.seconds stands.sub t.0 t.1) (record { tables = refl; pending = refl; store = stands.store; drawer = stands.drawer; apps = stands.apps; kit = stands.kit ∙ sym c.manage.ensures.owners; seconds = stands.seconds; sub = stands.sub; ended = stands.ended }));
@@ -44,7 +42,6 @@ returns-in-Manage-clause-does g c = six c.manage.result _ _ _ _ _ _ _ c.manage.e
       note = note;
       two = two;
       within = rw c.in-Manage.is within;
-      bytes = omega (arith, bytes);
     })
 
 pub returns-in-Update-clause-does : goal.returns-in-Update-clause-does
@@ -58,5 +55,16 @@ returns-in-Update-clause-does g c =
       note = ap (λ (given : Given). given.note) given;
       two = ap (λ (given : Given). length given.verdicts) given;
       within = rw c.in-Update.is c.update.ensures.within;
-      bytes = rw (c.update.ensures.bytes, c.requires.empty) (omega arith);
     }
+
+pub returns-in-Edit-clause-does : goal.returns-in-Edit-clause-does
+returns-in-Edit-clause-does g c = both c.edit.result _ _ _ c.edit.ensures.effect c.edit.ensures.quiet (λ done effect quiet.
+    let t = some_is (table_at c.args.self.now.tables c.args.row) c.requires.table in record {
+      effect = λ s stands. rw (ap (λ (tables : Tables). table_at tables c.args.row) stands.tables ∙ t.1, c.in-Edit.is, ← c.bytes.ensures)
+          (leaves_of done _ _ _ _ (effect s stands.tables t.0 t.1) (record { tables = refl; pending = stands.pending; store = stands.store; drawer = stands.drawer; apps = stands.apps; kit = stands.kit; seconds = stands.seconds; sub = stands.sub; ended = stands.ended }));
+      asks = λ s stands. rw (ap (λ (tables : Tables). table_at tables c.args.row) stands.tables ∙ t.1, c.in-Edit.is, ← c.bytes.ensures)
+          (none_judged g.C.Validator.verdict g.C.Validator.asked _ _ _ _ (effect s stands.tables t.0 t.1).asked quiet.given);
+      note = ap (λ (given : Given). given.note) quiet.given;
+      two = ap (λ (given : Given). length given.verdicts) quiet.given;
+      within = search rules;
+    })

@@ -22,7 +22,6 @@ returns-in-Ok-clause-does g c = IfOk-weaker c.owned.result _ _ (λ done does.
       note = does.note;
       two = does.two;
       within = does.within;
-      bytes = does.bytes;
     }) c.owned.ensures.does
 
 pub returns-in-Err-clause-does : goal.returns-in-Err-clause-does
@@ -33,5 +32,4 @@ returns-in-Err-clause-does g c =
       note = search rules;
       two = search rules;
       within = search rules;
-      bytes = search rules;
     }
