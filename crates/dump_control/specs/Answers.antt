@@ -1,11 +1,12 @@
 -- What a call is answered, as the effect that it stands for.
-use Rattle.std.specs.Prelude.{ℕ, ◌==◌, List, [], Bool, true, false, not, if◌then◌else◌, Option, Some, None, is_some}
+use Rattle.std.specs.Prelude.{ℕ, ◌==◌, List, [], Bool, if◌then◌else◌, Option, Some, None}
 use Rattle.tbl_model.specs.State.{State, Table, Tables}
 use Rattle.tbl_model.specs.Tables.{in_use}
 use Rattle.tbl_model.specs.TableSteps.{ask_dump}
 use Rattle.tbl_model.specs.Effects.{Effect, answered}
 use Rattle.tbl_model.specs.Refusals.{refusal}
 use Rattle.tbl_model.specs.Dumps.{dump_file, written_effect}
+use Rattle.tbl_registry.specs.Views.{has_image}
 use Rattle.dump_control.specs.Images.{dumped_image}
 use Rattle.dump_control.specs.declared.requests.DumpAnswer.{DumpAnswer}
 use Rattle.dump_control.specs.declared.requests.DumpAnswer.TheVariants.{Write, Asked, Refused}
@@ -18,8 +19,7 @@ answered_with s answer tables = record (answered s answer.status answer.detail) 
 
 -- which image is missing for a dump of a table, where one is
 abbrev pub missing_refusal : Table → Bool → Option Answer
-missing_refusal t true = if t.count == 0 then refusal ERR_NEVER_LOADED else None
-missing_refusal t false = if not (is_some t.load) then refusal ERR_NO_LOAD else None
+missing_refusal t active = if has_image t active then None else refusal (if active then ERR_NEVER_LOADED else ERR_NO_LOAD)
 
 -- the dump of a dump-only table is asked, unless something refuses it
 abbrev pub asked_by : Option Answer → DumpAnswer

@@ -1,21 +1,19 @@
 -- The images that are dumped, and how long their files are.
-use Rattle.std.specs.Prelude.{◌<◌, ℕ, ◌+◌, List, [], length, Bool, true, false, Option, Some, None, IsSome, option_and_then}
+use Rattle.std.specs.Prelude.{◌≡◌, ℕ, ◌+◌, List, [], length, Bool, true, Option, Some, None, option_and_then}
 use Rattle.std.specs.Option.{option_map, option_map_or}
 use Rattle.tbl_kinds.specs.TableFiles.{image_place}
 use Rattle.tbl_model.specs.State.{State, Table, Dump, quiet, asked, filled}
-use Rattle.tbl_model.specs.TableSteps.{last_image, load_image}
+use Rattle.tbl_model.specs.Validations.{judged_image}
 use Rattle.tbl_model.specs.Dumps.{dump_file}
-use Rattle.tbl_registry.specs.Views.{filled_image}
+use Rattle.tbl_registry.specs.Views.{has_image, filled_image}
 
 -- the last image, or that of the open load
 abbrev pub dumped_image : Table → Bool → List ℕ
-dumped_image t true = last_image t
-dumped_image t false = load_image t
+dumped_image t active = judged_image t active
 
 -- it is there
 abbrev pub CanBeDumped : Table → Bool → Type 0
-CanBeDumped t true = 0 < t.count
-CanBeDumped t false = IsSome t.load
+CanBeDumped t active = has_image t active ≡ true
 
 -- ---- filled dumps of the table of a row, if there is one
 

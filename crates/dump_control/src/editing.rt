@@ -13,8 +13,7 @@ ghost use Rattle.validation.specs.Ready.{ArePending, HaveLoads, HaveSameFunction
 ghost use Rattle.dump_control.specs.Answers.{answered_with};
 
 use bitflags::Flags;
-use buffer_pairs::Image;
-use std::alloc::{AllocError, Global};
+use std::alloc::Global;
 use tbl_kinds::{Answer, Memory, Options, Status};
 use tbl_registry::Tables;
 
@@ -52,37 +51,6 @@ fn fits(size: u32, offset: u32, len: usize) -> bool
     }
 }
 
-/// As many zeros as a table has bytes.
-fn zeros(alloc: Global, size: u32) -> Result<Vec<u8>, AllocError>
-    ensures { IfOk result (λ zeros. zeros.items ≡ replicate size 0) }
-{
-    vec![in alloc; 0; size as usize]
-}
-
-/// The last image of the table of a row, or zeros, with bytes over some of it.
-fn edited(
-    alloc: Global,
-    tables: &Tables,
-    row: u8,
-    offset: u32,
-    bytes: &[u8],
-) -> Result<Image, Memory>
-    requires table { IsSome (table_at tables.now row) }
-    requires closed { ForSome (table_at tables.now row) (λ t. t.load ≡ None) }
-    requires within { ForSome (table_at tables.now row) (λ t. offset + length bytes.now ≤ t.size) }
-    ensures image { IfOk result (λ image. ForSome (table_at tables.now row) (λ t. image ≡ patched (base t) offset bytes.now)) }
-    ensures size { IfOk result (λ image. ForSome (table_at tables.now row) (λ t. length image ≡ t.size)) }
-{
-    if let Some(last) = tables.last(row) {
-        return Image::patched(alloc, last, offset, bytes);
-    }
-    let Some(table) = tables.row(row) else {
-        unreachable!();
-    };
-    let zeros = zeros(alloc, table.size)?;
-    Image::patched(alloc, &zeros, offset, bytes)
-}
-
 /// The owner of the dump-only table of a row writes bytes over its image, from an offset on, in a new image that becomes
 /// the last one: tables at an address of their owner's own, which it writes as it likes, are not offered here.
 /// `ERR_NOT_DUMP_ONLY`: the table is loaded, and not edited. `ERR_OUT_OF_RANGE`: there are no bytes, or they go past the
@@ -106,7 +74,7 @@ pub fn edit(
     if let Some(answer) = edit_refusal(tables, row, offset, bytes.len()) {
         return Ok(answer);
     }
-    let image = edited(alloc, tables, row, offset, bytes)?;
+    let image = tables.patched(alloc, row, offset, bytes)?;
     tables.put(row, image);
     Ok(Answer::plain(Status::SUCCESS))
 }

@@ -68,25 +68,6 @@ pub(crate) fn write_image(out: &mut Bytes, name: &Name40, image: &[u8], seconds:
     write_table_file(out, &header, &file, image);
 }
 
-/// The image that is dumped: the last one of the table of a row, or that of its open load.
-fn dumped_image(tables: &Tables, row: u8, active: bool) -> &[u8]
-    requires table { IsSome (table_at tables.now row) }
-    requires image { ForSome (table_at tables.now row) (λ t. CanBeDumped t active) }
-    ensures image { ForSome (table_at tables.now row) (λ t. result.now ≡ dumped_image t active) }
-    ensures size { ForSome (table_at tables.now row) (λ t. length result.now ≡ t.size) }
-    ensures within { length result.now ≤ table_limit }
-{
-    let found = if active {
-        tables.last(row)
-    } else {
-        tables.load(row)
-    };
-    let Some(image) = found else {
-        unreachable!();
-    };
-    image
-}
-
 /// How many bytes the file of an image of the table of a row has: 116 and those of the image.
 pub fn dump_len(tables: &Tables, row: u8) -> usize
     requires { IsSome (table_at tables.now row) }
@@ -113,7 +94,10 @@ pub fn dump_file(tables: &Tables, row: u8, active: bool, out: &mut Bytes, second
     let Some(name) = tables.name(row) else {
         unreachable!();
     };
-    write_image(out, name, dumped_image(tables, row, active), seconds, sub);
+    let Some(image) = tables.image(row, active) else {
+        unreachable!();
+    };
+    write_image(out, name, image, seconds, sub);
 }
 
 /// How many bytes the registry's file has: 64, and 144 for each registered table.

@@ -81,16 +81,14 @@ fn missing(tables: &Tables, row: u8, active: bool) -> Option<Answer>
     ensures refusal { ForSome (table_at tables.now row) (λ t. result ≡ missing_refusal t active) }
     ensures none { IfNone result (ForSome (table_at tables.now row) (λ t. CanBeDumped t active)) }
 {
-    let Some(table) = tables.row(row) else {
-        unreachable!();
-    };
-    if active && table.count == 0 {
-        return Some(Answer::plain(Status::ERR_NEVER_LOADED));
+    if tables.image(row, active).is_some() {
+        return None;
     }
-    if !active && !table.load {
-        return Some(Answer::plain(Status::ERR_NO_LOAD));
-    }
-    None
+    Some(Answer::plain(if active {
+        Status::ERR_NEVER_LOADED
+    } else {
+        Status::ERR_NO_LOAD
+    }))
 }
 
 /// The ground asks for a dump of the table of a row into a file of this name (`CFE_TBL_DUMP_CC`; cFE User's Guide, Table

@@ -37,7 +37,10 @@ fn tables_of(alloc: Global, options: u16) -> Result<Tables, Fail> {
         validator: None,
         first: Some(image),
     };
-    if options != 0 && options != 2 || tables.find(plan.name.bytes()).is_some() {
+    if plan.flags.contains(Options::DUMP_ONLY) && plan.flags.contains(Options::DOUBLE) {
+        return Err("options")?;
+    }
+    if tables.find(plan.name.bytes()).is_some() {
         return Err("registered")?;
     }
     let _handle = tables.add(1, plan)?;

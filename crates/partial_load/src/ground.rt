@@ -13,7 +13,6 @@ ghost use Rattle.tbl_model.specs.GroundLoads.{load_into, load_file_effect};
 ghost use Rattle.table_files.specs.Files.{with_image};
 ghost use Rattle.partial_load.specs.Answers.{load_answered};
 
-use crate::making::new_image;
 use crate::refusals::load_refusal;
 use buffer_pairs::Image;
 use std::alloc::Global;
@@ -22,7 +21,6 @@ use tbl_kinds::{Answer, Memory, Name64, Status};
 use tbl_registry::Tables;
 
 /// Writes bytes into the load of a table, which is opened where none is open. In place, where nobody else has the image.
-#[tactic(auto, using(crate::proofs::Filling::part_of_load))]
 fn fill(
     alloc: Global,
     tables: &mut Tables,
@@ -38,7 +36,7 @@ fn fill(
     if tables.load(row).is_some() && tables.write_load(row, offset, bytes) {
         return Ok(());
     }
-    let image = new_image(alloc, tables, row, offset, bytes)?;
+    let image = tables.patched(alloc, row, offset, bytes)?;
     tables.set_load(row, image);
     Ok(())
 }

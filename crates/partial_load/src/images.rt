@@ -17,7 +17,6 @@ ghost use Rattle.validation.specs.Asked.{WasAsked, asks};
 ghost use Rattle.partial_load.specs.Answers.{verdict_answer, image_answered, file_answered, app_load_of, app_load_answered};
 ghost use Rattle.table_files.specs.declared.reading.TableFile.{TableFile as File};
 
-use crate::making::new_image;
 use crate::refusals::{closed_refusal, file_refusal, image_refusal};
 use buffer_pairs::Image;
 use std::alloc::Global;
@@ -152,7 +151,7 @@ pub fn load_part<C: Validator>(
     if let Some(answer) = file_refusal(tables, row, parsed) {
         return Ok(refused(answer));
     }
-    let image = new_image(alloc, tables, row, parsed.offset, image)?;
+    let image = tables.patched(alloc, row, parsed.offset, image)?;
     Ok(admit(tables, kit, row, image))
 }
 

@@ -5,7 +5,6 @@
 mod aborting;
 mod ground;
 mod images;
-mod making;
 mod refusals;
 
 pub use aborting::abort;

@@ -3,3 +3,4 @@ pub mod GivenUp
 pub mod Names
 pub mod Passing
 pub mod Running
+pub mod Options

@@ -118,6 +118,7 @@ fn duplicate(tables: &Tables, row: u8, app: u8, size: u32) -> Answer
 }
 
 /// Adds a table whose name is new.
+#[tactic(auto, using(crate::proofs::Options::one_buffer))]
 fn add(
     alloc: Global,
     tables: &mut Tables,
@@ -152,28 +153,6 @@ fn add(
     }
 }
 
-/// Registers a table under its full name.
-fn by_name(
-    alloc: Global,
-    tables: &mut Tables,
-    app: u8,
-    name: Name40,
-    size: u32,
-    flags: Options,
-    validator: Option<u8>,
-) -> Result<Answer, Memory>
-    requires some_bytes { 0 < size }
-    requires within { size ≤ table_limit }
-    requires options { are_options (option_bits flags) ≡ true }
-    ensures effect { IfOk result (λ answer. (s : State) → s.tables ≡ tables.old → by_name_effect s app name size (option_bits flags) validator (find name s.tables) ≡ answered_with s answer tables.new) }
-    ensures err { OnErr result (tables.new ≡ tables.old) }
-{
-    match tables.find(name.bytes()) {
-        Some(row) => Ok(duplicate(tables, row, app, size)),
-        None => add(alloc, tables, app, name, size, flags, validator),
-    }
-}
-
 /// Registers a table for an application, under its name, a dot and the short name (`CFE_TBL_Register`). Where it asks for
 /// a validation function, that is one of its own in the kit. A new table's handle is the detail, and also that of a table which
 /// the application has registered already under this name and with this size (`WARN_DUPLICATE`). A new table that is
@@ -200,5 +179,9 @@ pub fn register<C: Validator>(
     if let Some(answer) = plan_refusal(kit, app, short, size, flags, validator) {
         return Ok(answer);
     }
-    by_name(alloc, tables, app, name, size, options(flags), validator)
+    let flags = options(flags);
+    match tables.find(name.bytes()) {
+        Some(row) => Ok(duplicate(tables, row, app, size)),
+        None => add(alloc, tables, app, name, size, flags, validator),
+    }
 }

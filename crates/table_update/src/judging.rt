@@ -7,7 +7,8 @@ ghost use Rattle.tbl_model.specs.Tables.{table_at};
 ghost use Rattle.tbl_model.specs.Deeds.{is_good};
 ghost use Rattle.tbl_model.specs.Pending.{is_pending, without_pair};
 ghost use Rattle.tbl_model.specs.Validations.{judged_image, questions, marked};
-ghost use Rattle.validation.specs.Kits.{MayAsk, FewAsked};
+ghost use Rattle.validation.specs.Kits.{FewAsked};
+ghost use Rattle.table_update.specs.Judging.{MayBeJudged};
 ghost use Rattle.validation.specs.Asked.{WasAsked};
 ghost use Rattle.validation.specs.Ready.{HasImage, ArePending, HaveFunctions, HaveLoads};
 
@@ -33,43 +34,32 @@ fn judged_image(tables: &Tables, row: u8, active: bool) -> &[u8]
     requires image { ForSome (table_at tables.now row) (λ t. HasImage t active) }
     ensures { ForSome (table_at tables.now row) (λ t. result.now ≡ judged_image t active) }
 {
-    let found = if active {
-        tables.last(row)
-    } else {
-        tables.load(row)
-    };
-    let Some(image) = found else {
+    let Some(image) = tables.image(row, active) else {
         unreachable!();
     };
     image
 }
 
 /// Verdict 0 marks the open load of the table of a row as validated, another one takes the mark away.
-fn mark(tables: &mut Tables, row: u8, active: bool, verdict: i32)
+fn mark(tables: &mut Tables, row: u8, judgement: &Judgement)
     requires table { IsSome (table_at tables.old row) }
-    requires image { ForSome (table_at tables.old row) (λ t. HasImage t active) }
-    ensures { tables.new ≡ marked row active verdict tables.old }
+    requires image { ForSome (table_at tables.old row) (λ t. HasImage t judgement.now.active) }
+    ensures { tables.new ≡ marked row judgement.now.active judgement.now.verdict tables.old }
 {
-    if !active {
-        tables.set_checked(row, verdict.cast_unsigned() == 0);
+    if !judgement.active {
+        tables.set_checked(row, judgement.verdict == 0);
     }
 }
 
-/// A validation came to its end with this verdict, and isn't pending any more.
-pub(crate) fn conclude(
-    tables: &mut Tables,
-    pending: &mut Pending,
-    row: u8,
-    active: bool,
-    verdict: i32,
-)
+/// A validation came to its end, and isn't pending any more.
+pub(crate) fn conclude(tables: &mut Tables, pending: &mut Pending, row: u8, judgement: &Judgement)
     requires table { IsSome (table_at tables.old row) }
-    requires image { ForSome (table_at tables.old row) (λ t. HasImage t active) }
-    ensures tables { tables.new ≡ marked row active verdict tables.old }
-    ensures pending { pending.new ≡ without_pair row active pending.old }
+    requires image { ForSome (table_at tables.old row) (λ t. HasImage t judgement.now.active) }
+    ensures tables { tables.new ≡ marked row judgement.now.active judgement.now.verdict tables.old }
+    ensures pending { pending.new ≡ without_pair row judgement.now.active pending.old }
 {
-    mark(tables, row, active, verdict);
-    pending.drop_pair(row, active);
+    mark(tables, row, judgement);
+    pending.drop_pair(row, judgement.active);
 }
 
 /// The number of the validation function of the table of a row.
@@ -94,10 +84,7 @@ pub(crate) fn checked(tables: &Tables, row: u8, active: bool) -> u16
 
 /// Asks the table's function about an image of it.
 fn judge<C: Validator>(tables: &Tables, kit: &mut Kit<C>, row: u8, active: bool) -> Judgement
-    requires table { IsSome (table_at tables.now row) }
-    requires validator { ForSome (table_at tables.now row) (λ t. IsSome t.validator) }
-    requires kit { ForSome (table_at tables.now row) (λ t. ForSome t.validator (MayAsk C.asked 1 kit.old)) }
-    requires image { ForSome (table_at tables.now row) (λ t. HasImage t active) }
+    requires { MayBeJudged C.asked tables.now kit.old row active }
     ensures active { result.active ≡ active }
     ensures check { ForSome (table_at tables.now row) (λ t. result.check ≡ check16 (judged_image t active)) }
     ensures asked { ForSome (table_at tables.now row) (λ t. WasAsked C.verdict C.asked kit.old kit.new (questions t (judged_image t active)) (Some result.verdict ∷ None ∷ [])) }
@@ -112,29 +99,6 @@ fn judge<C: Validator>(tables: &Tables, kit: &mut Kit<C>, row: u8, active: bool)
         check,
         verdict,
     }
-}
-
-/// Asks the table's function about an image of it, and concludes the validation.
-fn conclude_judged<C: Validator>(
-    tables: &mut Tables,
-    kit: &mut Kit<C>,
-    pending: &mut Pending,
-    row: u8,
-    active: bool,
-) -> Judgement
-    requires table { IsSome (table_at tables.old row) }
-    requires validator { ForSome (table_at tables.old row) (λ t. IsSome t.validator) }
-    requires kit { ForSome (table_at tables.old row) (λ t. ForSome t.validator (MayAsk C.asked 1 kit.old)) }
-    requires image { ForSome (table_at tables.old row) (λ t. HasImage t active) }
-    ensures active { result.active ≡ active }
-    ensures check { ForSome (table_at tables.old row) (λ t. result.check ≡ check16 (judged_image t active)) }
-    ensures tables { tables.new ≡ marked row active result.verdict tables.old }
-    ensures pending { pending.new ≡ without_pair row active pending.old }
-    ensures asked { ForSome (table_at tables.old row) (λ t. WasAsked C.verdict C.asked kit.old kit.new (questions t (judged_image t active)) (Some result.verdict ∷ None ∷ [])) }
-{
-    let judgement = judge(tables, kit, row, active);
-    conclude(tables, pending, row, active, judgement.verdict);
-    judgement
 }
 
 /// The pending validation of an image of the table of a row is done.
@@ -159,5 +123,7 @@ pub(crate) fn finish<C: Validator>(
     ensures kit { HaveFunctions tables.new kit.new }
     ensures loads { HaveLoads tables.old → HaveLoads tables.new }
 {
-    conclude_judged(tables, kit, pending, row, active)
+    let judgement = judge(tables, kit, row, active);
+    conclude(tables, pending, row, &judgement);
+    judgement
 }

@@ -97,12 +97,13 @@ fn pass(tables: &mut Tables, pending: &mut Pending, row: u8, active: bool) -> Ju
     ensures pending { pending.new ≡ without_pair row active pending.old }
 {
     let check = checked(tables, row, active);
-    conclude(tables, pending, row, active, 0);
-    Judgement {
+    let judgement = Judgement {
         active,
         check,
         verdict: 0,
-    }
+    };
+    conclude(tables, pending, row, &judgement);
+    judgement
 }
 
 /// A validation of the table of a row is asked by the ground (`CFE_TBL_VALIDATE_CC`; cFE User's Guide, Table Services,

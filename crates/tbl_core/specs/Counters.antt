@@ -1,5 +1,5 @@
 -- What the running numbers stand for.
-use Rattle.std.specs.Prelude.{List, ℕ, Option, unwrap_or}
+use Rattle.std.specs.Prelude.{List, [], ℕ, Option, unwrap_or}
 use Rattle.std.specs.Option.{option_map}
 use Rattle.tbl_model.specs.Counts.{latest, validation_of, updated_name, dump_of, Update}
 use Rattle.tbl_model.specs.declared.deeds.Deed.{Deed}
@@ -64,11 +64,14 @@ renewed c clock deeds = record c {
 
 -- no packet was sent, and nothing is the latest
 abbrev pub restarted : Counts → Counts
-restarted c = record no_counts {
-  accepted = c.accepted;
-  refused = c.refused;
-  finished = c.finished;
-  good = c.good;
-  bad = c.bad;
-  requests = c.requests;
+restarted c = record c {
+  events = 0;
+  housekeepings = 0;
+  registries = 0;
+  notices = 0;
+  validation = no_counts.validation;
+  update = no_counts.update;
+  loaded = [];
+  loaded_file = [];
+  dumped_file = [];
 }

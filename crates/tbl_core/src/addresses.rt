@@ -5,6 +5,7 @@ ghost use Rattle.tbl_model.specs.State.{State};
 ghost use Rattle.tbl_model.specs.Effects.{answered};
 ghost use Rattle.tbl_model.specs.Addresses.{get_effect, release_effect, read_effect};
 ghost use Rattle.tbl_kinds.specs.Limits.{table_limit};
+ghost use Rattle.sharing.specs.Registering.{answered_with};
 ghost use Rattle.tbl_core.specs.Effects.{IsEffect, IsQuiet};
 
 use crate::checks::check;
@@ -15,33 +16,23 @@ use tbl_registry::Tables;
 
 /// An application gets the address of a table (`CFE_TBL_GetAddress`): its handle pins the last image.
 #[tactic(auto, unfolding(tbl_model::specs::Addresses::get_effect))]
-pub(crate) fn get(tables: &mut Tables, apps: &Apps, app: u8, handle: u16, empty: Bytes) -> Effect
-    requires { empty.list ≡ [] }
-    ensures effect { (s : State) → s.tables ≡ tables.old → s.apps ≡ apps.now → IsEffect result [] (record s { tables = tables.new }) (get_effect s app handle) }
-    ensures quiet { IsQuiet result }
+pub(crate) fn get(tables: &mut Tables, apps: &Apps, app: u8, handle: u16) -> Answer
+    ensures { (s : State) → s.tables ≡ tables.old → s.apps ≡ apps.now → get_effect s app handle ≡ answered_with s result tables.new }
 {
     match check(tables, apps, app, handle, false) {
-        Ok(_) => Effect::of(tables.get_address(handle), empty),
-        Err(status) => Effect::of(Answer::plain(status), empty),
+        Ok(_) => tables.get_address(handle),
+        Err(status) => Answer::plain(status),
     }
 }
 
 /// An application gives the address of a table back (`CFE_TBL_ReleaseAddress`): the pin ends.
 #[tactic(auto, unfolding(tbl_model::specs::Addresses::release_effect))]
-pub(crate) fn release(
-    tables: &mut Tables,
-    apps: &Apps,
-    app: u8,
-    handle: u16,
-    empty: Bytes,
-) -> Effect
-    requires { empty.list ≡ [] }
-    ensures effect { (s : State) → s.tables ≡ tables.old → s.apps ≡ apps.now → IsEffect result [] (record s { tables = tables.new }) (release_effect s app handle) }
-    ensures quiet { IsQuiet result }
+pub(crate) fn release(tables: &mut Tables, apps: &Apps, app: u8, handle: u16) -> Answer
+    ensures { (s : State) → s.tables ≡ tables.old → s.apps ≡ apps.now → release_effect s app handle ≡ answered_with s result tables.new }
 {
     match check(tables, apps, app, handle, false) {
-        Ok(_) => Effect::of(tables.release(handle), empty),
-        Err(status) => Effect::of(Answer::plain(status), empty),
+        Ok(_) => tables.release(handle),
+        Err(status) => Answer::plain(status),
     }
 }
 

@@ -65,25 +65,6 @@ pub(crate) fn share(
     Effect::of(sharing::share(tables, apps, app, name), empty)
 }
 
-/// An application gives a handle back (`CFE_TBL_Unregister`), and with that of its registration the table.
-pub(crate) fn unregister(
-    tables: &mut Tables,
-    pending: &mut Pending,
-    apps: &Apps,
-    app: u8,
-    handle: u16,
-    empty: Bytes,
-) -> Effect
-    requires { empty.list ≡ [] }
-    ensures effect { (s : State) → s.tables ≡ tables.old → s.pending ≡ pending.old → s.apps ≡ apps.now → IsEffect result [] (record s { tables = tables.new; pending = pending.new }) (unregister_effect s app handle) }
-    ensures quiet { IsQuiet result }
-{
-    Effect::of(
-        sharing::unregister(tables, pending, apps, app, handle),
-        empty,
-    )
-}
-
 /// An application ends (`CFE_ES_ExitApp`): its handles, tables, validation functions and name go.
 pub(crate) fn exit<C: Validator>(
     tables: &mut Tables,

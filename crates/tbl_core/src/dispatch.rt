@@ -13,7 +13,7 @@ ghost use Rattle.tbl_core.specs.Service.{MayPlay, Does, held_of};
 
 use crate::activations::update;
 use crate::addresses::{get, read, release};
-use crate::applications::{exit, register, share, start, unregister};
+use crate::applications::{exit, register, share, start};
 use crate::asked::{Asked, owners_handle};
 use crate::checks::check;
 use crate::commands::command;
@@ -182,17 +182,25 @@ impl<C: Validator> Parts<C> {
             ),
             Request::Share { name } => Ok(share(tables, apps, app, name, empty)),
             Request::Unregister { handle } => {
-                Ok(unregister(tables, pending, apps, app, *handle, empty))
+                let answer = sharing::unregister(tables, pending, apps, app, *handle);
+                Ok(Effect::of(answer, empty))
             }
-            Request::Get { handle } => Ok(get(tables, apps, app, *handle, empty)),
+            Request::Get { handle } => {
+                let answer = get(tables, apps, app, *handle);
+                Ok(Effect::of(answer, empty))
+            }
             Request::Read {
                 handle,
                 offset,
                 len,
             } => read(tables, apps, app, *handle, *offset, *len, empty),
-            Request::Release { handle } => Ok(release(tables, apps, app, *handle, empty)),
+            Request::Release { handle } => {
+                let answer = release(tables, apps, app, *handle);
+                Ok(Effect::of(answer, empty))
+            }
             Request::GetStatus { handle } => {
-                Ok(get_status(tables, pending, apps, app, *handle, empty))
+                let answer = get_status(tables, pending, apps, app, *handle);
+                Ok(Effect::of(answer, empty))
             }
             Request::GetInfo { name } => get_info(tables, apps, app, name, empty),
             Request::Exit => Ok(exit(tables, pending, &mut self.kit, apps, app, empty)),

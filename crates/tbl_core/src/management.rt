@@ -10,6 +10,7 @@ ghost use Rattle.validation.specs.Kits.{FewAsked, owners};
 ghost use Rattle.validation.specs.Asked.{WasAsked};
 ghost use Rattle.validation.specs.Ready.{ArePending, HaveFunctions, HaveLoads};
 ghost use Rattle.table_update.specs.Answers.{verdicts_of};
+ghost use Rattle.tbl_model.specs.Effects.{answered};
 ghost use Rattle.tbl_core.specs.Effects.{IsEffect, IsWithin, IsQuiet, given_of};
 ghost use Rattle.tbl_core.specs.Owned.{noticed_effect};
 ghost use Rattle.tbl_core.specs.Managed.{judged_deeds, managed_deeds};
@@ -190,14 +191,11 @@ pub(crate) fn get_status(
     apps: &Apps,
     app: u8,
     handle: u16,
-    empty: Bytes,
-) -> Effect
-    requires { empty.list ≡ [] }
-    ensures effect { (s : State) → s.tables ≡ tables.now → s.pending ≡ pending.now → s.apps ≡ apps.now → IsEffect result [] s (get_status_effect s app handle) }
-    ensures quiet { IsQuiet result }
+) -> Answer
+    ensures { (s : State) → s.tables ≡ tables.now → s.pending ≡ pending.now → s.apps ≡ apps.now → get_status_effect s app handle ≡ answered s result.status result.detail }
 {
     match check(tables, apps, app, handle, false) {
-        Err(status) => Effect::of(Answer::plain(status), empty),
-        Ok(row) => Effect::of(Answer::plain(status(tables, pending, row)), empty),
+        Err(status) => Answer::plain(status),
+        Ok(row) => Answer::plain(status(tables, pending, row)),
     }
 }

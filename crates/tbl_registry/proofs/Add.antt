@@ -1,13 +1,11 @@
 -- A new table.
-use Rattle.std.proofs.Common.{◌≡◌, ◌≢◌, ◌<◌, ℕ, List, length, position, slice_index_or, slice_set, Bool, true, false, not, ◌&&◌, ◌||◌, IsSome, Option, Some, None, refl, ap, ◌⊎◌, inl, inr, arith}
-use Rattle.std.proofs.lemmas.Bool.{cases_eq}
-use Rattle.std.proofs.lemmas.Bool.Decides.{nat_tests}
+use Rattle.std.proofs.Common.{◌≡◌, ◌≢◌, ◌<◌, ◌+◌, ℕ, List, [], ◌∷◌, length, map, cond, is_some, position, slice_index_or, slice_set, Bool, true, false, not, ◌&&◌, ◌||◌, IsSome, Option, Some, None, refl, ap}
+use Rattle.std.specs.List.{fold}
 use Rattle.std.specs.Option.{option_map}
 use Rattle.std.proofs.lemmas.List.{map-set, get_or-set_same, length-set}
 use Rattle.tbl_kinds.specs.Free.{least_free}
 use Rattle.tbl_model.specs.State.{Table, Handle}
-use Rattle.tbl_model.specs.Tables.{has_option, uses_buffer}
-use Rattle.tbl_model.specs.Refusals.{are_options}
+use Rattle.tbl_model.specs.Tables.{uses_buffer}
 use Rattle.tbl_model.specs.TableSteps.{has_name, new_handle, with_table, with_handle}
 use Rattle.access_desc.specs.declared.handle_view.HandleView.{HandleView}
 use Rattle.access_desc.specs.Steps.{new_handle as new_view}
@@ -21,14 +19,16 @@ use Rattle.tbl_registry.proofs.Named.{named_added}
 use Rattle.tbl_registry.proofs.Pins.{leads_on, handles_stay, tables_with}
 use Rattle.tbl_kinds.proofs.FreeLaws.{least_free-None, least_free-within}
 
--- of the options that can be asked for, dump-only goes with one buffer
-pub one_buffer : (options : ℕ) → are_options options ≡ true → has_option 0x0002 options ≡ true → has_option 0x0001 options ≡ false
-one_buffer options are only = elim (cases_eq options 2) [ inl two ↦ rw two refl | inr other ↦ absurd (either (cases_eq options 0) (cases_eq options 1) other) ]
-  where
-    either : (options ≡ 0) ⊎ (options ≢ 0) → (options ≡ 1) ⊎ (options ≢ 1) → options ≢ 2 → ⊥
-    either (inl is) one other = cc (rw is at only)
-    either (inr _) (inl is) other = cc (rw is at only)
-    either (inr a) (inr b) other = grind (arith, nat_tests)
+-- dump-only goes with one buffer
+pub one_buffer : (only double : Bool) → (only && double) ≡ false → only ≡ true → double ≡ false
+one_buffer true double not_both is = not_both
+one_buffer false double not_both is = absurd (cc is)
+
+-- as many handles are told as are given
+pub as_many_handles : (f : HandleView → Handle) (handles : List (Option HandleView)) (n : ℕ) → fold (λ a x. a + cond (is_some x) 1 0) n (map (option_map f) handles) ≡ fold (λ a x. a + cond (is_some x) 1 0) n handles
+as_many_handles f [] n = refl
+as_many_handles f (None ∷ handles) n = as_many_handles f handles (n + 0)
+as_many_handles f (Some h ∷ handles) n = as_many_handles f handles (n + 1)
 
 -- a table without a load and without a dump uses no buffer
 pub no_buffer : (double : Bool) → (not double && false || false) ≡ false

@@ -10,3 +10,4 @@ pub mod Owners
 pub mod Pins
 pub mod Places
 pub mod Steps
+pub mod Whole

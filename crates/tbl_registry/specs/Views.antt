@@ -1,5 +1,5 @@
 -- What can be seen of a table.
-use Rattle.std.specs.Prelude.{ℕ, List, false, is_some, Option, Some, None}
+use Rattle.std.specs.Prelude.{◌==◌, ℕ, List, Bool, true, false, not, is_some, Option, Some, None}
 use Rattle.std.specs.Option.{option_map_or}
 use Rattle.tbl_model.specs.State.{Load, Table, Dump, quiet, asked, filled}
 use Rattle.tbl_registry.specs.declared.row.RowView.{RowView}
@@ -22,6 +22,11 @@ abbrev pub filled_image : Dump → Option (List ℕ)
 filled_image quiet = None
 filled_image (asked file) = None
 filled_image (filled file image) = Some image
+
+-- it has a last image, or an open load
+abbrev pub has_image : Table → Bool → Bool
+has_image t true = not (t.count == 0)
+has_image t false = is_some t.load
 
 abbrev pub row_view : Table → RowView
 row_view t = record {

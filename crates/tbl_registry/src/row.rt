@@ -1,13 +1,12 @@
-ghost use Rattle.std.specs.Prelude.{◌≡◌, ◌<◌, ◌+◌, ◌-◌, ◌≤◌, ◌^◌, ℕ, List, [], true, false, None, Some, IsSome, IfSome, is_some, length, unwrap_or, bit_and, if◌then◌else◌};
+ghost use Rattle.std.specs.Prelude.{◌≡◌, ◌&&◌, ◌<◌, ◌+◌, ◌-◌, ◌≤◌, ◌^◌, ◌==◌, ℕ, List, [], true, false, not, None, Some, IsSome, IfSome, is_some, length, unwrap_or, bit_and, if◌then◌else◌};
 ghost use Rattle.std.specs.Option.{option_map, option_copied};
 ghost use Rattle.std.specs.Borrow.{Bor};
 ghost use Rattle.std.specs.Str.{bytes_eq};
 ghost use Rattle.tbl_kinds.specs.Limits.{table_limit};
 ghost use Rattle.tbl_kinds.specs.Numbers.{patched};
 ghost use Rattle.tbl_model.specs.State.{Load, quiet, asked};
-ghost use Rattle.tbl_model.specs.Tables.{option_bits, is_double, is_dump_only, is_quiet, uses_buffer};
+ghost use Rattle.tbl_model.specs.Tables.{has_option, option_bits, is_double, is_dump_only, is_quiet, uses_buffer};
 ghost use Rattle.tbl_model.specs.Management.{pending_status};
-ghost use Rattle.tbl_model.specs.Refusals.{are_options};
 ghost use Rattle.tbl_model.specs.TableSteps.{new_table, with_first, unchecked, base, filled_with, last_image};
 
 use bitflags::Flags;
@@ -133,7 +132,7 @@ impl Row {
     pub(crate) fn make(app: u8, handle: u16, plan: NewTable) -> Row
         requires some_bytes { 0 < plan.size }
         requires within { plan.size ≤ table_limit }
-        requires options { are_options (option_bits plan.flags) ≡ true }
+        requires options { (has_option 0x0002 (option_bits plan.flags) && has_option 0x0001 (option_bits plan.flags)) ≡ false }
         requires first { IfSome plan.first (λ image. length image ≡ plan.size) }
         ensures { result ≡ with_first plan.first (new_table plan.name app plan.size (option_bits plan.flags) plan.validator handle) }
     {
@@ -296,6 +295,7 @@ impl Row {
         ensures size { IfSome result (λ image. length image.now ≡ self.now.size) }
         ensures within { self.now.size ≤ table_limit }
         ensures loaded { 0 < self.now.count → IsSome self.now.last }
+        ensures counted { is_some self.now.last ≡ not (self.now.count == 0) }
     {
         let image = if before {
             self.buffers.before()

@@ -1,13 +1,12 @@
-ghost use Rattle.std.specs.Prelude.{◌==◌, ◌≡◌, ◌≢◌, ◌<◌, ◌≤◌, ◌↔◌, ◌+◌, ◌-◌, ◌^◌, ℕ, List, true, None, Some, Ok, Err, IsTrue, IsSome, IfOk, OnOk, OnErr, IfSome, IfNone, length, option_and_then};
+ghost use Rattle.std.specs.Prelude.{◌==◌, ◌&&◌, ◌≡◌, false, ◌≢◌, ◌<◌, ◌≤◌, ◌↔◌, ◌+◌, ◌-◌, ◌^◌, ℕ, List, true, None, Some, Ok, Err, IsTrue, IsSome, IfOk, OnOk, OnErr, IfSome, IfNone, length, option_and_then, is_some, not};
 ghost use Rattle.std.specs.Option.{option_copied, option_map, ForSome};
 ghost use Rattle.std.specs.Borrow.{Bor};
 ghost use Rattle.tbl_kinds.specs.Free.{least_free};
 ghost use Rattle.tbl_kinds.specs.Limits.{table_limit};
 ghost use Rattle.tbl_model.specs.State.{no_tables, Load, Table};
-ghost use Rattle.tbl_model.specs.Tables.{table_count, handle_count, load_count, in_use, option_bits, table_at};
+ghost use Rattle.tbl_model.specs.Tables.{table_count, handle_count, load_count, in_use, has_option, option_bits, table_at};
 ghost use Rattle.tbl_model.specs.TableSteps.{find, new_table, with_first, new_handle, with_table, with_handle};
 ghost use Rattle.tbl_model.specs.Registry.{registry_row};
-ghost use Rattle.tbl_model.specs.Refusals.{are_options};
 ghost use Rattle.tbl_model.specs.Validations.{selected};
 ghost use Rattle.tbl_registry.specs.Rows.{IsTable};
 ghost use Rattle.tbl_registry.specs.Seen.{padded};
@@ -27,6 +26,7 @@ mod dumps;
 mod ends;
 mod handles;
 mod images;
+mod making;
 
 /// Why a table isn't registered. Nothing was changed.
 #[derive(Clone, Copy, Debug, PartialEq, Eq, Drop, thiserror::Error)]
@@ -113,12 +113,12 @@ impl Tables {
         loads_in(&self.rows)
     }
 
-    /// Registers a table in the least free row, and gives its owner the least free handle on it.
+    /// Registers a table in the least free row, and gives its owner the least free handle on it. A dump-only table has one buffer.
     pub fn add(&mut self, app: u8, plan: NewTable) -> Result<u16, AddFault>
         requires new { find plan.name self.old ≡ None }
         requires some_bytes { 0 < plan.size }
         requires within { plan.size ≤ table_limit }
-        requires options { are_options (option_bits plan.flags) ≡ true }
+        requires options { (has_option 0x0002 (option_bits plan.flags) && has_option 0x0001 (option_bits plan.flags)) ≡ false }
         requires first { IfSome plan.first (λ image. length image ≡ plan.size) }
         ensures row_free { OnOk result (IsSome (least_free self.old.rows)) }
         ensures handle_free { IfOk result (λ handle. least_free self.old.handles ≡ Some handle) }
@@ -189,6 +189,7 @@ impl Tables {
         ensures size { IfSome result (λ image. ForSome (table_at self.now row) (λ t. length image.now ≡ t.size)) }
         ensures within { IfSome result (λ image. length image.now ≤ table_limit) }
         ensures none { IfNone result (ForSome (table_at self.now row) (λ t. t.count ≡ 0)) }
+        ensures there { ForSome (table_at self.now row) (λ t. is_some result ≡ not (t.count == 0)) }
     {
         table_in(&self.rows, row)?.image(false)
     }

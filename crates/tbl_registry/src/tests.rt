@@ -3,6 +3,7 @@ ghost use Rattle.std.specs.Prelude.{◌≤◌, length};
 use super::{AddFault, Dump, NewTable, Tables};
 use bitflags::Flags;
 use buffer_pairs::Image;
+use std::alloc::Global;
 use std::test::Fail;
 use tbl_kinds::{Name, Name64, Options, Status};
 use tbl_model::Notice;
@@ -37,8 +38,10 @@ fn begin(
         validator: None,
         first,
     };
-    let options = flags == 0 || flags == 1 || flags == 2;
-    if !fits || !options || size == 0 || size > 16_384 || tables.find(plan.name.bytes()).is_some() {
+    if plan.flags.contains(Options::DUMP_ONLY) && plan.flags.contains(Options::DOUBLE) {
+        return Err(AddFault::Memory);
+    }
+    if !fits || size == 0 || size > 16_384 || tables.find(plan.name.bytes()).is_some() {
         return Err(AddFault::Memory);
     }
     tables.add(1, plan)
@@ -139,6 +142,14 @@ fn change(tables: &mut Tables, row: u8, byte: u8) -> bool {
     }
 }
 
+/// The image for the table of two bytes in row 0, with this byte over the second one.
+fn with_byte(alloc: Global, tables: &Tables, byte: u8) -> Result<Image, Fail> {
+    match tables.row(0) {
+        Some(view) if view.size == 2 => Ok(tables.patched(alloc, 0, 1, &[byte])?),
+        _ => Err("table")?,
+    }
+}
+
 #[test]
 fn a_load_takes_a_buffer(rt: HostRuntime) -> Result<(), Fail> {
     let mut tables = Tables::make(rt.alloc())?;
@@ -146,6 +157,9 @@ fn a_load_takes_a_buffer(rt: HostRuntime) -> Result<(), Fail> {
     assert!(rt; open(&mut tables, 0, Image::of(rt.alloc(), &[1, 2])?));
     assert!(rt; change(&mut tables, 0, 7));
     assert_eq!(rt; tables.load(0).ok_or("load")?, [7, 2].as_slice());
+    assert_eq!(rt; tables.image(0, false).ok_or("image")?, [7, 2].as_slice());
+    let next = with_byte(rt.alloc(), &tables, 9)?;
+    assert_eq!(rt; next.bytes(), [7, 9].as_slice());
     assert_eq!(rt;
         (tables.load_count(), tables.in_use()),
         (1, [Some(0), None, None, None])

@@ -62,6 +62,10 @@ pub record ReadAt (bytes : List ℕ) (head : EntryHead) : Type 0 where
   pub bytes_len_is : head.bytes_len ≡ four_at 13 bytes
   pub packets_len_is : head.packets_len ≡ four_at (17 + head.bytes_len) bytes
 
+pub read_at : {bytes : List ℕ} {head : EntryHead} → head.place ≡ four_at 0 bytes → head.actor ≡ byte_at 4 bytes → head.status ≡ four_at 5 bytes → head.detail ≡ four_at 9 bytes
+    → head.bytes_len ≡ four_at 13 bytes → head.packets_len ≡ four_at (17 + head.bytes_len) bytes → ReadAt bytes head
+read_at p a s d n m = record { place_is = p; actor_is = a; status_is = s; detail_is = d; bytes_len_is = n; packets_len_is = m }
+
 head_from : ℕ → ℕ → ℕ → ℕ → ℕ → ℕ → EntryHead
 head_from p a s d n m = record { place = p; actor = a; status = s; detail = d; bytes_len = n; packets_len = m }
 

@@ -1,10 +1,10 @@
-use Rattle.std.proofs.Common.{◌∙◌, sym, length}
+use Rattle.std.proofs.Common.{sym, length}
 use Rattle.tbl_model.proofs.RefusalLaws.{edit_taken}
 use Rattle.dump_control.proofs.Keeping.{pending_stay, loads_stay, put_leaves, put_is}
 use Rattle.dump_control.proofs.editing.edit.Goals as goal
 
-pub edited-requires-clause-within : goal.edited-requires-clause-within
-edited-requires-clause-within c = λ t there. (edit_taken c.args.tables.now c.args.row t c.args.offset (length c.args.bytes.now) (sym (c.in_default.ensures.refusal t there))).1
+pub patched-requires-clause-within : goal.patched-requires-clause-within
+patched-requires-clause-within c = λ t there. (edit_taken c.args.tables.now c.args.row t c.args.offset (length c.args.bytes.now) (sym (c.in_default.ensures.refusal t there))).1
 
 pub put-requires-clause-unlocked : goal.put-requires-clause-unlocked
 put-requires-clause-unlocked c = λ t there. (edit_taken c.args.tables.now c.args.row t c.args.offset (length c.args.bytes.now) (sym (c.in_default.ensures.refusal t there))).2

@@ -1,4 +1,3 @@
-use Rattle.std.proofs.Common.{◌≡◌, ◌∙◌, refl, ap, length, arith}
 use Rattle.std.proofs.lemmas.List.{append_assoc}
 use Rattle.tbl_model.specs.Dumps.{registry_file}
 use Rattle.dump_control.proofs.files.registry_file.Goals as goal

@@ -1,4 +1,4 @@
-use Rattle.std.proofs.Common.{◌≡◌, ◌<◌, ◌∙◌, ap, sym, length, ℕ, List, ◌++◌, arith}
+use Rattle.std.proofs.Common.{◌<◌, ◌∙◌, ap, sym, length, ℕ, List, ◌++◌, arith}
 use Rattle.std.proofs.lemmas.List.{append_assoc}
 use Rattle.dump_control.proofs.Records.{records_left, tables_left}
 use Rattle.dump_control.proofs.files.write_records.Goals as goal

@@ -8,8 +8,8 @@ use Rattle.partial_load.proofs.Filling.{file_taken}
 use Rattle.partial_load.proofs.Admission.{function_asks, admitted}
 use Rattle.partial_load.proofs.images.load_part.Goals as goal
 
-pub new_image-requires-clause-part : goal.new_image-requires-clause-part
-new_image-requires-clause-part g c = λ t there. (file_taken c.args.tables.now c.args.row t (with_image c.args.parsed.now c.args.image.now) (sym (c.in_default.ensures c.args.image.now c.requires.count t there))).part
+pub patched-requires-clause-within : goal.patched-requires-clause-within
+patched-requires-clause-within g c = λ t there. (file_taken c.args.tables.now c.args.row t (with_image c.args.parsed.now c.args.image.now) (sym (c.in_default.ensures c.args.image.now c.requires.count t there))).within
 
 pub admit-requires-clause-unlocked : goal.admit-requires-clause-unlocked
 admit-requires-clause-unlocked g c = λ t there. (file_taken c.args.tables.now c.args.row t (with_image c.args.parsed.now c.args.image.now) (sym (c.in_default.ensures c.args.image.now c.requires.count t there))).unlocked

@@ -5,7 +5,7 @@ use Rattle.table_update.proofs.judging.judge.Goals as goal
 pub judge-requires : goal.judge-requires
 judge-requires g c =
     let t = some_is (table_at c.args.tables.now c.args.row) c.requires.table in
-    rw (c.function-number.ensures t.0 t.1) (c.requires.kit t.0 t.1)
+    rw (c.function-number.ensures t.0 t.1) (c.requires.may t.0 t.1)
 
 pub unreachable-requires : goal.unreachable-requires
 unreachable-requires g c =

@@ -1,6 +1,6 @@
 use Rattle.std.proofs.Common.{◌≡◌, ℕ, ◌+◌, length, refl, ap, ◌∙◌, arith}
 use Rattle.tbl_kinds.specs.Numbers.{four_at}
-use Rattle.transcript.proofs.Fields.{tells, entry_again, entry_found}
+use Rattle.transcript.proofs.Fields.{tells, read_at, entry_again, entry_found}
 use Rattle.transcript.proofs.reading.read_entry.Goals as goal
 
 pub returns-then-bytes-lt17-clause-only : goal.returns-then-bytes-lt17-clause-only
@@ -31,24 +31,10 @@ returns-then-actor-gt16-clause-only c = λ f more is e. let t = tells c.args.byt
 pub returns-clause-found : goal.returns-clause-found
 returns-clause-found c =
     entry_found c.args.bytes.now _ (λ i. omega (arith, c.type_inv.bytes i))
-    (record {
-      place_is = c.u32_at-place.ensures;
-      actor_is = refl;
-      status_is = c.u32_at.ensures;
-      detail_is = c.u32_at-2.ensures;
-      bytes_len_is = c.u32_at-bytes_len.ensures;
-      packets_len_is = c.u32_at-packets_len.ensures;
-    })
+    (read_at c.u32_at-place.ensures refl c.u32_at.ensures c.u32_at-2.ensures c.u32_at-bytes_len.ensures c.u32_at-packets_len.ensures)
     (omega arith) (omega arith) (omega arith)
 
 pub returns-clause-only : goal.returns-clause-only
 returns-clause-only c = λ f more is e.
     entry_again c.args.bytes.now f more _ (tells c.args.bytes.now f more is e)
-    (record {
-      place_is = c.u32_at-place.ensures;
-      actor_is = refl;
-      status_is = c.u32_at.ensures;
-      detail_is = c.u32_at-2.ensures;
-      bytes_len_is = c.u32_at-bytes_len.ensures;
-      packets_len_is = c.u32_at-packets_len.ensures;
-    })
+    (read_at c.u32_at-place.ensures refl c.u32_at.ensures c.u32_at-2.ensures c.u32_at-bytes_len.ensures c.u32_at-packets_len.ensures)

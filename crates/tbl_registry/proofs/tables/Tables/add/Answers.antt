@@ -1,8 +1,8 @@
-use Rattle.std.proofs.Common.{◌≡◌, ◌∙◌, sym, Some}
+use Rattle.std.proofs.Common.{◌≡◌, ◌∙◌, sym, count_by, is_some, Some, rules}
 use Rattle.std.proofs.lemmas.Option.{same_Some}
 use Rattle.tbl_kinds.specs.Free.{least_free}
 use Rattle.tbl_kinds.proofs.FreeLaws.{least_free-map}
-use Rattle.tbl_registry.proofs.Add.{no_buffer, add_sound, add_seen}
+use Rattle.tbl_registry.proofs.Add.{as_many_handles, no_buffer, add_sound, add_seen}
 use Rattle.tbl_registry.proofs.tables.Tables.add.Goals as goal
 
 pub returns-in_default-add-clause-no_handle : goal.returns-in_default-add-clause-no_handle
@@ -23,3 +23,8 @@ returns-clause-added c = λ row is.
     let same : c.in-Some.row ≡ row = same_Some _ _ (sym free ∙ rw (← c.self.view_is) at is) in
     rw (← same, ← c.self.view_is, c.in-Some-add.ensures.added, c.make.ensures)
     (add_seen c.self.inside.rows.items c.self.inside.handles c.self.inside.working c.in-Some.row c.in-Some-add.handle c.args.app _ c.self.invariant free)
+
+pub returns-in_default-add-clause-handles_full : goal.returns-in_default-add-clause-handles_full
+returns-in_default-add-clause-handles_full c = λ _.
+    let full : count_by is_some c.self.inside.handles ≡ 256 = search rules in
+    rw (← c.self.view_is) (as_many_handles _ c.self.inside.handles 0 ∙ full)
