@@ -48,6 +48,12 @@ fn text_of_request(alloc: Global, request: &Request) -> Result<String, AllocErro
             len,
         } => format!(in alloc; "Read {handle} {offset} {len}"),
         Request::GetInfo { name } => format!(in alloc; "GetInfo {}", text_of(name.bytes())),
+        Request::CdsRegister { name, size } => {
+            format!(in alloc; "CdsRegister {} {size}", text_of(name.bytes()))
+        }
+        Request::CdsCopy { slot, image } => {
+            format!(in alloc; "CdsCopy {slot} {}", digits(alloc, image)?)
+        }
         request => format!(in alloc; "{request:?}"),
     }
 }

@@ -8,7 +8,7 @@ use Rattle.std.proofs.lemmas.Nat.{be_bytes_2}
 use Rattle.std.proofs.Math.Seq.{take-append-add}
 use Rattle.tbl_kinds.specs.Numbers.{two, byte_at}
 use Rattle.tbl_kinds.specs.Requests.{IsFromGround, HasNoValidator255, Fits}
-use Rattle.tbl_kinds.specs.Records.{Pair, IsBuilt, IsRecord, kind_of, actor_number, body_of, spelling}
+use Rattle.tbl_kinds.specs.Records.{Pair, IsRecord, kind_of, actor_number, body_of, spelling}
 use Rattle.tbl_kinds.specs.Heads.{is_good_head, stated_len}
 use Rattle.tbl_kinds.proofs.RecordLaws.{or_true, good_within}
 use Rattle.tbl_kinds.specs.declared.request.Actor.{Actor}
@@ -31,7 +31,7 @@ app_may : (number len least most : ℕ) (request : Request) → ¬ IsFromGround 
     → ((nat_le 1 number && nat_le number 16 && nat_le least len && nat_le len most) || false) ≡ true → Fits (actor_at number) request
 app_may number len least most request other none e = app_fits number request (grind (arith, nat_tests)) (grind (arith, nat_tests)) other none
 
--- ---- kinds with a handle alone
+-- ---- kinds with a handle or a slot alone
 
 -- what holds of each number of a list holds of one that is there
 of_each : (P : ℕ → Type 0) (number : ℕ) (list : List ℕ) → AllByRecursion P list → list_any (λ other. number == other) list ≡ true → P number
@@ -50,7 +50,7 @@ two_alone number len good = grind (arith, nat_tests)
 
 each_two : AllByRecursion HasTwoBytes handle_kinds
 unfolding is_good_head HasTwoBytes
-each_two = (two_alone, (two_alone, (two_alone, (two_alone, (two_alone, (two_alone, (two_alone, (two_alone, tt))))))))
+each_two = (two_alone, (two_alone, (two_alone, (two_alone, (two_alone, (two_alone, (two_alone, (two_alone, (two_alone, (two_alone, tt))))))))))
 
 pub handle_len : (kind number len : ℕ) → IsTrue (is_handle_kind kind) → is_good_head kind number len ≡ true → len ≡ 2
 unfolding HasTwoBytes
@@ -59,30 +59,34 @@ handle_len kind number len e good = of_each HasTwoBytes kind handle_kinds each_t
 -- ---- records
 
 -- a good head's sender may make the request of its kind
-sender_fits : (number len : ℕ) (request : Request) → IsBuilt request → HasNoValidator255 request → is_good_head (kind_of request) number len ≡ true → Fits (actor_at number) request
+sender_fits : (number len : ℕ) (request : Request) → HasNoValidator255 request → is_good_head (kind_of request) number len ≡ true → Fits (actor_at number) request
 unfolding is_good_head
-sender_fits number len (ask.Command bytes) built none good = let ground : number ≡ 0 = grind (arith, nat_tests) in rw ground tt
-sender_fits number len (ask.File name bytes) built none good = let ground : number ≡ 0 = grind (arith, nat_tests) in rw ground tt
-sender_fits number len (ask.Time seconds sub) built none good = let ground : number ≡ 0 = grind (arith, nat_tests) in rw ground tt
-sender_fits number len (ask.Start name) built none good = app_may number len 20 20 (ask.Start name) (λ no. no) none good
-sender_fits number len (ask.Register name size flags validator) built none good = app_may number len 23 23 (ask.Register name size flags validator) (λ no. no) none good
-sender_fits number len (ask.Share name) built none good = app_may number len 40 40 (ask.Share name) (λ no. no) none good
-sender_fits number len (ask.Unregister handle) built none good = app_may number len 2 2 (ask.Unregister handle) (λ no. no) none good
-sender_fits number len (ask.LoadImage handle image) built none good = app_may number len 2 32832 (ask.LoadImage handle image) (λ no. no) none good
-sender_fits number len (ask.LoadFile handle name) built none good = app_may number len 66 66 (ask.LoadFile handle name) (λ no. no) none good
-sender_fits number len (ask.Update handle) built none good = app_may number len 2 2 (ask.Update handle) (λ no. no) none good
-sender_fits number len (ask.Validate handle) built none good = app_may number len 2 2 (ask.Validate handle) (λ no. no) none good
-sender_fits number len (ask.Manage handle) built none good = app_may number len 2 2 (ask.Manage handle) (λ no. no) none good
-sender_fits number len (ask.DumpToBuffer handle) built none good = app_may number len 2 2 (ask.DumpToBuffer handle) (λ no. no) none good
-sender_fits number len (ask.Edit handle offset bytes) built none good = app_may number len 6 32832 (ask.Edit handle offset bytes) (λ no. no) none good
-sender_fits number len (ask.Get handle) built none good = app_may number len 2 2 (ask.Get handle) (λ no. no) none good
-sender_fits number len (ask.Read handle offset count) built none good = app_may number len 10 10 (ask.Read handle offset count) (λ no. no) none good
-sender_fits number len (ask.Release handle) built none good = app_may number len 2 2 (ask.Release handle) (λ no. no) none good
-sender_fits number len (ask.GetStatus handle) built none good = app_may number len 2 2 (ask.GetStatus handle) (λ no. no) none good
-sender_fits number len (ask.GetInfo name) built none good = app_may number len 40 40 (ask.GetInfo name) (λ no. no) none good
-sender_fits number len (ask.Notify handle msg code parameter) built none good = app_may number len 10 10 (ask.Notify handle msg code parameter) (λ no. no) none good
-sender_fits number len ask.Exit built none good = app_may number len 0 0 ask.Exit (λ no. no) none good
-sender_fits number len request built none good = absurd built
+sender_fits number len (ask.Command bytes) none good = let ground : number ≡ 0 = grind (arith, nat_tests) in rw ground tt
+sender_fits number len (ask.File name bytes) none good = let ground : number ≡ 0 = grind (arith, nat_tests) in rw ground tt
+sender_fits number len (ask.Time seconds sub) none good = let ground : number ≡ 0 = grind (arith, nat_tests) in rw ground tt
+sender_fits number len (ask.Reset kind) none good = let ground : number ≡ 0 = grind (arith, nat_tests) in rw ground tt
+sender_fits number len (ask.Start name) none good = app_may number len 20 20 (ask.Start name) (λ no. no) none good
+sender_fits number len (ask.Register name size flags validator) none good = app_may number len 23 23 (ask.Register name size flags validator) (λ no. no) none good
+sender_fits number len (ask.Share name) none good = app_may number len 40 40 (ask.Share name) (λ no. no) none good
+sender_fits number len (ask.Unregister handle) none good = app_may number len 2 2 (ask.Unregister handle) (λ no. no) none good
+sender_fits number len (ask.LoadImage handle image) none good = app_may number len 2 32832 (ask.LoadImage handle image) (λ no. no) none good
+sender_fits number len (ask.LoadFile handle name) none good = app_may number len 66 66 (ask.LoadFile handle name) (λ no. no) none good
+sender_fits number len (ask.Update handle) none good = app_may number len 2 2 (ask.Update handle) (λ no. no) none good
+sender_fits number len (ask.Validate handle) none good = app_may number len 2 2 (ask.Validate handle) (λ no. no) none good
+sender_fits number len (ask.Manage handle) none good = app_may number len 2 2 (ask.Manage handle) (λ no. no) none good
+sender_fits number len (ask.DumpToBuffer handle) none good = app_may number len 2 2 (ask.DumpToBuffer handle) (λ no. no) none good
+sender_fits number len (ask.Edit handle offset bytes) none good = app_may number len 6 32832 (ask.Edit handle offset bytes) (λ no. no) none good
+sender_fits number len (ask.Get handle) none good = app_may number len 2 2 (ask.Get handle) (λ no. no) none good
+sender_fits number len (ask.Read handle offset count) none good = app_may number len 10 10 (ask.Read handle offset count) (λ no. no) none good
+sender_fits number len (ask.Release handle) none good = app_may number len 2 2 (ask.Release handle) (λ no. no) none good
+sender_fits number len (ask.GetStatus handle) none good = app_may number len 2 2 (ask.GetStatus handle) (λ no. no) none good
+sender_fits number len (ask.GetInfo name) none good = app_may number len 40 40 (ask.GetInfo name) (λ no. no) none good
+sender_fits number len (ask.Notify handle msg code parameter) none good = app_may number len 10 10 (ask.Notify handle msg code parameter) (λ no. no) none good
+sender_fits number len ask.Exit none good = app_may number len 0 0 ask.Exit (λ no. no) none good
+sender_fits number len (ask.CdsRegister name size) none good = app_may number len 20 20 (ask.CdsRegister name size) (λ no. no) none good
+sender_fits number len (ask.CdsCopy slot image) none good = app_may number len 2 32832 (ask.CdsCopy slot image) (λ no. no) none good
+sender_fits number len (ask.CdsRestore slot) none good = app_may number len 2 2 (ask.CdsRestore slot) (λ no. no) none good
+sender_fits number len (ask.CdsDelete slot) none good = app_may number len 2 2 (ask.CdsDelete slot) (λ no. no) none good
 
 -- a request that a good head and its body spell makes a record with the head's sender
 pub is_record : (kind number : ℕ) (body : List ℕ) (actor : Actor) (request : Request) → is_good_head kind number (length body) ≡ true → actor ≡ actor_at number → IsSpelledBy kind body request
@@ -90,8 +94,7 @@ pub is_record : (kind number : ℕ) (body : List ℕ) (actor : Actor) (request :
 is_record kind number body actor request good actor-is s =
     let head : is_good_head (kind_of request) number (length body) ≡ true = rw s.kind_is good in
     record {
-      built = s.built;
-      fits = rw actor-is (sender_fits number (length body) request s.built s.no_validator_255 head);
+      fits = rw actor-is (sender_fits number (length body) request s.no_validator_255 head);
       sized = s.sized;
       within = omega (arith, good_within kind number (length body) good, ap length s.body_is);
     }

@@ -2,7 +2,7 @@
 use Rattle.std.specs.Prelude.{◌≡◌, ℕ, ◌==◌, List, [], ◌∷◌, Bool, if◌then◌else◌}
 use Rattle.std.specs.List.{list_any}
 use Rattle.tbl_kinds.specs.Requests.{HasNoValidator255}
-use Rattle.tbl_kinds.specs.Records.{Pair, IsBuilt, IsSized, kind_of, body_of}
+use Rattle.tbl_kinds.specs.Records.{Pair, IsSized, kind_of, body_of}
 use Rattle.tbl_kinds.specs.declared.request.Actor.{Actor}
 use Rattle.tbl_kinds.specs.declared.request.Actor.TheVariants.{Ground, App}
 use Rattle.tbl_kinds.specs.declared.request.Request.{Request}
@@ -13,9 +13,9 @@ use Rattle.session_records.specs.declared.reading.Next.TheVariants.{Item}
 abbrev pub actor_at : ℕ → Actor
 actor_at number = if number == 0 then Ground else App number
 
--- the kinds whose body is a handle alone
+-- the kinds whose body is a handle or a slot alone
 abbrev pub handle_kinds : List ℕ
-handle_kinds = 0x13 ∷ 0x16 ∷ 0x17 ∷ 0x18 ∷ 0x19 ∷ 0x1B ∷ 0x1D ∷ 0x1E ∷ []
+handle_kinds = 0x13 ∷ 0x16 ∷ 0x17 ∷ 0x18 ∷ 0x19 ∷ 0x1B ∷ 0x1D ∷ 0x1E ∷ 0x32 ∷ 0x33 ∷ []
 
 abbrev pub is_handle_kind : ℕ → Bool
 is_handle_kind number = list_any (λ kind. number == kind) handle_kinds
@@ -27,7 +27,6 @@ IfItem _ P = Unit {0}
 
 -- the request's record has this kind and this body
 pub record IsSpelledBy (kind : ℕ) (body : List ℕ) (request : Request) : Type 0 where
-  pub built : IsBuilt request
   pub sized : IsSized request
   pub no_validator_255 : HasNoValidator255 request
   pub kind_is : kind_of request ≡ kind

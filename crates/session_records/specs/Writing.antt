@@ -2,7 +2,7 @@
 use Rattle.tbl_kinds.specs.declared.request.Request.{Request}
 use Rattle.tbl_kinds.specs.declared.request.Request.TheVariants as ask
 
--- the requests whose body begins with a handle
+-- the requests whose body begins with a handle, or with the slot of a block
 abbrev pub BeginsWithHandle : Request → Type 0
 BeginsWithHandle (ask.Unregister handle) = Unit {0}
 BeginsWithHandle (ask.LoadImage handle image) = Unit {0}
@@ -17,4 +17,7 @@ BeginsWithHandle (ask.Read handle offset len) = Unit {0}
 BeginsWithHandle (ask.Release handle) = Unit {0}
 BeginsWithHandle (ask.GetStatus handle) = Unit {0}
 BeginsWithHandle (ask.Notify handle msg code parameter) = Unit {0}
+BeginsWithHandle (ask.CdsCopy slot image) = Unit {0}
+BeginsWithHandle (ask.CdsRestore slot) = Unit {0}
+BeginsWithHandle (ask.CdsDelete slot) = Unit {0}
 BeginsWithHandle _ = ⊥

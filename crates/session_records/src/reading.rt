@@ -1,13 +1,13 @@
 ghost use Rattle.std.specs.Prelude.{◌≡◌, ◌↔◌, ◌≤◌, [], length, take, IfOk, OnErr, IfSome, IsTrue, is_some, Ok};
 ghost use Rattle.tbl_kinds.specs.Numbers.{two};
 ghost use Rattle.tbl_kinds.specs.Records.{IsRecord, spelling};
-ghost use Rattle.tbl_kinds.specs.Heads.{IsShort, IsBad, is_name_field, has_name, has_name_last, is_good_head, is_right_body};
+ghost use Rattle.tbl_kinds.specs.Heads.{IsShort, IsBad, is_name_field, has_name, has_name_last, is_reset_body, is_good_head, is_right_body};
 ghost use Rattle.session_records.specs.Reading.{IfItem, IsSpelledBy, is_handle_kind};
 
 use crate::fields::{read_four, read_two, read_validator};
 use crate::head::{HEAD_LEN, Head, actor_of};
 use std::alloc::Global;
-use tbl_kinds::{Actor, Bytes, Memory, Name, Request};
+use tbl_kinds::{Actor, Bytes, Memory, Name, Request, ResetKind};
 
 /// What stands at the front of an input.
 #[derive(Debug, Drop)]
@@ -62,6 +62,19 @@ fn time(body: &[u8]) -> Request
     let (seconds, rest) = read_four(body);
     let (sub, _) = read_two(rest);
     Request::Time { seconds, sub }
+}
+
+fn reset(body: &[u8]) -> Option<Request>
+    requires { length body.now ≡ 1 }
+    ensures right { is_some result ≡ is_reset_body body.now }
+    ensures spelled { IfSome result (λ request. IsSpelledBy 0x04 body.now request) }
+{
+    let kind = match body[0] {
+        1 => ResetKind::Processor,
+        2 => ResetKind::PowerOn,
+        _ => return None,
+    };
+    Some(Request::Reset { kind })
 }
 
 fn start(body: &[u8]) -> Option<Request>
@@ -172,7 +185,27 @@ fn notify(body: &[u8]) -> Request
     }
 }
 
-/// The handle that a body of two bytes is.
+fn cds_register(body: &[u8]) -> Option<Request>
+    requires { length body.now ≡ 20 }
+    ensures right { is_some result ≡ has_name 0 16 body.now }
+    ensures spelled { IfSome result (λ request. IsSpelledBy 0x30 body.now request) }
+{
+    let (field, rest) = body.split_at(16);
+    let name = Name::<16>::exact(field)?;
+    let (size, _) = read_four(rest);
+    Some(Request::CdsRegister { name, size })
+}
+
+fn cds_copy(alloc: Global, body: &[u8]) -> Result<Request, Memory>
+    requires { 2 ≤ length body.now }
+    ensures { IfOk result (λ request. IsSpelledBy 0x31 body.now request) }
+{
+    let (slot, rest) = read_two(body);
+    let image = copy_of(alloc, rest)?;
+    Ok(Request::CdsCopy { slot, image })
+}
+
+/// The handle or the slot that a body of two bytes is.
 fn handle_in(body: &[u8]) -> u16
     requires { length body.now ≡ 2 }
     ensures { body.now ≡ two result }
@@ -181,7 +214,7 @@ fn handle_in(body: &[u8]) -> u16
     handle
 }
 
-/// The request of a kind whose body is a handle alone.
+/// The request of a kind whose body is a handle alone, or the slot of a block.
 #[tactic(auto, using(crate::proofs::Spelled::handle_len))]
 fn handle_request(head: Head, body: &[u8]) -> Request
     requires kind { IsTrue (is_handle_kind head.kind) }
@@ -198,6 +231,8 @@ fn handle_request(head: Head, body: &[u8]) -> Request
         0x1B => Request::Get { handle },
         0x1D => Request::Release { handle },
         0x1E => Request::GetStatus { handle },
+        0x32 => Request::CdsRestore { slot: handle },
+        0x33 => Request::CdsDelete { slot: handle },
         _ => unreachable!(),
     }
 }
@@ -214,10 +249,11 @@ fn request_of(alloc: Global, head: Head, body: &[u8]) -> Result<Option<Request>,
         0x01 => Ok(Some(command(alloc, body)?)),
         0x02 => file(alloc, body),
         0x03 => Ok(Some(time(body))),
+        0x04 => Ok(reset(body)),
         0x10 => Ok(start(body)),
         0x11 => Ok(register(body)),
         0x12 => Ok(share(body)),
-        0x13 | 0x16 | 0x17 | 0x18 | 0x19 | 0x1B | 0x1D | 0x1E => {
+        0x13 | 0x16 | 0x17 | 0x18 | 0x19 | 0x1B | 0x1D | 0x1E | 0x32 | 0x33 => {
             Ok(Some(handle_request(head, body)))
         }
         0x14 => Ok(Some(load_image(alloc, body)?)),
@@ -227,6 +263,8 @@ fn request_of(alloc: Global, head: Head, body: &[u8]) -> Result<Option<Request>,
         0x1F => Ok(get_info(body)),
         0x20 => Ok(Some(notify(body))),
         0x21 => Ok(Some(Request::Exit)),
+        0x30 => Ok(cds_register(body)),
+        0x31 => Ok(Some(cds_copy(alloc, body)?)),
         _ => Ok(None),
     }
 }

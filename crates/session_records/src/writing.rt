@@ -2,22 +2,22 @@ ghost use Rattle.std.specs.Prelude.{◌≡◌, ◌+◌, ◌≤◌, ◌++◌, len
 ghost use Rattle.tbl_kinds.specs.Names.{name_field};
 ghost use Rattle.tbl_kinds.specs.Requests.{Fits};
 ghost use Rattle.tbl_kinds.specs.Records as records;
-ghost use Rattle.tbl_kinds.specs.Records.{IsBuilt, IsSized, IsRecord, body_of, body_limit, spelling};
+ghost use Rattle.tbl_kinds.specs.Records.{IsSized, IsRecord, body_of, body_limit, spelling};
 ghost use Rattle.tbl_kinds.specs.declared.request.Request.TheVariants as ask;
 ghost use Rattle.session_records.specs.Writing.{BeginsWithHandle};
 
 use crate::fields::{append_four, append_two, append_validator};
 use crate::head::HEAD_LEN;
-use tbl_kinds::{Actor, Bytes, Memory, Name16, Name64, Request};
+use tbl_kinds::{Actor, Bytes, Memory, Name16, Name64, Request, ResetKind};
 
 fn kind_of(request: &Request) -> u8
-    requires { IsBuilt request.now }
     ensures { result ≡ records.kind_of request.now }
 {
     match request {
         Request::Command { .. } => 0x01,
         Request::File { .. } => 0x02,
         Request::Time { .. } => 0x03,
+        Request::Reset { .. } => 0x04,
         Request::Start { .. } => 0x10,
         Request::Register { .. } => 0x11,
         Request::Share { .. } => 0x12,
@@ -36,28 +36,34 @@ fn kind_of(request: &Request) -> u8
         Request::GetInfo { .. } => 0x1F,
         Request::Notify { .. } => 0x20,
         Request::Exit => 0x21,
-        _ => unreachable!(),
+        Request::CdsRegister { .. } => 0x30,
+        Request::CdsCopy { .. } => 0x31,
+        Request::CdsRestore { .. } => 0x32,
+        Request::CdsDelete { .. } => 0x33,
     }
 }
 
 /// How many bytes the body of the request's record has. The record can be written where they are at most
 /// [`BODY_LIMIT`](crate::BODY_LIMIT).
 pub fn body_len(request: &Request) -> usize
-    requires { IsBuilt request.now }
     ensures { result ≡ length (body_of request.now) }
 {
     match request {
         Request::Command { bytes } => bytes.bytes().len(),
         Request::File { name, bytes } => name.field_len() + bytes.bytes().len(),
         Request::Time { .. } => 6,
+        Request::Reset { .. } => 1,
         Request::Start { name } => name.field_len(),
         Request::Register { name, .. } => name.field_len() + 7,
         Request::Share { name } | Request::GetInfo { name } => name.field_len(),
-        Request::LoadImage { image, .. } => 2 + image.bytes().len(),
+        Request::LoadImage { image, .. } | Request::CdsCopy { image, .. } => {
+            2 + image.bytes().len()
+        }
         Request::LoadFile { name, .. } => 2 + name.field_len(),
         Request::Edit { bytes, .. } => 6 + bytes.bytes().len(),
         Request::Read { .. } | Request::Notify { .. } => 10,
         Request::Exit => 0,
+        Request::CdsRegister { name, .. } => name.field_len() + 4,
         Request::Unregister { .. }
         | Request::Update { .. }
         | Request::Validate { .. }
@@ -65,8 +71,9 @@ pub fn body_len(request: &Request) -> usize
         | Request::DumpToBuffer { .. }
         | Request::Get { .. }
         | Request::Release { .. }
-        | Request::GetStatus { .. } => 2,
-        _ => unreachable!(),
+        | Request::GetStatus { .. }
+        | Request::CdsRestore { .. }
+        | Request::CdsDelete { .. } => 2,
     }
 }
 
@@ -86,6 +93,17 @@ fn append_time(out: &mut Bytes, seconds: u32, sub: u16)
 {
     append_four(out, seconds);
     append_two(out, sub);
+}
+
+fn append_reset(out: &mut Bytes, kind: ResetKind)
+    requires { 1 ≤ out.old.spare }
+    ensures bytes { out.new.list ≡ out.old.list ++ body_of (ask.Reset kind) }
+{
+    let number = match kind {
+        ResetKind::Processor => 1,
+        ResetKind::PowerOn => 2,
+    };
+    out.append(&[number]);
 }
 
 fn append_register(out: &mut Bytes, name: &Name16, size: u32, flags: u16, validator: Option<u8>)
@@ -148,7 +166,16 @@ fn append_notify(out: &mut Bytes, handle: u16, msg: u16, code: u16, parameter: u
     append_four(out, parameter);
 }
 
-/// The body of a request that begins with a handle.
+fn append_block(out: &mut Bytes, name: &Name16, size: u32)
+    requires { length (name_field 16 name.now) + 4 ≤ out.old.spare }
+    ensures bytes { out.new.list ≡ out.old.list ++ body_of (ask.CdsRegister name.now size) }
+    ensures sized { IsSized (ask.CdsRegister name.now size) }
+{
+    name.append_field(out);
+    append_four(out, size);
+}
+
+/// The body of a request that begins with a handle, or with the slot of a block.
 fn append_handle_body(out: &mut Bytes, request: &Request)
     requires handle { BeginsWithHandle request.now }
     requires room { length (body_of request.now) ≤ out.old.spare }
@@ -157,6 +184,7 @@ fn append_handle_body(out: &mut Bytes, request: &Request)
 {
     match request {
         Request::LoadImage { handle, image } => append_image(out, *handle, image),
+        Request::CdsCopy { slot, image } => append_image(out, *slot, image),
         Request::LoadFile { handle, name } => append_load_file(out, *handle, name),
         Request::Edit {
             handle,
@@ -182,12 +210,12 @@ fn append_handle_body(out: &mut Bytes, request: &Request)
         | Request::Get { handle }
         | Request::Release { handle }
         | Request::GetStatus { handle } => append_two(out, *handle),
+        Request::CdsRestore { slot } | Request::CdsDelete { slot } => append_two(out, *slot),
         _ => unreachable!(),
     }
 }
 
 fn append_body(out: &mut Bytes, request: &Request)
-    requires built { IsBuilt request.now }
     requires room { length (body_of request.now) ≤ out.old.spare }
     ensures bytes { out.new.list ≡ out.old.list ++ body_of request.now }
     ensures sized { IsSized request.now }
@@ -196,6 +224,7 @@ fn append_body(out: &mut Bytes, request: &Request)
         Request::Command { bytes } => out.append(bytes.bytes()),
         Request::File { name, bytes } => append_file(out, name, bytes),
         Request::Time { seconds, sub } => append_time(out, *seconds, *sub),
+        Request::Reset { kind } => append_reset(out, *kind),
         Request::Start { name } => name.append_field(out),
         Request::Register {
             name,
@@ -205,6 +234,7 @@ fn append_body(out: &mut Bytes, request: &Request)
         } => append_register(out, name, *size, *flags, *validator),
         Request::Share { name } | Request::GetInfo { name } => name.append_field(out),
         Request::Exit => {}
+        Request::CdsRegister { name, size } => append_block(out, name, *size),
         _ => append_handle_body(out, request),
     }
 }
@@ -212,7 +242,6 @@ fn append_body(out: &mut Bytes, request: &Request)
 /// Puts the record's one spelling behind the bytes. Where memory runs out, nothing is changed.
 #[tactic(auto, unfolding(tbl_kinds::specs::Records::spelling))]
 pub fn write_record(out: &mut Bytes, actor: Actor, request: &Request) -> Result<(), Memory>
-    requires built { IsBuilt request.now }
     requires fits { Fits actor request.now }
     requires within { length (body_of request.now) ≤ body_limit }
     ensures ok { OnOk result (out.new.list ≡ out.old.list ++ spelling (record { actor = actor; request = request.now })) }

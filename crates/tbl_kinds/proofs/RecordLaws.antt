@@ -9,12 +9,13 @@ use Rattle.std.proofs.lemmas.Nat.{from_be_bytes-to_be_bytes_2, from_be_bytes-to_
 use Rattle.std.proofs.Math.Seq.{take-append_seam, drop-append_seam}
 use Rattle.tbl_kinds.specs.Names.{name_in, name_field}
 use Rattle.tbl_kinds.specs.Numbers.{two, four, byte_at, two_at, four_at, piece}
-use Rattle.tbl_kinds.specs.Records.{Pair, IsBuilt, FitsField, IsSized, IsRecord, kind_of, actor_number, validator_number, body_of, body_limit, head_of, spelling, without_room, joined, record_limit, AreRecords}
+use Rattle.tbl_kinds.specs.Records.{Pair, FitsField, IsSized, IsRecord, kind_of, actor_number, validator_number, body_of, body_limit, head_of, spelling, without_room, joined, record_limit, AreRecords}
 use Rattle.tbl_kinds.specs.Requests.{HasNoValidator255, Fits}
 use Rattle.tbl_kinds.specs.Heads.{Kind, is_name_field, has_name, kinds, allows, is_sender, head_len, is_good_head, is_right_body, has_good_head, has_right_body, is_whole, stated_len, is_short, is_bad, IsShort, IsBad, BeginsNone, EndsBefore}
 use Rattle.tbl_kinds.proofs.NameFields.{length-name_field, name_in-name_field, is_name_field-name_field}
 use Rattle.tbl_kinds.specs.declared.request.Actor.{Actor}
 use Rattle.tbl_kinds.specs.declared.request.Actor.TheVariants.{Ground, App}
+use Rattle.tbl_kinds.specs.declared.request.ResetKind.TheVariants.{Processor, PowerOn}
 use Rattle.tbl_kinds.specs.declared.request.Request.{Request}
 use Rattle.tbl_kinds.specs.declared.request.Request.TheVariants as ask
 
@@ -41,49 +42,58 @@ length-register name size flags validator fits =
     let field = name_field 16 name in
     omega (arith, length-name_field 16 name fits, length-append field (four size), length-append (field ++ four size) (two flags), length-append (field ++ four size ++ two flags) (validator ∷ []))
 
+length-name_size : (name : List ℕ) (size : ℕ) → FitsField 16 name → length (name_field 16 name ++ four size) ≡ 20
+length-name_size name size fits = omega (arith, length-name_field 16 name fits, length-append (name_field 16 name) (four size))
+
 -- the head of a record is a good one
-good_head : (actor : Actor) (request : Request) → IsBuilt request → Fits actor request → IsSized request → length (body_of request) ≤ body_limit
+good_head : (actor : Actor) (request : Request) → Fits actor request → IsSized request → length (body_of request) ≤ body_limit
     → is_good_head (kind_of request) (actor_number actor) (length (body_of request)) ≡ true
 unfolding is_good_head
-good_head Ground (ask.Command bytes) built fits sized within = rw (le-leb (length bytes.list) 32832 within, le-leb 0 (length bytes.list) (omega arith)) refl
-good_head Ground (ask.File name bytes) built fits sized within =
+good_head Ground (ask.Command bytes) fits sized within = rw (le-leb (length bytes.list) 32832 within, le-leb 0 (length bytes.list) (omega arith)) refl
+good_head Ground (ask.File name bytes) fits sized within =
     let len = length-file name bytes.list sized in
     rw (le-leb (length (body_of (ask.File name bytes))) 32832 within, le-leb 64 (length (body_of (ask.File name bytes))) (omega (arith, len))) refl
-good_head Ground (ask.Time seconds sub) built fits sized within = refl
-good_head Ground (ask.Reset kind) built fits sized within = absurd built
-good_head Ground request built fits sized within = absurd fits
-good_head (App number) (ask.Command bytes) built fits sized within = absurd (fits.2 tt)
-good_head (App number) (ask.File name bytes) built fits sized within = absurd (fits.2 tt)
-good_head (App number) (ask.Time seconds sub) built fits sized within = absurd (fits.2 tt)
-good_head (App number) (ask.Start name) built fits sized within =
+good_head Ground (ask.Time seconds sub) fits sized within = refl
+good_head Ground (ask.Reset kind) fits sized within = refl
+good_head Ground request fits sized within = absurd fits
+good_head (App number) (ask.Command bytes) fits sized within = absurd (fits.2 tt)
+good_head (App number) (ask.File name bytes) fits sized within = absurd (fits.2 tt)
+good_head (App number) (ask.Time seconds sub) fits sized within = absurd (fits.2 tt)
+good_head (App number) (ask.Reset kind) fits sized within = absurd (fits.2 tt)
+good_head (App number) (ask.Start name) fits sized within =
     let len = length-name_field 20 name sized in
     rw (app_allowed number (length (name_field 20 name)) 20 20 fits.0 fits.1 (omega (arith, len)) (omega (arith, len))) refl
-good_head (App number) (ask.Register name size flags validator) built fits sized within =
+good_head (App number) (ask.Register name size flags validator) fits sized within =
     let len = length-register name size flags (validator_number validator) sized.0 in
     rw (app_allowed number (length (body_of (ask.Register name size flags validator))) 23 23 fits.0 fits.1 (omega (arith, len)) (omega (arith, len))) refl
-good_head (App number) (ask.Share name) built fits sized within =
+good_head (App number) (ask.Share name) fits sized within =
     let len = length-name_field 40 name sized in
     rw (app_allowed number (length (name_field 40 name)) 40 40 fits.0 fits.1 (omega (arith, len)) (omega (arith, len))) refl
-good_head (App number) (ask.Unregister handle) built fits sized within = handle_allowed number fits.0 fits.1
-good_head (App number) (ask.LoadImage handle image) built fits sized within = rw (app_allowed number (length (body_of (ask.LoadImage handle image))) 2 32832 fits.0 fits.1 (omega arith) within) refl
-good_head (App number) (ask.LoadFile handle name) built fits sized within =
+good_head (App number) (ask.Unregister handle) fits sized within = handle_allowed number fits.0 fits.1
+good_head (App number) (ask.LoadImage handle image) fits sized within = rw (app_allowed number (length (body_of (ask.LoadImage handle image))) 2 32832 fits.0 fits.1 (omega arith) within) refl
+good_head (App number) (ask.LoadFile handle name) fits sized within =
     let len = length-name_field 64 name sized.1 in
     rw (app_allowed number (length (body_of (ask.LoadFile handle name))) 66 66 fits.0 fits.1 (omega (arith, len)) (omega (arith, len))) refl
-good_head (App number) (ask.Update handle) built fits sized within = handle_allowed number fits.0 fits.1
-good_head (App number) (ask.Validate handle) built fits sized within = handle_allowed number fits.0 fits.1
-good_head (App number) (ask.Manage handle) built fits sized within = handle_allowed number fits.0 fits.1
-good_head (App number) (ask.DumpToBuffer handle) built fits sized within = handle_allowed number fits.0 fits.1
-good_head (App number) (ask.Edit handle offset bytes) built fits sized within = rw (app_allowed number (length (body_of (ask.Edit handle offset bytes))) 6 32832 fits.0 fits.1 (omega arith) within) refl
-good_head (App number) (ask.Get handle) built fits sized within = handle_allowed number fits.0 fits.1
-good_head (App number) (ask.Read handle offset len) built fits sized within = rw (app_allowed number 10 10 10 fits.0 fits.1 (omega arith) (omega arith)) refl
-good_head (App number) (ask.Release handle) built fits sized within = handle_allowed number fits.0 fits.1
-good_head (App number) (ask.GetStatus handle) built fits sized within = handle_allowed number fits.0 fits.1
-good_head (App number) (ask.GetInfo name) built fits sized within =
+good_head (App number) (ask.Update handle) fits sized within = handle_allowed number fits.0 fits.1
+good_head (App number) (ask.Validate handle) fits sized within = handle_allowed number fits.0 fits.1
+good_head (App number) (ask.Manage handle) fits sized within = handle_allowed number fits.0 fits.1
+good_head (App number) (ask.DumpToBuffer handle) fits sized within = handle_allowed number fits.0 fits.1
+good_head (App number) (ask.Edit handle offset bytes) fits sized within = rw (app_allowed number (length (body_of (ask.Edit handle offset bytes))) 6 32832 fits.0 fits.1 (omega arith) within) refl
+good_head (App number) (ask.Get handle) fits sized within = handle_allowed number fits.0 fits.1
+good_head (App number) (ask.Read handle offset len) fits sized within = rw (app_allowed number 10 10 10 fits.0 fits.1 (omega arith) (omega arith)) refl
+good_head (App number) (ask.Release handle) fits sized within = handle_allowed number fits.0 fits.1
+good_head (App number) (ask.GetStatus handle) fits sized within = handle_allowed number fits.0 fits.1
+good_head (App number) (ask.GetInfo name) fits sized within =
     let len = length-name_field 40 name sized in
     rw (app_allowed number (length (name_field 40 name)) 40 40 fits.0 fits.1 (omega (arith, len)) (omega (arith, len))) refl
-good_head (App number) (ask.Notify handle msg code parameter) built fits sized within = rw (app_allowed number 10 10 10 fits.0 fits.1 (omega arith) (omega arith)) refl
-good_head (App number) ask.Exit built fits sized within = rw (app_allowed number 0 0 0 fits.0 fits.1 (omega arith) (omega arith)) refl
-good_head (App number) request built fits sized within = absurd built
+good_head (App number) (ask.Notify handle msg code parameter) fits sized within = rw (app_allowed number 10 10 10 fits.0 fits.1 (omega arith) (omega arith)) refl
+good_head (App number) ask.Exit fits sized within = rw (app_allowed number 0 0 0 fits.0 fits.1 (omega arith) (omega arith)) refl
+good_head (App number) (ask.CdsRegister name size) fits sized within =
+    let len = length-name_size name size sized.0 in
+    rw (app_allowed number (length (body_of (ask.CdsRegister name size))) 20 20 fits.0 fits.1 (omega (arith, len)) (omega (arith, len))) refl
+good_head (App number) (ask.CdsCopy slot image) fits sized within = rw (app_allowed number (length (body_of (ask.CdsCopy slot image))) 2 32832 fits.0 fits.1 (omega arith) within) refl
+good_head (App number) (ask.CdsRestore slot) fits sized within = handle_allowed number fits.0 fits.1
+good_head (App number) (ask.CdsDelete slot) fits sized within = handle_allowed number fits.0 fits.1
 
 -- a body that begins with the field of a name has such a field there
 has_name_first : (width : ℕ) (name more body : List ℕ) → FitsField width name → body ≡ name_field width name ++ more → has_name 0 width body ≡ true
@@ -92,32 +102,37 @@ has_name_first width name more body fits e =
     ap is_name_field field ∙ is_name_field-name_field width name fits
 
 -- the body of a record is a right one
-right_body : (request : Request) → IsBuilt request → IsSized request → is_right_body (kind_of request) (body_of request) ≡ true
+right_body : (request : Request) → IsSized request → is_right_body (kind_of request) (body_of request) ≡ true
 unfolding is_right_body
-right_body (ask.Command bytes) built sized = refl
-right_body (ask.File name bytes) built sized = rw (has_name_first 64 name bytes.list (name_field 64 name ++ bytes.list) sized refl) refl
-right_body (ask.Time seconds sub) built sized = refl
-right_body (ask.Start name) built sized = rw (is_name_field-name_field 20 name sized) refl
-right_body (ask.Register name size flags validator) built sized =
+right_body (ask.Command bytes) sized = refl
+right_body (ask.File name bytes) sized = rw (has_name_first 64 name bytes.list (name_field 64 name ++ bytes.list) sized refl) refl
+right_body (ask.Time seconds sub) sized = refl
+right_body (ask.Reset Processor) sized = refl
+right_body (ask.Reset PowerOn) sized = refl
+right_body (ask.Start name) sized = rw (is_name_field-name_field 20 name sized) refl
+right_body (ask.Register name size flags validator) sized =
     let parts : body_of (ask.Register name size flags validator) ≡ name_field 16 name ++ (four size ++ two flags ++ validator_number validator ∷ []) = simp append_assoc in
     rw (has_name_first 16 name (four size ++ two flags ++ validator_number validator ∷ []) (body_of (ask.Register name size flags validator)) sized.0 parts) refl
-right_body (ask.Share name) built sized = rw (is_name_field-name_field 40 name sized) refl
-right_body (ask.Unregister handle) built sized = refl
-right_body (ask.LoadImage handle image) built sized = refl
-right_body (ask.LoadFile handle name) built sized = rw (is_name_field-name_field 64 name sized.1) refl
-right_body (ask.Update handle) built sized = refl
-right_body (ask.Validate handle) built sized = refl
-right_body (ask.Manage handle) built sized = refl
-right_body (ask.DumpToBuffer handle) built sized = refl
-right_body (ask.Edit handle offset bytes) built sized = refl
-right_body (ask.Get handle) built sized = refl
-right_body (ask.Read handle offset len) built sized = refl
-right_body (ask.Release handle) built sized = refl
-right_body (ask.GetStatus handle) built sized = refl
-right_body (ask.GetInfo name) built sized = rw (is_name_field-name_field 40 name sized) refl
-right_body (ask.Notify handle msg code parameter) built sized = refl
-right_body ask.Exit built sized = refl
-right_body request built sized = absurd built
+right_body (ask.Share name) sized = rw (is_name_field-name_field 40 name sized) refl
+right_body (ask.Unregister handle) sized = refl
+right_body (ask.LoadImage handle image) sized = refl
+right_body (ask.LoadFile handle name) sized = rw (is_name_field-name_field 64 name sized.1) refl
+right_body (ask.Update handle) sized = refl
+right_body (ask.Validate handle) sized = refl
+right_body (ask.Manage handle) sized = refl
+right_body (ask.DumpToBuffer handle) sized = refl
+right_body (ask.Edit handle offset bytes) sized = refl
+right_body (ask.Get handle) sized = refl
+right_body (ask.Read handle offset len) sized = refl
+right_body (ask.Release handle) sized = refl
+right_body (ask.GetStatus handle) sized = refl
+right_body (ask.GetInfo name) sized = rw (is_name_field-name_field 40 name sized) refl
+right_body (ask.Notify handle msg code parameter) sized = refl
+right_body ask.Exit sized = refl
+right_body (ask.CdsRegister name size) sized = rw (has_name_first 16 name (four size) (name_field 16 name ++ four size) sized.0 refl) refl
+right_body (ask.CdsCopy slot image) sized = refl
+right_body (ask.CdsRestore slot) sized = refl
+right_body (ask.CdsDelete slot) sized = refl
 
 -- what stands at the front of a spelling, whatever follows it
 record Front (p : Pair) (more : List ℕ) : Type 0 where
@@ -149,9 +164,9 @@ whole p more is =
     let f = front p more is in
     record {
       long = omega (arith, f.len);
-      good = rw (f.kind, f.actor, f.stated) (good_head p.actor p.request is.built is.fits is.sized is.within);
+      good = rw (f.kind, f.actor, f.stated) (good_head p.actor p.request is.fits is.sized is.within);
       whole = le-leb _ _ (omega (arith, f.len, f.stated));
-      right = rw (f.kind, f.stated, f.body) (right_body p.request is.built is.sized);
+      right = rw (f.kind, f.stated, f.body) (right_body p.request is.sized);
     }
 
 whole_not_short : (bytes : List ℕ) → Whole bytes → is_short bytes ≡ false
@@ -203,7 +218,7 @@ validator_again (Some number) none =
 register_in : List ℕ → List ℕ → Request
 register_in field rest = ask.Register (name_in field) (four_at 0 rest) (two_at 4 rest) (validator_in (byte_at 6 rest))
 
--- the request of a kind with a handle alone
+-- the request of a kind with a handle or a slot alone
 handle_request : ℕ → ℕ → Request
 handle_request kind handle =
     if kind == 0x13 then ask.Unregister handle else
@@ -212,7 +227,9 @@ handle_request kind handle =
     (if kind == 0x18 then ask.Manage handle else
     (if kind == 0x19 then ask.DumpToBuffer handle else
     (if kind == 0x1B then ask.Get handle else
-    (if kind == 0x1D then ask.Release handle else ask.GetStatus handle))))))
+    (if kind == 0x1D then ask.Release handle else
+    (if kind == 0x1E then ask.GetStatus handle else
+    (if kind == 0x32 then ask.CdsRestore handle else ask.CdsDelete handle))))))))
 
 -- the request that a body of a kind spells
 request_in : ℕ → List ℕ → Request
@@ -220,6 +237,7 @@ request_in kind body =
     if kind == 0x01 then ask.Command (record { list = body; spare = 0 }) else
     (if kind == 0x02 then ask.File (name_in (take 64 body)) (record { list = drop 64 body; spare = 0 }) else
     (if kind == 0x03 then ask.Time (four_at 0 body) (two_at 4 body) else
+    (if kind == 0x04 then ask.Reset (if byte_at 0 body == 1 then Processor else PowerOn) else
     (if kind == 0x10 then ask.Start (name_in body) else
     (if kind == 0x11 then register_in (take 16 body) (drop 16 body) else
     (if kind == 0x12 then ask.Share (name_in body) else
@@ -229,7 +247,9 @@ request_in kind body =
     (if kind == 0x1C then ask.Read (two_at 0 body) (four_at 2 body) (four_at 6 body) else
     (if kind == 0x1F then ask.GetInfo (name_in body) else
     (if kind == 0x20 then ask.Notify (two_at 0 body) (two_at 2 body) (two_at 4 body) (four_at 6 body) else
-    (if kind == 0x21 then ask.Exit else handle_request kind (two_at 0 body)))))))))))))
+    (if kind == 0x21 then ask.Exit else
+    (if kind == 0x30 then ask.CdsRegister (name_in (take 16 body)) (four_at 0 (drop 16 body)) else
+    (if kind == 0x31 then ask.CdsCopy (two_at 0 body) (record { list = drop 2 body; spare = 0 }) else handle_request kind (two_at 0 body))))))))))))))))
 
 register_again : (name : List ℕ) (size flags : ℕ) (validator : Option ℕ) → FitsField 16 name → size < 2 ^ 32 → flags < 2 ^ 16 → validator ≢ Some 255
     → register_in (name_field 16 name) (four size ++ two flags ++ validator_number validator ∷ []) ≡ ask.Register name size flags validator
@@ -237,15 +257,17 @@ unfolding register_in
 register_again name size flags validator fits s f v =
     rw (name_in-name_field 16 name fits, from_be_bytes-to_be_bytes_4 size s, from_be_bytes-to_be_bytes_2 flags f, validator_again validator v) refl
 
-request_again : (request : Request) → IsBuilt request → IsSized request → HasNoValidator255 request → request_in (kind_of request) (body_of request) ≡ without_room request
+request_again : (request : Request) → IsSized request → HasNoValidator255 request → request_in (kind_of request) (body_of request) ≡ without_room request
 unfolding request_in handle_request
-request_again (ask.Command bytes) built sized v = refl
-request_again (ask.File name bytes) built sized v =
+request_again (ask.Command bytes) sized v = refl
+request_again (ask.File name bytes) sized v =
     let len = length-name_field 64 name sized in
     rw (take_at (name_field 64 name) bytes.list 64 len, drop_at (name_field 64 name) bytes.list 64 len, name_in-name_field 64 name sized) refl
-request_again (ask.Time seconds sub) built sized v = rw (from_be_bytes-to_be_bytes_4 seconds sized.0, from_be_bytes-to_be_bytes_2 sub sized.1) refl
-request_again (ask.Start name) built sized v = rw (name_in-name_field 20 name sized) refl
-request_again (ask.Register name size flags validator) built sized v =
+request_again (ask.Time seconds sub) sized v = rw (from_be_bytes-to_be_bytes_4 seconds sized.0, from_be_bytes-to_be_bytes_2 sub sized.1) refl
+request_again (ask.Reset Processor) sized v = refl
+request_again (ask.Reset PowerOn) sized v = refl
+request_again (ask.Start name) sized v = rw (name_in-name_field 20 name sized) refl
+request_again (ask.Register name size flags validator) sized v =
     let field = name_field 16 name in
     let rest = four size ++ two flags ++ validator_number validator ∷ [] in
     let body : body_of (ask.Register name size flags validator) ≡ field ++ rest = simp append_assoc in
@@ -253,25 +275,30 @@ request_again (ask.Register name size flags validator) built sized v =
     let front : take 16 (body_of (ask.Register name size flags validator)) ≡ field = ap (take 16) body ∙ take_at field rest 16 len in
     let back : drop 16 (body_of (ask.Register name size flags validator)) ≡ rest = ap (drop 16) body ∙ drop_at field rest 16 len in
     rw (front, back) (register_again name size flags validator sized.0 sized.1 sized.2 v)
-request_again (ask.Share name) built sized v = rw (name_in-name_field 40 name sized) refl
-request_again (ask.Unregister handle) built sized v = rw (from_be_bytes-to_be_bytes_2 handle sized) refl
-request_again (ask.LoadImage handle image) built sized v = rw (from_be_bytes-to_be_bytes_2 handle sized) refl
-request_again (ask.LoadFile handle name) built sized v = rw (from_be_bytes-to_be_bytes_2 handle sized.0, name_in-name_field 64 name sized.1) refl
-request_again (ask.Update handle) built sized v = rw (from_be_bytes-to_be_bytes_2 handle sized) refl
-request_again (ask.Validate handle) built sized v = rw (from_be_bytes-to_be_bytes_2 handle sized) refl
-request_again (ask.Manage handle) built sized v = rw (from_be_bytes-to_be_bytes_2 handle sized) refl
-request_again (ask.DumpToBuffer handle) built sized v = rw (from_be_bytes-to_be_bytes_2 handle sized) refl
-request_again (ask.Edit handle offset bytes) built sized v = rw (from_be_bytes-to_be_bytes_2 handle sized.0, from_be_bytes-to_be_bytes_4 offset sized.1) refl
-request_again (ask.Get handle) built sized v = rw (from_be_bytes-to_be_bytes_2 handle sized) refl
-request_again (ask.Read handle offset len) built sized v =
+request_again (ask.Share name) sized v = rw (name_in-name_field 40 name sized) refl
+request_again (ask.Unregister handle) sized v = rw (from_be_bytes-to_be_bytes_2 handle sized) refl
+request_again (ask.LoadImage handle image) sized v = rw (from_be_bytes-to_be_bytes_2 handle sized) refl
+request_again (ask.LoadFile handle name) sized v = rw (from_be_bytes-to_be_bytes_2 handle sized.0, name_in-name_field 64 name sized.1) refl
+request_again (ask.Update handle) sized v = rw (from_be_bytes-to_be_bytes_2 handle sized) refl
+request_again (ask.Validate handle) sized v = rw (from_be_bytes-to_be_bytes_2 handle sized) refl
+request_again (ask.Manage handle) sized v = rw (from_be_bytes-to_be_bytes_2 handle sized) refl
+request_again (ask.DumpToBuffer handle) sized v = rw (from_be_bytes-to_be_bytes_2 handle sized) refl
+request_again (ask.Edit handle offset bytes) sized v = rw (from_be_bytes-to_be_bytes_2 handle sized.0, from_be_bytes-to_be_bytes_4 offset sized.1) refl
+request_again (ask.Get handle) sized v = rw (from_be_bytes-to_be_bytes_2 handle sized) refl
+request_again (ask.Read handle offset len) sized v =
     rw (from_be_bytes-to_be_bytes_2 handle sized.0, from_be_bytes-to_be_bytes_4 offset sized.1, from_be_bytes-to_be_bytes_4 len sized.2) refl
-request_again (ask.Release handle) built sized v = rw (from_be_bytes-to_be_bytes_2 handle sized) refl
-request_again (ask.GetStatus handle) built sized v = rw (from_be_bytes-to_be_bytes_2 handle sized) refl
-request_again (ask.GetInfo name) built sized v = rw (name_in-name_field 40 name sized) refl
-request_again (ask.Notify handle msg code parameter) built sized v =
+request_again (ask.Release handle) sized v = rw (from_be_bytes-to_be_bytes_2 handle sized) refl
+request_again (ask.GetStatus handle) sized v = rw (from_be_bytes-to_be_bytes_2 handle sized) refl
+request_again (ask.GetInfo name) sized v = rw (name_in-name_field 40 name sized) refl
+request_again (ask.Notify handle msg code parameter) sized v =
     rw (from_be_bytes-to_be_bytes_2 handle sized.0, from_be_bytes-to_be_bytes_2 msg sized.1, from_be_bytes-to_be_bytes_2 code sized.2, from_be_bytes-to_be_bytes_4 parameter sized.3) refl
-request_again ask.Exit built sized v = refl
-request_again request built sized v = absurd built
+request_again ask.Exit sized v = refl
+request_again (ask.CdsRegister name size) sized v =
+    let len = length-name_field 16 name sized.0 in
+    rw (take_at (name_field 16 name) (four size) 16 len, drop_at (name_field 16 name) (four size) 16 len, name_in-name_field 16 name sized.0, from_be_bytes-to_be_bytes_4 size sized.1) refl
+request_again (ask.CdsCopy slot image) sized v = rw (from_be_bytes-to_be_bytes_2 slot sized) refl
+request_again (ask.CdsRestore slot) sized v = rw (from_be_bytes-to_be_bytes_2 slot sized) refl
+request_again (ask.CdsDelete slot) sized v = rw (from_be_bytes-to_be_bytes_2 slot sized) refl
 
 no_validator_255 : (actor : Actor) (request : Request) → Fits actor request → HasNoValidator255 request
 no_validator_255 Ground (ask.Register name size flags validator) fits = absurd fits
@@ -294,8 +321,8 @@ one_request p q p-is q-is e =
     let number : actor_number p.actor ≡ actor_number q.actor = sym f.actor ∙ ap (byte_at 1) same ∙ g.actor in
     let len : length (body_of p.request) ≡ length (body_of q.request) = sym f.stated ∙ ap stated_len same ∙ g.stated in
     let body : body_of p.request ≡ body_of q.request = sym f.body ∙ ap (piece head_len (length (body_of p.request))) same ∙ ap (λ n. piece head_len n (spelling q ++ [])) len ∙ g.body in
-    let p-again = request_again p.request p-is.built p-is.sized (no_validator_255 p.actor p.request p-is.fits) in
-    let q-again = request_again q.request q-is.built q-is.sized (no_validator_255 q.actor q.request q-is.fits) in
+    let p-again = request_again p.request p-is.sized (no_validator_255 p.actor p.request p-is.fits) in
+    let q-again = request_again q.request q-is.sized (no_validator_255 q.actor q.request q-is.fits) in
     (same_actor p.actor q.actor p.request q.request p-is.fits q-is.fits number, sym p-again ∙ ap (λ k. request_in k (body_of p.request)) kind ∙ ap (request_in (kind_of q.request)) body ∙ q-again)
 
 -- ---- more bytes

@@ -28,16 +28,21 @@ has_name place width body = is_name_field (piece place width body)
 abbrev pub has_name_last : List ℕ → Bool
 has_name_last body = is_name_field (drop 2 body)
 
--- an application's kind with a body of a handle alone
+-- a reset is of one of two kinds
+abbrev pub is_reset_body : List ℕ → Bool
+is_reset_body body = byte_at 0 body == 1 || byte_at 0 body == 2
+
+-- an application's kind with a body of a handle alone, or of the slot of a block
 abbrev pub handle_kind : ℕ → Kind
 handle_kind number = record { number = number; from_ground = false; least = 2; most = 2; is_right = any_body }
 
--- the kinds that the service knows today
+-- all kinds
 abbrev pub kinds : List Kind
 kinds =
     record { number = 0x01; from_ground = true; least = 0; most = body_limit; is_right = any_body }
     ∷ record { number = 0x02; from_ground = true; least = 64; most = body_limit; is_right = has_name 0 64 }
     ∷ record { number = 0x03; from_ground = true; least = 6; most = 6; is_right = any_body }
+    ∷ record { number = 0x04; from_ground = true; least = 1; most = 1; is_right = is_reset_body }
     ∷ record { number = 0x10; from_ground = false; least = 20; most = 20; is_right = is_name_field }
     ∷ record { number = 0x11; from_ground = false; least = 23; most = 23; is_right = has_name 0 16 }
     ∷ record { number = 0x12; from_ground = false; least = 40; most = 40; is_right = is_name_field }
@@ -56,6 +61,10 @@ kinds =
     ∷ record { number = 0x1F; from_ground = false; least = 40; most = 40; is_right = is_name_field }
     ∷ record { number = 0x20; from_ground = false; least = 10; most = 10; is_right = any_body }
     ∷ record { number = 0x21; from_ground = false; least = 0; most = 0; is_right = any_body }
+    ∷ record { number = 0x30; from_ground = false; least = 20; most = 20; is_right = has_name 0 16 }
+    ∷ record { number = 0x31; from_ground = false; least = 2; most = body_limit; is_right = any_body }
+    ∷ handle_kind 0x32
+    ∷ handle_kind 0x33
     ∷ []
 
 -- the ground has the number 0, the applications have 1 to 16

@@ -106,31 +106,6 @@ without_room (ask.Edit handle offset bytes) = ask.Edit handle offset (record { l
 without_room (ask.CdsCopy slot image) = ask.CdsCopy slot (record { list = image.list; spare = 0 })
 without_room request = request
 
--- the requests that the service knows today
-abbrev pub IsBuilt : Request → Type 0
-IsBuilt (ask.Command bytes) = Unit {0}
-IsBuilt (ask.File name bytes) = Unit {0}
-IsBuilt (ask.Time seconds sub) = Unit {0}
-IsBuilt (ask.Start name) = Unit {0}
-IsBuilt (ask.Register name size flags validator) = Unit {0}
-IsBuilt (ask.Share name) = Unit {0}
-IsBuilt (ask.Unregister handle) = Unit {0}
-IsBuilt (ask.LoadImage handle image) = Unit {0}
-IsBuilt (ask.LoadFile handle name) = Unit {0}
-IsBuilt (ask.Update handle) = Unit {0}
-IsBuilt (ask.Validate handle) = Unit {0}
-IsBuilt (ask.Manage handle) = Unit {0}
-IsBuilt (ask.DumpToBuffer handle) = Unit {0}
-IsBuilt (ask.Edit handle offset bytes) = Unit {0}
-IsBuilt (ask.Get handle) = Unit {0}
-IsBuilt (ask.Read handle offset len) = Unit {0}
-IsBuilt (ask.Release handle) = Unit {0}
-IsBuilt (ask.GetStatus handle) = Unit {0}
-IsBuilt (ask.GetInfo name) = Unit {0}
-IsBuilt (ask.Notify handle msg code parameter) = Unit {0}
-IsBuilt ask.Exit = Unit {0}
-IsBuilt _ = ⊥
-
 -- the name is no longer than its field, and has no zero byte
 pub record FitsField (width : ℕ) (name : List ℕ) : Type 0 where
   pub within : length name ≤ width
@@ -167,7 +142,6 @@ IsSized (ask.CdsDelete slot) = slot < 2 ^ 16
 
 -- what has a spelling: a request that its actor may make, whose names and numbers fit, with a body within the limit
 pub record IsRecord (p : Pair) : Type 0 where
-  pub built : IsBuilt p.request
   pub fits : Fits p.actor p.request
   pub sized : IsSized p.request
   pub within : length (body_of p.request) ≤ body_limit

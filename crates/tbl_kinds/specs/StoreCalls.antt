@@ -1,5 +1,6 @@
 -- The calls of the store that a request makes: what each leaves of the blocks, and what a reset inside it may.
-use Rattle.std.specs.Prelude.{◌≡◌, ◌⊎◌, ℕ, List, Bool, true, false, Option, IsSome}
+use Rattle.std.specs.Prelude.{◌≡◌, ◌⊎◌, ℕ, List, take, Bool, true, false, Option, IsSome}
+use Rattle.std.specs.List.{fold}
 use Rattle.tbl_kinds.specs.Blocks.{Store}
 use Rattle.tbl_kinds.specs.StoreSteps.{Shows, doubtful_of, reserved, reserve_broken, copied, copy_broken, restored, deleted, delete_broken}
 use Rattle.tbl_kinds.specs.declared.block.BlockKind.{BlockKind}
@@ -18,6 +19,10 @@ after (reserve kind name size) store = reserved kind name size store
 after (copy slot image) store = copied slot image store
 after (restore slot given) store = restored slot given store
 after (delete slot) store = deleted slot store
+
+-- the blocks once the first so many of several are done, one after another
+abbrev pub after_first : ℕ → List StoreCall → Store → Store
+after_first count calls store = fold (λ blocks call. after call blocks) store (take count calls)
 
 -- the blocks where it broke off: whether in the write of a gate byte, and whether of that of a doubtful block
 abbrev pub broken : Bool → Bool → StoreCall → Store → Store

@@ -30,10 +30,33 @@ pub struct BankNote {
     pub old: bool,
     /// Whether a boot in this request failed or was stopped.
     pub ended: bool,
+    /// Whether that boot was stopped by a further reset, and didn't fail.
+    pub stopped: bool,
     /// The image that a restore gave.
     pub restored: Option<Bytes>,
+    /// Where a restore found its block torn: the check word that is kept, times 65,536, plus that of the bytes.
+    pub torn: u32,
     /// The doubtful slots that a boot in this request found open.
     pub found: Slots,
+}
+
+impl BankNote {
+    /// No call of the store was made.
+    pub fn untouched() -> BankNote
+        ensures { result ≡ untouched }
+    {
+        BankNote {
+            outcome: Outcome::Untouched,
+            done: 0,
+            gate: false,
+            old: false,
+            ended: false,
+            stopped: false,
+            restored: None,
+            torn: 0,
+            found: Slots::make(),
+        }
+    }
 }
 
 /// The note of an entry. Nearly every request makes no call of the store, and its note takes no memory of its own.
@@ -67,6 +90,14 @@ impl Note {
         Note {
             touched: Some(note),
         }
+    }
+
+    /// The whole note in its memory, to be told more; none where it says that nothing was done.
+    pub fn taken(self) -> Option<Box<BankNote>>
+        ensures some { IfSome result (λ note. note.value ≡ self) }
+        ensures none { IfNone result (self ≡ untouched) }
+    {
+        self.touched
     }
 
     /// How the calls of the store went.
