@@ -1,3 +1,4 @@
 pub mod RefusalLaws
 pub mod CountsLaws
 pub mod HistoryLaws
+pub mod NoteLaws

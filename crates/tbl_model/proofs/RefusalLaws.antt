@@ -1,5 +1,5 @@
 -- What holds of a request that isn't refused, and of one that is.
-use Rattle.std.proofs.Common.{◌≡◌, ℕ, ◌+◌, ◌<◌, ◌≤◌, ◌==◌, List, [], Bool, true, false, not, ◌&&◌, ◌||◌, cond, nat_lt, length, Option, Some, None, is_some, refl, arith}
+use Rattle.std.proofs.Common.{◌≡◌, ℕ, ◌+◌, ◌<◌, ◌≤◌, ◌==◌, List, Bool, true, false, not, ◌&&◌, ◌||◌, cond, nat_lt, length, Option, Some, None, is_some, refl, arith}
 use Rattle.std.specs.Option.{option_or}
 use Rattle.std.proofs.lemmas.Bool.Decides.{nat_tests}
 use Rattle.tbl_kinds.specs.Names.{is_name}
@@ -13,9 +13,9 @@ use Rattle.tbl_kinds.specs.TableFiles.{TableFile}
 use Rattle.std.specs.Str.{bytes_eq}
 use Rattle.tbl_model.specs.Refusals.{are_options, may_use, plan_refusal, lock_refusal, buffer_refusal, open_refusal, closed_refusal, busy_refusal, image_refusal, part_refusal, file_refusal, load_refusal, validation_refusal, activation_refusal, update_refusal}
 use Rattle.tbl_model.specs.Whole.{is_done}
+use Rattle.tbl_model.specs.BankCounts.{tells_trouble}
 use Rattle.tbl_kinds.specs.declared.entry.Answer.{Answer}
 use Rattle.tbl_kinds.specs.declared.status.Status.{Status}
-use Rattle.tbl_kinds.specs.declared.status.TheConstants.Status.{INFO_STOPPED}
 
 -- a test whose refusal there isn't
 passed : (b : Bool) (a : Answer) (rest : Option Answer) → cond b (Some a) rest ≡ None → (b ≡ false) × (rest ≡ None)
@@ -196,9 +196,9 @@ plan_taken kit app short size flags validator none =
 
 -- ---- what a refusal is
 
--- a status that refuses: nothing was done, and nothing begins anew
+-- a status that refuses: nothing was done, nothing begins anew, and the bank didn't fail
 abbrev pub is_refusal : Status → Bool
-is_refusal status = not (is_done status || (status.0 == INFO_STOPPED.0))
+is_refusal status = not (is_done status || tells_trouble status)
 
 -- so does the answer, if there is one
 abbrev pub Refuses : Option Answer → Type 0

@@ -7,11 +7,13 @@ use Rattle.tbl_model.specs.Validations.{validate_effect}
 use Rattle.tbl_model.specs.Activations.{activate_command_effect, abort_effect}
 use Rattle.tbl_model.specs.Dumps.{dump_effect, dump_registry_effect, housekeeping_effect}
 use Rattle.tbl_model.specs.Sharing.{send_registry_effect}
-use Rattle.tbl_kinds.specs.GroundCommands.{GroundCommand, housekeeping, noop, reset_counters, load, dump, validate, activate, dump_registry, send_registry, abort, code_of, command_in}
+use Rattle.tbl_model.specs.AppBlocks.{delete_cds_effect}
+use Rattle.tbl_kinds.specs.GroundCommands.{GroundCommand, housekeeping, noop, reset_counters, load, dump, validate, activate, dump_registry, send_registry, delete_cds, abort, code_of, command_in}
 use Rattle.tbl_kinds.specs.declared.entry.Answer.{Answer}
+use Rattle.tbl_kinds.specs.declared.note.BankNote.{BankNote}
 use Rattle.tbl_kinds.specs.declared.request.Request.{Request}
 use Rattle.tbl_kinds.specs.declared.request.Request.TheVariants as ask
-use Rattle.tbl_kinds.specs.declared.status.TheConstants.Status.{SUCCESS, ERR_BAD_CODE}
+use Rattle.tbl_kinds.specs.declared.status.TheConstants.Status.{SUCCESS}
 
 -- ---- what a packet asks for
 
@@ -47,20 +49,20 @@ asked_code _ = 0
 
 -- ---- what it gets
 
--- a command of the right form that isn't built is refused with its code
-abbrev pub effect_by : State → Result GroundCommand Answer → Effect
-effect_by s (Err answer) = answered s answer.status answer.detail
-effect_by s (Ok housekeeping) = housekeeping_effect s
-effect_by s (Ok noop) = answered s SUCCESS 0
-effect_by s (Ok reset_counters) = answered s SUCCESS 0
-effect_by s (Ok (load file)) = load_effect s file
-effect_by s (Ok (dump select table file)) = dump_effect s select table file
-effect_by s (Ok (validate select table)) = validate_effect s select table
-effect_by s (Ok (activate table)) = activate_command_effect s table
-effect_by s (Ok (dump_registry file)) = dump_registry_effect s file
-effect_by s (Ok (send_registry table)) = send_registry_effect s table
-effect_by s (Ok (abort table)) = abort_effect s table
-effect_by s (Ok command) = answered s ERR_BAD_CODE (code_of command)
+-- DELETE_CDS alone calls the store, which the note tells of
+abbrev pub effect_by : State → Result GroundCommand Answer → BankNote → Effect
+effect_by s (Err answer) note = answered s answer.status answer.detail
+effect_by s (Ok housekeeping) note = housekeeping_effect s
+effect_by s (Ok noop) note = answered s SUCCESS 0
+effect_by s (Ok reset_counters) note = answered s SUCCESS 0
+effect_by s (Ok (load file)) note = load_effect s file
+effect_by s (Ok (dump select table file)) note = dump_effect s select table file
+effect_by s (Ok (validate select table)) note = validate_effect s select table
+effect_by s (Ok (activate table)) note = activate_command_effect s table
+effect_by s (Ok (dump_registry file)) note = dump_registry_effect s file
+effect_by s (Ok (send_registry table)) note = send_registry_effect s table
+effect_by s (Ok (delete_cds table)) note = delete_cds_effect s table note
+effect_by s (Ok (abort table)) note = abort_effect s table
 
-abbrev pub command_effect : State → List ℕ → Effect
-command_effect s bytes = effect_by s (command_in bytes)
+abbrev pub command_effect : State → List ℕ → BankNote → Effect
+command_effect s bytes note = effect_by s (command_in bytes) note

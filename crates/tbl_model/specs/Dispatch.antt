@@ -1,8 +1,9 @@
--- The effect of each request. What isn't implemented yet has none, and so no legal answer.
+-- The effect of each request of each actor.
 use Rattle.std.specs.Prelude.{ℕ, Option, Some, None}
 use Rattle.tbl_model.specs.State.{State}
 use Rattle.tbl_model.specs.Effects.{Effect}
 use Rattle.tbl_model.specs.Given.{Given}
+use Rattle.tbl_model.specs.Boots.{reset_effect}
 use Rattle.tbl_model.specs.Commands.{command_effect}
 use Rattle.tbl_model.specs.Uplinks.{file_effect, time_effect}
 use Rattle.tbl_model.specs.Applications.{start_effect, register_effect}
@@ -13,6 +14,7 @@ use Rattle.tbl_model.specs.Activations.{update_effect}
 use Rattle.tbl_model.specs.Management.{manage_effect, get_status_effect}
 use Rattle.tbl_model.specs.Sharing.{share_effect, unregister_effect, exit_effect, notify_effect, info_effect}
 use Rattle.tbl_model.specs.Dumps.{dump_to_buffer_effect, edit_effect}
+use Rattle.tbl_model.specs.AppBlocks.{cds_register_effect, cds_copy_effect, cds_restore_effect, cds_delete_effect}
 use Rattle.tbl_kinds.specs.declared.request.Actor.{Actor}
 use Rattle.tbl_kinds.specs.declared.request.Actor.TheVariants.{Ground, App}
 use Rattle.tbl_kinds.specs.declared.request.Request.{Request}
@@ -20,10 +22,10 @@ use Rattle.tbl_kinds.specs.declared.request.Request.TheVariants as ask
 
 -- the ground makes no other
 abbrev pub ground_effect : State → Request → Given → Option Effect
-ground_effect s (ask.Command bytes) given = Some (command_effect s bytes.list)
+ground_effect s (ask.Command bytes) given = Some (command_effect s bytes.list given.note)
 ground_effect s (ask.File name bytes) given = Some (file_effect s name bytes.list)
 ground_effect s (ask.Time seconds sub) given = Some (time_effect s seconds sub)
-ground_effect s (ask.Reset kind) given = None
+ground_effect s (ask.Reset kind) given = Some (reset_effect s kind given.note)
 ground_effect s _ given = None
 
 -- nor does an application
@@ -46,10 +48,10 @@ app_effect s app (ask.GetStatus handle) given = Some (get_status_effect s app ha
 app_effect s app (ask.GetInfo name) given = Some (info_effect s app name)
 app_effect s app (ask.Notify handle msg code parameter) given = Some (notify_effect s app handle msg code parameter)
 app_effect s app ask.Exit given = Some (exit_effect s app)
-app_effect s app (ask.CdsRegister name size) given = None
-app_effect s app (ask.CdsCopy slot image) given = None
-app_effect s app (ask.CdsRestore slot) given = None
-app_effect s app (ask.CdsDelete slot) given = None
+app_effect s app (ask.CdsRegister name size) given = Some (cds_register_effect s app name size given.note)
+app_effect s app (ask.CdsCopy slot image) given = Some (cds_copy_effect s app slot image.list given.note)
+app_effect s app (ask.CdsRestore slot) given = Some (cds_restore_effect s app slot given.note)
+app_effect s app (ask.CdsDelete slot) given = Some (cds_delete_effect s app slot given.note)
 app_effect s app _ given = None
 
 abbrev pub effect_of : State → Actor → Request → Given → Option Effect

@@ -8,7 +8,7 @@ use Rattle.tbl_kinds.specs.Headers.{Header, header_len, description_len, file_he
 use Rattle.tbl_kinds.specs.TableFiles.{table_subtype, table_file}
 use Rattle.tbl_kinds.specs.Telemetry.{registry_record}
 use Rattle.tbl_kinds.specs.Drawer.{with_file, is_full_for}
-use Rattle.tbl_model.specs.State.{State, Table, Tables, Dump, quiet, asked, filled}
+use Rattle.tbl_model.specs.State.{State, Table, Tables, Dump, filled}
 use Rattle.tbl_model.specs.Tables.{table_at, is_dump_only, is_quiet, rows_where}
 use Rattle.tbl_model.specs.TableSteps.{base, locker, last_image, load_image, put, ask_dump, fill_dump, end_dump}
 use Rattle.tbl_model.specs.Registry.{registry_row}

@@ -1,6 +1,7 @@
 -- The effect of a request: its answer, its deeds, and the state that it leaves.
 use Rattle.std.specs.Prelude.{ℕ, List, [], Option, None}
 use Rattle.std.specs.Option.{option_map}
+use Rattle.tbl_kinds.specs.StoreCalls.{StoreCall}
 use Rattle.tbl_model.specs.State.{State}
 use Rattle.tbl_model.specs.Deeds.{Question}
 use Rattle.tbl_model.specs.declared.deeds.Deed.{Deed}
@@ -18,6 +19,7 @@ pub record Effect : Type 0 where
   pub deeds : List Deed  -- what is done that telemetry tells of, in order
   pub images : List (Option (List ℕ))  -- the image that each deed is about, none where it is about no image
   pub asked : List Question  -- what validation functions are asked, in order
+  pub calls : List StoreCall  -- the calls of the store, in order
   pub shown : Shown  -- the packet behind the events
   pub notice : Option Notice
   pub next : State
@@ -32,6 +34,7 @@ answered s status detail = record {
   deeds = [];
   images = [];
   asked = [];
+  calls = [];
   shown = Nothing;
   notice = None;
   next = s;

@@ -1,10 +1,13 @@
 -- What the outside gives in a request.
 use Rattle.std.specs.Prelude.{◌≡◌, ℕ, List, [], ◌∷◌, Option, Some, None, unwrap_or, slice_index_or}
 use Rattle.std.proofs.Common.{ℤ, pos}
+use Rattle.tbl_model.specs.State.{State}
 use Rattle.tbl_model.specs.Deeds.{Question}
 use Rattle.tbl_model.specs.Effects.{Effect}
+use Rattle.tbl_model.specs.StoreNotes.{IsNoteOf}
 use Rattle.tbl_kinds.specs.declared.note.BankNote.{BankNote}
 use Rattle.tbl_kinds.specs.Notes.{untouched}
+use Rattle.tbl_kinds.specs.declared.request.Request.{Request}
 
 -- how the calls of the store went, and the verdicts of validation functions
 pub record Given : Type 0 where
@@ -24,7 +27,7 @@ AnswersEach [] verdicts = verdicts ≡ None ∷ None ∷ []
 AnswersEach (first ∷ []) verdicts = (v : ℤ) × (verdicts ≡ Some v ∷ None ∷ [])
 AnswersEach (first ∷ more) verdicts = (v w : ℤ) × (verdicts ≡ Some v ∷ Some w ∷ [])
 
--- what it may give in a request of this effect: no request that is built calls the store
-pub record MayBeGiven (effect : Effect) (given : Given) : Type 0 where
-  pub note : given.note ≡ untouched
+-- what it may give in a request that has this effect in this state
+pub record MayBeGiven (s : State) (request : Request) (effect : Effect) (given : Given) : Type 0 where
+  pub note : IsNoteOf request effect.calls s.store given.note
   pub verdicts : AnswersEach effect.asked given.verdicts

@@ -3,7 +3,7 @@ use Rattle.std.specs.Prelude.{◌≡◌, ℕ, ◌==◌, List, [], ◌∷◌, ◌
 use Rattle.std.specs.List.{fold}
 use Rattle.tbl_model.specs.State.{State}
 use Rattle.tbl_kinds.specs.Requests.{Fits}
-use Rattle.tbl_kinds.specs.Records.{Pair, IsBuilt, actor_number}
+use Rattle.tbl_kinds.specs.Records.{Pair, actor_number}
 use Rattle.tbl_model.specs.Effects.{Effect}
 use Rattle.tbl_model.specs.Given.{Given, MayBeGiven}
 use Rattle.tbl_model.specs.Dispatch.{effect_of}
@@ -45,11 +45,10 @@ run_from r entries = fold onward r entries
 -- the entry is answered as the sequential service answers: status, detail, bytes and packets
 pub record IsAnswered (r : Run) (e : Entry) : Type 0 where
   pub live : r.state.ended ≡ false
-  pub built : IsBuilt e.request
   pub fits : Fits e.actor e.request
   pub effect : Effect
   pub effect_is : effect_in r e ≡ Some effect
-  pub given : MayBeGiven effect (given_in e)
+  pub given : MayBeGiven r.state e.request effect (given_in e)
   pub status : e.reply.status ≡ effect.status
   pub detail : e.reply.detail ≡ effect.detail
   pub bytes : e.reply.bytes.list ≡ effect.bytes

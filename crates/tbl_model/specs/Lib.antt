@@ -2,6 +2,9 @@ pub mod State
 pub mod Tables
 pub mod Deeds
 pub mod Effects
+pub mod Boots
+pub mod StoreUse
+pub mod StoreNotes
 pub mod Given
 pub mod TableSteps
 pub mod Pending
@@ -18,6 +21,8 @@ pub mod Activations
 pub mod Management
 pub mod Dumps
 pub mod Sharing
+pub mod AppBlocks
+pub mod BankCounts
 pub mod Commands
 pub mod Dispatch
 pub mod Events
@@ -28,3 +33,4 @@ pub mod History
 pub mod Whole
 pub mod Vouched
 pub mod Vectors
+pub mod StoreVectors

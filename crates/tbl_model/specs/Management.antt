@@ -1,5 +1,5 @@
 -- CFE_TBL_Manage: an owner has all done that is pending for its table. CFE_TBL_GetStatus: what is pending.
-use Rattle.std.specs.Prelude.{ℕ, ◌+◌, List, [], ◌∷◌, ◌++◌, length, Bool, true, false, not, ◌||◌, if◌then◌else◌, Option, Some, None, is_some}
+use Rattle.std.specs.Prelude.{ℕ, ◌+◌, List, [], ◌∷◌, ◌++◌, length, Bool, true, false, not, ◌||◌, if◌then◌else◌, Option, Some, is_some}
 use Rattle.std.specs.Option.{option_map_or}
 use Rattle.std.proofs.Common.{ℤ}
 use Rattle.tbl_model.specs.State.{State, Table, Tables, Dump, quiet, asked, filled}

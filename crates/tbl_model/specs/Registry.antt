@@ -1,5 +1,5 @@
 -- What the registry tells of a table.
-use Rattle.std.specs.Prelude.{ℕ, ◌+◌, ◌*◌, ◌==◌, List, take, Bool, if◌then◌else◌, is_some}
+use Rattle.std.specs.Prelude.{ℕ, ◌+◌, ◌==◌, List, take, Bool, if◌then◌else◌, is_some}
 use Rattle.std.specs.List.{position_or_len}
 use Rattle.std.specs.Option.{option_map_or}
 use Rattle.tbl_kinds.specs.Check.{check16}

@@ -1,7 +1,6 @@
 -- Tables are shared, given back and taken away, and told of; applications end.
 use Rattle.std.specs.Prelude.{ℕ, ◌-◌, ◌==◌, List, length, map, Bool, false, not, ◌&&◌, nat_le, if◌then◌else◌, Option, Some, None, slice_set}
 use Rattle.std.specs.List.{fold, range_with_len}
-use Rattle.std.specs.Option.{option_map_or}
 use Rattle.tbl_kinds.specs.Free.{least_free}
 use Rattle.tbl_kinds.specs.Telemetry.{registry_record}
 use Rattle.tbl_model.specs.State.{State, Handle}

@@ -1,5 +1,5 @@
 -- What is asked of the tables, and how they change: one function for each question and each change.
-use Rattle.std.specs.Prelude.{ℕ, ◌+◌, ◌-◌, ◌==◌, List, [], length, map, replicate, Bool, true, false, not, ◌&&◌, nat_lt, if◌then◌else◌, position, Option, Some, None, is_some, unwrap_or, option_and_then, slice_index_or, slice_set, bit_and, Result, Ok, Err}
+use Rattle.std.specs.Prelude.{ℕ, ◌+◌, ◌-◌, ◌==◌, List, [], map, replicate, Bool, true, false, not, ◌&&◌, nat_lt, if◌then◌else◌, position, Option, Some, None, is_some, unwrap_or, option_and_then, slice_index_or, slice_set, bit_and, Result, Ok, Err}
 use Rattle.std.specs.List.{list_any}
 use Rattle.std.specs.Option.{option_map, option_map_or}
 use Rattle.std.specs.Str.{bytes_eq}

@@ -14,6 +14,7 @@ use Rattle.tbl_model.specs.State.{State, first_state}
 use Rattle.tbl_model.specs.Effects.{answered}
 use Rattle.tbl_model.specs.Commands.{command_effect}
 use Rattle.tbl_model.specs.Dumps.{housekeeping_effect, dumps_ended}
+use Rattle.tbl_model.specs.StoreNotes.{IsNoteOf}
 use Rattle.tbl_model.specs.Counts.{Told, counts_of}
 use Rattle.tbl_model.specs.Replies.{head_at, packets_of}
 use Rattle.tbl_kinds.specs.Notes.{untouched}
@@ -69,13 +70,17 @@ pub housekeeping_is_told : packets_of (noop_told ∷ []) housekeeping_told ≡ h
 unfolding packets_of counts_of command_in telemetry_packet primary_header housekeeping_body commands_and_loads last_validation validations_and_buffers last_update housekeeping_effect dumps_ended
 housekeeping_is_told = refl
 
+-- no call of the store was made, and the note says so
+pub no_call : (bytes : List ℕ) → IsNoteOf (command bytes) [] [] untouched
+no_call bytes = record { ends = (refl, refl, (refl, refl)); gave = tt; tells = (refl, refl); boots = (refl, refl, refl) }
+
 pub first_is_answered : IsAnswered (begins_at start) first_entry
 unfolding command_in
-first_is_answered = record { live = refl; built = tt; fits = tt; given = record { note = refl; verdicts = refl }; effect = noop_told.effect; effect_is = refl; status = refl; detail = refl; bytes = refl; packets = sym noop_is_told }
+first_is_answered = record { live = refl; fits = tt; given = record { note = no_call noop; verdicts = refl }; effect = noop_told.effect; effect_is = refl; status = refl; detail = refl; bytes = refl; packets = sym noop_is_told }
 
 pub second_is_answered : IsAnswered second_run second_entry
 unfolding command_in housekeeping_effect dumps_ended
-second_is_answered = record { live = refl; built = tt; fits = tt; given = record { note = refl; verdicts = refl }; effect = housekeeping_told.effect; effect_is = refl; status = refl; detail = refl; bytes = refl; packets = sym housekeeping_is_told }
+second_is_answered = record { live = refl; fits = tt; given = record { note = no_call ask_housekeeping; verdicts = refl }; effect = housekeeping_told.effect; effect_is = refl; status = refl; detail = refl; bytes = refl; packets = sym housekeeping_is_told }
 
 -- the two entries are a legal history, which leaves the state
 pub session_is_legal : IsLegal start (first_entry ∷ second_entry ∷ []) start
@@ -106,30 +111,30 @@ nine_bytes = 0x18 ∷ 0x04 ∷ 0xC0 ∷ 0x00 ∷ 0x00 ∷ 0x01 ∷ 0x00 ∷ 0x22
 abbrev pub wrong_check : List ℕ
 wrong_check = 0x18 ∷ 0x04 ∷ 0xC0 ∷ 0x00 ∷ 0x00 ∷ 0x01 ∷ 0x00 ∷ 0x23 ∷ []
 
-pub short_packet : command_effect start seven_bytes ≡ answered start ERR_BAD_PACKET 1
+pub short_packet : command_effect start seven_bytes untouched ≡ answered start ERR_BAD_PACKET 1
 unfolding command_in
 short_packet = refl
 
-pub packet_of_another_length : command_effect start nine_bytes ≡ answered start ERR_BAD_PACKET 2
+pub packet_of_another_length : command_effect start nine_bytes untouched ≡ answered start ERR_BAD_PACKET 2
 unfolding command_in
 packet_of_another_length = refl
 
-pub packet_with_wrong_check : command_effect start wrong_check ≡ answered start ERR_BAD_PACKET 3
+pub packet_with_wrong_check : command_effect start wrong_check untouched ≡ answered start ERR_BAD_PACKET 3
 unfolding command_in
 packet_with_wrong_check = refl
 
 -- function code 10
-pub unknown_code : command_effect start (0x18 ∷ 0x04 ∷ 0xC0 ∷ 0x00 ∷ 0x00 ∷ 0x01 ∷ 0x0A ∷ 0x28 ∷ []) ≡ answered start ERR_BAD_CODE 10
+pub unknown_code : command_effect start (0x18 ∷ 0x04 ∷ 0xC0 ∷ 0x00 ∷ 0x00 ∷ 0x01 ∷ 0x0A ∷ 0x28 ∷ []) untouched ≡ answered start ERR_BAD_CODE 10
 unfolding command_in
 unknown_code = refl
 
 -- another message id
-pub unknown_id : command_effect start (0x18 ∷ 0x06 ∷ 0xC0 ∷ 0x00 ∷ 0x00 ∷ 0x01 ∷ 0x00 ∷ 0x20 ∷ []) ≡ answered start ERR_BAD_MESSAGE_ID 0x1806
+pub unknown_id : command_effect start (0x18 ∷ 0x06 ∷ 0xC0 ∷ 0x00 ∷ 0x00 ∷ 0x01 ∷ 0x00 ∷ 0x20 ∷ []) untouched ≡ answered start ERR_BAD_MESSAGE_ID 0x1806
 unfolding command_in
 unknown_id = refl
 
 -- a NOOP with a payload of one byte
-pub noop_with_payload : command_effect start (0x18 ∷ 0x04 ∷ 0xC0 ∷ 0x00 ∷ 0x00 ∷ 0x02 ∷ 0x00 ∷ 0x21 ∷ 0x00 ∷ []) ≡ answered start ERR_BAD_LENGTH 1
+pub noop_with_payload : command_effect start (0x18 ∷ 0x04 ∷ 0xC0 ∷ 0x00 ∷ 0x00 ∷ 0x02 ∷ 0x00 ∷ 0x21 ∷ 0x00 ∷ []) untouched ≡ answered start ERR_BAD_LENGTH 1
 unfolding command_in
 noop_with_payload = refl
 
