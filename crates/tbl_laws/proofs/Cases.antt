@@ -1,9 +1,13 @@
 -- What each request does, by cases: it is refused, or it does what it asks. A law of all requests cites a case for each.
-use Rattle.std.proofs.Common.{◌≡◌, ◌≤◌, ℕ, ◌+◌, eqb, nat_lt, List, [], length, Bool, true, false, not, ◌&&◌, ◌||◌, cond, Option, Some, None, is_some, unwrap_or, Result, Ok, Err, refl, sym, subst, ◌⊎◌, inl, inr, ℤ}
+use Rattle.std.proofs.Common.{◌≡◌, ◌≤◌, ℕ, ◌+◌, eqb, nat_lt, List, [], ◌∷◌, length, ap, Bool, true, false, not, ◌&&◌, ◌||◌, cond, Option, Some, None, is_some, unwrap_or, Result, Ok, Err, refl, sym, subst, ◌⊎◌, inl, inr, ℤ}
 use Rattle.std.proofs.Common.{ℤ}
 use Rattle.std.specs.Option.{option_map, option_map_or}
 use Rattle.std.specs.Prelude.{◌-◌, slice_set}
 use Rattle.std.proofs.lemmas.Bool.{eqb-true, ltb-false, not-false, cond_both}
+use Rattle.tbl_kinds.specs.Blocks.{Stored, Store}
+use Rattle.tbl_kinds.specs.StoreSteps.{open_of, stored_at}
+use Rattle.tbl_kinds.specs.StoreCalls.{StoreCall, copy, restore, delete}
+use Rattle.tbl_kinds.specs.Notes.{restored_image}
 use Rattle.tbl_kinds.specs.Drawer.{contents_of, is_full_for, with_file}
 use Rattle.tbl_kinds.specs.GroundCommands.{GroundCommand, housekeeping, noop, reset_counters, load, dump, validate, activate, dump_registry, send_registry, delete_cds, abort, command_in}
 use Rattle.tbl_kinds.specs.Free.{least_free}
@@ -30,12 +34,21 @@ use Rattle.tbl_model.specs.Management.{manage_answer, all_done, managed_effect, 
 use Rattle.tbl_model.specs.Dumps.{written_effect, dump_refusal, ask_dump_effect, dump_file, image_dump_effect, dump_by, dump_effect, registry_file, dump_registry_effect, dump_to_buffer_effect, edit_refusal, edit_effect, housekeeping_effect}
 use Rattle.tbl_model.specs.Sharing.{share_by, share_found, share_effect, give_up, unregister_by, unregister_effect, without_handles_of, ended_app, exit_effect, is_notice, notify_effect, info_of, info_effect, send_registry_effect}
 use Rattle.tbl_model.specs.Uplinks.{file_effect}
+use Rattle.tbl_model.specs.BankCounts.{tells_trouble}
+use Rattle.tbl_model.specs.Boots.{boot, stopped}
+use Rattle.tbl_model.specs.StoreUse.{left_by, with_calls, by_outcome, then_call}
+use Rattle.tbl_model.specs.AppBlocks.{faulted, any_of, renewal, new_slot, block_effect, cds_register_effect, is_own, by_block, if_block, cds_copy_effect, restore_answer, cds_restore_effect, cds_delete_effect, delete_table_block, delete_cds_effect}
 use Rattle.tbl_model.specs.Commands.{effect_by, command_effect}
 use Rattle.tbl_model.specs.declared.deeds.Named.{Named}
 use Rattle.tbl_model.specs.declared.deeds.Shown.TheVariants.{Registry}
+use Rattle.tbl_kinds.specs.declared.block.BlockKind.TheVariants.{Table as of_table, App}
 use Rattle.tbl_kinds.specs.declared.entry.Answer.{Answer}
+use Rattle.tbl_kinds.specs.declared.note.BankNote.{BankNote}
+use Rattle.tbl_kinds.specs.declared.note.Outcome.{Outcome}
+use Rattle.tbl_kinds.specs.declared.note.Outcome.TheVariants.{Untouched, Done, Failed, Stopped}
+use Rattle.tbl_kinds.specs.declared.request.ResetKind.TheVariants.{Processor}
 use Rattle.tbl_kinds.specs.declared.status.Status.{Status}
-use Rattle.tbl_kinds.specs.declared.status.TheConstants.Status.{SUCCESS, WARN_DUPLICATE, ERR_BAD_APP, ERR_INVALID_HANDLE, ERR_NO_ACCESS, ERR_UNREGISTERED, ERR_INVALID_NAME, ERR_DUPLICATE_NOT_OWNED, ERR_DUPLICATE_DIFF_SIZE, ERR_REGISTRY_FULL, ERR_HANDLES_FULL, ERR_ALREADY_PINNED, ERR_NEVER_LOADED, ERR_NOT_PINNED, ERR_OUT_OF_RANGE, ERR_APP_RUNNING, ERR_BAD_NAME, ERR_FILE_TOO_LARGE, ERR_DRAWER_FULL, ERR_FILE_NOT_FOUND, ERR_NO_SUCH_TABLE, INFO_NO_VALIDATION_PENDING, INFO_NO_DUMP_PENDING, ERR_BAD_SELECT, ERR_NO_LOAD, ERR_NOTICE_ID, ERR_VALIDATION_FAILED}
+use Rattle.tbl_kinds.specs.declared.status.TheConstants.Status.{SUCCESS, WARN_DUPLICATE, ERR_BAD_APP, ERR_INVALID_HANDLE, ERR_NO_ACCESS, ERR_UNREGISTERED, ERR_INVALID_NAME, ERR_DUPLICATE_NOT_OWNED, ERR_DUPLICATE_DIFF_SIZE, ERR_REGISTRY_FULL, ERR_HANDLES_FULL, ERR_ALREADY_PINNED, ERR_NEVER_LOADED, ERR_NOT_PINNED, ERR_OUT_OF_RANGE, ERR_APP_RUNNING, ERR_BAD_NAME, ERR_FILE_TOO_LARGE, ERR_DRAWER_FULL, ERR_FILE_NOT_FOUND, ERR_NO_SUCH_TABLE, INFO_NO_VALIDATION_PENDING, INFO_NO_DUMP_PENDING, ERR_BAD_SELECT, ERR_NO_LOAD, ERR_NOTICE_ID, ERR_VALIDATION_FAILED, INFO_STOPPED, INFO_CDS_EXISTS, ERR_INVALID_SIZE, ERR_IMAGE_SIZE, ERR_CDS_NOT_FOUND, ERR_TABLE_ACTIVE, ERR_CDS_NO_ROOM, ERR_CDS_FAULT, ERR_CDS_TORN}
 use Rattle.tbl_laws.proofs.CommandAnswers.{CommandRefuses, command_refuses}
 use Rattle.tbl_model.proofs.RefusalLaws.{is_refusal, Refuses, plan_refused, image_refused, closed_refused, file_refused, load_refused, validation_refused, activation_refused, update_refused, dump_refused, edit_refused}
 
@@ -70,6 +83,13 @@ flaw_refuses bad_subtype = refl
 flaw_refuses no_table_header = refl
 flaw_refuses incomplete = refl
 flaw_refuses too_big = refl
+
+-- what calls of the store make of a request that does nothing else: other blocks and an answer, be it that the bank failed, or the
+-- service begins anew
+pub record CallsStore (s : State) (note : BankNote) (P : Effect → Type 0) : Type 0 where
+  pub answers : (store : Store) (e : Effect) → e.next ≡ record s { store = store } → e.deeds ≡ [] → tells_trouble e.status ≡ false → P e
+  pub fails : (store : Store) (e : Effect) → note.outcome ≡ Failed → e.next ≡ record s { store = store } → e.deeds ≡ [] → e.status ≡ ERR_CDS_FAULT → P e
+  pub restarts : (store : Store) (e : Effect) → note.outcome ≡ Stopped → e.next ≡ boot Processor note (record s { store = store }) → e.deeds ≡ [] → e.status ≡ INFO_STOPPED → P e
 
 -- a property of effects that each refusal has, and what is done where nothing is refused, is one of the request's effect
 module _ (s : State) (P : Effect → Type 0) (refusal : (e : Effect) → e.next ≡ s → e.deeds ≡ [] → is_refusal e.status ≡ true → P e) where
@@ -304,6 +324,52 @@ module _ (s : State) (P : Effect → Type 0) (refusal : (e : Effect) → e.next 
   unfolding edit_effect
   by_edit app m offset bytes done = by_its_table app m true _ (λ row t there. by_ladder (edit_refusal s.tables row t offset (length bytes)) _ (edit_refused s.tables row t offset (length bytes)) (done row t there))
 
+  -- ---- blocks of the store
+
+  module _ (note : BankNote) (calls_store : CallsStore s note P) where
+    by_calls : (calls : List StoreCall) (e : Effect) → e.next ≡ s → e.deeds ≡ [] → tells_trouble e.status ≡ false → P (then_call calls note faulted e)
+    by_calls calls e same no_deeds no_trouble = by note.outcome refl where
+      next : (with_calls calls note e).next ≡ record s { store = left_by calls note e.next.store }
+      next = ap (λ (t : State). record t { store = left_by calls note e.next.store }) same
+
+      by : (outcome : Outcome) → note.outcome ≡ outcome → P (by_outcome outcome (with_calls calls note e) (faulted (with_calls calls note e)) (stopped note (with_calls calls note e)))
+      by Untouched is = calls_store.answers (left_by calls note e.next.store) _ next no_deeds no_trouble
+      by Done is = calls_store.answers (left_by calls note e.next.store) _ next no_deeds no_trouble
+      by Failed is = calls_store.fails (left_by calls note e.next.store) _ is next no_deeds refl
+      by Stopped is = calls_store.restarts (left_by calls note e.next.store) _ is (ap (boot Processor note) next) no_deeds refl
+
+    pub by_cds_register : (app : ℕ) (short : List ℕ) (size : ℕ) → P (cds_register_effect s app short size note)
+    unfolding cds_register_effect
+    by_cds_register app short size = by_name (name_of s app) _ (λ app_name. unless _ ERR_INVALID_NAME 0 _ refl (unless _ ERR_INVALID_SIZE 0 _ refl (of (full_name app_name short) (open_of App (full_name app_name short) s.store)))) where
+      of : (name : List ℕ) (old : Option ℕ) → P (block_effect s name size note old)
+      of name old = unless _ INFO_CDS_EXISTS (unwrap_or old 0) _ refl (unless _ ERR_CDS_NO_ROOM 0 _ refl (by_calls (renewal App name size old) (answered s SUCCESS (new_slot App name old s.store)) refl refl refl))
+
+    by_own_block : (app slot : ℕ) (effect : Stored → Effect) → ((b : Stored) → P (effect b)) → P (if_block s app slot effect)
+    by_own_block app slot effect done = by_name (name_of s app) _ (λ app_name. found app_name (stored_at s.store slot)) where
+      found : (app_name : List ℕ) (b : Option Stored) → P (by_block s app_name b effect)
+      found app_name None = no ERR_CDS_NOT_FOUND 0 refl
+      found app_name (Some b) = unless (not (is_own app_name b)) ERR_CDS_NOT_FOUND 0 _ refl (done b)
+
+    pub by_cds_copy : (app slot : ℕ) (image : List ℕ) → P (cds_copy_effect s app slot image note)
+    unfolding cds_copy_effect
+    by_cds_copy app slot image = by_own_block app slot _ (λ b. unless (not (eqb (length image) b.block.size)) ERR_IMAGE_SIZE 0 _ refl (by_calls (copy slot image ∷ []) (answered s SUCCESS 0) refl refl refl))
+
+    pub by_cds_restore : (app slot : ℕ) → P (cds_restore_effect s app slot note)
+    unfolding cds_restore_effect
+    by_cds_restore app slot = by_own_block app slot _ (λ b. given (restored_image note)) where
+      given : (restored : Option (List ℕ)) → P (then_call (restore slot (restored_image note) ∷ []) note faulted (restore_answer s note.torn restored))
+      given None = by_calls (restore slot (restored_image note) ∷ []) (answered s ERR_CDS_TORN note.torn) refl refl refl
+      given (Some image) = by_calls (restore slot (restored_image note) ∷ []) (record (answered s SUCCESS 0) { bytes = image }) refl refl refl
+
+    pub by_cds_delete : (app slot : ℕ) → P (cds_delete_effect s app slot note)
+    unfolding cds_delete_effect
+    by_cds_delete app slot = by_own_block app slot _ (λ b. by_calls (delete slot ∷ []) (answered s SUCCESS 0) refl refl refl)
+
+    by_table_block : (slot row : Option ℕ) → P (delete_table_block s note slot row)
+    by_table_block None row = no ERR_CDS_NOT_FOUND 0 refl
+    by_table_block (Some slot) (Some row) = no ERR_TABLE_ACTIVE 0 refl
+    by_table_block (Some slot) None = by_calls (delete slot ∷ []) (answered s SUCCESS 0) refl refl refl
+
   -- ---- the ground's files
 
   pub by_file : (name contents : List ℕ) → P (record (answered s SUCCESS 0) { next = record s { drawer = with_file s.drawer name contents } }) → P (file_effect s name contents)
@@ -352,6 +418,10 @@ module _ (s : State) (P : Effect → Type 0) (refusal : (e : Effect) → e.next 
     unfolding send_registry_effect
     by_send_registry name done = by_named name _ (λ row t there. done row)
 
+    pub by_delete_cds : (note : BankNote) → CallsStore s note P → (name : List ℕ) → P (delete_cds_effect s name note)
+    unfolding delete_cds_effect
+    by_delete_cds note calls_store name = about _ _ (by_table_block note calls_store (any_of of_table name s.store) (find name s.tables))
+
     module _ (written : (row : Option ℕ) (file bytes : List ℕ) → is_full_for s.drawer file ≡ false → P (written_effect s row file bytes)) where
       pub by_dump : (select : ℕ) (name file : List ℕ)
           → ((row : ℕ) (t : Table) → table_at s.tables row ≡ Some t → is_dump_only t ≡ true → dump_refusal s.tables t ≡ None → P (ask_dump_effect s file row t)) → P (dump_effect s select name file)
@@ -376,7 +446,7 @@ module _ (s : State) (P : Effect → Type 0) (refusal : (e : Effect) → e.next 
 -- ---- commands
 
 -- what each command does where nothing refuses it
-pub record Commands (s : State) (P : Effect → Type 0) : Type 0 where
+pub record Commands (s : State) (note : BankNote) (P : Effect → Type 0) : Type 0 where
   pub about : (e : Effect) (table : Option Named) → P e → P (record e { table = table })
   pub accepted : P (answered s SUCCESS 0)
   pub housekeeping : P (housekeeping_effect s)
@@ -386,11 +456,12 @@ pub record Commands (s : State) (P : Effect → Type 0) : Type 0 where
   pub asks : (row : ℕ) (t : Table) → table_at s.tables row ≡ Some t → activation_refusal s.pending row t ≡ None → P (ask_effect s row t)
   pub aborted : (row : ℕ) (t : Table) → table_at s.tables row ≡ Some t → is_some t.load ≡ true → P (aborted_effect s row)
   pub shown : (row : ℕ) → P (record (answered s SUCCESS 0) { shown = Registry row })
+  pub calls_store : CallsStore s note P
   pub written : (row : Option ℕ) (file bytes : List ℕ) → is_full_for s.drawer file ≡ false → P (written_effect s row file bytes)
   pub dump_asked : (file : List ℕ) (row : ℕ) (t : Table) → table_at s.tables row ≡ Some t → is_dump_only t ≡ true → dump_refusal s.tables t ≡ None → P (ask_dump_effect s file row t)
 
-module _ (s : State) (P : Effect → Type 0) (refusal : (e : Effect) → e.next ≡ s → e.deeds ≡ [] → is_refusal e.status ≡ true → P e) (done : Commands s P) where
-  by_asked : (asked : Result GroundCommand Answer) → CommandRefuses asked → P (effect_by s asked)
+module _ (s : State) (note : BankNote) (P : Effect → Type 0) (refusal : (e : Effect) → e.next ≡ s → e.deeds ≡ [] → is_refusal e.status ≡ true → P e) (done : Commands s note P) where
+  by_asked : (asked : Result GroundCommand Answer) → CommandRefuses asked → P (effect_by s asked note)
   by_asked (Err answer) refuses = refusal _ refl refl refuses
   by_asked (Ok housekeeping) refuses = done.housekeeping
   by_asked (Ok noop) refuses = done.accepted
@@ -401,8 +472,8 @@ module _ (s : State) (P : Effect → Type 0) (refusal : (e : Effect) → e.next 
   by_asked (Ok (activate table)) refuses = by_activate s P refusal done.about table done.asks
   by_asked (Ok (dump_registry file)) refuses = by_dump_registry s P refusal done.about done.written file
   by_asked (Ok (send_registry table)) refuses = by_send_registry s P refusal done.about table done.shown
-  by_asked (Ok (delete_cds table)) refuses = refusal _ refl refl refl
+  by_asked (Ok (delete_cds table)) refuses = by_delete_cds s P refusal done.about note done.calls_store table
   by_asked (Ok (abort table)) refuses = by_abort s P refusal done.about table done.aborted
 
-  pub by_command : (bytes : List ℕ) → P (command_effect s bytes)
+  pub by_command : (bytes : List ℕ) → P (command_effect s bytes note)
   by_command bytes = by_asked (command_in bytes) (command_refuses bytes)

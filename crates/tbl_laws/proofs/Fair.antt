@@ -2,12 +2,13 @@
 use Rattle.std.proofs.Common.{◌≡◌, ◌≢◌, ℕ, eqb, nat_lt, [], Bool, true, false, ◌&&◌, ◌||◌, cond, Some, refl, ap, sym, ◌∙◌, inl, inr, ◌⊎◌}
 use Rattle.std.proofs.lemmas.Bool.{eqb-false, eq-eqb, ne_eqb, or_from, or_parts, not-true}
 use Rattle.std.proofs.lemmas.Option.{same_Some}
-use Rattle.tbl_model.specs.State.{State, Table, Handle, Tables}
+use Rattle.tbl_model.specs.State.{State, Table, Handle, Tables, no_tables}
 use Rattle.tbl_model.specs.Tables.{table_at}
 use Rattle.tbl_model.specs.TableSteps.{handle_at, access_of, Access, pin_last}
 use Rattle.tbl_model.specs.Effects.{Effect}
 use Rattle.tbl_model.specs.Addresses.{stepped}
 use Rattle.tbl_model.specs.Counts.{is_reset}
+use Rattle.tbl_model.specs.BankCounts.{tells_trouble}
 use Rattle.tbl_model.specs.Whole.{is_by, is_done, asks_address, is_get, asks_end, is_exit, gives_back, asks_removal, takes_away, begins_anew, ends_pin}
 use Rattle.tbl_kinds.specs.declared.entry.Entry.{Entry}
 use Rattle.tbl_kinds.specs.declared.request.Actor.{Actor}
@@ -18,7 +19,7 @@ use Rattle.tbl_kinds.specs.declared.status.Status.{Status}
 use Rattle.tbl_kinds.specs.declared.status.TheConstants.Status.{SUCCESS, INFO_UPDATED, INFO_STOPPED}
 use Rattle.tbl_model.proofs.RefusalLaws.{is_refusal}
 use Rattle.tbl_laws.proofs.Cases.{Leads, access_is}
-use Rattle.tbl_laws.proofs.Pins.{at_set, kept, IsNear, GoesOn, AreLoaded, Remains, Keeps, stays_goes_on, stays_keeps}
+use Rattle.tbl_laws.proofs.Pins.{at_set, nothing_there, kept, IsNear, GoesOn, AreLoaded, Remains, Keeps, stays_goes_on, stays_keeps}
 
 -- ---- what an entry says of a handle
 
@@ -62,14 +63,18 @@ plain_spares actor request status app n same plain goes_on = record {
   goes_on = rw plain.no_reset goes_on;
 }
 
+-- an answer that tells of no trouble isn't that of a stop
+pub no_stop : (status : Status) → tells_trouble status ≡ false → eqb status.0 INFO_STOPPED.0 ≡ false
+no_stop status none = (or_parts (eqb status.0 INFO_STOPPED.0) _ none).0
+
 -- a refusal
 refused_spares : (actor : Actor) (request : Request) (status : Status) (app n : ℕ) (same : ℕ × ℕ × ℕ) → is_reset request ≡ false → is_refusal status ≡ true → Spares actor request status app n same
 refused_spares actor request status app n same no_reset refuses =
-    let parts = or_parts (is_done status) (eqb status.0 INFO_STOPPED.0) (not-true _ refuses) in record {
+    let parts = or_parts (is_done status) (tells_trouble status) (not-true _ refuses) in record {
       no_get = rw parts.0 (gone (is_by app actor) (asks_address n request));
       no_return = rw parts.0 (middle (is_by app actor) (asks_end n request || is_exit request));
       no_removal = rw parts.0 (middle (is_by same.1 actor) (asks_removal same.2 request || is_exit request));
-      goes_on = rw no_reset parts.1;
+      goes_on = rw no_reset (no_stop status parts.1);
     }
   where
     gone : (a b : Bool) → (a && b && false) ≡ false
@@ -119,6 +124,13 @@ module _ (s : State) (actor : Actor) (request : Request) where
   -- a refusal leaves the tables as they are
   pub fair_refused : is_reset request ≡ false → (effect : Effect) → effect.next ≡ s → effect.deeds ≡ [] → is_refusal effect.status ≡ true → Fair s actor request effect
   fair_refused no_reset effect same no_deeds refuses = fair_keeps effect (rw same (stays_keeps s.tables)) (λ n h p row t at pin of there on. refused_spares actor request effect.status h.app n (kept t) no_reset refuses)
+
+  -- without tables nothing is pinned
+  pub fair_anew : (effect : Effect) → effect.next.tables ≡ no_tables → Fair s actor request effect
+  fair_anew effect none = record {
+    pins = λ n h p at pin. absurd (nothing_there 256 n h (rw none at at));
+    loaded = λ all row t there. absurd (nothing_there 128 row t (rw none at there));
+  }
 
 -- ---- what each request does
 

@@ -25,6 +25,7 @@ use Rattle.tbl_model.specs.Dispatch.{effect_of}
 use Rattle.tbl_model.specs.Counts.{is_reset}
 use Rattle.tbl_model.specs.Whole.{asks_address, asks_end, asks_removal, is_exit}
 use Rattle.tbl_kinds.specs.declared.entry.Answer.{Answer}
+use Rattle.tbl_kinds.specs.declared.note.BankNote.{BankNote}
 use Rattle.tbl_kinds.specs.declared.request.Actor.{Actor}
 use Rattle.tbl_kinds.specs.declared.request.Actor.TheVariants.{Ground, App}
 use Rattle.tbl_kinds.specs.declared.request.Request.{Request}
@@ -39,8 +40,8 @@ use Rattle.tbl_laws.proofs.GivingUp.{fewer_handles, given_up, left, no_handle, o
 use Rattle.tbl_laws.proofs.Ordinary.{free_place}
 use Rattle.tbl_laws.proofs.Pins.{AreLoaded, Keeps, stays_keeps, unpinned_set, release_keeps, add_keeps, put_keeps, unseen_keeps, then_keeps, file_keeps, close_keeps, mark_keeps, patched_sized, stays_goes_on}
 use Rattle.tbl_laws.proofs.PinsKept.{update_keeps, give_up_keeps, leave_keeps, put_alone_keeps}
-use Rattle.tbl_laws.proofs.Fair.{IsPlain, Fair, fair_keeps, fair_plain, fair_refused, pin_fair, back_fair, granted}
-use Rattle.tbl_laws.proofs.Cases.{OfEffect, Commands, by_command, by_file, by_start, by_register, by_load_image, by_load_file, by_app_validate, by_update, by_manage, by_get_status, by_get, by_read, by_release, by_share, by_unregister, by_dump_to_buffer, by_edit, by_info, by_notify, by_exit}
+use Rattle.tbl_laws.proofs.Fair.{IsPlain, Fair, fair_keeps, fair_plain, fair_refused, fair_anew, no_stop, pin_fair, back_fair, granted}
+use Rattle.tbl_laws.proofs.Cases.{OfEffect, Commands, by_command, by_file, by_start, by_register, by_load_image, by_load_file, by_app_validate, by_update, by_manage, by_get_status, by_get, by_read, by_release, by_share, by_unregister, by_dump_to_buffer, by_edit, by_info, by_notify, by_exit, CallsStore, by_cds_register, by_cds_copy, by_cds_restore, by_cds_delete}
 
 -- a load that is about to go active is open
 pub open_checked : (t : Table) → is_checked t ≡ true → is_some t.load ≡ true
@@ -108,9 +109,17 @@ ends_keep (row ∷ rows) e = then_keeps e.state.tables (then_end e row).state.ta
 module _ (s : State) (n : ℕ) (fit : AreFit n s) where
   -- ---- the ground
 
-  commands : (bytes : Buffer) → Commands s (Fair s Ground (ask.Command bytes))
+  -- a request that calls the store and does nothing else
+  calls_store : (actor : Actor) (request : Request) (note : BankNote) → IsPlain request → CallsStore s note (Fair s actor request)
+  calls_store actor request note plain = record {
+    answers = λ store e is no_deeds no_trouble. fair_plain s actor request plain e (rw is (stays_keeps s.tables)) (no_stop e.status no_trouble);
+    fails = λ store e failed is no_deeds status. fair_plain s actor request plain e (rw is (stays_keeps s.tables)) (rw status refl);
+    restarts = λ store e stopped is no_deeds status. fair_anew s actor request e (ap (λ (t : State). t.tables) is);
+  }
+
+  commands : (bytes : Buffer) (note : BankNote) → Commands s note (Fair s Ground (ask.Command bytes))
   unfolding housekeeping_effect dumps_ended
-  commands bytes =
+  commands bytes note =
       let request : Request = ask.Command bytes in
       let plain : IsPlain request = record { no_address = λ k. refl; no_end = λ k. refl; no_removal = λ k. refl; no_exit = refl; no_reset = refl } in
       let keeps = fair_plain s Ground request plain in record {
@@ -123,6 +132,7 @@ module _ (s : State) (n : ℕ) (fit : AreFit n s) where
         asks = λ row t there none. keeps _ (unseen_keeps s.tables row (λ u. record u { activation = true }) (λ u. refl) (λ u. refl)) refl;
         aborted = λ row t there open_load. keeps _ (close_keeps s.tables row) refl;
         shown = λ row. keeps _ (stays_keeps s.tables) refl;
+        calls_store = calls_store Ground request note plain;
         written = λ row file bytes free. rw free (keeps _ (stays_keeps s.tables) refl);
         dump_asked = λ file row t there only none. rw none (keeps _ (unseen_keeps s.tables row (λ u. record u { dump = asked file }) (λ u. refl) (λ u. refl)) refl);
       }
@@ -212,13 +222,14 @@ module _ (s : State) (n : ℕ) (fit : AreFit n s) where
   plain_of request address end removal exit reset = record { no_address = address; no_end = end; no_removal = removal; no_exit = exit; no_reset = reset }
 
   pub request_fair : AreLoaded s.tables.rows → (actor : Actor) (request : Request) (given : Given) → OfEffect (Fair s actor request) (effect_of s actor request given)
-  request_fair loaded Ground (ask.Command bytes) given = by_command s (Fair s Ground (ask.Command bytes)) (fair_refused s Ground (ask.Command bytes) refl) (commands bytes) bytes.list
+  request_fair loaded Ground (ask.Command bytes) given = by_command s given.note (Fair s Ground (ask.Command bytes)) (fair_refused s Ground (ask.Command bytes) refl) (commands bytes given.note) bytes.list
   request_fair loaded Ground (ask.File name bytes) given =
       let request : Request = ask.File name bytes in
       by_file s (Fair s Ground request) (fair_refused s Ground request refl) name bytes.list (fair_plain s Ground request (plain_of request (λ k. refl) (λ k. refl) (λ k. refl) refl refl) _ (stays_keeps s.tables) refl)
   request_fair loaded Ground (ask.Time seconds sub) given =
       let request : Request = ask.Time seconds sub in
       fair_plain s Ground request (plain_of request (λ k. refl) (λ k. refl) (λ k. refl) refl refl) _ (stays_keeps s.tables) refl
+  request_fair loaded Ground (ask.Reset kind) given = fair_anew s Ground (ask.Reset kind) _ refl
   request_fair loaded Ground _ given = tt
   request_fair loaded (App app) (ask.Start name) given =
       let request : Request = ask.Start name in
@@ -293,4 +304,20 @@ module _ (s : State) (n : ℕ) (fit : AreFit n s) where
       let plain = plain_of request (λ k. refl) (λ k. refl) (λ k. refl) refl refl in
       by_notify s (Fair s (App app) request) (refuses app request plain) app handle msg code parameter (λ row t there is. keeps app request plain _ (unseen_keeps s.tables row (λ u. record u { notice = Some (record { msg = msg; code = code; parameter = parameter }) }) (λ u. refl) (λ u. refl)) refl)
   request_fair loaded (App app) ask.Exit given = by_exit s (Fair s (App app) ask.Exit) (fair_refused s (App app) ask.Exit refl) app (ended app)
+  request_fair loaded (App app) (ask.CdsRegister name size) given =
+      let request : Request = ask.CdsRegister name size in
+      let plain = plain_of request (λ k. refl) (λ k. refl) (λ k. refl) refl refl in
+      by_cds_register s (Fair s (App app) request) (refuses app request plain) given.note (calls_store (App app) request given.note plain) app name size
+  request_fair loaded (App app) (ask.CdsCopy slot image) given =
+      let request : Request = ask.CdsCopy slot image in
+      let plain = plain_of request (λ k. refl) (λ k. refl) (λ k. refl) refl refl in
+      by_cds_copy s (Fair s (App app) request) (refuses app request plain) given.note (calls_store (App app) request given.note plain) app slot image.list
+  request_fair loaded (App app) (ask.CdsRestore slot) given =
+      let request : Request = ask.CdsRestore slot in
+      let plain = plain_of request (λ k. refl) (λ k. refl) (λ k. refl) refl refl in
+      by_cds_restore s (Fair s (App app) request) (refuses app request plain) given.note (calls_store (App app) request given.note plain) app slot
+  request_fair loaded (App app) (ask.CdsDelete slot) given =
+      let request : Request = ask.CdsDelete slot in
+      let plain = plain_of request (λ k. refl) (λ k. refl) (λ k. refl) refl refl in
+      by_cds_delete s (Fair s (App app) request) (refuses app request plain) given.note (calls_store (App app) request given.note plain) app slot
   request_fair loaded (App app) _ given = tt

@@ -9,7 +9,7 @@ use Rattle.std.proofs.lemmas.List.{get_or-set_same, get_or-set_other}
 use Rattle.std.proofs.lemmas.Option.{same_Some}
 use Rattle.tbl_kinds.specs.Drawer.{is_full_for}
 use Rattle.tbl_kinds.specs.Numbers.{patched}
-use Rattle.tbl_model.specs.State.{State, Load, Table, Handle, Tables, Dump, quiet, asked, filled}
+use Rattle.tbl_model.specs.State.{State, Load, Table, Handle, Tables, Dump, quiet, asked, filled, no_tables}
 use Rattle.tbl_model.specs.Tables.{table_at, rows_where}
 use Rattle.tbl_model.specs.TableSteps.{handle_at, base, unchecked, last_image, load_image, let_go, with_image, put, put_in, set_time, set_time_in, set_file, set_checked, patch, activate, changed, changed_in, filled_with, end_dump, without_handle, give_back_by, remove, registered_by, with_table, with_handle, new_table, new_handle, as_registered}
 use Rattle.tbl_model.specs.Effects.{Effect, answered}
@@ -29,6 +29,7 @@ use Rattle.tbl_model.specs.declared.deeds.Deed.TheVariants.{Judged, Activated, D
 use Rattle.tbl_model.proofs.RefusalLaws.{is_refusal, update_taken}
 use Rattle.tbl_kinds.specs.declared.entry.Answer.{Answer}
 use Rattle.tbl_kinds.specs.declared.status.TheConstants.Status.{ERR_VALIDATION_FAILED}
+use Rattle.tbl_kinds.specs.declared.note.BankNote.{BankNote}
 use Rattle.tbl_kinds.specs.declared.request.Actor.{Actor}
 use Rattle.tbl_kinds.specs.declared.request.Actor.TheVariants.{Ground, App}
 use Rattle.tbl_kinds.specs.declared.request.Request.{Request}
@@ -38,8 +39,9 @@ use Rattle.tbl_laws.proofs.Rows.{set_row, changed_row}
 use Rattle.tbl_laws.proofs.Fits.{was}
 use Rattle.tbl_laws.proofs.Changes.{with_found, either, validated}
 use Rattle.tbl_laws.proofs.Ordinary.{free_place}
+use Rattle.tbl_laws.proofs.Pins.{nothing_there}
 use Rattle.tbl_laws.proofs.Honest.{TellsIn, PassesIn, NoneActive, none_active_nil, none_active_one, none_active_more, slice_get_more, passes_more, last_tells, Inherits, inherits_same, then_inherits, inherits_row, inherits_none, IsHonest, honest_plain}
-use Rattle.tbl_laws.proofs.Cases.{OfEffect, Commands, by_command, by_file, by_start, by_register, by_load_image, by_load_file, by_app_validate, by_update, by_manage, by_get_status, by_get, by_read, by_release, by_share, by_unregister, by_dump_to_buffer, by_edit, by_info, by_notify, by_exit}
+use Rattle.tbl_laws.proofs.Cases.{OfEffect, Commands, by_command, by_file, by_start, by_register, by_load_image, by_load_file, by_app_validate, by_update, by_manage, by_get_status, by_get, by_read, by_release, by_share, by_unregister, by_dump_to_buffer, by_edit, by_info, by_notify, by_exit, CallsStore, by_cds_register, by_cds_copy, by_cds_restore, by_cds_delete}
 
 -- ---- changes that make no mark
 
@@ -375,12 +377,24 @@ module _ (s : State) (n : ℕ) (fit : AreFit n s) where
   same_rows_of : (e : Effect) → e.deeds ≡ [] → e.next.tables.rows ≡ s.tables.rows → IsHonest s e
   same_rows_of e no_deeds same = plain e no_deeds (inherits_same s.tables e.next.tables same)
 
+  -- without tables there is no mark
+  anew : (e : Effect) → e.deeds ≡ [] → e.next.tables ≡ no_tables → IsHonest s e
+  anew e no_deeds none = plain e no_deeds (λ row u l there load checked. absurd (nothing_there 128 row u (rw none at there)))
+
   refused : (e : Effect) → e.next ≡ s → e.deeds ≡ [] → is_refusal e.status ≡ true → IsHonest s e
   refused e same no_deeds refuses = same_tables e no_deeds (ap (λ (x : State). x.tables) same)
 
-  commands : Commands s (IsHonest s)
+  -- a request that calls the store and does nothing else
+  calls_store : (note : BankNote) → CallsStore s note (IsHonest s)
+  calls_store note = record {
+    answers = λ store e is no_deeds no_trouble. same_tables e no_deeds (ap (λ (t : State). t.tables) is);
+    fails = λ store e failed is no_deeds status. same_tables e no_deeds (ap (λ (t : State). t.tables) is);
+    restarts = λ store e stopped is no_deeds status. anew e no_deeds (ap (λ (t : State). t.tables) is);
+  }
+
+  commands : (note : BankNote) → Commands s note (IsHonest s)
   unfolding housekeeping_effect dumps_ended
-  commands = record {
+  commands note = record {
     about = λ e table p. record { active = p.active; marks = p.marks };
     accepted = same_tables _ refl refl;
     housekeeping = let files = only_files s (rows_where is_filled 0 s.tables.rows) (record { state = s; bytes = []; deeds = [] }) (record { none = none_active_nil [] refl; inherits = inherits_same s.tables s.tables refl }) in honest_plain s _ files.none files.inherits;
@@ -392,6 +406,7 @@ module _ (s : State) (n : ℕ) (fit : AreFit n s) where
     asks = λ row t there none. plain _ refl (inherits_unseen s.tables row (λ u. record u { activation = true }) (λ u. refl) (λ u. refl));
     aborted = λ row t there open_load. plain _ refl (inherits_changed s.tables row (λ u. record u { load = None; activation = false }) (λ u. refl) (λ u l is checked. absurd (cc is)));
     shown = λ row. same_tables _ refl refl;
+    calls_store = calls_store note;
     written = λ row file bytes free. rw free (honest_plain s _ (none_active_one (Dumped row file (length bytes)) refl) (inherits_same s.tables s.tables refl));
     dump_asked = λ file row t there only none. rw none (plain _ refl (inherits_unseen s.tables row (λ u. record u { dump = asked file }) (λ u. refl) (λ u. refl)));
   } where
@@ -408,9 +423,10 @@ module _ (s : State) (n : ℕ) (fit : AreFit n s) where
   judged_badly row image number verdict e no_deeds same = honest_plain s _ (subst (λ (ds : List Deed). NoneActive (Judged row verdict ∷ ds)) (sym no_deeds) (none_active_one (Judged row verdict) refl)) (inherits_same s.tables e.next.tables (ap (λ (t : Tables). t.rows) same))
 
   pub honest : (actor : Actor) (request : Request) (given : Given) → OfEffect (IsHonest s) (effect_of s actor request given)
-  honest Ground (ask.Command bytes) given = by_command s (IsHonest s) refused commands bytes.list
+  honest Ground (ask.Command bytes) given = by_command s given.note (IsHonest s) refused (commands given.note) bytes.list
   honest Ground (ask.File name bytes) given = by_file s (IsHonest s) refused name bytes.list (same_tables _ refl refl)
   honest Ground (ask.Time seconds sub) given = same_tables _ refl refl
+  honest Ground (ask.Reset kind) given = anew _ refl refl
   honest Ground _ given = tt
   honest (App app) (ask.Start name) given = by_start s (IsHonest s) refused app name (same_tables _ refl refl)
   honest (App app) (ask.Register short size flags validator) given = by_register s (IsHonest s) refused app short size flags validator (λ name row handle may free_row free_handle.
@@ -435,4 +451,8 @@ module _ (s : State) (n : ℕ) (fit : AreFit n s) where
   honest (App app) (ask.GetInfo name) given = by_info s (IsHonest s) refused app name (λ t. same_tables _ refl refl)
   honest (App app) (ask.Notify handle msg code parameter) given = by_notify s (IsHonest s) refused app handle msg code parameter (λ row t there is. plain _ refl (inherits_unseen s.tables row (λ u. record u { notice = Some (record { msg = msg; code = code; parameter = parameter }) }) (λ u. refl) (λ u. refl)))
   honest (App app) ask.Exit given = by_exit s (IsHonest s) refused app (plain _ refl (inherits_without app s))
+  honest (App app) (ask.CdsRegister name size) given = by_cds_register s (IsHonest s) refused given.note (calls_store given.note) app name size
+  honest (App app) (ask.CdsCopy slot image) given = by_cds_copy s (IsHonest s) refused given.note (calls_store given.note) app slot image.list
+  honest (App app) (ask.CdsRestore slot) given = by_cds_restore s (IsHonest s) refused given.note (calls_store given.note) app slot
+  honest (App app) (ask.CdsDelete slot) given = by_cds_delete s (IsHonest s) refused given.note (calls_store given.note) app slot
   honest (App app) _ given = tt

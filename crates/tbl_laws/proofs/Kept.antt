@@ -32,7 +32,7 @@ use Rattle.tbl_model.proofs.RefusalLaws.{is_refusal}
 use Rattle.tbl_laws.proofs.Changes.{with_found, either}
 use Rattle.tbl_laws.proofs.Rows.{OneRow, changed_row}
 use Rattle.tbl_laws.proofs.Honest.{TellsIn, slice_get_more, get_before, last_tells}
-use Rattle.tbl_laws.proofs.Cases.{OfEffect, Commands, by_command, by_file, by_start, by_register, by_share, by_unregister, by_load_image, by_load_file, by_app_validate, by_update, by_manage, by_dump_to_buffer, by_edit, by_get_status, by_get, by_read, by_release, by_info, by_notify, by_exit}
+use Rattle.tbl_laws.proofs.Cases.{OfEffect, Commands, by_command, by_file, by_start, by_register, by_share, by_unregister, by_load_image, by_load_file, by_app_validate, by_update, by_manage, by_dump_to_buffer, by_edit, by_get_status, by_get, by_read, by_release, by_info, by_notify, by_exit, CallsStore, by_cds_register, by_cds_copy, by_cds_restore, by_cds_delete}
 
 -- the verdict is the answer to a question about this image, for the function of this number
 pub record WasAsked (questions : List Question) (given : Given) (number : ℕ) (image : List ℕ) (v : ℤ) : Type 0 where
@@ -235,7 +235,14 @@ module _ (s : State) (given : Given) where
       subst (AreAsked s given (finished row active t (judged_image t active) (pos 0) ∷ []) (Some (judged_image t active) ∷ [])) (no_questions t (judged_image t active) none)
       (finished_told s given row t active (judged_image t active) (pos 0) there (λ some. absurd (cc (some, none))))
 
-  commands : Commands s (IsKept s given)
+  calls_store : CallsStore s given.note (IsKept s given)
+  calls_store = record {
+    answers = λ store e is no_deeds no_trouble. none_told s given e.deeds e.images e.asked no_deeds;
+    fails = λ store e failed is no_deeds status. none_told s given e.deeds e.images e.asked no_deeds;
+    restarts = λ store e stopped is no_deeds status. none_told s given e.deeds e.images e.asked no_deeds;
+  }
+
+  commands : Commands s given.note (IsKept s given)
   unfolding housekeeping_effect dumps_ended
   commands = record {
     about = λ e table p. p;
@@ -247,6 +254,7 @@ module _ (s : State) (given : Given) where
     asks = λ row t there none. nothing_told;
     aborted = λ row t there open_load. nothing_told;
     shown = λ row. nothing_told;
+    calls_store = calls_store;
     written = λ row file bytes free. rw free (one_told s given (Dumped row file (length bytes)) (None ∷ []) [] (λ r. refl));
     dump_asked = λ file row t there only none. rw none (nothing_told);
   }
@@ -262,9 +270,10 @@ module _ (s : State) (given : Given) where
       (judged_told s given row t number image verdict [] e.images there is one nothing_silent)
 
   pub kept : (actor : Actor) (request : Request) → OfEffect (IsKept s given) (effect_of s actor request given)
-  kept Ground (ask.Command bytes) = by_command s (IsKept s given) refused commands bytes.list
+  kept Ground (ask.Command bytes) = by_command s given.note (IsKept s given) refused commands bytes.list
   kept Ground (ask.File name bytes) = by_file s (IsKept s given) refused name bytes.list (nothing_told)
   kept Ground (ask.Time seconds sub) = nothing_told
+  kept Ground (ask.Reset kind) = nothing_told
   kept Ground _ = tt
   kept (App app) (ask.Start name) = by_start s (IsKept s given) refused app name (nothing_told)
   kept (App app) (ask.Register short size flags validator) = by_register s (IsKept s given) refused app short size flags validator (λ name row handle may free_row free_handle. nothing_told)
@@ -286,4 +295,8 @@ module _ (s : State) (given : Given) where
   kept (App app) (ask.GetInfo name) = by_info s (IsKept s given) refused app name (λ t. nothing_told)
   kept (App app) (ask.Notify handle msg code parameter) = by_notify s (IsKept s given) refused app handle msg code parameter (λ row t there is. nothing_told)
   kept (App app) ask.Exit = by_exit s (IsKept s given) refused app nothing_told
+  kept (App app) (ask.CdsRegister name size) = by_cds_register s (IsKept s given) refused given.note calls_store app name size
+  kept (App app) (ask.CdsCopy slot image) = by_cds_copy s (IsKept s given) refused given.note calls_store app slot image.list
+  kept (App app) (ask.CdsRestore slot) = by_cds_restore s (IsKept s given) refused given.note calls_store app slot
+  kept (App app) (ask.CdsDelete slot) = by_cds_delete s (IsKept s given) refused given.note calls_store app slot
   kept (App app) _ = tt

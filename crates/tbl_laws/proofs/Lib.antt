@@ -15,3 +15,5 @@ pub mod Honest
 pub mod HonestRequests
 pub mod Kept
 pub mod VouchedLaws
+pub mod BootLaws
+pub mod Causes

@@ -1,4 +1,4 @@
--- What each request leaves: the service goes on, and what holds of its tables and of pending validations still does.
+-- What each request leaves: the service goes on unless a boot failed, and what holds of its tables and of pending validations still does.
 use Rattle.std.proofs.lemmas.Bool.Decides.{nat_tests}
 use Rattle.std.proofs.Common.{◌≡◌, ℕ, suc, ◌<◌, List, [], ◌∷◌, length, Bool, true, false, Option, Some, None, is_none, refl, sym, ap, ◌∙◌, subst, arith, cond, replicate, ◌≤◌, is_some, pos}
 use Rattle.std.specs.Prelude.{slice_index_or, slice_set, slice_get, option_and_then, IfSome}
@@ -20,6 +20,7 @@ use Rattle.tbl_model.specs.Pending.{is_pending}
 use Rattle.tbl_model.specs.Refusals.{may_use}
 use Rattle.tbl_model.specs.Validations.{first_pending}
 use Rattle.tbl_model.specs.Dumps.{Ended, end_by, then_end, is_filled, dumps_ended, housekeeping_effect}
+use Rattle.tbl_model.specs.Boots.{boot}
 use Rattle.tbl_model.specs.Dispatch.{effect_of}
 use Rattle.tbl_model.proofs.RefusalLaws.{is_refusal, load_taken, validation_taken, update_taken, plan_taken}
 use Rattle.tbl_model.specs.Sharing.{is_notice}
@@ -28,15 +29,17 @@ use Rattle.tbl_laws.proofs.Rows.{nothing_at, set_row}
 use Rattle.tbl_laws.proofs.Fits.{fit_on, fit_same, was, unseen, mark}
 use Rattle.tbl_laws.proofs.Changes.{grown, told, imaged, imaged_from, loads, pends, asks, aborts, updates, managed, goes_on, put_alone, noticed}
 use Rattle.tbl_laws.proofs.GivingUp.{kept_with, given_up, fewer_handles, exited, still_live}
-use Rattle.tbl_laws.proofs.Cases.{OfEffect, Leads, Commands, by_command, by_file, by_start, by_register, by_load_image, by_load_file, by_app_validate, by_update, by_manage, by_get_status, by_get, by_read, by_release, by_share, by_unregister, by_dump_to_buffer, by_edit, by_info, by_notify, by_exit}
+use Rattle.tbl_laws.proofs.Cases.{OfEffect, Leads, Commands, by_command, by_file, by_start, by_register, by_load_image, by_load_file, by_app_validate, by_update, by_manage, by_get_status, by_get, by_read, by_release, by_share, by_unregister, by_dump_to_buffer, by_edit, by_info, by_notify, by_exit, CallsStore, by_cds_register, by_cds_copy, by_cds_restore, by_cds_delete}
+use Rattle.tbl_kinds.specs.declared.note.BankNote.{BankNote}
 use Rattle.tbl_kinds.specs.declared.request.Actor.{Actor}
 use Rattle.tbl_kinds.specs.declared.request.Actor.TheVariants.{Ground, App}
+use Rattle.tbl_kinds.specs.declared.request.ResetKind.TheVariants.{Processor}
 use Rattle.tbl_kinds.specs.declared.request.Request.{Request}
 use Rattle.tbl_kinds.specs.declared.request.Request.TheVariants as ask
 
-pub record IsOrdinary (n : ℕ) (e : Effect) : Type 0 where
+pub record IsOrdinary (n : ℕ) (note : BankNote) (e : Effect) : Type 0 where
   pub fit : AreFit (suc n) e.next
-  pub live : e.next.ended ≡ false
+  pub live : note.ended ≡ false → e.next.ended ≡ false
 
 -- without tables all holds
 pub fit_at_first : (n : ℕ) (s : State) → s.tables ≡ no_tables → s.pending ≡ [] → AreFit n s
@@ -75,15 +78,18 @@ pending_first pending row active first = by (is_pending row true pending) (is_pe
   by false true is_last is_load found = rw (sym (same_Some false active found)) is_load
   by false false is_last is_load found = absurd (cc found)
 
-module _ (s : State) (n : ℕ) (live : s.ended ≡ false) (fit : AreFit n s) where
-  ordinary_of : (next : State) → AreFit (suc n) next → next.ended ≡ s.ended → (e : Effect) → e.next ≡ next → IsOrdinary n e
-  ordinary_of next fits goes e is = rw is (record { fit = fits; live = goes ∙ live })
+module _ (s : State) (n : ℕ) (lives : s.ended ≡ false) (fit : AreFit n s) (given : Given) where
+  live : given.note.ended ≡ false → s.ended ≡ false
+  live _ = lives
+
+  ordinary_of : (next : State) → AreFit (suc n) next → next.ended ≡ s.ended → (e : Effect) → e.next ≡ next → IsOrdinary n given.note e
+  ordinary_of next fits goes e is = rw is (record { fit = fits; live = λ _. goes ∙ lives })
 
   -- an effect that leaves the state
-  same : (e : Effect) → e.next ≡ s → IsOrdinary n e
+  same : (e : Effect) → e.next ≡ s → IsOrdinary n given.note e
   same e is = rw is (record { fit = grown n s fit; live = live })
 
-  refused : (e : Effect) → e.next ≡ s → e.deeds ≡ [] → is_refusal e.status ≡ true → IsOrdinary n e
+  refused : (e : Effect) → e.next ≡ s → e.deeds ≡ [] → is_refusal e.status ≡ true → IsOrdinary n given.note e
   refused e is no_deeds refuses = same e is
 
   -- what changes neither tables nor what is pending, nor the kit
@@ -134,13 +140,21 @@ module _ (s : State) (n : ℕ) (live : s.ended ≡ false) (fit : AreFit n s) whe
   ends [] e well = well
   ends (row ∷ rows) e well = ends rows (then_end e row) (end_one row e well)
 
-  housekept : IsOrdinary n (housekeeping_effect s)
+  housekept : IsOrdinary n given.note (housekeeping_effect s)
   unfolding EndsWell housekeeping_effect dumps_ended
-  housekept = let all = ends (rows_where is_filled 0 s.tables.rows) (record { state = s; bytes = []; deeds = [] }) (fit, refl) in record { fit = grown n _ all.0; live = all.1 ∙ live }
+  housekept = let all = ends (rows_where is_filled 0 s.tables.rows) (record { state = s; bytes = []; deeds = [] }) (fit, refl) in record { fit = grown n _ all.0; live = λ _. all.1 ∙ lives }
 
   -- ---- commands
 
-  commands : Commands s (IsOrdinary n)
+  -- other blocks, or no tables at all
+  calls_store : CallsStore s given.note (IsOrdinary n given.note)
+  calls_store = record {
+    answers = λ store e is no_deeds no_trouble. ordinary_of (record s { store = store }) (elsewhere _ refl refl refl) refl e is;
+    fails = λ store e failed is no_deeds status. ordinary_of (record s { store = store }) (elsewhere _ refl refl refl) refl e is;
+    restarts = λ store e stopped is no_deeds status. rw is (record { fit = fit_at_first (suc n) (boot Processor given.note (record s { store = store })) refl refl; live = λ goes. goes });
+  }
+
+  commands : Commands s given.note (IsOrdinary n given.note)
   commands = record {
     about = λ e table p. record { fit = p.fit; live = p.live };
     accepted = same _ refl;
@@ -151,6 +165,7 @@ module _ (s : State) (n : ℕ) (live : s.ended ≡ false) (fit : AreFit n s) whe
     asks = λ row t there none. record { fit = asks n s fit row t there none; live = live };
     aborted = λ row t there open_load. record { fit = grown n _ (aborts n s fit row t there); live = live };
     shown = λ row. same _ refl;
+    calls_store = calls_store;
     written = λ row file bytes free. rw free (record { fit = elsewhere _ refl refl refl; live = live });
     dump_asked = λ file row t there only none. rw none (record { fit = told n s fit row t there (suc n) (λ u. record u { dump = asked file }) (omega arith) refl refl refl refl refl refl refl; live = live });
   }
@@ -184,50 +199,58 @@ module _ (s : State) (n : ℕ) (live : s.ended ≡ false) (fit : AreFit n s) whe
 
   -- ---- all requests
 
-  pub ordinary : (actor : Actor) (request : Request) (given : Given) → OfEffect (IsOrdinary n) (effect_of s actor request given)
-  ordinary Ground (ask.Command bytes) given = by_command s (IsOrdinary n) refused commands bytes.list
-  ordinary Ground (ask.File name bytes) given = by_file s (IsOrdinary n) refused name bytes.list (record { fit = elsewhere _ refl refl refl; live = live })
-  ordinary Ground (ask.Time seconds sub) given = record { fit = elsewhere _ refl refl refl; live = live }
-  ordinary Ground request given = tt
-  ordinary (App app) (ask.Start name) given = by_start s (IsOrdinary n) refused app name (record { fit = elsewhere _ refl refl refl; live = live })
-  ordinary (App app) (ask.Register name size flags validator) given = by_register s (IsOrdinary n) refused app name size flags validator (λ full row handle plan free_row free_handle. record {
+  of_request : (actor : Actor) (request : Request) → OfEffect (IsOrdinary n given.note) (effect_of s actor request given)
+  of_request Ground (ask.Command bytes) = by_command s given.note (IsOrdinary n given.note) refused commands bytes.list
+  of_request Ground (ask.File name bytes) = by_file s (IsOrdinary n given.note) refused name bytes.list (record { fit = elsewhere _ refl refl refl; live = live })
+  of_request Ground (ask.Time seconds sub) = record { fit = elsewhere _ refl refl refl; live = live }
+  of_request Ground (ask.Reset kind) = record { fit = fit_at_first (suc n) (boot kind given.note s) refl refl; live = λ goes. goes }
+  of_request Ground request = tt
+  of_request (App app) (ask.Start name) = by_start s (IsOrdinary n given.note) refused app name (record { fit = elsewhere _ refl refl refl; live = live })
+  of_request (App app) (ask.Register name size flags validator) = by_register s (IsOrdinary n given.note) refused app name size flags validator (λ full row handle plan free_row free_handle. record {
     fit = new_row full row handle app size flags validator free_row free_handle (plan_taken s.kit app name size flags validator plan).may;
     live = live;
   })
-  ordinary (App app) (ask.Share name) given = by_share s (IsOrdinary n) refused app name (λ row handle free. record {
+  of_request (App app) (ask.Share name) = by_share s (IsOrdinary n given.note) refused app name (λ row handle free. record {
     fit = grown n _ (with_this_handle handle (new_handle app row) (λ g at. absurd (cc (at, (free_place s.tables.handles handle free).1))));
     live = live;
   })
-  ordinary (App app) (ask.Unregister handle) given = by_unregister s (IsOrdinary n) refused app handle (λ h place own. record { fit = grown n _ (given_up n handle s fit); live = (fewer_handles s handle).ended ∙ live })
-  ordinary (App app) (ask.LoadImage handle image) given = by_load_image s (IsOrdinary n) refused given (λ row t bytes number verdict there is one bad. record { fit = grown n s fit; live = live }) app handle image.list
+  of_request (App app) (ask.Unregister handle) = by_unregister s (IsOrdinary n given.note) refused app handle (λ h place own. record { fit = grown n _ (given_up n handle s fit); live = λ _. (fewer_handles s handle).ended ∙ lives })
+  of_request (App app) (ask.LoadImage handle image) = by_load_image s (IsOrdinary n given.note) refused given (λ row t bytes number verdict there is one bad. record { fit = grown n s fit; live = live }) app handle image.list
       (λ row t there none plain. record { fit = imaged n s fit row t there image.list s.seconds s.sub; live = live }) (λ row t number verdict there none is one good. record { fit = imaged n s fit row t there image.list s.seconds s.sub; live = live })
-  ordinary (App app) (ask.LoadFile handle name) given = by_load_file s (IsOrdinary n) refused given (λ row t bytes number verdict there is one bad. record { fit = grown n s fit; live = live }) app handle name
+  of_request (App app) (ask.LoadFile handle name) = by_load_file s (IsOrdinary n given.note) refused given (λ row t bytes number verdict there is one bad. record { fit = grown n s fit; live = live }) app handle name
       (λ row t file there open_to none plain. record { fit = imaged_from n s fit row t there _ s.seconds s.sub name; live = live }) (λ row t file number verdict there open_to none is one good. record { fit = imaged_from n s fit row t there _ s.seconds s.sub name; live = live })
-  ordinary (App app) (ask.Update handle) given = by_update s (IsOrdinary n) refused app handle (λ row t there none. record { fit = updates n s fit row t there s.seconds s.sub (update_taken s.tables row t none).0; live = live })
-  ordinary (App app) (ask.Validate handle) given = by_app_validate s (IsOrdinary n) refused app handle given (λ row t active there first. record {
+  of_request (App app) (ask.Update handle) = by_update s (IsOrdinary n given.note) refused app handle (λ row t there none. record { fit = updates n s fit row t there s.seconds s.sub (update_taken s.tables row t none).0; live = live })
+  of_request (App app) (ask.Validate handle) = by_app_validate s (IsOrdinary n given.note) refused app handle given (λ row t active there first. record {
     fit = grown n _ (mark n s fit row t there active (verdict_at 0 given) ((was n s fit row t there).pends active (pending_first s.pending row active first)).unasked);
     live = live;
   })
-  ordinary (App app) (ask.Manage handle) given = by_manage s (IsOrdinary n) refused app handle given (λ row t there. record { fit = managed n row given s fit; live = goes_on n row given s ∙ live })
-  ordinary (App app) (ask.DumpToBuffer handle) given = by_dump_to_buffer s (IsOrdinary n) refused app handle (λ row t there is. record {
+  of_request (App app) (ask.Manage handle) = by_manage s (IsOrdinary n given.note) refused app handle given (λ row t there. record { fit = managed n row given s fit; live = λ _. goes_on n row given s ∙ lives })
+  of_request (App app) (ask.DumpToBuffer handle) = by_dump_to_buffer s (IsOrdinary n given.note) refused app handle (λ row t there is. record {
     fit = told n s fit row t there (suc n) (λ u. record u { dump = filled_with (last_image u) u.dump }) (omega arith) refl refl refl refl refl refl refl;
     live = live;
   })
-  ordinary (App app) (ask.Edit handle offset bytes) given = by_edit s (IsOrdinary n) refused app handle offset bytes.list (λ row t there none. record { fit = put_alone n s fit row t there _; live = live })
-  ordinary (App app) (ask.Get handle) given = by_get s (IsOrdinary n) refused app handle (λ a leads some. record {
+  of_request (App app) (ask.Edit handle offset bytes) = by_edit s (IsOrdinary n given.note) refused app handle offset bytes.list (λ row t there none. record { fit = put_alone n s fit row t there _; live = live })
+  of_request (App app) (ask.Get handle) = by_get s (IsOrdinary n given.note) refused app handle (λ a leads some. record {
     fit = grown n _ (with_this_handle handle (record a.handle { pin = Some a.table.count; told = a.table.count }) (λ g at. same_handle_of handle a.handle g leads.place at));
     live = live;
   })
-  ordinary (App app) (ask.Read handle offset len) given = by_read s (IsOrdinary n) refused app handle offset len (λ a leads pinned inside. same _ refl)
-  ordinary (App app) (ask.Release handle) given = by_release s (IsOrdinary n) refused app handle (λ a leads pinned. rw pinned (record {
+  of_request (App app) (ask.Read handle offset len) = by_read s (IsOrdinary n given.note) refused app handle offset len (λ a leads pinned inside. same _ refl)
+  of_request (App app) (ask.Release handle) = by_release s (IsOrdinary n given.note) refused app handle (λ a leads pinned. rw pinned (record {
     fit = released app handle a leads;
     live = live;
   }))
-  ordinary (App app) (ask.GetStatus handle) given = by_get_status s (IsOrdinary n) refused app handle (λ row t. same _ refl)
-  ordinary (App app) (ask.GetInfo name) given = by_info s (IsOrdinary n) refused app name (λ t. same _ refl)
-  ordinary (App app) (ask.Notify handle msg code parameter) given = by_notify s (IsOrdinary n) refused app handle msg code parameter (λ row t there is. record {
+  of_request (App app) (ask.GetStatus handle) = by_get_status s (IsOrdinary n given.note) refused app handle (λ row t. same _ refl)
+  of_request (App app) (ask.GetInfo name) = by_info s (IsOrdinary n given.note) refused app name (λ t. same _ refl)
+  of_request (App app) (ask.Notify handle msg code parameter) = by_notify s (IsOrdinary n given.note) refused app handle msg code parameter (λ row t there is. record {
     fit = noticed n s fit row t there (suc n) (record { msg = msg; code = code; parameter = parameter }) (omega arith) (seven_bits msg code is);
     live = live;
   })
-  ordinary (App app) ask.Exit given = by_exit s (IsOrdinary n) refused app (record { fit = grown n _ (exited app n s fit); live = still_live app n s fit ∙ live })
-  ordinary (App app) request given = tt
+  of_request (App app) ask.Exit = by_exit s (IsOrdinary n given.note) refused app (record { fit = grown n _ (exited app n s fit); live = λ _. still_live app n s fit ∙ lives })
+  of_request (App app) (ask.CdsRegister name size) = by_cds_register s (IsOrdinary n given.note) refused given.note calls_store app name size
+  of_request (App app) (ask.CdsCopy slot image) = by_cds_copy s (IsOrdinary n given.note) refused given.note calls_store app slot image.list
+  of_request (App app) (ask.CdsRestore slot) = by_cds_restore s (IsOrdinary n given.note) refused given.note calls_store app slot
+  of_request (App app) (ask.CdsDelete slot) = by_cds_delete s (IsOrdinary n given.note) refused given.note calls_store app slot
+  of_request (App app) request = tt
+
+pub ordinary : (s : State) (n : ℕ) → s.ended ≡ false → AreFit n s → (actor : Actor) (request : Request) (given : Given) → OfEffect (IsOrdinary n given.note) (effect_of s actor request given)
+ordinary s n lives fit actor request given = of_request s n lives fit given actor request

@@ -47,7 +47,7 @@ all_more p (y ∷ ys) x all last =
     rw (parts.0, all_more p ys x parts.1 last) refl
 
 -- one entry more, with this effect
-module _ (past : List Told) (entries : List Entry) (e : Entry) (s : State) (effect : Effect) (holds : Holds past entries s) (honest_of : IsHonest s effect) (left : IsOrdinary (length entries) effect) where
+module _ (past : List Told) (entries : List Entry) (e : Entry) (s : State) (effect : Effect) (holds : Holds past entries s) (honest_of : IsHonest s effect) (left : IsOrdinary (length entries) e.note effect) where
   it : Told
   it = told s e.actor e.request effect
 
@@ -101,8 +101,8 @@ module _ (opening : State) where
     honest_effect : IsHonest (run_at entries).state is.effect
     honest_effect = subst (OfEffect (IsHonest (run_at entries).state)) is.effect_is (honest (run_at entries).state (length entries) holds.fit e.actor e.request (given_in e))
 
-    left : IsOrdinary (length entries) is.effect
-    left = subst (OfEffect (IsOrdinary (length entries))) is.effect_is (ordinary (run_at entries).state (length entries) is.live holds.fit e.actor e.request (given_in e))
+    left : IsOrdinary (length entries) e.note is.effect
+    left = subst (OfEffect (IsOrdinary (length entries) e.note)) is.effect_is (ordinary (run_at entries).state (length entries) is.live holds.fit e.actor e.request (given_in e))
 
     entry_is : VouchedAt entries e
     unfolding it

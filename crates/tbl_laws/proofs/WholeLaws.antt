@@ -89,7 +89,7 @@ whole_on opening entries app n same offset len image e no_get no_end whole = let
 
 -- one more entry, answered with this effect
 module _ (opening : State) (entries : List Entry) (e : Entry) (s : State) (effect : Effect) (here : (run_from (begins_at opening) entries).state.tables ≡ s.tables) (holds : Holds opening entries s)
-    (status : e.reply.status ≡ effect.status) (fair : Fair s e.actor e.request effect) (ordinary_left : IsOrdinary (length entries) effect) where
+    (status : e.reply.status ≡ effect.status) (fair : Fair s e.actor e.request effect) (ordinary_left : IsOrdinary (length entries) e.note effect) where
   -- a handle that stays leads to the same image, and the call that pinned it is still the latest
   stays_pinned : (n : ℕ) (h : Handle) (p : ℕ) → h.pin ≡ Some p → Stays s.tables effect.next.tables e.actor e.request effect.status n h p → Pinned opening (entries ++ e ∷ []) effect.next.tables n h p
   stays_pinned n h p pin stays =
@@ -198,7 +198,7 @@ module _ (opening : State) where
   holds_after entries e holds is =
       let s : State = (run_at entries).state in
       let fair : Fair s e.actor e.request is.effect = subst (OfEffect (Fair s e.actor e.request)) is.effect_is (request_fair s (length entries) holds.fit holds.loaded e.actor e.request (given_in e)) in
-      let left : IsOrdinary (length entries) is.effect = subst (OfEffect (IsOrdinary (length entries))) is.effect_is (ordinary s (length entries) is.live holds.fit e.actor e.request (given_in e)) in
+      let left : IsOrdinary (length entries) e.note is.effect = subst (OfEffect (IsOrdinary (length entries) e.note)) is.effect_is (ordinary s (length entries) is.live holds.fit e.actor e.request (given_in e)) in
       let on : Holds opening (entries ++ e ∷ []) is.effect.next = holds_on opening entries e s is.effect refl holds is.status fair left in
       subst (λ (r : Run). Holds opening (entries ++ e ∷ []) r.state) (sym (run_push (begins_at opening) entries e))
       (subst (λ (found : Option Effect). Holds opening (entries ++ e ∷ []) (onward_by (run_at entries) e found).state) (sym is.effect_is) on)
