@@ -9,6 +9,7 @@ pub mod NewBlocks
 pub mod Names
 pub mod Reading
 pub mod Recovered
+pub mod Alone
 pub mod Reservations
 pub mod Showing
 pub mod Steps

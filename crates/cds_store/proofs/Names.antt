@@ -1,10 +1,9 @@
 -- The name of a right block fits its field.
-use Rattle.std.proofs.Common.{◌≡◌, ℕ, zero, suc, ◌+◌, ◌-◌, List, [], ◌∷◌, length, replicate, nat_lt, true, false, refl, ap, arith, length-append}
-use Rattle.std.specs.List.{list_all, position_or_len}
+use Rattle.std.proofs.Common.{◌≡◌, ℕ, ◌-◌, length, replicate, nat_lt, true, arith, length-append}
+use Rattle.std.specs.List.{list_all}
 use Rattle.std.proofs.lemmas.Bool.{and_parts}
 use Rattle.std.proofs.lemmas.List.{length-replicate}
-use Rattle.std.proofs.Math.Dec.{eqb-suc-zero}
-use Rattle.tbl_kinds.specs.Names.{is_zero, is_printable_byte, name_field, HasNoZero}
+use Rattle.tbl_kinds.specs.Names.{is_printable_byte, name_field}
 use Rattle.tbl_kinds.specs.Records.{FitsField}
 use Rattle.tbl_kinds.proofs.Names.{printable_no_zero}
 use Rattle.tbl_kinds.specs.declared.block.Block.{Block}

@@ -1,19 +1,12 @@
 -- Blocks that can be there together.
-use Rattle.std.proofs.Common.{◌≡◌, ◌≢◌, ◌⊎◌, inl, inr, ⊎_elim, ℕ, ◌<◌, ◌≤◌, List, length, slice_index_or, slice_set, true, not, ◌&&◌, nat_lt, nat_le, Option, Some, None, refl, sym, ◌∙◌, subst, arith}
+use Rattle.std.proofs.Common.{◌≡◌, ◌≢◌, ◌⊎◌, inl, inr, ⊎_elim, ℕ, ◌<◌, ◌≤◌, List, length, slice_index_or, slice_set, true, not, nat_le, Option, Some, None, sym, ◌∙◌, subst, arith}
 use Rattle.std.specs.Option.{ForSome}
-use Rattle.std.specs.Str.{bytes_eq}
-use Rattle.std.proofs.lemmas.Bool.{cases_eq, cases_lt, cases_Bool, and_parts, or_cases, leb-true}
+use Rattle.std.proofs.lemmas.Bool.{cases_eq, cases_lt, and_parts, or_cases, leb-true}
 use Rattle.std.proofs.lemmas.List.{length-set, get_or-set_same, get_or-set_other, get_or_past}
 use Rattle.std.proofs.lemmas.Option.{same_Some}
-use Rattle.std.proofs.lemmas.Slice.Eq.{bytes_eq-Decides}
-use Rattle.std.proofs.Math.Bool.{or_comm}
-use Rattle.tbl_kinds.specs.Limits.{table_limit}
-use Rattle.tbl_kinds.specs.Names.{is_name}
-use Rattle.tbl_kinds.specs.Places.{bank_size, blocks_begin, end_of, are_apart, is_inside}
-use Rattle.tbl_kinds.specs.StoreSteps.{same_kind, same_block}
+use Rattle.tbl_kinds.specs.Places.{end_of, are_apart}
+use Rattle.tbl_kinds.specs.StoreSteps.{same_block}
 use Rattle.tbl_kinds.specs.declared.block.Block.{Block}
-use Rattle.tbl_kinds.specs.declared.block.BlockKind.{BlockKind}
-use Rattle.tbl_kinds.specs.declared.block.BlockKind.TheVariants.{Table, App}
 use Rattle.cds_layout.specs.Entries.{slot_count, is_right}
 use Rattle.cds_layout.specs.Directory.{agree}
 use Rattle.cds_layout.proofs.DirectoryLaws.{agree-sym}

@@ -1,11 +1,11 @@
 //! What is asked of the slots: the block of a name, and the room for a new one.
 
-ghost use Rattle.std.specs.Prelude.{◌≡◌, ◌+◌, ◌<◌, ◌≤◌, [], ◌∷◌, ◌++◌, None, length, position, IfSome, is_none};
+ghost use Rattle.std.specs.Prelude.{◌≡◌, ◌+◌, ◌<◌, ◌≤◌, [], ◌∷◌, ◌++◌, None, length, position, IfSome, is_some, is_none};
 ghost use Rattle.std.specs.Option.{option_copied, option_map};
 ghost use Rattle.tbl_kinds.specs.Places.{place};
 ghost use Rattle.tbl_kinds.specs.StoreSteps.{is_of};
 ghost use Rattle.tbl_kinds.specs.Free.{least_free};
-ghost use Rattle.cds_store.specs.Slots.{is_open_slot, is_doubtful_slot, open_slot, doubtful_slot, without_slot, block_of, blocks_of, room_in};
+ghost use Rattle.cds_store.specs.Slots.{is_open_slot, is_doubtful_slot, open_slot, doubtful_slot, without_slot, block_of, blocks_of, has_open, room_in};
 ghost use Rattle.cds_store.specs.Sound.{slot_at};
 
 use crate::block_list::BlockList;
@@ -121,6 +121,18 @@ pub(crate) fn block_in(slots: &[Option<Slot>], slot: u8) -> Option<&Block>
 {
     match slots.get(slot as usize) {
         Some(Some(taken)) => Some(&taken.block),
+        _ => None,
+    }
+}
+
+/// The slot of this number, where an open block stands in it.
+pub(crate) fn open_in(slots: &[Option<Slot>], number: u16) -> Option<u8>
+    requires { length slots.now ≤ 256 }
+    ensures some { IfSome result (λ slot. slot ≡ number) }
+    ensures open { is_some result ≡ has_open (slot_at slots.now number) }
+{
+    match slots.get(number as usize) {
+        Some(Some(taken)) if !taken.doubtful => Some(number as u8),
         _ => None,
     }
 }

@@ -1,6 +1,7 @@
-ghost use Rattle.std.specs.Prelude.{◌≡◌, ◌≤◌, ◌<◌, None, Some, true, false, not, List, ℕ, [], length, replicate, is_ok, IsSome, IfSome, IfOk, OnOk, OnErr, IfErr};
+ghost use Rattle.std.specs.Prelude.{◌≡◌, ◌≤◌, ◌<◌, None, Some, true, false, not, List, ℕ, [], length, replicate, is_some, is_ok, slice_set, IsSome, IfSome, IfOk, OnOk, OnErr, IfErr};
 ghost use Rattle.std.specs.Option.{ForSome, option_map, option_copied};
 ghost use Rattle.tbl_kinds.specs.Names.{is_name};
+ghost use Rattle.tbl_kinds.specs.Limits.{table_limit};
 ghost use Rattle.tbl_kinds.specs.Places.{bank_size};
 ghost use Rattle.tbl_kinds.specs.Blocks.{Stored, Store as Blocks};
 ghost use Rattle.tbl_kinds.specs.StoreCalls.{reserve, copy, restore, delete, after, broken, CanBreak};
@@ -15,7 +16,7 @@ ghost use Rattle.cds_layout.specs.Restores.{TellsTorn, SaysWhy, RestoreCounted, 
 ghost use Rattle.cds_store.specs.Boots.{BeginsAt, found_by};
 ghost use Rattle.cds_store.specs.Calls.{Steady, CallCounted, ReserveCounted, HasFlags, IfBank, lacks_room, is_gate, is_old};
 ghost use Rattle.cds_store.specs.Moments.{BootLeaves, LeavesIn, CopyTears};
-ghost use Rattle.cds_store.specs.Slots.{open_slot, doubtful_slot, without_slot, room_in, block_of};
+ghost use Rattle.cds_store.specs.Slots.{open_slot, doubtful_slot, without_slot, room_in, block_of, has_open};
 ghost use Rattle.cds_store.specs.Sound.{slot_at, IsOpenOf};
 ghost use Rattle.cds_store.specs.Standing.{StandsFor, after_fault, held_at, ComesBack};
 
@@ -23,7 +24,7 @@ use crate::boot::boot;
 use crate::fault::{BankFault, ReserveFault};
 use crate::gates::close;
 use crate::images::{copy, restore};
-use crate::lookups::{block_in, find_doubtful, find_open, room_for};
+use crate::lookups::{block_in, find_doubtful, find_open, open_in, room_for};
 use crate::reserving::reserve;
 use crate::slot::Slot;
 use cds_layout::{BLOCKS_BEGIN, Directory, RestoreFault, SLOTS};
@@ -185,8 +186,17 @@ impl<B: Bank> Store<B> {
         ensures slot { option_copied result ≡ option_map block_of (slot_at self.now.slots slot) }
         ensures block { (blocks : Blocks) → StandsFor B.tells B.now self.now blocks →
             option_copied result ≡ option_map (λ (b : Stored). b.block) (stored_at blocks slot) }
+        ensures sized { IfSome result (λ block. (1 ≤ block.now.size) × (block.now.size ≤ table_limit)) }
     {
         block_in(&self.slots, slot)
+    }
+
+    /// The slot of this number, where an open block stands in it; none where it is in doubt, and where no block is there.
+    pub fn open_in(&self, number: u16) -> Option<u8>
+        ensures some { IfSome result (λ slot. slot ≡ number) }
+        ensures open { is_some result ≡ has_open (slot_at self.now.slots number) }
+    {
+        open_in(&self.slots, number)
     }
 
     /// Whether a slot and a place are there for a block of this size, the named slot counted as free.
@@ -298,6 +308,11 @@ impl<B: Bank> Store<B> {
         requires booted { self.old.booted ≡ true }
         requires taken { IsSome (slot_at self.old.slots slot) }
         ensures booted { self.new.booted ≡ true }
+        ensures freed { OnOk result (self.new.slots ≡ slice_set self.old.slots slot None) }
+
+        // There is no other block of its kind and name, open or in doubt, so one may be reserved then.
+        ensures alone { OnOk result ((kind : BlockKind) (name : List ℕ) → open_slot kind name self.old.slots ≡ Some slot →
+            (open_slot kind name self.new.slots ≡ None) × (doubtful_slot kind name self.new.slots ≡ None)) }
         ensures ok { OnOk result ((blocks : Blocks) → StandsFor B.tells B.now self.old blocks →
             StandsFor B.tells B.now self.new (after (delete slot) blocks)) }
         ensures err { IfErr result (λ fault. (blocks : Blocks) → StandsFor B.tells B.now self.old blocks →

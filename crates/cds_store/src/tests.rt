@@ -83,6 +83,10 @@ fn copy_and_restore(store: &mut Store<MemBank>, image: &[u8; 4], into: &mut [u8;
     }
 }
 
+fn is_open(store: &Store<MemBank>, slot: u16) -> bool {
+    store.open_in(slot).is_some()
+}
+
 /// Whether there is room for a block of the greatest size, that of the open one and of a doubtful one counted as free.
 fn has_room(store: &Store<MemBank>) -> bool {
     let open = store.find(BlockKind::Table, &name());
@@ -112,6 +116,7 @@ fn each_call_once(rt: HostRuntime) -> Result<(), Fail> {
     assert_eq!(rt; reserve(&mut store), Some(0));
     assert!(rt; copy_and_restore(&mut store, b"abcd", &mut image));
     assert_eq!(rt; image, *b"abcd");
+    assert!(rt; is_open(&store, 0));
     assert!(rt; has_room(&store));
     assert!(rt; delete(&mut store));
     assert_eq!(rt; store.end().write_count(), 9);
