@@ -1,9 +1,11 @@
--- A full name has no zero byte.
-use Rattle.std.proofs.Common.{◌≡◌, ℕ, ◌+◌, Bool, true, not, List, [], ◌∷◌, ◌++◌, length, take, refl, ap, ◌∙◌, sym, eqb, eq-eqb, length-append, append_assoc, arith}
+-- A full name has no zero byte, and is a name where its parts are names.
+use Rattle.std.proofs.Common.{◌≡◌, ℕ, ◌+◌, nat_lt, Bool, true, not, List, [], ◌∷◌, ◌++◌, length, take, refl, ap, ◌∙◌, sym, eqb, eq-eqb, length-append, append_assoc, arith}
 use Rattle.std.proofs.lemmas.List.Folds.{length-prefix_len, prefix_len-append}
 use Rattle.std.proofs.Math.Seq.{take-length}
-use Rattle.std.specs.List.{prefix_len}
-use Rattle.tbl_kinds.specs.Names.{is_zero, name_in, HasNoZero}
+use Rattle.std.proofs.lemmas.Bool.{and_parts, and_from, lt-ltb}
+use Rattle.std.proofs.lemmas.List.Folds.{list_all-append}
+use Rattle.std.specs.List.{prefix_len, list_all}
+use Rattle.tbl_kinds.specs.Names.{is_zero, is_printable_byte, is_name, name_in, HasNoZero}
 use Rattle.tbl_model.specs.Applications.{full_name}
 
 abbrev stands : ℕ → Bool
@@ -25,3 +27,12 @@ full_reads_itself app short a b = ap (λ n. take n (full_name app short)) (full_
 -- what the application's name, a dot and the short name, put together, read as
 pub full_is : (app short field : List ℕ) → HasNoZero app → HasNoZero short → field ≡ (app ++ 46 ∷ []) ++ short → name_in field ≡ full_name app short
 full_is app short field a b is = ap name_in (is ∙ append_assoc app (46 ∷ []) short) ∙ full_reads_itself app short a b
+
+-- where both are names it is one
+pub full_named : (app short : List ℕ) → is_name app ≡ true → is_name short ≡ true → is_name (full_name app short) ≡ true
+full_named app short a b =
+    let of_app = and_parts (nat_lt 0 (length app)) (list_all is_printable_byte app) a in
+    let of_short = and_parts (nat_lt 0 (length short)) (list_all is_printable_byte short) b in
+    let some : nat_lt 0 (length (full_name app short)) ≡ true = lt-ltb 0 (length (full_name app short)) (omega (arith, length-append app (46 ∷ short))) in
+    and_from (nat_lt 0 (length (full_name app short))) (list_all is_printable_byte (full_name app short)) some
+    (list_all-append is_printable_byte app (46 ∷ short) ∙ and_from (list_all is_printable_byte app) (list_all is_printable_byte short) of_app.1 of_short.1)

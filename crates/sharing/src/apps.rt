@@ -1,7 +1,8 @@
-ghost use Rattle.std.specs.Prelude.{◌≡◌, ◌≤◌, ◌+◌, ◌-◌, ◌++◌, None, Some, IsNone, IfSome, ◌↔◌, length, replicate, slice_set};
+ghost use Rattle.std.specs.Prelude.{◌≡◌, ◌≤◌, ◌+◌, ◌-◌, ◌++◌, true, None, Some, IsNone, IfSome, ◌↔◌, length, replicate, slice_set};
 ghost use Rattle.arrayvec.specs.ArrayVec.{array_vec_len};
 ghost use Rattle.std.specs.Option.{option_copied, option_map};
 ghost use Rattle.std.specs.List.{list_any};
+ghost use Rattle.tbl_kinds.specs.Names.{is_name};
 ghost use Rattle.tbl_model.specs.State.{State};
 ghost use Rattle.tbl_model.specs.Effects.{answered};
 ghost use Rattle.tbl_model.specs.Applications.{has_dot, full_name, start_effect};
@@ -11,7 +12,7 @@ use arrayvec::ArrayVec;
 use std::marker::Model;
 use tbl_kinds::{Name, Name16, Name20, Name40, Status};
 
-/// The names of the sixteen applications: the name of application a stands at place a - 1.
+/// The names of the sixteen applications: the name of application a stands at place a - 1. Each of them is a name.
 #[derive(Debug, Drop)]
 pub struct Apps {
     names: [Option<Name20>; 16],
@@ -19,12 +20,13 @@ pub struct Apps {
 
 impl Model for Apps {
     ghost use Rattle.std.specs.Prelude.{◌≡◌, ℕ, List, Option, length};
+    ghost use Rattle.sharing.specs.Apps.{AreNamed};
 
     ghost Value = { List (Option (List ℕ)) };
 
     ghost view = { λ a. a.names };
 
-    ghost invariant = { λ a. length a.names ≡ 16 };
+    ghost invariant = { λ a. (length a.names ≡ 16) × AreNamed a.names };
 }
 
 /// Whether a byte of the name is a dot.
@@ -48,6 +50,7 @@ fn append(bytes: &mut ArrayVec<u8, 40>, more: &[u8])
 fn full_name(app: &Name20, short: &Name16) -> Name40
     ensures name { result ≡ full_name app.now short.now }
     ensures within { length result ≤ 37 }
+    ensures named { is_name app.now ≡ true → is_name short.now ≡ true → is_name result ≡ true }
 {
     let mut bytes: ArrayVec<u8, 40> = ArrayVec::new();
     append(&mut bytes, app.bytes());
@@ -108,6 +111,7 @@ impl Apps {
     pub fn name(&self, app: u8) -> Option<&Name20>
         ensures name { option_copied result ≡ app_name self.now app }
         ensures none { IsNone result ↔ (app_name self.now app ≡ None) }
+        ensures named { IfSome result (λ name. is_name name.now ≡ true) }
     {
         self.names.get((app as usize).saturating_sub(1))?.as_ref()
     }
@@ -117,6 +121,9 @@ impl Apps {
 pub fn plan_name(apps: &Apps, app: u8, short: &Name16) -> Option<Name40>
     ensures name { result ≡ option_map (λ name. full_name name short.now) (app_name apps.now app) }
     ensures within { IfSome result (λ name. length name ≤ 37) }
+
+    // Where the short name is a name, the full one is.
+    ensures named { is_name short.now ≡ true → IfSome result (λ name. is_name name ≡ true) }
 {
     Some(full_name(apps.name(app)?, short))
 }

@@ -1,5 +1,6 @@
-use Rattle.std.proofs.Common.{◌≡◌, [], ◌∷◌, ◌++◌, refl, arith, length-append}
-use Rattle.sharing.proofs.Names.{full_is}
+use Rattle.std.proofs.Common.{◌≡◌, true, [], ◌∷◌, ◌++◌, refl, sym, subst, arith, length-append, ℕ, List}
+use Rattle.tbl_kinds.specs.Names.{is_name}
+use Rattle.sharing.proofs.Names.{full_is, full_named}
 use Rattle.sharing.proofs.apps.full_name.Goals as goal
 
 pub returns-clause-name : goal.returns-clause-name
@@ -12,3 +13,6 @@ returns-clause-name c =
 pub returns-clause-within : goal.returns-clause-within
 returns-clause-within c = rw (returns-clause-name c, ← c.bytes.ensures.bytes, ← c.bytes-2.ensures.bytes)
     (omega (arith, length-append c.bytes.result.now (46 ∷ c.bytes-2.result.now), c.bytes.ensures.within, c.bytes-2.ensures.within))
+
+pub returns-clause-named : goal.returns-clause-named
+returns-clause-named c a b = subst (λ (l : List ℕ). is_name l ≡ true) (sym (returns-clause-name c)) (full_named c.args.app.now c.args.short.now a b)
