@@ -1,9 +1,10 @@
 // A bank that never fails.
-ghost use Rattle.std.specs.Prelude.{◌≡◌, ◌+◌, ◌<◌, ◌≤◌, ◌^◌, ℕ, List, length, IsOk, ⊤, refl, []};
+ghost use Rattle.std.specs.Prelude.{◌≡◌, ◌+◌, ◌<◌, ◌≤◌, ◌^◌, ℕ, List, length, IsOk, IfOk, replicate, ⊤, refl, []};
 ghost use Rattle.tbl_kinds.specs.Numbers.{piece, patched};
 
+use std::alloc::Global;
 use std::marker::Model;
-use tbl_kinds::Bytes;
+use tbl_kinds::{Bytes, Memory};
 use tbl_outside::{Bank, Failed, Written};
 
 /// Preserved memory that never fails and is never stopped. It keeps no record, so it tells its bytes, and
@@ -30,6 +31,16 @@ impl CalmBank {
         ensures { result ≡ bytes.list }
     {
         CalmBank { bytes }
+    }
+
+    /// A bank of so many zeros.
+    pub fn of_zeros(alloc: Global, size: u32) -> Result<CalmBank, Memory>
+        ensures { IfOk result (λ b. b ≡ replicate size 0) }
+    {
+        let zeros = vec![in alloc; 0; size as usize]?;
+        let mut bytes = Bytes::make(alloc, zeros.len())?;
+        bytes.append(&zeros);
+        Ok(CalmBank { bytes })
     }
 
     /// Its bytes.
