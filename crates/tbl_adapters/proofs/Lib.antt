@@ -1,0 +1,4 @@
+pub mod Failing
+pub mod Growing
+pub mod OneByte
+pub mod Padding
