@@ -1,0 +1,127 @@
+-- A boot: which doubtful blocks it finds, and what a Reset leaves.
+use Rattle.std.proofs.Common.{◌≡◌, ◌∙◌, ℕ, zero, suc, List, [], ◌∷◌, map, ◌&&◌, Bool, false, not, Option, Some, None, is_some, replicate, ℤ, refl, sym, ap, arith}
+use Rattle.std.specs.List.{filter, range_with_len}
+use Rattle.std.specs.Option.{option_map}
+use Rattle.tbl_kinds.specs.Blocks.{Store as Blocks}
+use Rattle.tbl_kinds.specs.StoreSteps.{stored_at}
+use Rattle.tbl_kinds.specs.Notes.{untouched}
+use Rattle.tbl_model.specs.State.{first_state, no_tables}
+use Rattle.tbl_model.specs.Boots.{if_processor, blocks_after, boot, reset_status, reset_effect}
+use Rattle.tbl_model.specs.StoreNotes.{is_doubtful_at, Finds, Boots}
+use Rattle.tbl_laws.proofs.Causes.{caused}
+use Rattle.tbl_laws.proofs.Ordinary.{fit_at_first}
+use Rattle.cds_store.specs.Boots as store
+use Rattle.cds_store.specs.Standing.{StoreParts, StandsFor as HasBlocks, slot_of}
+use Rattle.cds_store.specs.declared.slot.Slot.{Slot}
+use Rattle.tbl_kinds.specs.declared.note.BankNote.{BankNote}
+use Rattle.tbl_kinds.specs.declared.request.ResetKind.{ResetKind}
+use Rattle.tbl_kinds.specs.declared.request.ResetKind.TheVariants.{Processor, PowerOn}
+use Rattle.tbl_kinds.specs.declared.request.Actor.TheVariants.{Ground}
+use Rattle.tbl_kinds.specs.declared.request.Request.TheVariants as ask
+use Rattle.tbl_kinds.specs.declared.entry.Answer.{Answer}
+use Rattle.tbl_core.specs.Called.{with_boot, Troubled, IsSilent}
+use Rattle.tbl_core.specs.Service.{Held, state_of, Makes, Meets}
+use Rattle.tbl_core.specs.Verdicts.{Judged}
+use Rattle.tbl_core.specs.declared.effect.Effect.{Effect}
+use Rattle.tbl_core.proofs.Verdicts.{none_judged}
+
+-- ---- doubtful blocks
+
+-- the slot of a block in doubt is in doubt
+same_doubt : (blocks : Blocks) (n : ℕ) → store.is_doubtful_at (map (option_map slot_of) blocks) n ≡ is_doubtful_at blocks n
+same_doubt [] n = refl
+same_doubt (None ∷ blocks) zero = refl
+same_doubt (Some b ∷ blocks) zero = refl
+same_doubt (x ∷ blocks) (suc n) = same_doubt blocks n
+
+pub finds : (kind : ResetKind) (slots : List (Option Slot)) (blocks shown : Blocks) (found : List ℕ) → slots ≡ map (option_map slot_of) blocks → found ≡ store.found_by kind slots shown → Finds kind false blocks found
+unfolding store.found_to
+finds Processor slots blocks shown found are is = record {
+  which = λ n. is_some (stored_at shown n);
+  are = is ∙ (λ i. filter (λ n. same n i && is_some (stored_at shown n)) (range_with_len 0 128));
+} where
+  same : (n : ℕ) → store.is_doubtful_at slots n ≡ is_doubtful_at blocks n
+  same n = ap (λ (l : List (Option Slot)). store.is_doubtful_at l n) are ∙ same_doubt blocks n
+finds PowerOn slots blocks shown found are is = is
+
+-- ---- a Reset
+
+-- what it leaves
+abbrev pub after_reset : {B C : Type 0} → ResetKind → BankNote → StoreParts B → Held B C → Held B C
+after_reset kind note store held = record held {
+  tables = no_tables;
+  pending = [];
+  store = store;
+  drawer = if_processor kind held.drawer [];
+  apps = if_processor kind held.apps (replicate 16 None);
+  ended = note.ended;
+}
+
+module _ {B C : Type 0} (tells : Type 0) (now : B → List ℕ) (faults stops : B → ℕ) (verdict : C → List ℕ → ℤ) (asked : C → ℕ) (old new : Held B C) (kind : ResetKind) (done : Effect) (kept : StoreParts B) (ended stopped : Bool) (found : List ℕ)
+    (held : new ≡ after_reset kind (with_boot ended stopped found untouched) kept old)
+    (note : done.note ≡ with_boot ended stopped found untouched)
+    (answer : done.answer ≡ record { status = reset_status (with_boot ended stopped found untouched); detail = 0 })
+    (bytes : done.bytes.list ≡ [])
+    (silent : IsSilent done) where
+  judged : Judged verdict asked old.kit new.kit [] done.verdicts
+  judged =
+      let same : new.kit ≡ old.kit = ap (λ (h : Held B C). h.kit) held in
+      rw (same, silent.verdicts) (none_judged verdict asked old.kit [] untouched (None ∷ None ∷ []) refl refl)
+
+  pub reset_makes : kept.booted ≡ not ended → Troubled faults stops old.store.bank kept.bank (with_boot ended stopped [] untouched) → Makes asked verdict faults stops 0 0 false old new done
+  reset_makes booted trouble = record {
+    fit = λ n fits. fit_at_first (suc n) (state_of new) (ap (λ (h : Held B C). h.tables) held) (ap (λ (h : Held B C). h.pending) held);
+    judged = ([], judged);
+    two = rw silent.verdicts refl;
+    within = record {
+      deeds = rw silent.deeds (omega arith);
+      shown = rw silent.shown (omega arith);
+      no_notice = λ _. silent.notice;
+      notice = rw silent.notice tt;
+      bytes = rw bytes (omega arith);
+    };
+    booted = ap (λ (h : Held B C). h.store.booted) held ∙ booted ∙ sym (ap not (ap (λ (h : Held B C). h.ended) held));
+    ended = rw note (ap (λ (h : Held B C). h.ended) held);
+    stopped = rw note (λ is. absurd (cc is));
+    trouble = let same : new.store.bank ≡ kept.bank = ap (λ (h : Held B C). h.store.bank) held in rw same (record { fault_count = trouble.fault_count; stop_count = trouble.stop_count; fault = rw note trouble.fault; stop = rw note trouble.stop });
+    cause = rw (answer, note) (caused (first_state [] []) (record { note = with_boot ended stopped found untouched; verdicts = [] }) Ground (ask.Reset kind));
+  }
+
+  pub reset_meets : (tells → (blocks : Blocks) → HasBlocks tells now old.store blocks → Boots (Some kind) blocks (with_boot ended stopped found untouched))
+      → (tells → (blocks : Blocks) → HasBlocks tells now old.store blocks → ended ≡ false → HasBlocks tells now kept (blocks_after kind (with_boot ended stopped found untouched) blocks))
+      → old.ended ≡ false
+      → Meets tells now verdict asked old new (ask.Reset kind) (λ s given. Some (reset_effect s kind given.note)) done
+  reset_meets boots blocks live told s holds n follows =
+      let same : n ≡ with_boot ended stopped found untouched = follows.same (rw note (λ is. cc is)) ∙ note in
+      rw same (record {
+        before = boot kind (with_boot ended stopped found untouched) s;
+        holds = rw held (record {
+          parts = record {
+            tables = refl;
+            pending = refl;
+            store = refl;
+            drawer = ap (λ drawer. if_processor kind drawer []) holds.parts.drawer;
+            apps = ap (λ apps. if_processor kind apps (replicate 16 None)) holds.parts.apps;
+            kit = holds.parts.kit;
+            seconds = holds.parts.seconds;
+            sub = holds.parts.sub;
+            ended = refl;
+          };
+          blocks = λ goes. blocks told s.store (holds.blocks live) goes;
+        });
+        effect = record {
+          status = sym (ap (λ (a : Answer). a.status) answer);
+          detail = sym (ap (λ (a : Answer). a.detail) answer);
+          bytes = sym bytes;
+          table = sym silent.table;
+          deeds = sym silent.deeds;
+          shown = sym silent.shown;
+          asked = refl;
+          calls = refl;
+          notice = sym silent.notice;
+          next = refl;
+        };
+        judged = judged;
+        gave = tt;
+        noted = λ _. record { ends = (refl, refl, (refl, refl)); gave = tt; tells = (refl, refl); boots = boots told s.store (holds.blocks live) };
+      })

@@ -1,0 +1,12 @@
+use Rattle.std.proofs.Common.{ap}
+use Rattle.tbl_core.specs.Called.{call_note}
+use Rattle.tbl_core.proofs.Calls.{told_with, delete_called}
+use Rattle.tbl_core.proofs.blocks.delete.Goals as goal
+
+pub returns-clause-effect : goal.returns-clause-effect
+returns-clause-effect g c = λ tells s stands.
+    let b = g.B.Bank in
+    let call = c.delete_block-ended.ensures in
+    delete_called b.tells b.now c.args.store.now c.delete_block-ended.new.self s c.called.result c.args.slot c.delete_block-ended.result stands
+    (told_with c.requires.empty (ap (call_note c.delete_block-ended.result) c.in_ok-note.ensures) c.called.ensures)
+    call.flags call.ok call.err

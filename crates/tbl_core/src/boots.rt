@@ -1,0 +1,145 @@
+//! Boots: the service begins anew, by a Reset, or at once where a request was stopped inside a call of the store.
+
+ghost use Rattle.std.specs.Prelude.{◌≡◌, [], replicate, not, true, false, None, Some, IfOk, OnErr};
+ghost use Rattle.tbl_kinds.specs.Blocks.{Store as Blocks};
+ghost use Rattle.tbl_kinds.specs.Notes.{untouched};
+ghost use Rattle.tbl_kinds.specs.declared.note.Outcome.TheVariants.{Stopped};
+ghost use Rattle.tbl_kinds.specs.declared.request.ResetKind.TheVariants.{Processor};
+ghost use Rattle.tbl_kinds.specs.declared.request.Request.TheVariants as ask;
+ghost use Rattle.tbl_model.specs.State.{State, no_tables};
+ghost use Rattle.tbl_model.specs.Boots.{if_processor, blocks_after, reset_status, reset_effect};
+ghost use Rattle.tbl_model.specs.StoreNotes.{Boots};
+ghost use Rattle.cds_store.specs.Standing.{StandsFor as HasBlocks};
+ghost use Rattle.tbl_core.specs.Called.{Follows, NoBoot, boots_behind, with_boot, boot_only, session_end, Troubled};
+ghost use Rattle.tbl_core.specs.Service.{HoldsAll, Makes, Meets, held_of, after_stop};
+
+use crate::effect::Effect;
+use crate::notes::{note_room, noted};
+use crate::parts::Parts;
+use crate::service::StepFault;
+use cds_store::{BankFault, Store};
+use sharing::Apps;
+use std::mem;
+use tbl_kinds::{Answer, BankNote, Bytes, Memory, Note, Outcome, ResetKind, Status};
+use tbl_outside::{Bank, Validator};
+
+/// The store boots, and the note tells how it went.
+fn boot_store<B: Bank>(store: &mut Store<B>, kind: ResetKind, note: &mut BankNote)
+    requires fresh { NoBoot note.now }
+    ensures booted { store.new.booted ≡ not note.exit.now.ended }
+    ensures follows { note.exit.now ≡ with_boot note.exit.now.ended note.exit.now.stopped note.exit.now.found note.entry.now }
+    ensures blocks { B.tells → (blocks : Blocks) → HasBlocks B.tells B.now store.old blocks → note.exit.now.ended ≡ false
+        → HasBlocks B.tells B.now store.new (blocks_after kind note.exit.now blocks) }
+    ensures found { B.tells → (blocks : Blocks) → HasBlocks B.tells B.now store.old blocks → Boots (Some kind) blocks note.exit.now }
+    ensures trouble { Troubled B.faults B.stops store.old.bank store.new.bank (with_boot note.exit.now.ended note.exit.now.stopped [] untouched) }
+{
+    match store.boot(kind) {
+        Ok(found) => note.found = found,
+        Err(BankFault::Fault { .. }) => note.ended = true,
+        Err(BankFault::Stopped { .. }) => {
+            note.ended = true;
+            note.stopped = true;
+        }
+    }
+}
+
+/// How a Reset is answered, by its note.
+fn reset_status(note: &BankNote) -> Status
+    ensures { result ≡ reset_status note.now }
+{
+    if !note.ended {
+        return Status::SUCCESS;
+    }
+    if note.stopped {
+        return Status::INFO_STOPPED;
+    }
+    Status::ERR_BOOT_FAULT
+}
+
+/// Whether a boot ended the service in the request of this note.
+pub(crate) fn session_end(note: &Note) -> Result<(), StepFault>
+    ensures { result ≡ session_end note.now }
+{
+    match note.touched() {
+        Some(note) if note.ended && note.stopped => Err(StepFault::BootStopped),
+        Some(note) if note.ended => Err(StepFault::BootFault),
+        _ => Ok(()),
+    }
+}
+
+impl<B: Bank, C: Validator> Parts<B, C> {
+    /// The service boots: no table, handle, load, dump or pending validation is left.
+    fn boot(&mut self, kind: ResetKind, note: &mut BankNote)
+        requires fresh { NoBoot note.now }
+        ensures held { held_of self.new ≡ record (held_of self.old) { tables = no_tables; pending = []; store = self.new.store; ended = note.exit.now.ended } }
+        ensures booted { self.new.store.booted ≡ not note.exit.now.ended }
+        ensures follows { note.exit.now ≡ with_boot note.exit.now.ended note.exit.now.stopped note.exit.now.found note.entry.now }
+        ensures blocks { B.tells → (blocks : Blocks) → HasBlocks B.tells B.now self.old.store blocks → note.exit.now.ended ≡ false
+            → HasBlocks B.tells B.now self.new.store (blocks_after kind note.exit.now blocks) }
+        ensures found { B.tells → (blocks : Blocks) → HasBlocks B.tells B.now self.old.store blocks → Boots (Some kind) blocks note.exit.now }
+        ensures trouble { Troubled B.faults B.stops self.old.store.bank self.new.store.bank (with_boot note.exit.now.ended note.exit.now.stopped [] untouched) }
+        ensures log { self.new.log ≡ self.old.log }
+    {
+        boot_store(&mut self.store, kind, note);
+        self.tables.clear();
+        self.pending.clear();
+        self.ended = note.ended;
+    }
+
+    /// What outlives a reset of the processor goes with a power-on: uplinked files, and applications that run.
+    fn clear_at_power_on(&mut self, kind: ResetKind)
+        ensures held { held_of self.new ≡ record (held_of self.old) { drawer = if_processor kind self.old.drawer []; apps = if_processor kind self.old.apps (replicate 16 None) } }
+        ensures log { self.new.log ≡ self.old.log }
+    {
+        match kind {
+            ResetKind::Processor => {}
+            ResetKind::PowerOn => {
+                self.drawer.clear();
+                self.apps = Apps::make();
+            }
+        }
+    }
+
+    /// The processor is reset (cFE User's Guide, Executive Services, "Reset Types and Subtypes").
+    pub(crate) fn reset(&mut self, kind: ResetKind, empty: Bytes) -> Result<Effect, Memory>
+        requires empty { empty.list ≡ [] }
+        requires live { self.old.ended ≡ false }
+        ensures makes { IfOk result (Makes C.asked C.verdict B.faults B.stops 0 0 false (held_of self.old) (held_of self.new)) }
+        ensures meets { IfOk result (Meets B.tells B.now C.verdict C.asked (held_of self.old) (held_of self.new) (ask.Reset kind) (λ s given. Some (reset_effect s kind given.note))) }
+        ensures log { self.new.log ≡ self.old.log }
+        ensures err { OnErr result (held_of self.new ≡ held_of self.old) }
+    {
+        let mut note = note_room(self.alloc)?;
+        self.boot(kind, &mut note);
+        self.clear_at_power_on(kind);
+        let status = reset_status(&note);
+        Ok(noted(Answer::plain(status), empty, note))
+    }
+
+    /// The effect of a request, behind which the service boots as after a reset of the processor where a call of the store
+    /// was stopped. What the request did before stays in the effect, and is told by no packet.
+    pub(crate) fn boot_if_stopped(&mut self, mut effect: Effect) -> Effect
+        requires fresh { effect.note.outcome ≡ Stopped → NoBoot effect.note }
+        requires live { effect.note.outcome ≡ Stopped → self.old.ended ≡ false }
+        ensures effect { result ≡ record effect { note = result.note } }
+        ensures note { Follows effect.note result.note }
+        ensures held { held_of self.new ≡ after_stop effect.note.outcome result.note self.new.store (held_of self.old) }
+        ensures booted { effect.note.outcome ≡ Stopped → self.new.store.booted ≡ not result.note.ended }
+        ensures boots { B.tells → (s : State) → HoldsAll B.tells B.now (held_of self.old) s
+            → HoldsAll B.tells B.now (held_of self.new) (boots_behind effect.note.outcome result.note s) }
+        ensures found { B.tells → (s : State) → HoldsAll B.tells B.now (held_of self.old) s → effect.note.outcome ≡ Stopped
+            → Boots (Some Processor) s.store result.note }
+        ensures trouble { Troubled B.faults B.stops self.old.store.bank self.new.store.bank (boot_only effect.note.outcome result.note) }
+        ensures log { self.new.log ≡ self.old.log }
+    {
+        if effect.note.outcome() != Outcome::Stopped {
+            return effect;
+        }
+        let Some(mut note) = mem::replace(&mut effect.note, Note::untouched()).taken() else {
+            unreachable!();
+        };
+        self.boot(ResetKind::Processor, &mut note);
+        effect.note = Note::of(note);
+        effect
+    }
+}
