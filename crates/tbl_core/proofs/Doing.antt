@@ -7,14 +7,16 @@ use Rattle.tbl_core.specs.Effects.{IsWithin, IsQuiet, given_of}
 use Rattle.tbl_core.specs.Service.{Held, Stands, Leaves, Asks, Does}
 use Rattle.tbl_core.specs.declared.effect.Effect.{Effect}
 
-module _ {C : Type 0} (verdict : C → List ℕ → ℤ) (asked : C → ℕ) (most room : ℕ) (owes : Bool) (old new : Held C) (means : State → Given → Option model.Effect) (done : Effect)
-    (effect : (s : State) → Stands old s → Leaves done new (means s (given_of done)))
-    (asks : (s : State) → Stands old s → Asks verdict asked old.kit new.kit done.verdicts (means s (given_of done))) where
+module _ {B C : Type 0} (verdict : C → List ℕ → ℤ) (asked : C → ℕ) (most room : ℕ) (owes : Bool) (old new : Held B C) (means : State → Given → Option model.Effect) (done : Effect)
+    (effect : (s : State) → Stands s.store old s → Leaves s.store done new (means s (given_of done)))
+    (asks : (s : State) → Stands s.store old s → Asks verdict asked old.kit new.kit done.verdicts (means s (given_of done)))
+    (store : new.store ≡ old.store) where
   -- nothing came from the outside
   pub plainly : IsWithin most room owes done → given_of done ≡ nothing_given → Does verdict asked most room owes old new means done
   plainly within given = record {
     effect = effect;
     asks = asks;
+    store = store;
     note = ap (λ (given : Given). given.note) given;
     two = ap (λ (given : Given). length given.verdicts) given;
     within = within;

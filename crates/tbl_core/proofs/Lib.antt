@@ -1,5 +1,7 @@
+pub mod Behind
 pub mod Both
 pub mod Buffers
+pub mod Calls
 pub mod CommandReadings
 pub mod Doing
 pub mod Dumping
@@ -7,10 +9,15 @@ pub mod Few
 pub mod Functions
 pub mod Keeping
 pub mod Managing
+pub mod OwnBlocks
 pub mod Owners
 pub mod Places
 pub mod Ready
+pub mod Reserved
+pub mod Resets
+pub mod Starting
 pub mod Steps
+pub mod Trouble
 pub mod Uplinked
 pub mod Verdicts
 pub mod Vouching

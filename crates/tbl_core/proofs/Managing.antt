@@ -52,6 +52,7 @@ module _ (s : State) (row : ℕ) (t : Table) where
     deeds = rw deeds (deeds_of_both (is_updated m.answer) m.first m.second);
     shown = sym shown;
     asked = refl;
+    calls = refl;
     notice = sym notice;
     next = rw time refl;
   }

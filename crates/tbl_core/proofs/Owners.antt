@@ -19,6 +19,7 @@ use Rattle.tbl_kinds.specs.declared.status.Status.{Status}
 use Rattle.tbl_kinds.specs.declared.status.TheConstants.Status.{ERR_UNREGISTERED}
 use Rattle.tbl_kinds.specs.declared.request.Request.{Request}
 use Rattle.tbl_kinds.specs.declared.request.Request.TheVariants as ask
+use Rattle.tbl_kinds.specs.Blocks.{Store as Blocks}
 use Rattle.tbl_core.specs.Asked.{owners_handle}
 use Rattle.tbl_core.specs.Effects.{IsEffect}
 use Rattle.tbl_core.specs.Service.{Held, Stands, Leaves}
@@ -66,8 +67,8 @@ module _ (s : State) (app handle : ℕ) (given : Given) where
         by request is = absurd (cc is)
 
 -- an effect that leaves a state which the parts stand for
-pub leaves_of : {C : Type 0} (done : Done) (new : Held C) (questions : List Question) (e : Effect) (after : State) → IsEffect done questions after e → Stands new after → Leaves done new (Some e)
-leaves_of done new questions e after is stands = (
+pub leaves_of : {B C : Type 0} (blocks : Blocks) (done : Done) (new : Held B C) (questions : List Question) (e : Effect) (after : State) → IsEffect done questions after e → Stands blocks new after → Leaves blocks done new (Some e)
+leaves_of blocks done new questions e after is stands = (
   record {
     status = is.status;
     detail = is.detail;
@@ -76,8 +77,9 @@ leaves_of done new questions e after is stands = (
     deeds = is.deeds;
     shown = is.shown;
     asked = refl;
+    calls = is.calls;
     notice = is.notice;
     next = refl;
   },
-  subst (Stands new) (sym is.next) stands,
+  subst (Stands blocks new) (sym is.next) stands,
 )

@@ -41,7 +41,7 @@ open_load t checked = by t.load refl where
   by None at = absurd (cc (checked, at))
   by (Some load) at = rw at cc
 
-module _ {C : Type 0} (asked : C → ℕ) (core : CoreView C) (ready : IsReady asked core) (room : length core.entries < record_limit) where
+module _ {B C : Type 0} (asked : C → ℕ) (core : CoreView B C) (ready : IsReady asked core) (room : length core.entries < record_limit) where
   of_row : (row : ℕ) (t : Table) → table_at core.state.tables row ≡ Some t → IsFit (length core.entries) (owners core.state.kit) core.state.pending core.state.tables.handles row t
   of_row row t is = subst (FitAt (length core.entries) (owners core.state.kit) core.state.pending core.state.tables.handles row) is (ready.fit.each row)
 
@@ -63,8 +63,9 @@ module _ {C : Type 0} (asked : C → ℕ) (core : CoreView C) (ready : IsReady a
   can row active None at pending = absurd (cc (pending, subst (FitAt (length core.entries) (owners core.state.kit) core.state.pending core.state.tables.handles row) at (ready.fit.each row) active))
   can row active (Some t) at pending = (rw at cc, λ u is. let same : t ≡ u = cc (at, is) in let c = (of_row row u is).pends active pending in (some u.validator c.function, has_image u active c))
 
-  pub may_play : MayPlay asked core.state
-  may_play = record {
+  pub may_play : core.state.ended ≡ false → MayPlay asked core.state
+  may_play live = record {
+    booted = rw (ready.booted, live) refl;
     counted = counted;
     notices = notices;
     functions = functions;

@@ -1,5 +1,5 @@
 -- The verdicts of a history are those of the functions that it began with.
-use Rattle.std.proofs.Common.{◌≡◌, ◌∙◌, ℕ, List, [], ◌∷◌, ◌++◌, Option, Some, None, IsSome, ℤ, refl, sym, subst}
+use Rattle.std.proofs.Common.{◌≡◌, ◌∙◌, ℕ, List, [], ◌∷◌, ◌++◌, Option, Some, None, IsSome, Result, ℤ, refl, sym, subst}
 use Rattle.std.specs.Option.{ForSome}
 use Rattle.tbl_model.specs.Deeds.{Question}
 use Rattle.tbl_model.specs.State.{State}
@@ -12,6 +12,7 @@ use Rattle.validation.specs.Kits.{entry_at}
 use Rattle.validation.specs.Asked.{GivesEach}
 use Rattle.tbl_core.specs.Service.{CoreView, StandsFor, Vouches, Plays}
 use Rattle.tbl_core.specs.Verdicts.{StoodThere, questions_in, AreGiven, IsOf, AreOf}
+use Rattle.tbl_core.specs.declared.service.StepFault.{StepFault}
 use Rattle.tbl_core.proofs.Steps.{plays_on}
 
 module _ {C : Type 0} (verdict : C → List ℕ → ℤ) where
@@ -40,10 +41,10 @@ module _ {C : Type 0} (verdict : C → List ℕ → ℤ) where
   same_function (Some entry) = λ image. refl
 
   -- whoever stands for an opening vouches for the functions that it began with
-  pub vouch_first : (given : List (Option (KitEntry C))) (opening : State) (core : CoreView C) → core.entries ≡ [] → core.state.kit ≡ given → StandsFor opening core → Vouches verdict given opening core
-  vouch_first given opening core none same stands = record {
+  pub vouch_first : {B : Type 0} (tells : Type 0) (now : B → List ℕ) (given : List (Option (KitEntry C))) (opening : State) (core : CoreView B C) → core.entries ≡ [] → core.state.kit ≡ given → StandsFor tells now opening core → Vouches tells now verdict given opening core
+  vouch_first tells now given opening core none same stands = record {
     stands = stands;
-    verdicts = rw none tt;
+    verdicts = λ told. rw none tt;
     functions = rw same (λ number. same_function (entry_at given number));
   }
 
@@ -54,11 +55,13 @@ module _ {C : Type 0} (verdict : C → List ℕ → ℤ) (asked : C → ℕ) whe
   of_before times None (Some old) (Some new) of stood = absurd of
   of_before times (Some first) (Some old) (Some new) of stood = λ image. stood.steady image ∙ of image
 
-  pub vouches_on : (old new : CoreView C) (actor : Actor) (request : Request) → Plays verdict asked old new actor request → (opening : State) (given : List (Option (KitEntry C))) → Vouches verdict given opening old → Vouches verdict given opening new
-  vouches_on old new actor request p opening given vouched =
-      let judged = p.judged (run_from (begins_at opening) old.entries) vouched.stands.shows in record {
-        stands = plays_on verdict asked old new actor request p opening vouched.stands;
-        verdicts = subst (λ (es : List Entry). AreGiven verdict given (begins_at opening) es) (sym p.added)
-            (given_push verdict given (begins_at opening) old.entries p.entry vouched.verdicts (each_first verdict given old.state.kit vouched.functions _ p.entry.verdicts judged.gives));
-        functions = λ number. of_before _ (entry_at given number) (entry_at old.state.kit number) (entry_at new.state.kit number) (vouched.functions number) (judged.each number);
-      }
+  pub vouches_on : {B : Type 0} (tells : Type 0) (now : B → List ℕ) (faults stops : B → ℕ) (old new : CoreView B C) (actor : Actor) (request : Request) (result : Result Unit StepFault) → Plays tells now faults stops verdict asked old new actor request result
+      → (opening : State) (given : List (Option (KitEntry C))) → Vouches tells now verdict given opening old → Vouches tells now verdict given opening new
+  vouches_on tells now faults stops old new actor request result p opening given vouched = record {
+    stands = plays_on tells now faults stops verdict asked old new actor request result p opening vouched.stands;
+    verdicts = λ told.
+        let judged = p.judged told (run_from (begins_at opening) old.entries) (vouched.stands.shows told) in
+        subst (λ (es : List Entry). AreGiven verdict given (begins_at opening) es) (sym p.added)
+        (given_push verdict given (begins_at opening) old.entries p.entry (vouched.verdicts told) (each_first verdict given old.state.kit vouched.functions _ p.entry.verdicts judged.gives));
+    functions = λ number. of_before _ (entry_at given number) (entry_at old.state.kit number) (entry_at new.state.kit number) (vouched.functions number) (p.kit.1.each number);
+  }

@@ -1,7 +1,7 @@
 -- What a request asks, as far as telemetry looks at it.
 use Rattle.std.specs.Prelude.{ℕ, Bool, true, false, Option, Some, None, Result, Ok, Err}
 use Rattle.std.specs.Option.{option_map}
-use Rattle.tbl_kinds.specs.GroundCommands.{GroundCommand, housekeeping, dump, validate, activate, dump_registry, send_registry}
+use Rattle.tbl_kinds.specs.GroundCommands.{GroundCommand, housekeeping, dump, validate, activate, dump_registry, send_registry, delete_cds}
 use Rattle.tbl_model.specs.Commands as model
 use Rattle.cmd_packets.specs.Views.{command_of, answer_of}
 use Rattle.cmd_packets.specs.declared.commands.Ground.{Ground}
@@ -24,6 +24,11 @@ asks_notice (Some (Ok (dump select table file))) = true
 asks_notice (Some (Ok (validate select table))) = true
 asks_notice (Some (Ok (activate table))) = true
 asks_notice _ = false
+
+-- the command that calls the store
+abbrev pub asks_delete : model.Asked → Bool
+asks_delete (Some (Ok (delete_cds table))) = true
+asks_delete _ = false
 
 -- how long the packet is that a command shows behind its events, if it is accepted
 abbrev pub shown_room : model.Asked → ℕ
@@ -60,3 +65,13 @@ owners_handle (ask.DumpToBuffer handle) = Some handle
 owners_handle (ask.Edit handle offset bytes) = Some handle
 owners_handle (ask.Notify handle msg code parameter) = Some handle
 owners_handle _ = None
+
+-- a request that boots the Critical Data Store, or calls it
+abbrev pub asks_store : Request → model.Asked → Bool
+asks_store (ask.Reset kind) asked = true
+asks_store (ask.Command bytes) asked = asks_delete asked
+asks_store (ask.CdsRegister name size) asked = true
+asks_store (ask.CdsCopy slot image) asked = true
+asks_store (ask.CdsRestore slot) asked = true
+asks_store (ask.CdsDelete slot) asked = true
+asks_store _ asked = false

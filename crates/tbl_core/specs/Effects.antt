@@ -19,7 +19,7 @@ use Rattle.tbl_core.specs.declared.effect.Effect.{Effect}
 
 -- ---- what it stands for
 
--- it is this effect, which asks validation functions these questions and leaves this state
+-- it is this effect, which asks validation functions these questions, calls nothing of the store, and leaves this state
 pub record IsEffect (done : Effect) (questions : List Question) (after : State) (e : model.Effect) : Type 0 where
   pub status : e.status ≡ done.answer.status
   pub detail : e.detail ≡ done.answer.detail
@@ -28,8 +28,13 @@ pub record IsEffect (done : Effect) (questions : List Question) (after : State) 
   pub deeds : e.deeds ≡ done.deeds.items
   pub shown : e.shown ≡ done.shown
   pub asked : e.asked ≡ questions
+  pub calls : e.calls ≡ []
   pub notice : e.notice ≡ done.notice
   pub next : e.next ≡ after
+
+-- the effect as it is told, which doesn't tell the calls of the store
+abbrev pub uncalled : model.Effect → model.Effect
+uncalled e = record e { calls = [] }
 
 -- what came from the outside in it
 abbrev pub given_of : Effect → Given
@@ -37,7 +42,7 @@ given_of done = record { note = done.note; verdicts = done.verdicts }
 
 -- ---- what is told of it
 
--- the same without images and questions, which telemetry doesn't tell
+-- the same without images, questions and calls, which telemetry doesn't tell
 abbrev pub without_images : Effect → State → model.Effect
 without_images done next = record {
   status = done.answer.status;
@@ -47,6 +52,7 @@ without_images done next = record {
   deeds = done.deeds.items;
   images = [];
   asked = [];
+  calls = [];
   shown = done.shown;
   notice = done.notice;
   next = next;

@@ -1,4 +1,5 @@
 pub mod Asked
+pub mod Called
 pub mod Counters
 pub mod Effects
 pub mod Finish

@@ -1,16 +1,18 @@
 -- What the core keeps, and which histories it stands for.
-use Rattle.std.specs.Prelude.{◌≡◌, ℕ, ◌+◌, ◌-◌, ◌*◌, ◌^◌, ◌<◌, List, [], ◌∷◌, ◌++◌, length, Bool, false, Option, Some, None, IfSome}
+use Rattle.std.specs.Prelude.{◌≡◌, ℕ, suc, ◌+◌, ◌-◌, ◌*◌, ◌^◌, ◌<◌, List, [], ◌∷◌, ◌++◌, length, Bool, true, false, not, Option, Some, None, IfSome, Result}
 use Rattle.std.specs.Option.{ForSome}
 use Rattle.std.proofs.Common.{ℤ}
-use Rattle.tbl_model.specs.State.{State, Tables}
+use Rattle.tbl_model.specs.State.{State, Tables, no_tables}
 use Rattle.tbl_model.specs.Tables.{table_at}
 use Rattle.tbl_laws.specs.Fit.{HasCode, AreFit}
+use Rattle.tbl_kinds.specs.Blocks.{Store as Blocks}
 use Rattle.tbl_kinds.specs.Drawer.{File}
 use Rattle.tbl_model.specs.Effects as model
 use Rattle.tbl_model.specs.Counts.{Counts, counts_of}
 use Rattle.tbl_model.specs.CountsAfter.{tally_of, counts_after}
 use Rattle.tbl_model.specs.Replies.{packets_by}
 use Rattle.tbl_model.specs.History.{Run, begins_at, onward, run_from, IsAnswered, IsLegal}
+use Rattle.tbl_outside.specs.Counts.{Still, RoseAlone}
 use Rattle.tbl_outside.specs.declared.validator.KitEntry.{KitEntry}
 use Rattle.validation.specs.Kits.{entry_at, owners, FewAsked}
 use Rattle.validation.specs.Ready.{ArePending, HaveFunctions, HaveLoads}
@@ -19,20 +21,36 @@ use Rattle.tbl_kinds.specs.declared.entry.Reply.{Reply}
 use Rattle.tbl_kinds.specs.declared.request.Actor.{Actor}
 use Rattle.tbl_kinds.specs.declared.request.Request.{Request}
 use Rattle.tbl_core.specs.Log.{Logged, entry_of}
-use Rattle.tbl_core.specs.Effects.{IsEffect, IsWithin, given_of, told_at}
+use Rattle.tbl_model.specs.Deeds.{Question}
+use Rattle.tbl_model.specs.BankCounts.{HasCause}
+use Rattle.tbl_model.specs.StoreNotes.{Boots, IsNoteOf}
+use Rattle.cds_store.specs.Standing.{StoreParts, StandsFor as HasBlocks}
+use Rattle.cds_store.specs.declared.fault.BankFault.{BankFault}
+use Rattle.cds_store.specs.declared.fault.BankFault.TheVariants.{Fault, Stopped as Cut}
+use Rattle.tbl_kinds.specs.declared.note.BankNote.{BankNote}
+use Rattle.tbl_kinds.specs.declared.note.Outcome.{Outcome}
+use Rattle.tbl_kinds.specs.declared.note.Outcome.TheVariants.{Untouched, Done, Failed, Stopped}
+use Rattle.tbl_kinds.specs.declared.request.ResetKind.TheVariants.{Processor}
+use Rattle.tbl_kinds.specs.declared.status.TheConstants.Status.{INFO_STOPPED}
+use Rattle.tbl_core.specs.Called.{NoBoot, Follows, boots_behind, session_end, Troubled, RestoresHeld}
+use Rattle.tbl_core.specs.Effects.{IsEffect, IsWithin, uncalled, given_of, told_at}
 use Rattle.tbl_kinds.specs.Notes.{untouched}
 use Rattle.tbl_model.specs.Given.{Given}
 use Rattle.tbl_core.specs.Verdicts.{Judged, questions_in, AreGiven, AreOf}
 use Rattle.tbl_core.specs.declared.effect.Effect.{Effect}
 use Rattle.tbl_core.specs.declared.parts.Clock.{Clock}
 use Rattle.tbl_core.specs.declared.parts.Parts.{Parts}
+use Rattle.tbl_core.specs.declared.service.StartFault.{StartFault}
+use Rattle.tbl_core.specs.declared.service.StartFault.TheVariants.{Memory, BootFault, BootStopped}
+use Rattle.tbl_core.specs.declared.service.StepFault.{StepFault}
 
 -- ---- what is kept
 
 -- the parts of the service, as far as a state tells of them, with the validation functions themselves
-pub record Held (C : Type 0) : Type 0 where
+pub record Held (B C : Type 0) : Type 0 where
   pub tables : Tables
   pub pending : List (ℕ × Bool)
+  pub store : StoreParts B
   pub drawer : List File
   pub apps : List (Option (List ℕ))
   pub kit : List (Option (KitEntry C))
@@ -41,34 +59,34 @@ pub record Held (C : Type 0) : Type 0 where
   pub ended : Bool
 
 -- the history, the parts, and the running numbers of telemetry
-pub record CoreView (C : Type 0) : Type 0 where
+pub record CoreView (B C : Type 0) : Type 0 where
   pub entries : List Entry
-  pub state : Held C
+  pub state : Held B C
   pub counts : Counts
 
--- no boot has failed: no request that is built boots
-abbrev pub held_of : {C : Type 0} → Parts C → Held C
+abbrev pub held_of : {B C : Type 0} → Parts B C → Held B C
 held_of parts = record {
   tables = parts.tables;
   pending = parts.pending;
+  store = parts.store;
   drawer = parts.drawer;
   apps = parts.apps;
   kit = parts.kit;
   seconds = parts.clock.seconds;
   sub = parts.clock.sub;
-  ended = false;
+  ended = parts.ended;
 }
 
-abbrev pub view_of : {C : Type 0} → Parts C → CoreView C
+abbrev pub view_of : {B C : Type 0} → Parts B C → CoreView B C
 view_of parts = record { entries = parts.log.entries; state = held_of parts; counts = parts.log.counts }
 
 -- ---- what the parts stand for
 
--- they stand for this state. No request that is built uses the store
-pub record Stands {C : Type 0} (held : Held C) (s : State) : Type 0 where
+-- over these blocks they stand for this state
+pub record Stands {B C : Type 0} (blocks : Blocks) (held : Held B C) (s : State) : Type 0 where
   pub tables : s.tables ≡ held.tables
   pub pending : s.pending ≡ held.pending
-  pub store : s.store ≡ []
+  pub store : s.store ≡ blocks
   pub drawer : s.drawer ≡ held.drawer
   pub apps : s.apps ≡ held.apps
   pub kit : s.kit ≡ owners held.kit
@@ -76,8 +94,8 @@ pub record Stands {C : Type 0} (held : Held C) (s : State) : Type 0 where
   pub sub : s.sub ≡ held.sub
   pub ended : s.ended ≡ held.ended
 
--- such a state
-abbrev pub state_of : {C : Type 0} → Held C → State
+-- such a state, without blocks
+abbrev pub state_of : {B C : Type 0} → Held B C → State
 state_of held = record {
   tables = held.tables;
   pending = held.pending;
@@ -90,20 +108,25 @@ state_of held = record {
   ended = held.ended;
 }
 
+-- and the store stands for its blocks. After a boot that failed or was stopped it stands for none
+pub record HoldsAll {B C : Type 0} (tells : Type 0) (now : B → List ℕ) (held : Held B C) (s : State) : Type 0 where
+  pub parts : Stands s.store held s
+  pub blocks : held.ended ≡ false → HasBlocks tells now held.store s.store
+
 -- the core stands for a run: its state, and what is counted over what was told
-pub record Shows {C : Type 0} (core : CoreView C) (r : Run) : Type 0 where
-  pub state : Stands core.state r.state
+pub record Shows {B C : Type 0} (tells : Type 0) (now : B → List ℕ) (core : CoreView B C) (r : Run) : Type 0 where
+  pub state : HoldsAll tells now core.state r.state
   pub counts : counts_of r.past ≡ core.counts
 
--- from the opening state on the core's history is legal, and the core stands for what it leads to
-pub record StandsFor {C : Type 0} (opening : State) (core : CoreView C) : Type 0 where
-  pub legal : IsLegal opening core.entries (run_from (begins_at opening) core.entries).state
-  pub shows : Shows core (run_from (begins_at opening) core.entries)
+-- where the bank tells its bytes, the core's history is legal from the opening state on, and the core stands for what it leads to
+pub record StandsFor {B C : Type 0} (tells : Type 0) (now : B → List ℕ) (opening : State) (core : CoreView B C) : Type 0 where
+  pub legal : tells → IsLegal opening core.entries (run_from (begins_at opening) core.entries).state
+  pub shows : tells → Shows tells now core (run_from (begins_at opening) core.entries)
 
 -- and the verdicts in it are those of these functions, of which each that stands in the kit is one
-pub record Vouches {C : Type 0} (verdict : C → List ℕ → ℤ) (given : List (Option (KitEntry C))) (opening : State) (core : CoreView C) : Type 0 where
-  pub stands : StandsFor opening core
-  pub verdicts : AreGiven verdict given (begins_at opening) core.entries
+pub record Vouches {B C : Type 0} (tells : Type 0) (now : B → List ℕ) (verdict : C → List ℕ → ℤ) (given : List (Option (KitEntry C))) (opening : State) (core : CoreView B C) : Type 0 where
+  pub stands : StandsFor tells now opening core
+  pub verdicts : tells → AreGiven verdict given (begins_at opening) core.entries
   pub functions : AreOf verdict given core.state.kit
 
 -- ---- what is kept of it
@@ -112,10 +135,11 @@ pub record Vouches {C : Type 0} (verdict : C → List ℕ → ℤ) (given : List
 abbrev pub AskedBelow : {C : Type 0} → (C → ℕ) → ℕ → List (Option (KitEntry C)) → Type 0
 AskedBelow asked most kit = (number : ℕ) → ForSome (entry_at kit number) (λ entry. asked entry.check < most)
 
--- no table has had more images than there are entries, what is pending can be done, and no function was asked more than
--- twice for each entry since it was given
-pub record IsReady {C : Type 0} (asked : C → ℕ) (core : CoreView C) : Type 0 where
+-- no table has had more images than there are entries, what is pending can be done, the store was booted unless the service has
+-- ended, and no function was asked more than twice for each entry since it was given
+pub record IsReady {B C : Type 0} (asked : C → ℕ) (core : CoreView B C) : Type 0 where
   pub fit : AreFit (length core.entries) (state_of core.state)
+  pub booted : core.state.store.booted ≡ not core.state.ended
   pub kit : AskedBelow asked (2 ^ 62 + 2 * length core.entries) core.state.kit
 
 -- the next image of each table can be counted in 32 bits
@@ -127,7 +151,8 @@ abbrev pub AreSendable : Tables → Type 0
 AreSendable tables = (row : ℕ) → ForSome (table_at tables row) (λ t. IfSome t.notice HasCode)
 
 -- what each request may rely on
-pub record MayPlay {C : Type 0} (asked : C → ℕ) (held : Held C) : Type 0 where
+pub record MayPlay {B C : Type 0} (asked : C → ℕ) (held : Held B C) : Type 0 where
+  pub booted : held.store.booted ≡ true
   pub counted : AreCounted held.tables
   pub notices : AreSendable held.tables
   pub functions : HaveFunctions held.tables held.kit
@@ -135,12 +160,12 @@ pub record MayPlay {C : Type 0} (asked : C → ℕ) (held : Held C) : Type 0 whe
   pub pending : ArePending held.tables held.pending
   pub loads : HaveLoads held.tables
 
--- ---- one request
+-- ---- one request about tables
 
--- the request has this effect, and the parts stand for the state that it leaves
-abbrev pub Leaves : {C : Type 0} → Effect → Held C → Option model.Effect → Type 0
-Leaves done held None = ⊥
-Leaves done held (Some e) = IsEffect done e.asked e.next e × Stands held e.next
+-- the request has this effect, and the parts stand for the state that it leaves, over the same blocks
+abbrev pub Leaves : {B C : Type 0} → Blocks → Effect → Held B C → Option model.Effect → Type 0
+Leaves blocks done held None = ⊥
+Leaves blocks done held (Some e) = IsEffect done e.asked e.next e × Stands blocks held e.next
 
 -- in it the kit was asked what the request asks, and gave these verdicts
 abbrev pub Asks : {C : Type 0} → (C → List ℕ → ℤ) → (C → ℕ) → List (Option (KitEntry C)) → List (Option (KitEntry C)) → List (Option ℤ) → Option model.Effect → Type 0
@@ -149,12 +174,68 @@ Asks verdict asked old new verdicts (Some e) = Judged verdict asked old new e.as
 
 -- the request was done: this was its effect, the kit gave what it was asked for, no more is told than there is room for, and
 -- the store stayed untouched
-pub record Does {C : Type 0} (verdict : C → List ℕ → ℤ) (asked : C → ℕ) (most room : ℕ) (owes : Bool) (old new : Held C) (means : State → Given → Option model.Effect) (done : Effect) : Type 0 where
-  pub effect : (s : State) → Stands old s → Leaves done new (means s (given_of done))
-  pub asks : (s : State) → Stands old s → Asks verdict asked old.kit new.kit done.verdicts (means s (given_of done))
+pub record Does {B C : Type 0} (verdict : C → List ℕ → ℤ) (asked : C → ℕ) (most room : ℕ) (owes : Bool) (old new : Held B C) (means : State → Given → Option model.Effect) (done : Effect) : Type 0 where
+  pub effect : (s : State) → Stands s.store old s → Leaves s.store done new (means s (given_of done))
+  pub asks : (s : State) → Stands s.store old s → Asks verdict asked old.kit new.kit done.verdicts (means s (given_of done))
+  pub store : new.store ≡ old.store
   pub note : done.note ≡ untouched
   pub two : length done.verdicts ≡ 2
   pub within : IsWithin most room owes done
+
+-- ---- any request, before the boot behind a stop of it
+
+-- in this state it has this effect, where the service has this note behind it
+pub record HasEffect {B C : Type 0} (tells : Type 0) (now : B → List ℕ) (verdict : C → List ℕ → ℤ) (asked : C → ℕ) (old new : Held B C) (request : Request) (s : State) (done : Effect) (note : BankNote) (e : model.Effect) : Type 0 where
+  pub before : State  -- the boot
+  pub holds : HoldsAll tells now new before
+  pub effect : IsEffect done e.asked (boots_behind note.outcome note before) (uncalled e)
+  pub judged : Judged verdict asked old.kit new.kit e.asked done.verdicts
+  pub gave : RestoresHeld (now old.store.bank) request s.store note
+  pub noted : (note.outcome ≡ Stopped → Boots (Some Processor) before.store note) → IsNoteOf request e.calls s.store note
+
+abbrev pub Has : {B C : Type 0} → Type 0 → (B → List ℕ) → (C → List ℕ → ℤ) → (C → ℕ) → Held B C → Held B C → Request → State → Effect → BankNote → Option model.Effect → Type 0
+Has tells now verdict asked old new request s done note None = ⊥
+Has tells now verdict asked old new request s done note (Some e) = HasEffect tells now verdict asked old new request s done note e
+
+-- the request was made. This holds over a bank that doesn't tell its bytes too
+pub record Makes {B C : Type 0} (asked : C → ℕ) (verdict : C → List ℕ → ℤ) (faults stops : B → ℕ) (most room : ℕ) (owes : Bool) (old new : Held B C) (done : Effect) : Type 0 where
+  pub fit : (n : ℕ) → AreFit n (state_of old) → AreFit (suc n) (state_of new)
+  pub judged : (questions : List Question) × Judged verdict asked old.kit new.kit questions done.verdicts
+  pub two : length done.verdicts ≡ 2
+  pub within : IsWithin most room owes done
+  pub booted : new.store.booted ≡ not new.ended
+  pub ended : new.ended ≡ done.note.ended
+  pub stopped : done.note.outcome ≡ Stopped → (done.answer.status ≡ INFO_STOPPED) × NoBoot done.note
+  pub trouble : Troubled faults stops old.store.bank new.store.bank done.note
+  pub cause : HasCause done.answer.status done.note
+
+-- and this where it tells them: with any note that a boot may have told more, this was its effect
+abbrev pub Meets : {B C : Type 0} → Type 0 → (B → List ℕ) → (C → List ℕ → ℤ) → (C → ℕ) → Held B C → Held B C → Request → (State → Given → Option model.Effect) → Effect → Type 0
+Meets tells now verdict asked old new request means done = tells → (s : State) → HoldsAll tells now old s → (note : BankNote) → Follows done.note note
+    → Has tells now verdict asked old new request s done note (means s (record { note = note; verdicts = done.verdicts }))
+
+-- ---- the boot
+
+-- behind a call that was stopped no tables are left, and the service has ended where the boot failed
+abbrev pub after_stop : {B C : Type 0} → Outcome → BankNote → StoreParts B → Held B C → Held B C
+after_stop Stopped note store held = record held { tables = no_tables; pending = []; store = store; ended = note.ended }
+after_stop Untouched note store held = held
+after_stop Done note store held = held
+after_stop Failed note store held = held
+
+-- the request was made, and the service booted behind it where it was stopped
+pub record IsMade {B C : Type 0} (tells : Type 0) (now : B → List ℕ) (faults stops : B → ℕ) (verdict : C → List ℕ → ℤ) (asked : C → ℕ) (old new : Held B C) (request : Request) (means : State → Given → Option model.Effect) (done : Effect) : Type 0 where
+  pub effect : tells → (s : State) → HoldsAll tells now old s → (e : model.Effect) × (means s (given_of done) ≡ Some e) × IsEffect done e.asked e.next (uncalled e) × HoldsAll tells now new e.next
+      × Judged verdict asked old.kit new.kit e.asked done.verdicts × IsNoteOf request e.calls s.store done.note × RestoresHeld (now old.store.bank) request s.store done.note
+  pub fit : (n : ℕ) → AreFit n (state_of old) → AreFit (suc n) (state_of new)
+  pub judged : (questions : List Question) × Judged verdict asked old.kit new.kit questions done.verdicts
+  pub two : length done.verdicts ≡ 2
+  pub booted : new.store.booted ≡ not new.ended
+  pub ended : new.ended ≡ done.note.ended
+  pub trouble : Troubled faults stops old.store.bank new.store.bank done.note
+  pub cause : HasCause done.answer.status done.note
+
+-- ---- one entry
 
 -- an entry tells the effect, and it is counted
 pub record Finishes (old new : Logged) (clock : Clock) (tables : Tables) (actor : Actor) (request : Request) (done : Effect) : Type 0 where
@@ -167,13 +248,42 @@ pub record Finishes (old new : Logged) (clock : Clock) (tables : Tables) (actor 
   pub entries : new.entries ≡ old.entries ++ entry_of actor request reply (given_of done) ∷ []
 
 -- one request was played: one entry more, answered rightly whatever run the core stood for
-pub record Plays {C : Type 0} (verdict : C → List ℕ → ℤ) (asked : C → ℕ) (old new : CoreView C) (actor : Actor) (request : Request) : Type 0 where
+pub record Plays {B C : Type 0} (tells : Type 0) (now : B → List ℕ) (faults stops : B → ℕ) (verdict : C → List ℕ → ℤ) (asked : C → ℕ) (old new : CoreView B C) (actor : Actor) (request : Request) (result : Result Unit StepFault) : Type 0 where
   pub entry : Entry
   pub actor_is : entry.actor ≡ actor
   pub request_is : entry.request ≡ request
   pub added : new.entries ≡ old.entries ++ entry ∷ []
-  pub answered : (r : Run) → Shows old r → IsAnswered r entry
-  pub shows : (r : Run) → Shows old r → Shows new (onward r entry)
-  pub live : new.state.ended ≡ false
+  pub answered : tells → (r : Run) → Shows tells now old r → IsAnswered r entry
+  pub shows : tells → (r : Run) → Shows tells now old r → Shows tells now new (onward r entry)
+  pub ended : new.state.ended ≡ entry.note.ended
+  pub ends : result ≡ session_end entry.note
   pub ready : IsReady asked new
-  pub judged : (r : Run) → Shows old r → Judged verdict asked old.state.kit new.state.kit (questions_in r entry) entry.verdicts
+  pub judged : tells → (r : Run) → Shows tells now old r → Judged verdict asked old.state.kit new.state.kit (questions_in r entry) entry.verdicts
+  pub kit : (questions : List Question) × Judged verdict asked old.state.kit new.state.kit questions entry.verdicts
+  pub gave : tells → (r : Run) → Shows tells now old r → RestoresHeld (now old.state.store.bank) request r.state.store entry.note
+  pub trouble : Troubled faults stops old.state.store.bank new.state.store.bank entry.note
+  pub cause : HasCause entry.reply.status entry.note
+
+-- ---- the core
+
+-- one entry more, which has its causes: the counts of the bank rose by what its note tells, and so where its answer tells trouble
+pub record AddsOne {B C : Type 0} (faults stops : B → ℕ) (old new : CoreView B C) (actor : Actor) (request : Request) (result : Result Unit StepFault) : Type 0 where
+  pub entry : Entry
+  pub actor_is : entry.actor ≡ actor
+  pub request_is : entry.request ≡ request
+  pub added : new.entries ≡ old.entries ++ entry ∷ []
+  pub ended : new.state.ended ≡ entry.note.ended
+  pub ends : result ≡ session_end entry.note
+  pub trouble : Troubled faults stops old.state.store.bank new.state.store.bank entry.note
+  pub cause : HasCause entry.reply.status entry.note
+
+-- why a start isn't done
+abbrev pub start_fault : BankFault → StartFault
+start_fault (Fault gate old) = BootFault
+start_fault (Cut gate old) = BootStopped
+
+-- a start that isn't done moved the count that it tells
+abbrev pub StartCounted : {B : Type 0} → (B → ℕ) → (B → ℕ) → B → B → StartFault → Type 0
+StartCounted faults stops old new Memory = Still faults stops old new
+StartCounted faults stops old new BootFault = RoseAlone faults stops old new
+StartCounted faults stops old new BootStopped = RoseAlone stops faults old new

@@ -6,7 +6,7 @@ ghost use Rattle.tbl_kinds.specs.GroundCommands.{code_of, command_in};
 ghost use Rattle.tbl_model.specs.Commands.{asked_in, asks_housekeeping, asks_reset_counters, asks_validate, asked_file, asked_code};
 ghost use Rattle.tbl_model.specs.Counts.{is_reset, asks_load, load_file_of};
 ghost use Rattle.cmd_packets.specs.Views.{command_of};
-ghost use Rattle.tbl_core.specs.Asked.{read_of, asked_of, asks_notice, shown_room, owners_handle, command_deeds, most_deeds};
+ghost use Rattle.tbl_core.specs.Asked.{read_of, asked_of, asks_notice, asks_delete, asks_store, shown_room, owners_handle, command_deeds, most_deeds};
 
 use crate::packets::{HOUSEKEEPING_LENGTH, REGISTRY_LENGTH};
 use cmd_packets::{CmdFault, Ground, read_command};
@@ -124,6 +124,28 @@ pub(crate) fn asks_notice(asked: &Asked) -> bool
         asked,
         Some(Ok(Ground::Dump { .. } | Ground::Validate { .. } | Ground::Activate { .. }))
     )
+}
+
+/// Whether it is the command that deletes a block.
+fn asks_delete(asked: &Asked) -> bool
+    ensures { result ≡ asks_delete (asked_of asked.now) }
+{
+    matches!(asked, Some(Ok(Ground::DeleteCds { .. })))
+}
+
+/// Whether it boots the Critical Data Store, or calls it.
+pub(crate) fn asks_store(request: &Request, asked: &Asked) -> bool
+    ensures { result ≡ asks_store request.now (asked_of asked.now) }
+{
+    match request {
+        Request::Reset { .. }
+        | Request::CdsRegister { .. }
+        | Request::CdsCopy { .. }
+        | Request::CdsRestore { .. }
+        | Request::CdsDelete { .. } => true,
+        Request::Command { .. } => asks_delete(asked),
+        _ => false,
+    }
 }
 
 /// How long the packet is that a command shows behind its events, if it is accepted.

@@ -1,17 +1,17 @@
 //! What a command does.
 
-ghost use Rattle.std.specs.Prelude.{◌≡◌, ◌≤◌, [], Some, length, vec_capacity, IfOk, OnErr};
+ghost use Rattle.std.specs.Prelude.{◌≡◌, ◌≤◌, [], false, Some, length, vec_capacity, IfOk, OnErr};
 ghost use Rattle.tbl_model.specs.State.{State};
 ghost use Rattle.tbl_model.specs.Commands.{effect_by};
 ghost use Rattle.tbl_model.specs.Given.{nothing_given};
 ghost use Rattle.validation.specs.Ready.{ArePending};
 ghost use Rattle.tbl_core.specs.Service.{AreSendable};
-ghost use Rattle.tbl_core.specs.Asked.{read_of, asks_notice, shown_room, command_deeds};
+ghost use Rattle.tbl_kinds.specs.Notes.{untouched};
+ghost use Rattle.tbl_core.specs.Asked.{read_of, asks_delete, asks_notice, shown_room, command_deeds};
 ghost use Rattle.tbl_core.specs.Effects.{IsEffect, IsWithin, given_of};
 ghost use Rattle.tbl_core.specs.Log.{reply_limit};
 
 use crate::activations::{abort, activate};
-use crate::asked::code_of;
 use crate::dumps::{dump, dump_registry};
 use crate::effect::Effect;
 use crate::ground_loads::load;
@@ -27,18 +27,7 @@ use tbl_model::Deed;
 use tbl_registry::Tables;
 use validation::Pending;
 
-/// The refusal of a command that isn't built: its function code is the detail.
-fn not_built(code: u8) -> Answer
-    ensures status { result.status ≡ Status.ERR_BAD_CODE }
-    ensures detail { result.detail ≡ code }
-{
-    Answer {
-        status: Status::ERR_BAD_CODE,
-        detail: u32::from(code),
-    }
-}
-
-/// Plays a command, by what its packet was read as.
+/// Plays a command that calls nothing of the store, by what its packet was read as.
 pub(crate) fn command(
     alloc: Global,
     tables: &mut Tables,
@@ -49,13 +38,14 @@ pub(crate) fn command(
     deeds: Vec<Deed>,
     empty: Bytes,
 ) -> Result<Effect, Memory>
+    requires no_call { asks_delete (Some (read_of asked.now)) ≡ false }
     requires pending { ArePending tables.old pending.old }
     requires notices { AreSendable tables.old }
     requires no_deeds { deeds.items ≡ [] }
     requires room { vec_capacity deeds ≡ command_deeds (Some (read_of asked.now)) }
     requires empty { empty.list ≡ [] }
     ensures effect { IfOk result (λ done. (s : State) → s.tables ≡ tables.old → s.pending ≡ pending.old → s.drawer ≡ drawer.old → s.seconds ≡ clock.seconds → s.sub ≡ clock.sub
-        → IsEffect done [] (record s { tables = tables.new; pending = pending.new; drawer = drawer.new }) (effect_by s (read_of asked.now))) }
+        → IsEffect done [] (record s { tables = tables.new; pending = pending.new; drawer = drawer.new }) (effect_by s (read_of asked.now) untouched)) }
     ensures within { IfOk result (IsWithin (command_deeds (Some (read_of asked.now))) (shown_room (Some (read_of asked.now))) (asks_notice (Some (read_of asked.now)))) }
     ensures given { IfOk result (λ done. given_of done ≡ nothing_given) }
     ensures err { OnErr result (tables.new ≡ tables.old) }
@@ -86,6 +76,6 @@ pub(crate) fn command(
         }
         Ok(Ground::SendRegistry { table }) => Ok(send_registry(tables, table, empty)),
         Ok(Ground::Abort { table }) => Ok(abort(tables, pending, table, empty)),
-        Ok(command) => Ok(Effect::of(not_built(code_of(command)), empty)),
+        Ok(Ground::DeleteCds { .. }) => unreachable!(),
     }
 }

@@ -1,20 +1,21 @@
 //! Which request is played by what.
 
-ghost use Rattle.std.specs.Prelude.{◌≡◌, [], false, None, Some, IsSome, vec_capacity, IfOk, OnErr};
+ghost use Rattle.std.specs.Prelude.{◌≡◌, [], length, true, false, None, Some, IsSome, vec_capacity, IfOk, OnErr};
 ghost use Rattle.tbl_kinds.specs.Requests.{Fits};
-ghost use Rattle.tbl_kinds.specs.Records.{IsBuilt};
+ghost use Rattle.tbl_laws.specs.Fit.{AreFit};
 ghost use Rattle.tbl_model.specs.Tables.{table_at};
 ghost use Rattle.tbl_model.specs.Commands.{asked_in};
-ghost use Rattle.tbl_kinds.specs.declared.request.Actor.TheVariants.{Ground, App};
+ghost use Rattle.tbl_kinds.specs.declared.request.Actor.TheVariants as by;
 ghost use Rattle.tbl_model.specs.Dispatch.{ground_effect, app_effect, effect_of};
-ghost use Rattle.tbl_core.specs.Asked.{asked_of, asks_notice, shown_room, owners_handle, most_deeds};
+ghost use Rattle.tbl_core.specs.Asked.{asked_of, asks_notice, asks_store, shown_room, owners_handle, most_deeds};
 ghost use Rattle.tbl_core.specs.Owned.{owned_at};
-ghost use Rattle.tbl_core.specs.Service.{MayPlay, Does, held_of};
+ghost use Rattle.tbl_core.specs.Service.{MayPlay, Does, Makes, Meets, held_of, state_of};
 
 use crate::activations::update;
 use crate::addresses::{get, read, release};
 use crate::applications::{exit, register, share, start};
-use crate::asked::{Asked, owners_handle};
+use crate::asked::{Asked, asks_store, owners_handle};
+use crate::blocks::{cds_copy, cds_delete, cds_register, cds_restore, delete_cds};
 use crate::checks::check;
 use crate::commands::command;
 use crate::dumps::{dump_to_buffer, edit};
@@ -25,11 +26,12 @@ use crate::management::{get_status, manage, notify};
 use crate::parts::{Clock, Parts};
 use crate::registry::get_info;
 use crate::validations::app_validate;
+use cmd_packets::Ground;
 use tbl_kinds::{Actor, Answer, Bytes, Memory, Request, Status};
 use tbl_model::Deed;
-use tbl_outside::Validator;
+use tbl_outside::{Bank, Validator};
 
-impl<C: Validator> Parts<C> {
+impl<B: Bank, C: Validator> Parts<B, C> {
     /// Does what the ground asks.
     #[tactic(auto, using(crate::proofs::Verdicts::none_judged))]
     fn ground(
@@ -39,9 +41,9 @@ impl<C: Validator> Parts<C> {
         deeds: Vec<Deed>,
         empty: Bytes,
     ) -> Result<Effect, Memory>
-        requires fits { Fits Ground request.now }
-        requires built { IsBuilt request.now }
+        requires fits { Fits by.Ground request.now }
         requires asked { asked_of asked.now ≡ asked_in request.now }
+        requires no_call { asks_store request.now (asked_of asked.now) ≡ false }
         requires ready { MayPlay C.asked (held_of self.old) }
         requires no_deeds { deeds.items ≡ [] }
         requires room { vec_capacity deeds ≡ most_deeds request.now (asked_of asked.now) }
@@ -159,8 +161,8 @@ impl<C: Validator> Parts<C> {
     #[tactic(auto, using(crate::proofs::Verdicts::none_judged))]
     fn user(&mut self, app: u8, request: &Request, empty: Bytes) -> Result<Effect, Memory>
         requires users { owners_handle request.now ≡ None }
-        requires fits { Fits (App app) request.now }
-        requires built { IsBuilt request.now }
+        requires no_call { asks_store request.now None ≡ false }
+        requires fits { Fits (by.App app) request.now }
         requires ready { MayPlay C.asked (held_of self.old) }
         requires empty { empty.list ≡ [] }
         ensures does { IfOk result (Does C.verdict C.asked 0 0 false (held_of self.old) (held_of self.new) (λ s given. app_effect s app request.now given)) }
@@ -208,7 +210,60 @@ impl<C: Validator> Parts<C> {
         }
     }
 
-    /// Does what a request asks. If memory runs out, nothing is changed.
+    /// Does what boots the Critical Data Store, or calls it.
+    fn store_request(
+        &mut self,
+        actor: Actor,
+        request: &Request,
+        asked: &Asked,
+        empty: Bytes,
+    ) -> Result<Effect, Memory>
+        requires fits { Fits actor request.now }
+        requires asked { asked_of asked.now ≡ asked_in request.now }
+        requires calls { asks_store request.now (asked_of asked.now) ≡ true }
+        requires booted { self.old.store.booted ≡ true }
+        requires live { self.old.ended ≡ false }
+        requires empty { empty.list ≡ [] }
+        ensures makes { IfOk result (Makes C.asked C.verdict B.faults B.stops 0 0 false (held_of self.old) (held_of self.new)) }
+        ensures meets { IfOk result (Meets B.tells B.now C.verdict C.asked (held_of self.old) (held_of self.new) request.now (λ s given. effect_of s actor request.now given)) }
+        ensures log { self.new.log ≡ self.old.log }
+        ensures err { OnErr result (held_of self.new ≡ held_of self.old) }
+    {
+        let alloc = self.alloc;
+        let store = &mut self.store;
+        match actor {
+            Actor::Ground => match request {
+                Request::Reset { kind } => self.reset(*kind, empty),
+                _ => match asked {
+                    Some(Ok(Ground::DeleteCds { table })) => {
+                        delete_cds(alloc, &self.tables, store, table, empty)
+                    }
+                    _ => unreachable!(),
+                },
+            },
+            Actor::App(app) => {
+                let apps = &self.apps;
+                match request {
+                    Request::CdsRegister { name, size } => {
+                        cds_register(alloc, store, apps, app, name, *size, empty)
+                    }
+                    Request::CdsCopy { slot, image } => {
+                        cds_copy(alloc, store, apps, app, *slot, image.bytes(), empty)
+                    }
+                    Request::CdsRestore { slot } => {
+                        cds_restore(alloc, store, apps, app, *slot, empty)
+                    }
+                    Request::CdsDelete { slot } => {
+                        cds_delete(alloc, store, apps, app, *slot, empty)
+                    }
+                    _ => unreachable!(),
+                }
+            }
+        }
+    }
+
+    /// Does what a request asks. If memory runs out, nothing is changed. Where a call of the store was stopped, the service
+    /// doesn't boot yet.
     pub(crate) fn effect(
         &mut self,
         actor: Actor,
@@ -216,14 +271,19 @@ impl<C: Validator> Parts<C> {
         asked: &Asked,
     ) -> Result<Effect, Memory>
         requires fits { Fits actor request.now }
-        requires built { IsBuilt request.now }
         requires asked { asked_of asked.now ≡ asked_in request.now }
         requires ready { MayPlay C.asked (held_of self.old) }
-        ensures does { IfOk result (Does C.verdict C.asked (most_deeds request.now (asked_of asked.now)) (shown_room (asked_of asked.now)) (asks_notice (asked_of asked.now)) (held_of self.old) (held_of self.new) (λ s given. effect_of s actor request.now given)) }
+        requires fit { AreFit (length self.old.log.entries) (state_of (held_of self.old)) }
+        requires live { self.old.ended ≡ false }
+        ensures makes { IfOk result (Makes C.asked C.verdict B.faults B.stops (most_deeds request.now (asked_of asked.now)) (shown_room (asked_of asked.now)) (asks_notice (asked_of asked.now)) (held_of self.old) (held_of self.new)) }
+        ensures meets { IfOk result (Meets B.tells B.now C.verdict C.asked (held_of self.old) (held_of self.new) request.now (λ s given. effect_of s actor request.now given)) }
         ensures log { self.new.log ≡ self.old.log }
         ensures err { OnErr result (held_of self.new ≡ held_of self.old) }
     {
         let empty = Bytes::make(self.alloc, 0)?;
+        if asks_store(request, asked) {
+            return self.store_request(actor, request, asked, empty);
+        }
         let deeds = room_for_deeds(self.alloc, request, asked)?;
         match actor {
             Actor::Ground => self.ground(request, asked, deeds, empty),

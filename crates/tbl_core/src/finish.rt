@@ -21,7 +21,7 @@ use crate::parts::{Clock, Parts};
 use crate::tally::{loaded_file, loaded_name, tally};
 use tbl_kinds::{Actor, Bytes, Entry, Reply, Request, Status};
 use tbl_model::Shown;
-use tbl_outside::Validator;
+use tbl_outside::{Bank, Validator};
 
 /// How many bytes of packets a request can send.
 pub(crate) fn packets_room(request: &Request, asked: &Asked) -> usize
@@ -43,7 +43,7 @@ fn shown_before(counters: &Counters, shown: Shown) -> u32
     }
 }
 
-impl<C: Validator> Parts<C> {
+impl<B: Bank, C: Validator> Parts<B, C> {
     /// Counts a request.
     fn count(&mut self, clock: Clock, request: &Request, asked: &Asked, effect: &Effect)
         requires asked { asked_of asked.now ≡ asked_in request.now }

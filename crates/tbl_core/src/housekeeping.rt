@@ -20,9 +20,6 @@ use tbl_kinds::{Answer, Bytes, Memory, Status};
 use tbl_model::{Deed, Shown};
 use tbl_registry::Tables;
 
-/// The most bytes of a dump's file.
-const FILE_LIMIT: usize = 16_500;
-
 /// Writes the file of the filled dump of the table of a row, if there is one, and then those of further rows. The drawer,
 /// the bytes of all files and what is told of them; no dump ends yet. If memory runs out, the drawer is as it was.
 #[cycle(files)]

@@ -5,6 +5,8 @@ mod activations;
 mod addresses;
 mod applications;
 mod asked;
+mod blocks;
+mod boots;
 mod checks;
 mod commands;
 mod counters;
@@ -19,6 +21,7 @@ mod housekeeping;
 mod loads;
 mod log;
 mod management;
+mod notes;
 mod packets;
 mod parts;
 mod registry;
@@ -27,7 +30,7 @@ mod subjects;
 mod tally;
 mod validations;
 
-pub use service::{Core, StepFault};
+pub use service::{Core, StartFault, StepFault};
 
 #[cfg(test)]
 mod tests;

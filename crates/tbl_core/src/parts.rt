@@ -1,21 +1,30 @@
 //! What the service keeps, and how it plays a request.
 
-ghost use Rattle.std.specs.Prelude.{◌≡◌, false, ◌<◌, ◌↔◌, [], length, replicate, None, IsTrue, OnOk, OnErr, IfOk};
+ghost use Rattle.std.specs.Prelude.{◌≡◌, false, ◌<◌, ◌↔◌, [], length, replicate, None, Err, IsTrue, OnOk, OnErr, IfOk, IfErr, ◌≤◌};
+ghost use Rattle.tbl_kinds.specs.Places.{bank_size};
 ghost use Rattle.tbl_model.specs.State.{no_tables};
 ghost use Rattle.tbl_kinds.specs.Requests.{Fits};
-ghost use Rattle.tbl_kinds.specs.Records.{IsBuilt, record_limit};
+ghost use Rattle.tbl_kinds.specs.Records.{record_limit};
 ghost use Rattle.tbl_model.specs.Counts.{no_counts};
-ghost use Rattle.tbl_core.specs.Service.{Plays, IsReady, held_of, view_of};
+ghost use Rattle.tbl_core.specs.Called.{OnPlayed};
+ghost use Rattle.tbl_model.specs.Commands.{asked_in};
+ghost use Rattle.tbl_model.specs.Dispatch.{effect_of};
+ghost use Rattle.tbl_core.specs.Asked.{asked_of, asks_notice, shown_room, most_deeds};
+ghost use Rattle.tbl_core.specs.Finish.{packets_room};
+ghost use Rattle.tbl_core.specs.Service.{Makes, Meets, Plays, IsReady, held_of, view_of};
 
-use crate::asked::asked_in;
+use crate::asked::{Asked, asked_in};
+use crate::boots::session_end;
+use crate::effect::Effect;
 use crate::finish::packets_room;
 use crate::log::Log;
 use crate::service::StepFault;
+use cds_store::Store;
 use file_drawer::Drawer;
 use sharing::Apps;
 use std::alloc::Global;
 use tbl_kinds::{Actor, Bytes, Memory, Request};
-use tbl_outside::Validator;
+use tbl_outside::{Back, Bank, Validator};
 use tbl_registry::Tables;
 use validation::{Kit, Pending};
 
@@ -29,7 +38,7 @@ pub(crate) struct Clock {
 
 /// The parts of the service, of which a request changes several in one go.
 #[derive(Drop)]
-pub(crate) struct Parts<C: Validator> {
+pub(crate) struct Parts<B: Bank, C: Validator> {
     pub alloc: Global,
     pub log: Log,
     pub tables: Tables,
@@ -37,12 +46,43 @@ pub(crate) struct Parts<C: Validator> {
     pub kit: Kit<C>,
     pub pending: Pending,
     pub drawer: Drawer,
+    pub store: Store<B>,
     pub clock: Clock,
+    /// Whether a boot failed or was stopped.
+    pub ended: bool,
 }
 
-impl<C: Validator> Parts<C> {
-    /// Nothing runs, nothing is registered, no validation is pending, no file is there, the history is empty, and the time is 0.
-    pub(crate) fn make(alloc: Global, kit: Kit<C>) -> Result<Parts<C>, Memory>
+/// What a request did, and room for the packets that tell it.
+#[derive(Drop)]
+struct Made {
+    effect: Effect,
+    packets: Bytes,
+}
+
+/// What the parts take from memory beside the store.
+#[derive(Drop)]
+struct Room {
+    tables: Tables,
+    drawer: Drawer,
+}
+
+impl Room {
+    fn make(alloc: Global) -> Result<Room, Memory>
+        ensures tables { IfOk result (λ room. room.tables ≡ no_tables) }
+        ensures drawer { IfOk result (λ room. room.drawer ≡ []) }
+    {
+        Ok(Room {
+            tables: Tables::make(alloc)?,
+            drawer: Drawer::make(alloc)?,
+        })
+    }
+}
+
+impl<B: Bank, C: Validator> Parts<B, C> {
+    /// Nothing runs, nothing is registered, no validation is pending, no file is there, the history is empty, and the time is
+    /// 0. The store isn't booted yet.
+    pub(crate) fn make(alloc: Global, bank: B, kit: Kit<C>) -> Result<Parts<B, C>, Back<Memory, B>>
+        requires { bank_size ≤ B.size bank }
         ensures entries { IfOk result (λ parts. parts.log.entries ≡ []) }
         ensures counts { IfOk result (λ parts. parts.log.counts ≡ no_counts) }
         ensures tables { IfOk result (λ parts. parts.tables ≡ no_tables) }
@@ -52,43 +92,83 @@ impl<C: Validator> Parts<C> {
         ensures drawer { IfOk result (λ parts. parts.drawer ≡ []) }
         ensures seconds { IfOk result (λ parts. parts.clock.seconds ≡ 0) }
         ensures sub { IfOk result (λ parts. parts.clock.sub ≡ 0) }
+        ensures bank { IfOk result (λ parts. parts.store.bank ≡ bank) }
+        ensures ended { IfOk result (λ parts. parts.ended ≡ false) }
+        ensures err { IfErr result (λ back. back.bank ≡ bank) }
     {
+        let room = match Room::make(alloc) {
+            Ok(room) => room,
+            Err(cause) => return Err(Back { cause, bank }),
+        };
         Ok(Parts {
             alloc,
             log: Log::make(alloc),
-            tables: Tables::make(alloc)?,
+            tables: room.tables,
             apps: Apps::make(),
             kit,
             pending: Pending::make(),
-            drawer: Drawer::make(alloc)?,
+            drawer: room.drawer,
+            store: Store::make(alloc, bank)?,
             clock: Clock { seconds: 0, sub: 0 },
+            ended: false,
         })
     }
 
-    /// Whether a further request is played: no request that is built ends the service.
+    /// The bank as it is.
+    pub(crate) fn end(self) -> B
+        ensures { result ≡ self.store.bank }
+    {
+        self.store.end()
+    }
+
+    /// Whether a further request is played: no boot has failed or was stopped.
     pub(crate) fn is_live(&self) -> bool
         ensures { IsTrue result ↔ ((held_of self.now).ended ≡ false) }
     {
-        let _history = &self.log;
-        true
+        !self.ended
+    }
+
+    /// Takes the memory for the reply and the entry of a request, and does what it asks. If memory runs out, nothing is changed.
+    fn carry_out(&mut self, actor: Actor, request: &Request, asked: &Asked) -> Result<Made, Memory>
+        requires fits { Fits actor request.now }
+        requires asked { asked_of asked.now ≡ asked_in request.now }
+        requires room { length self.old.log.entries < record_limit }
+        requires ready { IsReady C.asked (view_of self.old) }
+        requires live { self.old.ended ≡ false }
+        ensures makes { IfOk result (λ made. Makes C.asked C.verdict B.faults B.stops (most_deeds request.now (asked_of asked.now)) (shown_room (asked_of asked.now)) (asks_notice (asked_of asked.now)) (held_of self.old) (held_of self.new) made.effect) }
+        ensures meets { IfOk result (λ made. Meets B.tells B.now C.verdict C.asked (held_of self.old) (held_of self.new) request.now (λ s given. effect_of s actor request.now given) made.effect) }
+        ensures no_packets { IfOk result (λ made. made.packets.list ≡ []) }
+        ensures packets { IfOk result (λ made. packets_room request.now (asked_of asked.now) ≤ made.packets.spare) }
+        ensures spare { OnOk result (0 < self.new.log.spare) }
+        ensures entries { self.new.log.entries ≡ self.old.log.entries }
+        ensures counts { self.new.log.counts ≡ self.old.log.counts }
+        ensures err { OnErr result (held_of self.new ≡ held_of self.old) }
+    {
+        self.log.reserve()?;
+        let packets = Bytes::make(self.alloc, packets_room(request, asked))?;
+        let effect = self.effect(actor, request, asked)?;
+        Ok(Made { effect, packets })
     }
 
     /// Plays a request: takes the memory for its reply and its entry, does what it asks, and enters what came of it.
-    /// If memory runs out, nothing is changed.
+    /// If memory runs out, nothing is changed. Where the service boots in the request and that boot fails or is stopped, the
+    /// entry is the last one.
     pub(crate) fn play(&mut self, actor: Actor, request: Request) -> Result<(), StepFault>
         requires fits { Fits actor request }
-        requires built { IsBuilt request }
         requires room { length self.old.log.entries < record_limit }
         requires ready { IsReady C.asked (view_of self.old) }
-        ensures plays { OnOk result (Plays C.verdict C.asked (view_of self.old) (view_of self.new) actor request) }
-        ensures err { OnErr result (view_of self.new ≡ view_of self.old) }
+        requires live { self.old.ended ≡ false }
+        ensures plays { OnPlayed result (Plays B.tells B.now B.faults B.stops C.verdict C.asked (view_of self.old) (view_of self.new) actor request result) }
+        ensures err { result ≡ Err StepFault.Memory → view_of self.new ≡ view_of self.old }
     {
-        self.log.reserve()?;
         let asked = asked_in(&request);
-        let packets = Bytes::make(self.alloc, packets_room(&request, &asked))?;
         let clock = self.clock;
-        let effect = self.effect(actor, &request, &asked)?;
+        let Ok(Made { effect, packets }) = self.carry_out(actor, &request, &asked) else {
+            return Err(StepFault::Memory);
+        };
+        let effect = self.boot_if_stopped(effect);
+        let end = session_end(&effect.note);
         self.finish(clock, actor, request, &asked, effect, packets);
-        Ok(())
+        end
     }
 }

@@ -1,24 +1,29 @@
 //! The core, and one step of it.
 
-ghost use Rattle.std.specs.Prelude.{◌≡◌, false, ◌+◌, ◌^◌, ◌<◌, ◌↔◌, Option, List, [], ◌∷◌, ◌++◌, length, IsTrue, OnOk, OnErr, All, IfOk, IsOkUnless};
+ghost use Rattle.std.specs.Prelude.{◌≡◌, false, ◌+◌, ◌^◌, ◌<◌, ◌≤◌, ◌↔◌, Option, List, [], ◌∷◌, ◌++◌, length, Err, IsTrue, OnOk, All, IfOk, IfErr};
 ghost use Rattle.tbl_model.specs.State.{State, first_state, no_tables};
 ghost use Rattle.tbl_model.specs.Vouched.{IsVouched};
 ghost use Rattle.tbl_model.specs.Whole.{IsWhole};
 ghost use Rattle.tbl_kinds.specs.Requests.{Fits};
-ghost use Rattle.tbl_kinds.specs.Records.{IsBuilt, record_limit};
+ghost use Rattle.tbl_kinds.specs.Records.{record_limit};
+ghost use Rattle.tbl_kinds.specs.Places.{bank_size};
+ghost use Rattle.cds_layout.specs.Images.{store_of};
+ghost use Rattle.tbl_core.specs.Called.{OnPlayed, RestoresHeld};
 ghost use Rattle.tbl_core.specs.Log.{IsSmall};
 ghost use Rattle.tbl_model.specs.History.{begins_at, run_from};
 ghost use Rattle.validation.specs.Kits.{owners};
+ghost use Rattle.tbl_outside.specs.Counts.{Still};
 ghost use Rattle.tbl_outside.specs.declared.validator.KitEntry.{KitEntry as Function};
-ghost use Rattle.tbl_core.specs.Service.{StandsFor, Vouches, AskedBelow};
+ghost use Rattle.tbl_core.specs.Service.{StandsFor, Vouches, AskedBelow, AddsOne, start_fault, StartCounted};
 ghost use Rattle.tbl_core.specs.Verdicts.{Judged, questions_in, KeepsToFunctions};
 ghost use Rattle.tbl_kinds.specs.declared.entry.Entry.{Entry};
 
 use crate::parts::Parts;
+use cds_store::BankFault;
 use std::alloc::Global;
 use std::marker::Model;
-use tbl_kinds::{Actor, Entry, Memory, Request};
-use tbl_outside::Validator;
+use tbl_kinds::{Actor, Entry, Memory, Request, ResetKind};
+use tbl_outside::{Back, Bank, Validator};
 use validation::Kit;
 
 /// Why a step played no request, or was the last one.
@@ -26,6 +31,32 @@ use validation::Kit;
 pub enum StepFault {
     /// Memory ran out. Nothing was changed.
     Memory,
+    /// The service booted in the request, and the bank failed in that boot. The entry was added, and it is the last one.
+    BootFault,
+    /// The service booted in the request, and a further reset came into that boot. The entry was added, and it is the last one.
+    BootStopped,
+}
+
+/// Why there is no service.
+#[derive(Clone, Copy, Debug, PartialEq, Eq)]
+pub enum StartFault {
+    /// Memory ran out.
+    Memory,
+    /// The bank failed in the boot.
+    BootFault,
+    /// The processor was reset in the boot.
+    BootStopped,
+}
+
+impl From<BankFault> for StartFault {
+    fn from(fault: BankFault) -> StartFault
+        ensures { result ≡ start_fault fault }
+    {
+        match fault {
+            BankFault::Fault { .. } => StartFault::BootFault,
+            BankFault::Stopped { .. } => StartFault::BootStopped,
+        }
+    }
 }
 
 impl From<Memory> for StepFault {
@@ -34,17 +65,17 @@ impl From<Memory> for StepFault {
     }
 }
 
-/// The table service: its state, the validation functions of its applications, and the history of all that was asked and
-/// answered.
+/// The table service: its state, the validation functions of its applications, the bank that it keeps blocks in, and the
+/// history of all that was asked and answered.
 #[derive(Drop)]
-pub struct Core<C: Validator> {
-    parts: Parts<C>,
+pub struct Core<B: Bank, C: Validator> {
+    parts: Parts<B, C>,
 }
 
-impl<C: Validator> Model for Core<C> {
+impl<B: Bank, C: Validator> Model for Core<B, C> {
     ghost use Rattle.tbl_core.specs.Service.{CoreView};
 
-    ghost Value = { CoreView C };
+    ghost Value = { CoreView B C };
 
     ghost use Rattle.tbl_core.specs.Service.{view_of, IsReady};
 
@@ -53,19 +84,44 @@ impl<C: Validator> Model for Core<C> {
     ghost invariant = { λ c. IsReady C.asked (view_of c.parts) };
 }
 
-impl<C: Validator> Core<C> {
-    /// The service at its start, with an empty history and these validation functions.
+impl<B: Bank, C: Validator> Core<B, C> {
+    /// The service at its start, with an empty history and these validation functions. It boots as after a reset of the
+    /// processor; the bank again where that fails or is stopped, or where memory runs out.
     #[tactic(auto, unfolding(tbl_model::specs::Counts::counts_of))]
-    pub fn start(alloc: Global, kit: Kit<C>) -> Result<Core<C>, Memory>
-        requires { AskedBelow C.asked (2 ^ 62) kit }
-        ensures stands { IfOk result (StandsFor (first_state [] (owners kit))) }
+    pub fn start(alloc: Global, bank: B, kit: Kit<C>) -> Result<Core<B, C>, Back<StartFault, B>>
+        requires room { bank_size ≤ B.size bank }
+        requires asked { AskedBelow C.asked (2 ^ 62) kit }
+        // The blocks are those that the bank shows.
+        ensures stands { IfOk result (StandsFor B.tells B.now (first_state (store_of (B.now bank)) (owners kit))) }
         ensures kit { IfOk result (λ core. core.state.kit ≡ kit) }
         ensures empty { IfOk result (λ core. core.entries ≡ []) }
         ensures live { IfOk result (λ core. core.state.ended ≡ false) }
+        ensures counts { IfOk result (λ core. Still B.faults B.stops bank core.state.store.bank) }
+        ensures cause { IfErr result (λ back. StartCounted B.faults B.stops bank back.bank back.cause) }
     {
-        Ok(Core {
-            parts: Parts::make(alloc, kit)?,
-        })
+        let mut parts = match Parts::make(alloc, bank, kit) {
+            Ok(parts) => parts,
+            Err(Back { bank, .. }) => {
+                return Err(Back {
+                    cause: StartFault::Memory,
+                    bank,
+                });
+            }
+        };
+        match parts.store.boot(ResetKind::Processor) {
+            Ok(_found) => Ok(Core { parts }),
+            Err(fault) => Err(Back {
+                cause: StartFault::from(fault),
+                bank: parts.end(),
+            }),
+        }
+    }
+
+    /// The bank as it is.
+    pub fn end(self) -> B
+        ensures { result ≡ self.state.store.bank }
+    {
+        self.parts.end()
     }
 
     /// All that was asked and answered, in order.
@@ -83,27 +139,31 @@ impl<C: Validator> Core<C> {
         self.parts.is_live()
     }
 
-    /// Plays one request, and adds its entry to the history.
+    /// Plays one request, and adds its entry to the history. Where the service boots in it and that boot fails or is stopped,
+    /// it plays no further one.
     pub fn step(&mut self, actor: Actor, request: Request) -> Result<(), StepFault>
         requires fits { Fits actor request }
-        requires built { IsBuilt request }
         requires live { self.old.state.ended ≡ false }
         requires room { length self.old.entries < record_limit }
-        ensures adds { OnOk result ((e : Entry) × (self.new.entries ≡ self.old.entries ++ e ∷ []) × (e.actor ≡ actor) × (e.request ≡ request)) }
-        ensures legal { OnOk result ((opening : State) → StandsFor opening self.old → StandsFor opening self.new) }
-        ensures whole { OnOk result ((opening : State) → opening.tables ≡ no_tables → opening.pending ≡ [] → StandsFor opening self.old → IsWhole opening self.new.entries) }
+        // One entry more, also where a boot in the request was the last; its note and its answer have their causes in the counts
+        // of the bank.
+        ensures adds { OnPlayed result (AddsOne B.faults B.stops self.old self.new actor request result) }
+        ensures legal { OnPlayed result ((opening : State) → StandsFor B.tells B.now opening self.old → StandsFor B.tells B.now opening self.new) }
+        ensures whole { OnPlayed result (B.tells → (opening : State) → opening.tables ≡ no_tables → opening.pending ≡ [] → StandsFor B.tells B.now opening self.old → IsWhole opening self.new.entries) }
         // The functions were asked what the request asks, and the entry has their verdicts.
-        ensures judged { OnOk result ((e : Entry) × (self.new.entries ≡ self.old.entries ++ e ∷ []) × ((opening : State) → StandsFor opening self.old
+        ensures judged { OnPlayed result ((e : Entry) × (self.new.entries ≡ self.old.entries ++ e ∷ []) × (B.tells → (opening : State) → StandsFor B.tells B.now opening self.old
             → Judged C.verdict C.asked self.old.state.kit self.new.state.kit (questions_in (run_from (begins_at opening) self.old.entries) e) e.verdicts)) }
         // No image went active that its table's function didn't answer for.
-        ensures vouched { OnOk result ((opening : State) → opening.tables ≡ no_tables → opening.pending ≡ [] → StandsFor opening self.old → IsVouched opening self.new.entries) }
+        ensures vouched { OnPlayed result (B.tells → (opening : State) → opening.tables ≡ no_tables → opening.pending ≡ [] → StandsFor B.tells B.now opening self.old → IsVouched opening self.new.entries) }
         // Whatever functions it was given at first, the history's verdicts are still theirs.
-        ensures verdicts { OnOk result ((opening : State) (given : List (Option (Function C))) → Vouches C.verdict given opening self.old → Vouches C.verdict given opening self.new) }
+        ensures verdicts { OnPlayed result ((opening : State) (given : List (Option (Function C))) → Vouches B.tells B.now C.verdict given opening self.old → Vouches B.tells B.now C.verdict given opening self.new) }
         // And so each verdict that is told of an image.
-        ensures kept { OnOk result ((opening : State) (given : List (Option (Function C))) → Vouches C.verdict given opening self.old → KeepsToFunctions C.verdict given opening self.new.entries) }
+        ensures kept { OnPlayed result (B.tells → (opening : State) (given : List (Option (Function C))) → Vouches B.tells B.now C.verdict given opening self.old → KeepsToFunctions C.verdict given opening self.new.entries) }
+        // What a restore gave is what its block held in the bank as the step began.
+        ensures gave { OnPlayed result ((e : Entry) × (self.new.entries ≡ self.old.entries ++ e ∷ []) × (B.tells → (opening : State) → StandsFor B.tells B.now opening self.old
+            → RestoresHeld (B.now self.old.state.store.bank) request (run_from (begins_at opening) self.old.entries).state.store e.note)) }
         ensures live { OnOk result (self.new.state.ended ≡ false) }
-        ensures memory { IsOkUnless result StepFault.Memory }
-        ensures err { OnErr result (self.new ≡ self.old) }
+        ensures err { result ≡ Err StepFault.Memory → self.new ≡ self.old }
     {
         self.parts.play(actor, request)
     }

@@ -1,4 +1,4 @@
-use Rattle.std.proofs.Common.{rules}
+use Rattle.std.proofs.Common.{refl, rules}
 use Rattle.tbl_core.proofs.Both.{both, three}
 use Rattle.tbl_core.proofs.Doing.{plainly, quietly}
 use Rattle.tbl_core.proofs.Verdicts.{none_judged}
@@ -9,7 +9,7 @@ returns-in-File-clause-does g c = both c.file.result _ _ _ c.file.ensures.effect
     let none = none_judged g.C.Validator.verdict g.C.Validator.asked in
     quietly g.C.Validator.verdict g.C.Validator.asked _ _ _ _ _ _ done
     (λ s stands. let e = is s stands.drawer in search rules)
-    (λ s stands. let e = is s stands.drawer in search rules) quiet)
+    (λ s stands. let e = is s stands.drawer in search rules) refl quiet)
 
 pub returns-in-Some-clause-does : goal.returns-in-Some-clause-does
 returns-in-Some-clause-does g c = three c.command.result _ _ _ _ c.command.ensures.effect c.command.ensures.within c.command.ensures.given (λ done is within given.
@@ -17,4 +17,4 @@ returns-in-Some-clause-does g c = three c.command.result _ _ _ _ c.command.ensur
     plainly g.C.Validator.verdict g.C.Validator.asked _ _ _ _ _ _ done
     (λ s stands. let e = is s stands.tables stands.pending stands.drawer stands.seconds stands.sub in search rules)
     (λ s stands. let e = is s stands.tables stands.pending stands.drawer stands.seconds stands.sub in search rules)
-    (search rules) given)
+    refl (search rules) given)

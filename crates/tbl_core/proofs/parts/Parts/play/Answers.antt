@@ -1,40 +1,41 @@
 use Rattle.std.proofs.Common.{refl, sym, ap, subst, ◌∙◌}
 use Rattle.tbl_model.specs.Dispatch.{effect_of}
-use Rattle.tbl_core.specs.Effects.{given_of}
-use Rattle.tbl_core.specs.Service.{Held, Asks, Finishes, view_of}
 use Rattle.tbl_core.specs.Log.{Logged}
-use Rattle.tbl_core.proofs.Ready.{may_play}
-use Rattle.tbl_core.proofs.Steps.{did_play}
+use Rattle.tbl_core.specs.Service.{Held, Finishes, IsMade, held_of}
+use Rattle.tbl_core.specs.declared.effect.Effect.{Effect}
+use Rattle.tbl_core.proofs.Behind.{is_made}
+use Rattle.tbl_core.proofs.Steps.{did_play, played}
 use Rattle.tbl_core.proofs.parts.Parts.play.Goals as goal
-
-pub effect-requires-clause-ready : goal.effect-requires-clause-ready
-effect-requires-clause-ready g c = may_play g.C.Validator.asked (view_of c.args.self.now) c.requires.ready c.requires.room
 
 pub returns-clause-plays : goal.returns-clause-plays
 returns-clause-plays g c =
-    let did = c.in_ok-effect.ensures.does in
-    let log = c.in_ok-effect.ensures.log in
-    let stays = c.finish.ensures.stays in
-    let before = c.effect.new.self.log in
+    let b = g.B.Bank in
+    let v = g.C.Validator in
+    let boot = c.boot_if_stopped-effect in
+    let done = boot.result in
+    let before = boot.new.self.log in
     let after = c.finish.new.self.log in
     let clock = c.args.self.now.clock in
-    let done = c.in_ok-effect.effect in
-    did_play g.C.Validator.verdict g.C.Validator.asked _ _ c.args.actor c.args.request clock done (record {
+    let old = held_of c.args.self.now in
+    let left = is_made b.tells b.now b.faults b.stops v.verdict v.asked _ _ _ old (held_of c.carry_out.new.self) (held_of boot.new.self) c.args.request (λ s given. effect_of s c.args.actor c.args.request given) c.in-Ok.field-0.effect done.note
+    c.in-Ok.ensures.makes c.in-Ok.ensures.meets boot.ensures.note boot.ensures.held boot.ensures.boots boot.ensures.found boot.ensures.trouble boot.ensures.booted in
+    let told = subst (λ (e : Effect). IsMade b.tells b.now b.faults b.stops v.verdict v.asked old (held_of boot.new.self) c.args.request (λ s given. effect_of s c.args.actor c.args.request given) e) (sym boot.ensures.effect) left in
+    let made = subst (λ (h : Held _ _). IsMade b.tells b.now b.faults b.stops v.verdict v.asked old h c.args.request (λ s given. effect_of s c.args.actor c.args.request given) done) (sym c.finish.ensures.stays) told in
+    played c.session_end-end.result
+    (did_play b.tells b.now b.faults b.stops v.verdict v.asked _ _ c.args.actor c.args.request clock done
+    (record {
       fits = c.requires.fits;
-      built = c.requires.built;
-      live = refl;
+      live = c.requires.live;
       ready = c.requires.ready;
       seconds = refl;
       sub = refl;
-      note = did.note;
-      two = did.two;
-      asks = λ s stands. subst (λ kit. Asks g.C.Validator.verdict g.C.Validator.asked c.args.self.now.kit kit done.verdicts (effect_of s c.args.actor c.args.request (given_of done))) (ap (λ (h : Held _). h.kit) (sym stays)) (did.asks s stands);
-      effect = λ s stands. rw stays (did.effect s stands);
+      made = made;
       before = before;
       after = after;
-      entries = ap (λ (l : Logged). l.entries) log ∙ c.in_ok-reserve.ensures.entries;
-      counts = ap (λ (l : Logged). l.counts) log ∙ c.in_ok-reserve.ensures.counts;
+      entries = ap (λ (l : Logged). l.entries) boot.ensures.log ∙ c.in-Ok.ensures.entries;
+      counts = ap (λ (l : Logged). l.counts) boot.ensures.log ∙ c.in-Ok.ensures.counts;
       entered = refl;
       counted = refl;
-      finishes = subst (λ (h : Held _). Finishes before after clock h.tables c.args.actor c.args.request done) (sym stays) c.finish.ensures.finishes;
+      finishes = subst (λ (h : Held _ _). Finishes before after clock h.tables c.args.actor c.args.request done) (sym c.finish.ensures.stays) c.finish.ensures.finishes;
     })
+    c.session_end-end.result c.session_end-end.ensures)

@@ -1,4 +1,4 @@
-use Rattle.std.proofs.Common.{rules}
+use Rattle.std.proofs.Common.{refl, rules}
 use Rattle.tbl_core.proofs.Both.{both}
 use Rattle.tbl_core.proofs.Doing.{quietly}
 use Rattle.tbl_core.proofs.Verdicts.{none_judged}
@@ -9,18 +9,18 @@ returns-in-Register-clause-does g c = both c.register.result _ _ _ c.register.en
     let none = none_judged g.C.Validator.verdict g.C.Validator.asked in
     quietly g.C.Validator.verdict g.C.Validator.asked _ _ _ _ _ _ done
     (λ s stands. let e = is s stands.tables stands.apps stands.kit in search rules)
-    (λ s stands. let e = is s stands.tables stands.apps stands.kit in search rules) quiet)
+    (λ s stands. let e = is s stands.tables stands.apps stands.kit in search rules) refl quiet)
 
 pub returns-in-Read-clause-does : goal.returns-in-Read-clause-does
 returns-in-Read-clause-does g c = both c.read.result _ _ _ c.read.ensures.effect c.read.ensures.quiet (λ done is quiet.
     let none = none_judged g.C.Validator.verdict g.C.Validator.asked in
     quietly g.C.Validator.verdict g.C.Validator.asked _ _ _ _ _ _ done
     (λ s stands. let e = is s stands.tables stands.apps in search rules)
-    (λ s stands. let e = is s stands.tables stands.apps in search rules) quiet)
+    (λ s stands. let e = is s stands.tables stands.apps in search rules) refl quiet)
 
 pub returns-in-GetInfo-clause-does : goal.returns-in-GetInfo-clause-does
 returns-in-GetInfo-clause-does g c = both c.get_info.result _ _ _ c.get_info.ensures.effect c.get_info.ensures.quiet (λ done is quiet.
     let none = none_judged g.C.Validator.verdict g.C.Validator.asked in
     quietly g.C.Validator.verdict g.C.Validator.asked _ _ _ _ _ _ done
     (λ s stands. let e = is s stands.tables stands.apps in search rules)
-    (λ s stands. let e = is s stands.tables stands.apps in search rules) quiet)
+    (λ s stands. let e = is s stands.tables stands.apps in search rules) refl quiet)

@@ -1,13 +1,43 @@
-use Rattle.std.proofs.Common.{◌≡◌, Some, length, subst, arith}
+use Rattle.std.proofs.Common.{◌≡◌, Some, length, ap, refl, subst, inr, arith, rules}
 use Rattle.validation.specs.Kits.{entry_at}
-use Rattle.tbl_core.specs.Service.{held_of, state_of}
+use Rattle.cds_layout.specs.Images.{store_of}
+use Rattle.cds_store.specs.Standing.{StandsFor as HasBlocks}
+use Rattle.cds_store.proofs.Recovered.{booted_alike}
+use Rattle.tbl_core.specs.Service.{held_of, state_of, StartCounted}
 use Rattle.tbl_laws.proofs.Ordinary.{fit_at_first}
+use Rattle.tbl_core.proofs.Starting.{stands_first, start_counted}
 use Rattle.tbl_core.proofs.service.Core.start.Goals as goal
 
 pub invariant_of-result : goal.invariant_of-result
 invariant_of-result g c = record {
-  fit = fit_at_first (length c.in_ok-make.field-0.log.entries) (state_of (held_of c.in_ok-make.field-0)) c.in_ok-make.ensures.tables c.in_ok-make.ensures.pending;
+  fit = fit_at_first (length c.in-Ok.parts.log.entries) (state_of (held_of (record c.in-Ok.parts { store = c.boot.new.self }))) c.in-Ok.ensures.tables c.in-Ok.ensures.pending;
+  booted = search rules;
   kit = λ number entry there.
-      let low = c.requires number entry (subst (λ kit. entry_at kit number ≡ Some entry) c.in_ok-make.ensures.kit there) in
+      let low = c.requires.asked number entry (subst (λ kit. entry_at kit number ≡ Some entry) c.in-Ok.ensures.kit there) in
       omega (arith, low);
 }
+
+pub returns-in-Ok-boot-clause-stands : goal.returns-in-Ok-boot-clause-stands
+returns-in-Ok-boot-clause-stands g c =
+    let b = g.B.Bank in
+    let bytes = b.now c.args.bank in
+    stands_first b.tells b.now c.args.kit (store_of bytes) _ (record {
+      entries = c.in-Ok.ensures.entries;
+      counts = c.in-Ok.ensures.counts;
+      tables = c.in-Ok.ensures.tables;
+      pending = c.in-Ok.ensures.pending;
+      drawer = c.in-Ok.ensures.drawer;
+      apps = c.in-Ok.ensures.apps;
+      functions = c.in-Ok.ensures.kit;
+      seconds = c.in-Ok.ensures.seconds;
+      sub = c.in-Ok.ensures.sub;
+      live = c.in-Ok.ensures.ended;
+    })
+    (λ told. subst (HasBlocks b.tells b.now c.boot.new.self) (ap (λ bank. store_of (b.now bank)) c.in-Ok.ensures.bank)
+    (subst (HasBlocks b.tells b.now c.boot.new.self) (booted_alike (b.now c.in-Ok.parts.store.bank) c.in-Ok-boot._found) (c.in-Ok-boot.ensures.ok told (store_of (b.now c.in-Ok.parts.store.bank)) (inr (told, refl)))))
+
+pub returns-in-Err-boot-clause-cause : goal.returns-in-Err-boot-clause-cause
+returns-in-Err-boot-clause-cause g c =
+    let b = g.B.Bank in
+    subst (λ bank. StartCounted b.faults b.stops bank c.end.result c.from.result) c.in-Ok.ensures.bank
+    (rw (c.end.ensures, c.from.ensures) (start_counted b.faults b.stops c.in-Ok.parts.store.bank c.boot.new.self.bank c.boot.result c.in-Err-boot.fault c.in-Err-boot.is c.boot.ensures.counted))
