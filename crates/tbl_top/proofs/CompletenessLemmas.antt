@@ -1,5 +1,5 @@
 -- Where the input is a session's records and nothing else, and nothing failed, all of it is played.
-use Rattle.std.proofs.Common.{◌≡◌, ℕ, ℤ, ◌<◌, List, [], ◌++◌, length, Option, Some, None, refl, sym, ap, subst, ◌∙◌, append_assoc, arith, ◌⊎◌, inl, inr}
+use Rattle.std.proofs.Common.{◌≡◌, ℕ, ℤ, ◌<◌, List, [], ◌++◌, length, Option, Some, None, refl, sym, ap, subst, ◌∙◌, append_assoc, arith, inl, inr}
 use Rattle.std.specs.Prelude.{IfSome}
 use Rattle.std.specs.Io.KnownBytes.{prepend_known, IsAtEnd}
 use Rattle.std.proofs.lemmas.List.{append-nil, length-append, length-map}
@@ -9,8 +9,9 @@ use Rattle.tbl_kinds.specs.Heads.{IsShort, IsBad, is_short, is_bad, EndsBefore}
 use Rattle.tbl_kinds.specs.Transcript.{pair_of, pairs_of}
 use Rattle.tbl_kinds.proofs.RecordLaws.{bad-append, no_rest}
 use Rattle.tbl_outside.specs.Counts.{Rose}
+use Rattle.tbl_core.specs.Called.{RoseBy}
 use Rattle.tbl_outside.specs.declared.validator.KitEntry.{KitEntry}
-use Rattle.tbl_top.specs.Session.{Session, IsWellFormed, IsStatus}
+use Rattle.tbl_top.specs.Session.{Session, IsWellFormed, IsStatus, PlaysThrough}
 
 short_is_some : (rest : List ℕ) → IsShort rest → rest ≡ [] → ⊥
 unfolding is_short
@@ -20,8 +21,8 @@ pub bad_is_some : (rest : List ℕ) → IsBad rest → rest ≡ [] → ⊥
 unfolding is_bad
 bad_is_some rest bad none = let h : IsBad [] = subst IsBad none bad in cc
 
-module _ {C : Type 0} (verdict : C → List ℕ → ℤ) (given : List (Option (KitEntry C))) (opening : State) (read input left : List ℕ) (at_end read_failed : Type 0) (result : ℕ) (before after : Option (List ℕ))
-    (s : Session verdict given opening read at_end read_failed result before after) (parts : input ≡ read ++ left) (whole : IsWellFormed input) where
+module _ {B C : Type 0} (tells : Type 0) (faults stops : B → ℕ) (verdict : C → List ℕ → ℤ) (given : List (Option (KitEntry C))) (opening : State) (bank bank_then : B) (read input left : List ℕ) (at_end read_failed : Type 0) (result : ℕ) (before after : Option (List ℕ))
+    (s : Session tells faults stops verdict given opening bank bank_then read at_end read_failed result before after) (parts : input ≡ read ++ left) (whole : IsWellFormed input) where
   -- where no record can follow, nothing is left at all
   nothing_left : EndsBefore (pairs_of s.entries) (s.rest ++ left) → s.rest ++ left ≡ []
   nothing_left ends = no_rest (pairs_of s.entries) whole.pairs (s.rest ++ left) s.each whole.each whole.few ends
@@ -48,30 +49,27 @@ rest_of_input : (left_new : Option (List ℕ)) (read input : List ℕ) → Some 
 rest_of_input None read input e = absurd cc
 rest_of_input (Some xs) read input e = (xs, refl, cc)
 
-module _ {C : Type 0} (verdict : C → List ℕ → ℤ) (given : List (Option (KitEntry C))) (opening : State) (read : List ℕ) (left_new : Option (List ℕ)) (read_failed : Type 0) (result : ℕ) (before after : Option (List ℕ)) (a b c d : ℕ)
-    (s : Session verdict given opening read (IsAtEnd left_new) read_failed result before after) (source : result ≡ 3 → Rose a b) (sink : result ≡ 4 → Rose c d) where
-  by_status : (input left : List ℕ) → left_new ≡ Some left → input ≡ read ++ left → IsWellFormed input → ¬ Rose a b → ¬ Rose c d → IsStatus result
-      → ((result ≡ 0) × (left_new ≡ Some [])) ⊎ (result ≡ 1)
-  by_status input left is parts whole calm_source calm_sink (inl zero) = inl (zero, is ∙ ap Some (at_end_is left_new left is (s.ends.done zero).1))
-  by_status input left is parts whole calm_source calm_sink (inr (inl one)) = inr one
-  by_status input left is parts whole calm_source calm_sink (inr (inr (inl three))) = absurd (calm_source (source three))
-  by_status input left is parts whole calm_source calm_sink (inr (inr (inr (inl four)))) = absurd (calm_sink (sink four))
-  by_status input left is parts whole calm_source calm_sink (inr (inr (inr (inr (inl five))))) =
+module _ {B C : Type 0} (tells : Type 0) (faults stops : B → ℕ) (verdict : C → List ℕ → ℤ) (given : List (Option (KitEntry C))) (opening : State) (bank bank_then : B) (read : List ℕ) (left_new : Option (List ℕ)) (read_failed : Type 0) (result : ℕ) (before after : Option (List ℕ)) (a b c d : ℕ)
+    (s : Session tells faults stops verdict given opening bank bank_then read (IsAtEnd left_new) read_failed result before after) (source : result ≡ 3 → Rose a b) (sink : result ≡ 4 → Rose c d)
+    (fault : result ≡ 7 → RoseBy 1 (faults bank) (faults bank_then)) (stop : result ≡ 8 → RoseBy 1 (stops bank) (stops bank_then)) where
+  by_status : (input left : List ℕ) → left_new ≡ Some left → input ≡ read ++ left → IsWellFormed input → ¬ Rose a b → ¬ Rose c d → IsStatus result → PlaysThrough faults stops bank bank_then result left_new
+  by_status input left is parts whole calm_source calm_sink (inl (inl zero)) = inl (zero, is ∙ ap Some (at_end_is left_new left is (s.ends.done zero).1))
+  by_status input left is parts whole calm_source calm_sink (inl (inr (inl three))) = absurd (calm_source (source three))
+  by_status input left is parts whole calm_source calm_sink (inl (inr (inr (inl five)))) =
       absurd (elim (s.ends.bad five).1 [
-        | inl bad ↦ not_bad verdict given opening read input left (IsAtEnd left_new) read_failed result before after s parts whole bad
-        | inr short ↦ not_short verdict given opening read input left (IsAtEnd left_new) read_failed result before after s parts whole (at_end_is left_new left is short.1) short.0
+        | inl bad ↦ not_bad tells faults stops verdict given opening bank bank_then read input left (IsAtEnd left_new) read_failed result before after s parts whole bad
+        | inr short ↦ not_short tells faults stops verdict given opening bank bank_then read input left (IsAtEnd left_new) read_failed result before after s parts whole (at_end_is left_new left is short.1) short.0
       ])
-  by_status input left is parts whole calm_source calm_sink (inr (inr (inr (inr (inr six))))) =
-      absurd (not_full verdict given opening read input left (IsAtEnd left_new) read_failed result before after s parts whole (s.ends.full six).0 (s.ends.full six).1)
+  by_status input left is parts whole calm_source calm_sink (inl (inr (inr (inr six)))) =
+      absurd (not_full tells faults stops verdict given opening bank bank_then read input left (IsAtEnd left_new) read_failed result before after s parts whole (s.ends.full six).0 (s.ends.full six).1)
+  by_status input left is parts whole calm_source calm_sink (inr (inl (inl seven))) = inr (inr (inl (seven, fault seven)))
+  by_status input left is parts whole calm_source calm_sink (inr (inl (inr eight))) = inr (inr (inr (eight, stop eight)))
+  by_status input left is parts whole calm_source calm_sink (inr (inr (inl one))) = inr (inl one)
+  by_status input left is parts whole calm_source calm_sink (inr (inr (inr four))) = absurd (calm_sink (sink four))
 
   pub complete : (left_old : Option (List ℕ)) → left_old ≡ prepend_known read left_new
-      → IfSome left_old (λ input. IsWellFormed input → ¬ Rose a b → ¬ Rose c d → ((result ≡ 0) × (left_new ≡ Some [])) ⊎ (result ≡ 1))
+      → IfSome left_old (λ input. IsWellFormed input → ¬ Rose a b → ¬ Rose c d → PlaysThrough faults stops bank bank_then result left_new)
   complete None e = tt
   complete (Some input) e = λ whole calm_source calm_sink.
       let rest = rest_of_input left_new read input e in
       by_status input rest.0 rest.1 rest.2 whole calm_source calm_sink s.known
-
--- where memory ran out before the first read
-pub starved : (left left_new : Option (List ℕ)) (a b c d : ℕ) → IfSome left (λ input. IsWellFormed input → ¬ Rose a b → ¬ Rose c d → ((◌≡◌ {A = ℕ} 1 0) × (left_new ≡ Some [])) ⊎ (◌≡◌ {A = ℕ} 1 1))
-starved None left_new a b c d = tt
-starved (Some input) left_new a b c d = λ whole calm_source calm_sink. inr refl

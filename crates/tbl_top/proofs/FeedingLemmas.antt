@@ -10,7 +10,7 @@ use Rattle.tbl_top.specs.Playing.{played_before, IsBeginning, IsSession}
 use Rattle.tbl_top.specs.Standing.{Leaves, HasPlayedAll}
 use Rattle.tbl_top.specs.Feeding.{answer_of, Feeds, IsKept}
 use Rattle.tbl_top.specs.declared.playback.Standing.{Standing}
-use Rattle.tbl_top.specs.declared.playback.Standing.TheVariants.{Open, Bad, Full, SinkFailed, Memory, Unwritten}
+use Rattle.tbl_top.specs.declared.playback.Standing.TheVariants.{Open, Bad, Full, BootFault, BootStopped, SinkFailed, Memory, Unwritten}
 use Rattle.tbl_top.specs.declared.player.Fed.TheVariants as fed
 
 pub beginning_length : (played : ℕ) (rest : List ℕ) → IsBeginning played rest → length rest < 32836
@@ -22,6 +22,8 @@ pub leaves_more : (standing : Standing) (played : ℕ) (behind more : List ℕ) 
 leaves_more Open played behind more is leaves = absurd (is refl)
 leaves_more Bad played behind more is leaves = (bad-append behind more leaves.0, leaves.1)
 leaves_more Full played behind more is leaves = (leaves.0, omega (arith, length-append behind more, leaves.1))
+leaves_more BootFault played behind more is leaves = tt
+leaves_more BootStopped played behind more is leaves = tt
 leaves_more SinkFailed played behind more is leaves = tt
 leaves_more Memory played behind more is leaves = tt
 leaves_more Unwritten played behind more is leaves = tt
@@ -29,7 +31,7 @@ leaves_more Unwritten played behind more is leaves = tt
 -- ---- the record whose beginning was kept
 
 -- the bytes that were moved behind the kept ones come from the piece
-pub completed : {C : Type 0} (old new : CoreView C) (kept left piece : List ℕ) (at count : ℕ) → played_before new left ≡ played_before old (kept ++ take count (drop at piece))
+pub completed : {B C : Type 0} (old new : CoreView B C) (kept left piece : List ℕ) (at count : ℕ) → played_before new left ≡ played_before old (kept ++ take count (drop at piece))
     → played_before new (left ++ drop (at + count) piece) ≡ played_before old (kept ++ drop at piece)
 completed old new kept left piece at count played =
     let front = take count (drop at piece) in
@@ -43,7 +45,7 @@ completed old new kept left piece at count played =
 
 -- ---- what all of it left
 
-pub feeds_more : {C : Type 0} (standing : Standing) (fed fed' : List ℕ) (most most' : ℕ) (core : CoreView C) (kept : List ℕ) → fed ≡ fed' → most ≤ most' → Feeds standing fed most core kept → Feeds standing fed' most' core kept
+pub feeds_more : {B C : Type 0} (standing : Standing) (fed fed' : List ℕ) (most most' : ℕ) (core : CoreView B C) (kept : List ℕ) → fed ≡ fed' → most ≤ most' → Feeds standing fed most core kept → Feeds standing fed' most' core kept
 feeds_more standing fed fed' most most' core kept same le feeds = record {
   behind = feeds.behind;
   parts = sym same ∙ feeds.parts;
@@ -53,7 +55,7 @@ feeds_more standing fed fed' most most' core kept same le feeds = record {
 }
 
 -- the piece is used up, and a beginning is kept
-pub feeds_kept : {C : Type 0} (core : CoreView C) (kept fed piece : List ℕ) (at most : ℕ) → at ≡ length piece → played_before core (kept ++ drop at piece) ≡ fed → IsBeginning (length core.entries) kept → length kept ≤ most
+pub feeds_kept : {B C : Type 0} (core : CoreView B C) (kept fed piece : List ℕ) (at most : ℕ) → at ≡ length piece → played_before core (kept ++ drop at piece) ≡ fed → IsBeginning (length core.entries) kept → length kept ≤ most
     → Feeds Open fed most core kept
 feeds_kept core kept fed piece at most all stream begun le =
     let none : drop at piece ≡ [] = nil_from_length (drop at piece) (omega (arith, length-drop at piece)) in
@@ -69,12 +71,14 @@ keeps_nothing : (standing : Standing) (behind kept : List ℕ) → standing ≢ 
 keeps_nothing Open behind kept is = absurd (is refl)
 keeps_nothing Bad behind kept is = tt
 keeps_nothing Full behind kept is = tt
+keeps_nothing BootFault behind kept is = tt
+keeps_nothing BootStopped behind kept is = tt
 keeps_nothing SinkFailed behind kept is = tt
 keeps_nothing Memory behind kept is = tt
 keeps_nothing Unwritten behind kept is = tt
 
 -- the session is over while its kept bytes are completed
-pub feeds_over : {C : Type 0} (standing : Standing) (core : CoreView C) (left kept fed piece : List ℕ) (at most : ℕ) → standing ≢ Open → played_before core (left ++ drop at piece) ≡ fed
+pub feeds_over : {B C : Type 0} (standing : Standing) (core : CoreView B C) (left kept fed piece : List ℕ) (at most : ℕ) → standing ≢ Open → played_before core (left ++ drop at piece) ≡ fed
     → Leaves standing (length core.entries) left → at ≤ length piece → length left + length piece ≤ most + at
     → Feeds standing fed most core kept
 feeds_over standing core left kept fed piece at most is stream leaves within le = record {
@@ -86,7 +90,7 @@ feeds_over standing core left kept fed piece at most is stream leaves within le 
 }
 
 -- the rest of a piece was played, and the session is over
-pub feeds_rest_over : {C : Type 0} (standing : Standing) (core : CoreView C) (kept fed piece : List ℕ) (from at : ℕ) → standing ≢ Open → played_before core (drop at piece) ≡ fed
+pub feeds_rest_over : {B C : Type 0} (standing : Standing) (core : CoreView B C) (kept fed piece : List ℕ) (from at : ℕ) → standing ≢ Open → played_before core (drop at piece) ≡ fed
     → Leaves standing (length core.entries) (drop at piece) → from ≤ at → at ≤ length piece
     → Feeds standing fed (length piece - from) core kept
 feeds_rest_over standing core kept fed piece from at is stream leaves le within = record {
@@ -98,7 +102,7 @@ feeds_rest_over standing core kept fed piece from at is stream leaves le within 
 }
 
 -- or it is kept
-pub feeds_rest_kept : {C : Type 0} (core : CoreView C) (kept fed piece : List ℕ) (from at : ℕ) → kept ≡ drop at piece → played_before core (drop at piece) ≡ fed
+pub feeds_rest_kept : {B C : Type 0} (core : CoreView B C) (kept fed piece : List ℕ) (from at : ℕ) → kept ≡ drop at piece → played_before core (drop at piece) ≡ fed
     → IsBeginning (length core.entries) (drop at piece) → from ≤ at → at ≤ length piece
     → Feeds Open fed (length piece - from) core kept
 feeds_rest_kept core kept fed piece from at same stream begun le within = record {
@@ -115,29 +119,35 @@ pub open_answer : (standing : Standing) → fed.More ≡ answer_of standing → 
 open_answer Open e = refl
 open_answer Bad e = cc
 open_answer Full e = cc
+open_answer BootFault e = cc
+open_answer BootStopped e = cc
 open_answer SinkFailed e = cc
 open_answer Memory e = cc
 open_answer Unwritten e = cc
 
-pub kept_rest : {C : Type 0} (standing : Standing) (fed : List ℕ) (most : ℕ) (core : CoreView C) (kept : List ℕ) → standing ≡ Open → Feeds standing fed most core kept → played_before core kept ≡ fed
+pub kept_rest : {B C : Type 0} (standing : Standing) (fed : List ℕ) (most : ℕ) (core : CoreView B C) (kept : List ℕ) → standing ≡ Open → Feeds standing fed most core kept → played_before core kept ≡ fed
 kept_rest Open fed most core kept is feeds = ap (played_before core) feeds.keeps ∙ sym feeds.parts
 kept_rest Bad fed most core kept is feeds = absurd cc
 kept_rest Full fed most core kept is feeds = absurd cc
+kept_rest BootFault fed most core kept is feeds = absurd cc
+kept_rest BootStopped fed most core kept is feeds = absurd cc
 kept_rest SinkFailed fed most core kept is feeds = absurd cc
 kept_rest Memory fed most core kept is feeds = absurd cc
 kept_rest Unwritten fed most core kept is feeds = absurd cc
 
-pub begun_rest : {C : Type 0} (standing : Standing) (fed : List ℕ) (most : ℕ) (core : CoreView C) (kept : List ℕ) → standing ≡ Open → Feeds standing fed most core kept → IsBeginning (length core.entries) kept
+pub begun_rest : {B C : Type 0} (standing : Standing) (fed : List ℕ) (most : ℕ) (core : CoreView B C) (kept : List ℕ) → standing ≡ Open → Feeds standing fed most core kept → IsBeginning (length core.entries) kept
 begun_rest Open fed most core kept is feeds = subst (IsBeginning (length core.entries)) (sym feeds.keeps) feeds.leaves
 begun_rest Bad fed most core kept is feeds = absurd cc
 begun_rest Full fed most core kept is feeds = absurd cc
+begun_rest BootFault fed most core kept is feeds = absurd cc
+begun_rest BootStopped fed most core kept is feeds = absurd cc
 begun_rest SinkFailed fed most core kept is feeds = absurd cc
 begun_rest Memory fed most core kept is feeds = absurd cc
 begun_rest Unwritten fed most core kept is feeds = absurd cc
 
 -- ---- the records of what was fed
 
-pub begins_with : {C : Type 0} (standing : Standing) (fed : List ℕ) (most : ℕ) (core : CoreView C) (kept : List ℕ) → IsSession core → Feeds standing fed most core kept → BeginsWith fed (pairs_of core.entries)
+pub begins_with : {B C : Type 0} (standing : Standing) (fed : List ℕ) (most : ℕ) (core : CoreView B C) (kept : List ℕ) → IsSession core → Feeds standing fed most core kept → BeginsWith fed (pairs_of core.entries)
 begins_with standing fed most core kept session feeds = record {
   few = omega (arith, session.few, length-map core.entries pair_of);
   each = session.each;
@@ -145,16 +155,18 @@ begins_with standing fed most core kept session feeds = record {
   parts = feeds.parts;
 }
 
-ends_before : {C : Type 0} (standing : Standing) (core : CoreView C) (behind : List ℕ) → HasPlayedAll standing → Leaves standing (length core.entries) behind → EndsBefore (pairs_of core.entries) behind
+ends_before : {B C : Type 0} (standing : Standing) (core : CoreView B C) (behind : List ℕ) → HasPlayedAll standing → Leaves standing (length core.entries) behind → EndsBefore (pairs_of core.entries) behind
 ends_before Open core behind whole (inl none) = inl none
 ends_before Open core behind whole (inr short) = inr (inl short.0)
 ends_before Bad core behind whole leaves = inr (inr (inl leaves.0))
 ends_before Full core behind whole leaves = inr (inr (inr (length-map core.entries pair_of ∙ leaves.0)))
+ends_before BootFault core behind whole leaves = absurd whole
+ends_before BootStopped core behind whole leaves = absurd whole
 ends_before SinkFailed core behind whole leaves = absurd whole
 ends_before Memory core behind whole leaves = absurd whole
 ends_before Unwritten core behind whole leaves = absurd whole
 
-pub records_of : {C : Type 0} (standing : Standing) (fed : List ℕ) (most : ℕ) (core : CoreView C) (kept : List ℕ) → IsSession core → Feeds standing fed most core kept → HasPlayedAll standing → AreRecords fed (pairs_of core.entries)
+pub records_of : {B C : Type 0} (standing : Standing) (fed : List ℕ) (most : ℕ) (core : CoreView B C) (kept : List ℕ) → IsSession core → Feeds standing fed most core kept → HasPlayedAll standing → AreRecords fed (pairs_of core.entries)
 records_of standing fed most core kept session feeds whole =
     are_records fed (pairs_of core.entries) feeds.behind session.each (omega (arith, session.few, length-map core.entries pair_of)) feeds.parts
     (ends_before standing core feeds.behind whole feeds.leaves)

@@ -1,4 +1,5 @@
 pub mod WritingLemmas
+pub mod TroubleLemmas
 pub mod PlayingLemmas
 pub mod FeedingLemmas
 pub mod ReadingLemmas

@@ -12,10 +12,10 @@ use Rattle.session_records.specs.declared.reading.Next.TheVariants.{Item}
 use Rattle.tbl_kinds.specs.declared.request.Actor.{Actor}
 use Rattle.tbl_kinds.specs.declared.request.Request.{Request}
 use Rattle.tbl_core.specs.Service.{CoreView}
-use Rattle.tbl_top.specs.Playing.{IsSession, IsWritten, IsFrontWritten}
-use Rattle.tbl_top.specs.Standing.{Leaves, TellsWritten, TellsCause, TellsWhy}
+use Rattle.tbl_top.specs.Playing.{IsSession}
+use Rattle.tbl_top.specs.Standing.{Leaves, TellsCause, TellsLast}
 use Rattle.tbl_top.specs.declared.playback.Standing.{Standing}
-use Rattle.tbl_top.specs.declared.playback.Standing.TheVariants.{Open, Bad, Full, SinkFailed, Memory, Unwritten}
+use Rattle.tbl_top.specs.declared.playback.Standing.TheVariants.{Open, Bad, Full, BootFault, BootStopped, SinkFailed, Memory, Unwritten}
 use Rattle.tbl_kinds.proofs.RecordLaws.{joined-snoc, length-spelling}
 use Rattle.tbl_kinds.proofs.TranscriptLaws.{pairs_of-snoc, offset_is}
 use Rattle.tbl_kinds.specs.declared.entry.Entry.{Entry}
@@ -52,10 +52,12 @@ pub where_none : {T : Type 0} (o : Option T) (m n : ℕ) → m < n → MatchOpti
 where_none None m n h = h
 where_none (Some x) m n h = omega arith
 
--- ---- a stop leaves a front of the entries and says nothing of what stands behind them
+-- ---- what ends a session with a record says nothing of what stands behind it
 
-pub stop_leaves : (stop : Option Standing) (a b played : ℕ) (behind : List ℕ) → TellsWhy stop a b → MatchOption stop ⊤ (λ standing. Leaves standing played behind)
+pub stop_leaves : (stop : Option Standing) (a b played : ℕ) (behind : List ℕ) → TellsLast stop a b → MatchOption stop ⊤ (λ standing. Leaves standing played behind)
 stop_leaves None a b played behind why = tt
+stop_leaves (Some BootFault) a b played behind why = tt
+stop_leaves (Some BootStopped) a b played behind why = tt
 stop_leaves (Some SinkFailed) a b played behind why = tt
 stop_leaves (Some Unwritten) a b played behind why = tt
 stop_leaves (Some Open) a b played behind why = absurd why
@@ -63,25 +65,16 @@ stop_leaves (Some Bad) a b played behind why = absurd why
 stop_leaves (Some Full) a b played behind why = absurd why
 stop_leaves (Some Memory) a b played behind why = absurd why
 
-pub stop_cause : (stop : Option Standing) (a b : ℕ) → TellsWhy stop a b → MatchOption stop ⊤ (λ standing. TellsCause standing a b)
+pub stop_cause : (stop : Option Standing) (a b : ℕ) → TellsLast stop a b → MatchOption stop ⊤ (λ standing. TellsCause standing a b)
 stop_cause None a b why = tt
+stop_cause (Some BootFault) a b why = tt
+stop_cause (Some BootStopped) a b why = tt
 stop_cause (Some SinkFailed) a b why = why
 stop_cause (Some Unwritten) a b why = tt
 stop_cause (Some Open) a b why = absurd why
 stop_cause (Some Bad) a b why = absurd why
 stop_cause (Some Full) a b why = absurd why
 stop_cause (Some Memory) a b why = absurd why
-
-pub stop_written : (stop : Option Standing) (a b : ℕ) (first taken : Option (List ℕ)) (entries : List Entry) → TellsWhy stop a b
-    → MatchOption stop (IsWritten first entries taken) (λ _. IsFrontWritten first entries taken)
-    → MatchOption stop (IsWritten first entries taken) (λ standing. TellsWritten standing first entries taken)
-stop_written None a b first taken entries why written = written
-stop_written (Some SinkFailed) a b first taken entries why written = written
-stop_written (Some Unwritten) a b first taken entries why written = written
-stop_written (Some Open) a b first taken entries why written = absurd why
-stop_written (Some Bad) a b first taken entries why written = absurd why
-stop_written (Some Full) a b first taken entries why written = absurd why
-stop_written (Some Memory) a b first taken entries why written = absurd why
 
 -- ---- how long a session can be
 
@@ -92,7 +85,7 @@ joined_bound (p ∷ pairs) each =
     omega (arith, length-append (spelling p) (joined pairs), length-spelling p, each.0.within, joined_bound pairs each.1)
 
 -- the offset fits four bytes, and with one record more
-pub offset_bound : {C : Type 0} (core : CoreView C) → IsSession core → offset_of core.entries ≤ 32836 * 32768
+pub offset_bound : {B C : Type 0} (core : CoreView B C) → IsSession core → offset_of core.entries ≤ 32836 * 32768
 offset_bound core session =
     omega (arith, offset_is core.entries, joined_bound (pairs_of core.entries) session.each, length-map core.entries pair_of, session.few)
 

@@ -10,7 +10,7 @@ use Rattle.tbl_top.specs.Reading.{StopsReading, EndsReading}
 use Rattle.tbl_top.proofs.PlayingLemmas.{joined_bound}
 use Rattle.tbl_top.proofs.FeedingLemmas.{beginning_length, feeds_more}
 use Rattle.tbl_top.specs.declared.playback.Standing.{Standing}
-use Rattle.tbl_top.specs.declared.playback.Standing.TheVariants.{Open, Bad, Full, SinkFailed, Memory, Unwritten}
+use Rattle.tbl_top.specs.declared.playback.Standing.TheVariants.{Open, Bad, Full, BootFault, BootStopped, SinkFailed, Memory, Unwritten}
 use Rattle.tbl_top.specs.declared.player.Fed.TheVariants as fed
 
 pub prepend_nothing : (left : Option (List ℕ)) → left ≡ prepend_known [] left
@@ -18,7 +18,7 @@ prepend_nothing None = refl
 prepend_nothing (Some xs) = refl
 
 -- an open session had records, and at most a beginning, before the last piece
-pub stops : {C : Type 0} (p : Playing C) (last : List ℕ) → IsSession p.core → IsBeginning (length p.core.entries) p.rest → length last ≤ 4096 → StopsReading (bytes_fed p ++ last)
+pub stops : {B C : Type 0} (p : Playing B C) (last : List ℕ) → IsSession p.core → IsBeginning (length p.core.entries) p.rest → length last ≤ 4096 → StopsReading (bytes_fed p ++ last)
 stops p last session begun short = record {
   records = pairs_of p.core.entries;
   beginning = p.rest;
@@ -30,7 +30,7 @@ stops p last session begun short = record {
   short = short;
 }
 
-here : {C : Type 0} (standing : Standing) (p : Playing C) → standing ≡ Open → IsBeginning (length p.core.entries) p.rest → Feeds standing (bytes_fed p) 36931 p.core p.rest
+here : {B C : Type 0} (standing : Standing) (p : Playing B C) → standing ≡ Open → IsBeginning (length p.core.entries) p.rest → Feeds standing (bytes_fed p) 36931 p.core p.rest
 here Open p is begun = record {
   behind = p.rest;
   parts = refl;
@@ -40,12 +40,14 @@ here Open p is begun = record {
 }
 here Bad p is begun = absurd cc
 here Full p is begun = absurd cc
+here BootFault p is begun = absurd cc
+here BootStopped p is begun = absurd cc
 here SinkFailed p is begun = absurd cc
 here Memory p is begun = absurd cc
 here Unwritten p is begun = absurd cc
 
 -- nothing more was read
-pub ends_here : {C : Type 0} (p : Playing C) (failed : Bool) (at_end : Type 0) → p.standing ≡ Open → IsSession p.core → IsBeginning (length p.core.entries) p.rest → (failed ≡ false → at_end)
+pub ends_here : {B C : Type 0} (p : Playing B C) (failed : Bool) (at_end : Type 0) → p.standing ≡ Open → IsSession p.core → IsBeginning (length p.core.entries) p.rest → (failed ≡ false → at_end)
     → EndsReading p (bytes_fed p ++ []) failed at_end
 ends_here p failed at_end is session begun end = record {
   feeds = feeds_more p.standing (bytes_fed p) (bytes_fed p ++ []) 36931 36931 p.core p.rest (sym (append-nil (bytes_fed p))) (omega arith) (here p.standing p is begun);
@@ -54,7 +56,7 @@ ends_here p failed at_end is session begun end = record {
 }
 
 -- a piece more was read and fed, and the session is over
-pub ends_over : {C : Type 0} (old new : Playing C) (piece : List ℕ) (failed : Bool) (at_end : Type 0) → new.standing ≢ Open → IsSession old.core → IsBeginning (length old.core.entries) old.rest → length piece ≤ 4096
+pub ends_over : {B C : Type 0} (old new : Playing B C) (piece : List ℕ) (failed : Bool) (at_end : Type 0) → new.standing ≢ Open → IsSession old.core → IsBeginning (length old.core.entries) old.rest → length piece ≤ 4096
     → Feeds new.standing (bytes_fed old ++ piece) (length old.rest + length piece) new.core new.rest
     → EndsReading new (bytes_fed old ++ piece) failed at_end
 ends_over old new piece failed at_end over session begun short feeds = record {
@@ -74,7 +76,7 @@ memory_is standing e = λ is. cc
 -- ---- how long a session can be
 
 -- a session's bytes
-pub session_bound : {C : Type 0} (p : Playing C) → IsSession p.core → IsBeginning (length p.core.entries) p.rest → length (bytes_fed p) < 1076100000
+pub session_bound : {B C : Type 0} (p : Playing B C) → IsSession p.core → IsBeginning (length p.core.entries) p.rest → length (bytes_fed p) < 1076100000
 session_bound p session begun =
     omega (
       arith,
@@ -92,8 +94,8 @@ empty_right [] ys e = e
 empty_right (x ∷ xs) ys e = absurd cc
 
 -- where nothing was fed, nothing is left
-pub begins_empty : {C : Type 0} (p : Playing C) → bytes_fed p ≡ [] → IsBeginning (length p.core.entries) p.rest
+pub begins_empty : {B C : Type 0} (p : Playing B C) → bytes_fed p ≡ [] → IsBeginning (length p.core.entries) p.rest
 begins_empty p none = inl (empty_right (joined (pairs_of p.core.entries)) p.rest none)
 
-pub left_at_first : {C : Type 0} (p : Playing C) (left : Option (List ℕ)) → bytes_fed p ≡ [] → left ≡ prepend_known (bytes_fed p) left
+pub left_at_first : {B C : Type 0} (p : Playing B C) (left : Option (List ℕ)) → bytes_fed p ≡ [] → left ≡ prepend_known (bytes_fed p) left
 left_at_first p left none = rw none (prepend_nothing left)

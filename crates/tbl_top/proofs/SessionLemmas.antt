@@ -11,21 +11,27 @@ use Rattle.tbl_kinds.proofs.RecordLaws.{are_records}
 use Rattle.tbl_kinds.specs.Transcript.{pair_of, pairs_of, entries_bytes, end_bytes, offset_of, transcript}
 use Rattle.tbl_model.specs.History.{begins_at, run_from}
 use Rattle.tbl_outside.specs.declared.validator.KitEntry.{KitEntry}
-use Rattle.tbl_core.specs.Service.{Vouches}
+use Rattle.tbl_core.specs.Service.{CoreView, Vouches, StartCounted}
+use Rattle.tbl_core.specs.declared.service.StartFault.{StartFault}
+use Rattle.tbl_core.specs.declared.service.StartFault.TheVariants.{Memory as NoMemory, BootFault as FirstFault, BootStopped as FirstStopped}
 use Rattle.tbl_core.proofs.Keeping.{keeps}
 use Rattle.tbl_laws.proofs.VouchedLaws as laws
 use Rattle.tbl_laws.proofs.WholeLaws.{whole}
 use Rattle.tbl_outside.specs.Streams.{TakesFront}
 use Rattle.tbl_outside.proofs.Streams.{append_known-nil, written_more, front_of_first, front_of_second, front_of_whole}
 use Rattle.tbl_top.specs.Playing.{Playing, IsBeginning, IsSession, IsWritten}
-use Rattle.tbl_top.specs.Standing.{Leaves, TellsWritten}
+use Rattle.tbl_top.specs.Standing.{Leaves, TellsWritten, TellsBoot}
+use Rattle.tbl_top.specs.Trouble.{Rises, IsCaused}
+use Rattle.tbl_outside.specs.Counts.{Rose}
+use Rattle.tbl_core.specs.Called.{RoseBy}
+use Rattle.tbl_top.proofs.TroubleLemmas.{still_lives, one_boot, no_last, rose_once, rose_never, rose_by_fault, rose_by_stop}
 use Rattle.tbl_top.specs.Feeding.{IsKept}
-use Rattle.tbl_top.specs.Finishing.{status_of, WritesEnd, Finishes}
+use Rattle.tbl_top.specs.Finishing.{status_of, WritesEnd, WritesEndAlone, Finishes, FinishesUnbegun}
 use Rattle.tbl_top.specs.Reading.{EndsReading, StopsReading}
-use Rattle.tbl_top.specs.Session.{IsStatus, IsEnded, IsBrokenOff, EndsAs, IsExact, WouldEnd, Tells, Session}
+use Rattle.tbl_top.specs.Session.{IsStatus, IsEnded, IsBooted, IsBrokenOff, EndsAs, BootsAs, IsExact, WouldEnd, Tells, Session}
 use Rattle.tbl_top.proofs.CompletenessLemmas.{bad_is_some}
 use Rattle.tbl_top.specs.declared.playback.Standing.{Standing}
-use Rattle.tbl_top.specs.declared.playback.Standing.TheVariants.{Open, Bad, Full, SinkFailed, Memory, Unwritten}
+use Rattle.tbl_top.specs.declared.playback.Standing.TheVariants.{Open, Bad, Full, BootFault, BootStopped, SinkFailed, Memory, Unwritten}
 use Rattle.tbl_kinds.specs.declared.entry.Entry.{Entry}
 
 not_ended : (status : ℕ) → IsBrokenOff status → IsEnded status → ⊥
@@ -38,21 +44,44 @@ not_ended status (inr four) (inr (inl e)) = omega (arith, four, e)
 not_ended status (inr four) (inr (inr (inl e))) = omega (arith, four, e)
 not_ended status (inr four) (inr (inr (inr e))) = omega (arith, four, e)
 
+booted_not_ended : (status : ℕ) → IsBooted status → IsEnded status → ⊥
+booted_not_ended status (inl seven) (inl e) = omega (arith, seven, e)
+booted_not_ended status (inl seven) (inr (inl e)) = omega (arith, seven, e)
+booted_not_ended status (inl seven) (inr (inr (inl e))) = omega (arith, seven, e)
+booted_not_ended status (inl seven) (inr (inr (inr e))) = omega (arith, seven, e)
+booted_not_ended status (inr eight) (inl e) = omega (arith, eight, e)
+booted_not_ended status (inr eight) (inr (inl e)) = omega (arith, eight, e)
+booted_not_ended status (inr eight) (inr (inr (inl e))) = omega (arith, eight, e)
+booted_not_ended status (inr eight) (inr (inr (inr e))) = omega (arith, eight, e)
+
+not_booted : (status : ℕ) → IsBrokenOff status → IsBooted status → ⊥
+not_booted status (inl one) (inl e) = omega (arith, one, e)
+not_booted status (inl one) (inr e) = omega (arith, one, e)
+not_booted status (inr four) (inl e) = omega (arith, four, e)
+not_booted status (inr four) (inr e) = omega (arith, four, e)
+
+not_told : (status : ℕ) → IsBrokenOff status → IsEnded status ⊎ IsBooted status → ⊥
+not_told status broken (inl ended) = not_ended status broken ended
+not_told status broken (inr booted) = not_booted status broken booted
+
 -- ---- which end a status tells
 
 -- a status that tells no end of the input
-tells_none : (status played : ℕ) (rest : List ℕ) (at_end read_failed : Type 0) → IsBrokenOff status → EndsAs status played rest at_end read_failed
-tells_none status played rest at_end read_failed (inl one) = record {
-  done = λ e. absurd (omega (arith, one, e));
-  cut = λ e. absurd (omega (arith, one, e));
-  bad = λ e. absurd (omega (arith, one, e));
-  full = λ e. absurd (omega (arith, one, e));
+tells_none : (status played : ℕ) (rest : List ℕ) (at_end read_failed : Type 0) → (IsEnded status → ⊥) → EndsAs status played rest at_end read_failed
+tells_none status played rest at_end read_failed never = record {
+  done = λ e. absurd (never (inl e));
+  cut = λ e. absurd (never (inr (inl e)));
+  bad = λ e. absurd (never (inr (inr (inl e))));
+  full = λ e. absurd (never (inr (inr (inr e))));
 }
-tells_none status played rest at_end read_failed (inr four) = record {
-  done = λ e. absurd (omega (arith, four, e));
-  cut = λ e. absurd (omega (arith, four, e));
-  bad = λ e. absurd (omega (arith, four, e));
-  full = λ e. absurd (omega (arith, four, e));
+
+-- or no boot
+no_boot : (status : ℕ) (entries : List Entry) (read : List ℕ) (bank_failed bank_stopped : Type 0) → IsBrokenOff status → BootsAs status entries read bank_failed bank_stopped
+no_boot status entries read bank_failed bank_stopped broken = record {
+  fault = λ e. absurd (not_booted status broken (inl e));
+  stop = λ e. absurd (not_booted status broken (inr e));
+  told_fault = λ _. inr broken;
+  told_stop = λ _. inr broken;
 }
 
 -- at the end of the input nothing is left, or the beginning of a record
@@ -100,9 +129,34 @@ ends_as Full failed played rest kept at_end read_failed leaves is end cause = re
   bad = λ e. absurd (omega (arith, e));
   full = λ _. leaves;
 }
-ends_as SinkFailed failed played rest kept at_end read_failed leaves is end cause = tells_none 4 played rest at_end read_failed (inr refl)
-ends_as Memory failed played rest kept at_end read_failed leaves is end cause = tells_none 1 played rest at_end read_failed (inl refl)
-ends_as Unwritten failed played rest kept at_end read_failed leaves is end cause = tells_none 1 played rest at_end read_failed (inl refl)
+ends_as BootFault failed played rest kept at_end read_failed leaves is end cause = tells_none 7 played rest at_end read_failed (booted_not_ended 7 (inl refl))
+ends_as BootStopped failed played rest kept at_end read_failed leaves is end cause = tells_none 8 played rest at_end read_failed (booted_not_ended 8 (inr refl))
+ends_as SinkFailed failed played rest kept at_end read_failed leaves is end cause = tells_none 4 played rest at_end read_failed (not_ended 4 (inr refl))
+ends_as Memory failed played rest kept at_end read_failed leaves is end cause = tells_none 1 played rest at_end read_failed (not_ended 1 (inl refl))
+ends_as Unwritten failed played rest kept at_end read_failed leaves is end cause = tells_none 1 played rest at_end read_failed (not_ended 1 (inl refl))
+
+-- which boot it was
+calm : {B C : Type 0} (status : ℕ) (faults stops : B → ℕ) (bank : B) (core : CoreView B C) (read : List ℕ) (bank_failed bank_stopped : Type 0) → (status ≢ 7) → (status ≢ 8) → IsCaused faults stops bank core → core.state.ended ≡ false
+    → BootsAs status core.entries read bank_failed bank_stopped
+calm status faults stops bank core read bank_failed bank_stopped not_fault not_stop caused live = record {
+  fault = λ e. absurd (not_fault e);
+  stop = λ e. absurd (not_stop e);
+  told_fault = λ boot. absurd (still_lives faults stops bank core false caused live boot);
+  told_stop = λ boot. absurd (still_lives faults stops bank core true caused live boot);
+}
+
+boots_as : {B C : Type 0} (standing : Standing) (failed whole : Bool) (faults stops : B → ℕ) (bank : B) (core : CoreView B C) (read : List ℕ) (bank_failed bank_stopped : Type 0) → IsCaused faults stops bank core → TellsBoot standing core
+    → BootsAs (status_of standing failed whole) core.entries read bank_failed bank_stopped
+boots_as Open true whole faults stops bank core read bank_failed bank_stopped caused boot = calm 3 faults stops bank core read bank_failed bank_stopped (λ e. omega (arith, e)) (λ e. omega (arith, e)) caused boot
+boots_as Open false true faults stops bank core read bank_failed bank_stopped caused boot = calm 0 faults stops bank core read bank_failed bank_stopped (λ e. omega (arith, e)) (λ e. omega (arith, e)) caused boot
+boots_as Open false false faults stops bank core read bank_failed bank_stopped caused boot = calm 5 faults stops bank core read bank_failed bank_stopped (λ e. omega (arith, e)) (λ e. omega (arith, e)) caused boot
+boots_as Bad failed whole faults stops bank core read bank_failed bank_stopped caused boot = calm 5 faults stops bank core read bank_failed bank_stopped (λ e. omega (arith, e)) (λ e. omega (arith, e)) caused boot
+boots_as Full failed whole faults stops bank core read bank_failed bank_stopped caused boot = calm 6 faults stops bank core read bank_failed bank_stopped (λ e. omega (arith, e)) (λ e. omega (arith, e)) caused boot
+boots_as BootFault failed whole faults stops bank core read bank_failed bank_stopped caused boot = record { fault = λ _. inl boot; stop = λ e. absurd (omega (arith, e)); told_fault = λ _. inl refl; told_stop = λ other. absurd (one_boot core.entries boot other) }
+boots_as BootStopped failed whole faults stops bank core read bank_failed bank_stopped caused boot = record { fault = λ e. absurd (omega (arith, e)); stop = λ _. inl boot; told_fault = λ other. absurd (one_boot core.entries other boot); told_stop = λ _. inl refl }
+boots_as SinkFailed failed whole faults stops bank core read bank_failed bank_stopped caused boot = no_boot 4 core.entries read bank_failed bank_stopped (inr refl)
+boots_as Memory failed whole faults stops bank core read bank_failed bank_stopped caused boot = no_boot 1 core.entries read bank_failed bank_stopped (inl refl)
+boots_as Unwritten failed whole faults stops bank core read bank_failed bank_stopped caused boot = no_boot 1 core.entries read bank_failed bank_stopped (inl refl)
 
 -- ---- and the other way
 
@@ -111,18 +165,17 @@ unfolding is_short is_bad
 short_not_bad rest short bad = grind (arith, nat_tests)
 
 exact_of : (status played : ℕ) (rest : List ℕ) (at_end read_failed : Type 0) → IsStatus status → EndsAs status played rest at_end read_failed → IsExact status played rest at_end
-exact_of status played rest at_end read_failed (inl zero) ends = record {
+exact_of status played rest at_end read_failed (inl (inl zero)) ends = record {
   bad = λ lt bad. absurd (bad_is_some rest bad (ends.done zero).0);
   full = λ all some. absurd (omega (arith, some, ap (λ (xs : List ℕ). length xs) (ends.done zero).0));
 }
-exact_of status played rest at_end read_failed (inr (inl one)) ends = record { bad = λ lt bad. inr (inl one); full = λ all some. inr (inl one) }
-exact_of status played rest at_end read_failed (inr (inr (inl three))) ends = record {
+exact_of status played rest at_end read_failed (inl (inr (inl three))) ends = record {
   bad = λ lt bad. absurd (elim (ends.cut three).0 [ inl none ↦ bad_is_some rest bad none | inr short ↦ short_not_bad rest short.0 bad ]);
   full = λ all some. absurd (elim (ends.cut three).0 [ inl none ↦ omega (arith, some, ap (λ (xs : List ℕ). length xs) none) | inr short ↦ omega (arith, all, short.1) ]);
 }
-exact_of status played rest at_end read_failed (inr (inr (inr (inl four)))) ends = record { bad = λ lt bad. inr (inr four); full = λ all some. inr (inr four) }
-exact_of status played rest at_end read_failed (inr (inr (inr (inr (inl five))))) ends = record { bad = λ lt bad. inl five; full = λ all some. absurd (omega (arith, all, (ends.bad five).0)) }
-exact_of status played rest at_end read_failed (inr (inr (inr (inr (inr six))))) ends = record { bad = λ lt bad. absurd (omega (arith, lt, (ends.full six).0)); full = λ all some. inl six }
+exact_of status played rest at_end read_failed (inl (inr (inr (inl five)))) ends = record { bad = λ lt bad. inl five; full = λ all some. absurd (omega (arith, all, (ends.bad five).0)) }
+exact_of status played rest at_end read_failed (inl (inr (inr (inr six)))) ends = record { bad = λ lt bad. absurd (omega (arith, lt, (ends.full six).0)); full = λ all some. inl six }
+exact_of status played rest at_end read_failed (inr ended) ends = record { bad = λ lt bad. inr ended; full = λ all some. inr ended }
 
 -- no further record follows
 ends_before : (status : ℕ) (entries : List Entry) (rest : List ℕ) (at_end read_failed : Type 0) → IsEnded status → EndsAs status (length entries) rest at_end read_failed → EndsBefore (pairs_of entries) rest
@@ -144,7 +197,7 @@ module _ (status result : ℕ) (entries : List Entry) (would_end : ℕ → Type 
         starved = λ one. front_of_whole before after (transcript entries 1) (all ∙ ap (λ s. append_known before (transcript entries s)) (sym w.0 ∙ one));
       }
   tells_end not_four ends_status written (inr w) = record {
-    whole = λ ended. absurd (not_ended result (inr w.0) ended);
+    whole = λ ended. absurd (not_told result (inr w.0) ended);
     broken = λ _. inr (status, ends_status, front_of_second before mid after (entries_bytes 0 entries) (end_bytes status (length entries) (offset_of entries)) written w.1);
     starved = λ one. absurd (omega (arith, w.0, one));
   }
@@ -152,7 +205,7 @@ module _ (status result : ℕ) (entries : List Entry) (would_end : ℕ → Type 
   -- an entry wasn't written whole, for the sink failed
   tells_front : (result ≡ 4) × (after ≡ mid) → TakesFront before mid (entries_bytes 0 entries) → Tells result entries would_end before after
   tells_front w told = record {
-    whole = λ ended. absurd (not_ended result (inr w.0) ended);
+    whole = λ ended. absurd (not_told result (inr w.0) ended);
     broken = λ _. inl (subst (λ (t : Option (List ℕ)). TakesFront before t (entries_bytes 0 entries)) (sym w.1) told);
     starved = λ one. absurd (omega (arith, w.0, one));
   }
@@ -160,7 +213,7 @@ module _ (status result : ℕ) (entries : List Entry) (would_end : ℕ → Type 
   -- or memory ran out for it
   tells_starved : (result ≡ 1) × (after ≡ mid) → TakesFront before mid (entries_bytes 0 entries) → Tells result entries would_end before after
   tells_starved w told = record {
-    whole = λ ended. absurd (not_ended result (inl w.0) ended);
+    whole = λ ended. absurd (not_told result (inl w.0) ended);
     broken = λ four. absurd (omega (arith, w.0, four));
     starved = λ _. subst (λ (t : Option (List ℕ)). TakesFront before t (transcript entries 1)) (sym w.1)
         (front_of_first before mid (entries_bytes 0 entries) (end_bytes 1 (length entries) (offset_of entries)) told);
@@ -169,26 +222,32 @@ module _ (status result : ℕ) (entries : List Entry) (would_end : ℕ → Type 
 -- ---- the status
 
 status_is : (standing : Standing) (failed whole : Bool) → IsStatus (status_of standing failed whole)
-status_is Open true whole = inr (inr (inl refl))
-status_is Open false true = inl refl
-status_is Open false false = inr (inr (inr (inr (inl refl))))
-status_is Bad failed whole = inr (inr (inr (inr (inl refl))))
-status_is Full failed whole = inr (inr (inr (inr (inr refl))))
-status_is SinkFailed failed whole = inr (inr (inr (inl refl)))
-status_is Memory failed whole = inr (inl refl)
-status_is Unwritten failed whole = inr (inl refl)
+status_is Open true whole = inl (inr (inl refl))
+status_is Open false true = inl (inl refl)
+status_is Open false false = inl (inr (inr (inl refl)))
+status_is Bad failed whole = inl (inr (inr (inl refl)))
+status_is Full failed whole = inl (inr (inr (inr refl)))
+status_is BootFault failed whole = inr (inl (inl refl))
+status_is BootStopped failed whole = inr (inl (inr refl))
+status_is SinkFailed failed whole = inr (inr (inr refl))
+status_is Memory failed whole = inr (inr (inl refl))
+status_is Unwritten failed whole = inr (inr (inl refl))
 
--- one of these four, unless it is 1 or 4
-status_ends : (status : ℕ) → IsStatus status → (status ≢ 4) → (status ≡ 1) ⊎ IsEnded status
-status_ends status (inl e) not_four = inr (inl e)
-status_ends status (inr (inl e)) not_four = inl e
-status_ends status (inr (inr (inl e))) not_four = inr (inr (inl e))
-status_ends status (inr (inr (inr (inl e)))) not_four = absurd (not_four e)
-status_ends status (inr (inr (inr (inr (inl e))))) not_four = inr (inr (inr (inl e)))
-status_ends status (inr (inr (inr (inr (inr e))))) not_four = inr (inr (inr (inr e)))
+pub known_not_usage : (status : ℕ) → IsStatus status → status ≢ 2
+known_not_usage status (inl (inl e)) = λ two. omega (arith, e, two)
+known_not_usage status (inl (inr (inl e))) = λ two. omega (arith, e, two)
+known_not_usage status (inl (inr (inr (inl e)))) = λ two. omega (arith, e, two)
+known_not_usage status (inl (inr (inr (inr e)))) = λ two. omega (arith, e, two)
+known_not_usage status (inr (inl (inl e))) = λ two. omega (arith, e, two)
+known_not_usage status (inr (inl (inr e))) = λ two. omega (arith, e, two)
+known_not_usage status (inr (inr (inl e))) = λ two. omega (arith, e, two)
+known_not_usage status (inr (inr (inr e))) = λ two. omega (arith, e, two)
 
-would_end : (status played : ℕ) (rest : List ℕ) (at_end read_failed : Type 0) → IsStatus status → (status ≢ 4) → EndsAs status played rest at_end read_failed → WouldEnd status played rest at_end read_failed
-would_end status played rest at_end read_failed known not_four ends = elim (status_ends status known not_four) [ inl one ↦ inl one | inr ended ↦ inr (ended, ends) ]
+would_end : (status : ℕ) (ends boots : ℕ → Type 0) → IsStatus status → (status ≢ 4) → ends status → boots status → WouldEnd status ends boots
+would_end status ends boots (inl ended) not_four end boot = inr (inl (ended, end))
+would_end status ends boots (inr (inl booted)) not_four end boot = inr (inr (booted, boot))
+would_end status ends boots (inr (inr (inl one))) not_four end boot = inl one
+would_end status ends boots (inr (inr (inr four))) not_four end boot = absurd (not_four four)
 
 -- the status of a session whose entries were written
 not_sink : (standing : Standing) (failed whole : Bool) → (standing ≢ SinkFailed) → status_of standing failed whole ≢ 4
@@ -197,26 +256,38 @@ not_sink Open false true is = λ e. omega (arith, e)
 not_sink Open false false is = λ e. omega (arith, e)
 not_sink Bad failed whole is = λ e. omega (arith, e)
 not_sink Full failed whole is = λ e. omega (arith, e)
+not_sink BootFault failed whole is = λ e. omega (arith, e)
+not_sink BootStopped failed whole is = λ e. omega (arith, e)
 not_sink SinkFailed failed whole is = λ e. is refl
 not_sink Memory failed whole is = λ e. omega (arith, e)
 not_sink Unwritten failed whole is = λ e. omega (arith, e)
 
 -- ---- the session
 
-module _ {C : Type 0} (verdict : C → List ℕ → ℤ) (given : List (Option (KitEntry C))) (opening : State) (p : Playing C) (read : List ℕ) (failed : Bool) (at_end read_failed : Type 0) (result : ℕ) (before mid after : Option (List ℕ)) (faults faults_then : ℕ)
-    (at_first : opening.tables ≡ no_tables) (unasked : opening.pending ≡ []) (vouched : Vouches verdict given opening p.core) (session : IsSession p.core) (ends : EndsReading p read failed at_end) (cause : failed ≡ true → read_failed) where
-  made : IsStatus result → EndsAs result (length p.core.entries) ends.feeds.behind at_end read_failed
-      → Tells result p.core.entries (λ other. WouldEnd other (length p.core.entries) ends.feeds.behind at_end read_failed) before after → Session verdict given opening read at_end read_failed result before after
-  made known ends_as_is told = record {
+module _ {B C : Type 0} (tells : Type 0) (now : B → List ℕ) (faults stops : B → ℕ) (verdict : C → List ℕ → ℤ) (given : List (Option (KitEntry C))) (opening : State) (bank : B) (p : Playing B C) (read : List ℕ) (failed : Bool) (at_end read_failed : Type 0) (result : ℕ) (before mid after : Option (List ℕ)) (sink_faults sink_then : ℕ)
+    (at_first : opening.tables ≡ no_tables) (unasked : opening.pending ≡ []) (vouched : Vouches tells now verdict given opening p.core) (caused : IsCaused faults stops bank p.core) (session : IsSession p.core) (ends : EndsReading p read failed at_end) (cause : failed ≡ true → read_failed) (boot : TellsBoot p.standing p.core) where
+  abbrev Ends : ℕ → Type 0
+  Ends n = EndsAs n (length p.core.entries) ends.feeds.behind at_end read_failed
+
+  abbrev Boots : ℕ → Type 0
+  Boots n = BootsAs n p.core.entries read (Rose (faults bank) (faults p.core.state.store.bank)) (Rose (stops bank) (stops p.core.state.store.bank))
+
+  abbrev Is : Type 0
+  Is = Session tells faults stops verdict given opening bank p.core.state.store.bank read at_end read_failed result before after
+
+  made : IsStatus result → Ends result → Boots result → Tells result p.core.entries (λ other. WouldEnd other Ends Boots) before after → Is
+  made known ends_as_is boots told = record {
     known = known;
     entries = p.core.entries;
     state = (run_from (begins_at opening) p.core.entries).state;
     rest = ends.feeds.behind;
     legal = vouched.stands.legal;
-    whole = whole opening p.core.entries _ at_first unasked vouched.stands.legal;
-    vouched = laws.vouched opening p.core.entries _ at_first unasked vouched.stands.legal;
+    whole = λ told. whole opening p.core.entries _ at_first unasked (vouched.stands.legal told);
+    vouched = λ told. laws.vouched opening p.core.entries _ at_first unasked (vouched.stands.legal told);
     verdicts = vouched.verdicts;
-    kept = keeps verdict _ opening p.core.entries vouched.verdicts;
+    kept = λ told. keeps verdict _ opening p.core.entries (vouched.verdicts told);
+    causes = caused.causes;
+    trouble = caused.trouble;
     each = session.each;
     few = session.few;
     parts = ends.feeds.parts;
@@ -226,48 +297,51 @@ module _ {C : Type 0} (verdict : C → List ℕ → ℤ) (given : List (Option (
     near = omega (arith, ends.feeds.near);
     stops = ends.stops;
     ends = ends_as_is;
+    boots = boots;
     told = told;
   }
 
   -- with an end record, whole or cut short
-  ended : (p.standing ≢ SinkFailed) → IsWritten before p.core.entries mid
-      → WritesEnd (status_of p.standing failed (eqb (length p.rest) 0)) result p.core.entries mid after faults faults_then → Session verdict given opening read at_end read_failed result before after
+  ended : (p.standing ≢ SinkFailed) → IsWritten before p.core.entries mid → WritesEnd (status_of p.standing failed (eqb (length p.rest) 0)) result p.core.entries mid after sink_faults sink_then → Is
   ended is written w =
       let status = status_of p.standing failed (eqb (length p.rest) 0) in
-      let tells : EndsAs status (length p.core.entries) ends.feeds.behind at_end read_failed =
-      ends_as p.standing failed (length p.core.entries) ends.feeds.behind p.rest at_end read_failed ends.feeds.leaves ends.feeds.keeps ends.ended cause in
+      let tells : Ends status = ends_as p.standing failed (length p.core.entries) ends.feeds.behind p.rest at_end read_failed ends.feeds.leaves ends.feeds.keeps ends.ended cause in
+      let boots : Boots status = boots_as p.standing failed (eqb (length p.rest) 0) faults stops bank p.core read _ _ caused boot in
       let known : IsStatus status = status_is p.standing failed (eqb (length p.rest) 0) in
       let not_four : status ≢ 4 = not_sink p.standing failed (eqb (length p.rest) 0) is in
       made
-      (elim w [ inl wrote ↦ subst IsStatus (sym wrote.0) known | inr broke ↦ inr (inr (inr (inl broke.0))) ])
+      (elim w [ inl wrote ↦ subst IsStatus (sym wrote.0) known | inr broke ↦ inr (inr (inr broke.0)) ])
       (elim w [
-        | inl wrote ↦ subst (λ n. EndsAs n (length p.core.entries) ends.feeds.behind at_end read_failed) (sym wrote.0) tells
-        | inr broke ↦ tells_none result (length p.core.entries) ends.feeds.behind at_end read_failed (inr broke.0)
+        | inl wrote ↦ subst Ends (sym wrote.0) tells
+        | inr broke ↦ tells_none result (length p.core.entries) ends.feeds.behind at_end read_failed (not_ended result (inr broke.0))
       ])
-      (tells_end status result p.core.entries (λ other. WouldEnd other (length p.core.entries) ends.feeds.behind at_end read_failed) before mid after faults faults_then not_four
-      (would_end status (length p.core.entries) ends.feeds.behind at_end read_failed known not_four tells) written w)
+      (elim w [ inl wrote ↦ subst Boots (sym wrote.0) boots | inr broke ↦ no_boot result p.core.entries read _ _ (inr broke.0) ])
+      (tells_end status result p.core.entries (λ other. WouldEnd other Ends Boots) before mid after sink_faults sink_then not_four (would_end status Ends Boots known not_four tells boots) written w)
 
-  without_end : (result ≡ 4) × (after ≡ mid) → TakesFront before mid (entries_bytes 0 p.core.entries) → Session verdict given opening read at_end read_failed result before after
-  without_end w told =
-      made (inr (inr (inr (inl w.0)))) (tells_none result (length p.core.entries) ends.feeds.behind at_end read_failed (inr w.0))
-      (tells_front 4 result p.core.entries (λ other. WouldEnd other (length p.core.entries) ends.feeds.behind at_end read_failed) before mid after faults faults_then w told)
+  broken_off : IsBrokenOff result → Tells result p.core.entries (λ other. WouldEnd other Ends Boots) before after → Is
+  broken_off broken told =
+      made (inr (inr broken)) (tells_none result (length p.core.entries) ends.feeds.behind at_end read_failed (not_ended result broken)) (no_boot result p.core.entries read _ _ broken) told
 
-  without_memory : (result ≡ 1) × (after ≡ mid) → TakesFront before mid (entries_bytes 0 p.core.entries) → Session verdict given opening read at_end read_failed result before after
-  without_memory w told =
-      made (inr (inl w.0)) (tells_none result (length p.core.entries) ends.feeds.behind at_end read_failed (inl w.0))
-      (tells_starved 1 result p.core.entries (λ other. WouldEnd other (length p.core.entries) ends.feeds.behind at_end read_failed) before mid after faults faults_then w told)
+  without_end : (result ≡ 4) × (after ≡ mid) → TakesFront before mid (entries_bytes 0 p.core.entries) → Is
+  without_end w told = broken_off (inr w.0) (tells_front 4 result p.core.entries (λ other. WouldEnd other Ends Boots) before mid after sink_faults sink_then w told)
+
+  without_memory : (result ≡ 1) × (after ≡ mid) → TakesFront before mid (entries_bytes 0 p.core.entries) → Is
+  without_memory w told = broken_off (inl w.0) (tells_starved 1 result p.core.entries (λ other. WouldEnd other Ends Boots) before mid after sink_faults sink_then w told)
 
   by_standing : (standing : Standing) → p.standing ≡ standing → TellsWritten standing before p.core.entries mid
-      → Finishes standing (status_of p.standing failed (eqb (length p.rest) 0)) result p.core.entries mid after faults faults_then → Session verdict given opening read at_end read_failed result before after
+      → Finishes standing (status_of p.standing failed (eqb (length p.rest) 0)) result p.core.entries mid after sink_faults sink_then → Is
   by_standing Open is told w = ended (λ e. cc) told w
   by_standing Bad is told w = ended (λ e. cc) told w
   by_standing Full is told w = ended (λ e. cc) told w
+  by_standing BootFault is told w = ended (λ e. cc) told w
+  by_standing BootStopped is told w = ended (λ e. cc) told w
   by_standing Memory is told w = ended (λ e. cc) told w
   by_standing SinkFailed is told w = without_end w told
   by_standing Unwritten is told w = without_memory w told
 
   pub session_of : TellsWritten p.standing before p.core.entries mid
-      → Finishes p.standing (status_of p.standing failed (eqb (length p.rest) 0)) result p.core.entries mid after faults faults_then → Session verdict given opening read at_end read_failed result before after
+      → Finishes p.standing (status_of p.standing failed (eqb (length p.rest) 0)) result p.core.entries mid after sink_faults sink_then
+      → Session tells faults stops verdict given opening bank p.core.state.store.bank read at_end read_failed result before after
   session_of told w = by_standing p.standing refl told w
 
 -- at first nothing is written
@@ -289,29 +363,101 @@ no_reading = record {
   short = omega arith;
 }
 
--- where memory ran out before the first read
-pub starved_at_once : {C : Type 0} (verdict : C → List ℕ → ℤ) (given : List (Option (KitEntry C))) (opening : State) → opening.tables ≡ no_tables → opening.pending ≡ [] → (at_end read_failed : Type 0) (taken : Option (List ℕ)) → Session verdict given opening [] at_end read_failed 1 taken taken
-starved_at_once verdict given opening at_first unasked at_end read_failed taken = record {
-  entries = [];
-  state = opening;
-  rest = [];
-  legal = record { answered = tt; leads = refl };
-  whole = whole opening [] opening at_first unasked (record { answered = tt; leads = refl });
-  vouched = laws.vouched opening [] opening at_first unasked (record { answered = tt; leads = refl });
-  verdicts = tt;
-  kept = keeps verdict given opening [] tt;
-  each = tt;
-  few = omega arith;
-  parts = refl;
-  near = omega arith;
-  stops = no_reading;
-  known = inr (inl refl);
-  records = λ ended. absurd (not_ended 1 (inl refl) ended);
-  exact = exact_of 1 0 [] at_end read_failed (inr (inl refl)) (tells_none 1 0 [] at_end read_failed (inl refl));
-  ends = tells_none 1 0 [] at_end read_failed (inl refl);
-  told = record {
-    whole = λ ended. absurd (not_ended 1 (inl refl) ended);
-    broken = λ four. absurd (omega (arith, four));
-    starved = λ _. front_of_nothing taken (transcript [] 1);
-  };
-}
+-- ---- where the service didn't begin
+
+module _ {B C : Type 0} (tells : Type 0) (faults stops : B → ℕ) (verdict : C → List ℕ → ℤ) (given : List (Option (KitEntry C))) (opening : State) (at_first : opening.tables ≡ no_tables) (unasked : opening.pending ≡ []) (bank bank_then : B)
+    (at_end read_failed : Type 0) (result : ℕ) (before after : Option (List ℕ)) (sink_faults sink_then : ℕ) where
+  abbrev Empty : ℕ → Type 0
+  Empty n = EndsAs n 0 [] at_end read_failed
+
+  abbrev First : ℕ → Type 0
+  First n = BootsAs n [] [] (Rose (faults bank) (faults bank_then)) (Rose (stops bank) (stops bank_then))
+
+  empty : Rises faults stops bank bank_then [] → IsStatus result → (IsEnded result → ⊥) → First result → Tells result [] (λ other. WouldEnd other Empty First) before after
+      → Session tells faults stops verdict given opening bank bank_then [] at_end read_failed result before after
+  empty rises known never boots told = record {
+    entries = [];
+    state = opening;
+    rest = [];
+    legal = λ _. record { answered = tt; leads = refl };
+    whole = λ _. whole opening [] opening at_first unasked (record { answered = tt; leads = refl });
+    vouched = λ _. laws.vouched opening [] opening at_first unasked (record { answered = tt; leads = refl });
+    verdicts = λ _. tt;
+    kept = λ _. keeps verdict given opening [] tt;
+    causes = tt;
+    trouble = rises;
+    each = tt;
+    few = omega arith;
+    parts = refl;
+    near = omega arith;
+    stops = no_reading;
+    known = known;
+    records = λ ended. absurd (never ended);
+    exact = exact_of result 0 [] at_end read_failed known (tells_none result 0 [] at_end read_failed never);
+    ends = tells_none result 0 [] at_end read_failed never;
+    boots = boots;
+    told = told;
+  }
+
+  -- memory ran out
+  starved : Rises faults stops bank bank_then [] → (result ≡ 1) × (after ≡ before) → Session tells faults stops verdict given opening bank bank_then [] at_end read_failed result before after
+  starved rises w = empty rises (inr (inr (inl w.0))) (not_ended result (inl w.0)) (no_boot result [] [] _ _ (inl w.0))
+      (tells_starved 1 result [] (λ other. WouldEnd other Empty First) before before after sink_faults sink_then w (front_of_nothing before (entries_bytes 0 [])))
+
+  -- or the first boot didn't come to its end
+  unbooted : (status : ℕ) → Rises faults stops bank bank_then [] → IsBooted status → (status ≢ 4) → First status → WritesEndAlone status result before after sink_faults sink_then
+      → Session tells faults stops verdict given opening bank bank_then [] at_end read_failed result before after
+  unbooted status rises booted not_four boots (inl (inl wrote)) =
+      let is : IsBooted result = subst IsBooted (sym wrote.0) booted in
+      empty rises (inr (inl is)) (booted_not_ended result is) (subst First (sym wrote.0) boots)
+      (tells_end status result [] (λ other. WouldEnd other Empty First) before before after sink_faults sink_then not_four (inr (inr (booted, boots))) (nothing_written before [] refl) (inl wrote))
+  unbooted status rises booted not_four boots (inl (inr broke)) =
+      empty rises (inr (inr (inr broke.0))) (not_ended result (inr broke.0)) (no_boot result [] [] _ _ (inr broke.0))
+      (tells_end status result [] (λ other. WouldEnd other Empty First) before before after sink_faults sink_then not_four (inr (inr (booted, boots))) (nothing_written before [] refl) (inr broke))
+  unbooted status rises booted not_four boots (inr w) = starved rises w
+
+  pub unbegun : (fault : StartFault) → StartCounted faults stops bank bank_then fault → FinishesUnbegun fault result before after sink_faults sink_then
+      → Session tells faults stops verdict given opening bank bank_then [] at_end read_failed result before after
+  unbegun NoMemory counted w = starved (record { fault = inl (omega (arith, counted.0)); stop = inl (omega (arith, counted.1)) }) w
+  unbegun FirstFault counted w =
+      unbooted 7 (record { fault = rose_never (faults bank) (faults bank_then) counted.0; stop = inl (omega (arith, counted.1)) }) (inl refl) (λ e. omega (arith, e))
+      (record { fault = λ _. inr (refl, refl, counted.0); stop = λ e. absurd (omega (arith, e)); told_fault = λ _. inl refl; told_stop = λ boot. absurd (no_last boot.0 boot.1 boot.2) }) w
+  unbegun FirstStopped counted w =
+      unbooted 8 (record { fault = inl (omega (arith, counted.1)); stop = rose_never (stops bank) (stops bank_then) counted.0 }) (inr refl) (λ e. omega (arith, e))
+      (record { fault = λ e. absurd (omega (arith, e)); stop = λ _. inr (refl, refl, counted.0); told_fault = λ boot. absurd (no_last boot.0 boot.1 boot.2); told_stop = λ _. inl refl }) w
+
+-- its statuses
+alone_is : (status result : ℕ) (before after : Option (List ℕ)) (sink_faults sink_then : ℕ) → WritesEndAlone status result before after sink_faults sink_then → (result ≡ status) ⊎ ((result ≡ 4) × Rose sink_faults sink_then) ⊎ (result ≡ 1)
+alone_is status result before after sink_faults sink_then (inl (inl wrote)) = inl wrote.0
+alone_is status result before after sink_faults sink_then (inl (inr broke)) = inr (inl (broke.0, broke.2))
+alone_is status result before after sink_faults sink_then (inr w) = inr (inr w.0)
+
+alone_sink : (status result : ℕ) (sink_faults sink_then : ℕ) → (status ≢ 4) → (result ≡ status) ⊎ ((result ≡ 4) × Rose sink_faults sink_then) ⊎ (result ≡ 1) → result ≡ 4 → Rose sink_faults sink_then
+alone_sink status result sink_faults sink_then not (inl is) four = absurd (not (sym is ∙ four))
+alone_sink status result sink_faults sink_then not (inr (inl broke)) four = broke.1
+alone_sink status result sink_faults sink_then not (inr (inr one)) four = absurd (omega (arith, one, four))
+
+alone_source : (status result : ℕ) (sink_faults sink_then : ℕ) → (status ≢ 3) → (result ≡ status) ⊎ ((result ≡ 4) × Rose sink_faults sink_then) ⊎ (result ≡ 1) → result ≢ 3
+alone_source status result sink_faults sink_then not (inl is) = λ three. not (sym is ∙ three)
+alone_source status result sink_faults sink_then not (inr (inl broke)) = λ three. omega (arith, broke.0, three)
+alone_source status result sink_faults sink_then not (inr (inr one)) = λ three. omega (arith, one, three)
+
+pub unbegun_sink : (fault : StartFault) (result : ℕ) (before after : Option (List ℕ)) (sink_faults sink_then : ℕ) → FinishesUnbegun fault result before after sink_faults sink_then → result ≡ 4 → Rose sink_faults sink_then
+unbegun_sink NoMemory result before after sink_faults sink_then w four = absurd (omega (arith, w.0, four))
+unbegun_sink FirstFault result before after sink_faults sink_then w four = alone_sink 7 result sink_faults sink_then (λ e. omega (arith, e)) (alone_is 7 result before after sink_faults sink_then w) four
+unbegun_sink FirstStopped result before after sink_faults sink_then w four = alone_sink 8 result sink_faults sink_then (λ e. omega (arith, e)) (alone_is 8 result before after sink_faults sink_then w) four
+
+pub unbegun_source : (fault : StartFault) (result : ℕ) (before after : Option (List ℕ)) (sink_faults sink_then : ℕ) → FinishesUnbegun fault result before after sink_faults sink_then → result ≢ 3
+unbegun_source NoMemory result before after sink_faults sink_then w = λ three. omega (arith, w.0, three)
+unbegun_source FirstFault result before after sink_faults sink_then w = alone_source 7 result sink_faults sink_then (λ e. omega (arith, e)) (alone_is 7 result before after sink_faults sink_then w)
+unbegun_source FirstStopped result before after sink_faults sink_then w = alone_source 8 result sink_faults sink_then (λ e. omega (arith, e)) (alone_is 8 result before after sink_faults sink_then w)
+
+-- ---- the causes of 7 and 8
+
+module _ {B C : Type 0} (tells : Type 0) (faults stops : B → ℕ) (verdict : C → List ℕ → ℤ) (given : List (Option (KitEntry C))) (opening : State) (bank bank_then : B) (read : List ℕ) (at_end read_failed : Type 0) (result : ℕ) (before after : Option (List ℕ))
+    (s : Session tells faults stops verdict given opening bank bank_then read at_end read_failed result before after) where
+  pub rose_at_fault : result ≡ 7 → RoseBy 1 (faults bank) (faults bank_then)
+  rose_at_fault seven = elim (s.boots.fault seven) [ inl boot ↦ rose_by_fault faults stops bank bank_then s.entries s.trouble boot | inr first ↦ rose_once (faults bank) (faults bank_then) first.2 ]
+
+  pub rose_at_stop : result ≡ 8 → RoseBy 1 (stops bank) (stops bank_then)
+  rose_at_stop eight = elim (s.boots.stop eight) [ inl boot ↦ rose_by_stop faults stops bank bank_then s.entries s.trouble boot | inr first ↦ rose_once (stops bank) (stops bank_then) first.2 ]

@@ -4,7 +4,7 @@ use Rattle.tbl_core.specs.Service.{CoreView}
 use Rattle.tbl_top.specs.Playing.{played_before}
 use Rattle.tbl_top.specs.Standing.{Leaves}
 use Rattle.tbl_top.specs.declared.playback.Standing.{Standing}
-use Rattle.tbl_top.specs.declared.playback.Standing.TheVariants.{Open, Bad, Full, SinkFailed, Memory, Unwritten}
+use Rattle.tbl_top.specs.declared.playback.Standing.TheVariants.{Open, Bad, Full, BootFault, BootStopped, SinkFailed, Memory, Unwritten}
 use Rattle.tbl_top.specs.declared.player.Fed.{Fed}
 use Rattle.tbl_top.specs.declared.player.Fed.TheVariants as fed
 
@@ -13,6 +13,8 @@ abbrev pub answer_of : Standing → Fed
 answer_of Open = fed.More
 answer_of Bad = fed.Over
 answer_of Full = fed.Over
+answer_of BootFault = fed.Over
+answer_of BootStopped = fed.Over
 answer_of SinkFailed = fed.Over
 answer_of Memory = fed.Memory
 answer_of Unwritten = fed.Memory
@@ -23,7 +25,7 @@ IsKept Open behind kept = kept ≡ behind
 IsKept _ behind kept = Unit {0}
 
 -- what was fed is the spellings of what was played, and behind them what this standing says
-pub record Feeds {C : Type 0} (standing : Standing) (fed : List ℕ) (most : ℕ) (core : CoreView C) (kept : List ℕ) : Type 0 where
+pub record Feeds {B C : Type 0} (standing : Standing) (fed : List ℕ) (most : ℕ) (core : CoreView B C) (kept : List ℕ) : Type 0 where
   pub behind : List ℕ
   pub parts : fed ≡ played_before core behind
   pub near : length behind ≤ most

@@ -1,5 +1,6 @@
 pub mod Playing
 pub mod Standing
+pub mod Trouble
 pub mod Feeding
 pub mod Finishing
 pub mod Reading

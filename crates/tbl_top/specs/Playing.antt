@@ -1,5 +1,5 @@
 -- A session that is being played: the core, and the bytes that were fed and not yet played.
-use Rattle.std.specs.Prelude.{◌≡◌, ◌⊎◌, ℕ, ◌<◌, ◌≤◌, List, [], ◌++◌, length, Option, false}
+use Rattle.std.specs.Prelude.{◌≡◌, ◌⊎◌, ℕ, ◌<◌, ◌≤◌, List, [], ◌++◌, length, Option}
 use Rattle.std.specs.Io.KnownBytes.{append_known}
 use Rattle.std.specs.List.{AllByRecursion}
 use Rattle.tbl_kinds.specs.Records.{IsRecord, joined, record_limit}
@@ -10,28 +10,27 @@ use Rattle.tbl_core.specs.Service.{CoreView}
 use Rattle.tbl_kinds.specs.declared.entry.Entry.{Entry}
 use Rattle.tbl_top.specs.declared.playback.Standing.{Standing}
 
-pub record Playing (C : Type 0) : Type 0 where
-  pub core : CoreView C
+pub record Playing (B C : Type 0) : Type 0 where
+  pub core : CoreView B C
   pub rest : List ℕ
   pub standing : Standing
 
 -- the spellings of what was played, and these bytes behind them
-abbrev pub played_before : {C : Type 0} → CoreView C → List ℕ → List ℕ
+abbrev pub played_before : {B C : Type 0} → CoreView B C → List ℕ → List ℕ
 played_before core behind = joined (pairs_of core.entries) ++ behind
 
 -- all bytes that were fed, as long as the session is open
-abbrev pub bytes_fed : {C : Type 0} → Playing C → List ℕ
+abbrev pub bytes_fed : {B C : Type 0} → Playing B C → List ℕ
 bytes_fed p = played_before p.core p.rest
 
 -- behind so many played records stands nothing, or the beginning of one that a session may still have
 abbrev pub IsBeginning : ℕ → List ℕ → Type 0
 IsBeginning played rest = (rest ≡ []) ⊎ (IsShort rest × (played < record_limit))
 
--- what was played are records, no more than a session may have, and the core goes on
-pub record IsSession {C : Type 0} (core : CoreView C) : Type 0 where
+-- what was played are records, no more than a session may have
+pub record IsSession {B C : Type 0} (core : CoreView B C) : Type 0 where
   pub each : AllByRecursion IsRecord (pairs_of core.entries)
   pub few : length core.entries ≤ record_limit
-  pub live : core.state.ended ≡ false
 
 -- the sink took, after what it had at first, the spellings of all entries
 abbrev pub IsWritten : Option (List ℕ) → List Entry → Option (List ℕ) → Type 0

@@ -23,19 +23,19 @@ pub record StopsReading (read : List ℕ) : Type 0 where
   pub short : length last ≤ piece_limit
 
 -- this was read: it was fed, and the session is open still only where the input ended or a read failed
-pub record EndsReading {C : Type 0} (p : Playing C) (read : List ℕ) (failed : Bool) (at_end : Type 0) : Type 0 where
+pub record EndsReading {B C : Type 0} (p : Playing B C) (read : List ℕ) (failed : Bool) (at_end : Type 0) : Type 0 where
   pub feeds : Feeds p.standing read 36931 p.core p.rest
   pub ended : p.standing ≡ Open → failed ≡ false → at_end
   pub stops : StopsReading read
 
 -- a piece more was read, a byte or more, and the session is open still
-pub record GoesOn {C : Type 0} (old new : Playing C) (read : List ℕ) : Type 0 where
+pub record GoesOn {B C : Type 0} (old new : Playing B C) (read : List ℕ) : Type 0 where
   pub parts : bytes_fed new ≡ bytes_fed old ++ read
   pub some : 0 < length read
   pub is_open : new.standing ≡ Open
   pub begun : IsBeginning (length new.core.entries) new.rest
 
 -- with what was fed before, the reading ended
-abbrev pub ReadsOn : {C : Type 0} → Option Bool → Playing C → Playing C → List ℕ → Type 0 → Type 0
+abbrev pub ReadsOn : {B C : Type 0} → Option Bool → Playing B C → Playing B C → List ℕ → Type 0 → Type 0
 ReadsOn None old new read at_end = GoesOn old new read
 ReadsOn (Some failed) old new read at_end = EndsReading new (bytes_fed old ++ read) failed at_end

@@ -1,12 +1,13 @@
 -- What is known of a session by how it stands.
-use Rattle.std.specs.Prelude.{◌≡◌, ℕ, ◌<◌, List, length, Option, Some, None}
+use Rattle.std.specs.Prelude.{◌≡◌, ℕ, ◌<◌, List, [], ◌∷◌, ◌++◌, length, Option, Some, None, Bool, true, false}
 use Rattle.tbl_kinds.specs.Records.{record_limit}
 use Rattle.tbl_kinds.specs.Heads.{IsBad}
 use Rattle.tbl_outside.specs.Streams.{TakesFront}
+use Rattle.tbl_core.specs.Service.{CoreView}
 use Rattle.tbl_outside.specs.Counts.{Rose}
 use Rattle.tbl_top.specs.Playing.{IsBeginning, IsWritten, IsFrontWritten}
 use Rattle.tbl_top.specs.declared.playback.Standing.{Standing}
-use Rattle.tbl_top.specs.declared.playback.Standing.TheVariants.{Open, Bad, Full, SinkFailed, Memory, Unwritten}
+use Rattle.tbl_top.specs.declared.playback.Standing.TheVariants.{Open, Bad, Full, BootFault, BootStopped, SinkFailed, Memory, Unwritten}
 use Rattle.tbl_kinds.specs.declared.entry.Entry.{Entry}
 
 -- what stands behind so many records that were played
@@ -14,6 +15,8 @@ abbrev pub Leaves : Standing → ℕ → List ℕ → Type 0
 Leaves Open played behind = IsBeginning played behind
 Leaves Bad played behind = IsBad behind × (played < record_limit)
 Leaves Full played behind = (played ≡ record_limit) × (0 < length behind)
+Leaves BootFault played behind = Unit {0}
+Leaves BootStopped played behind = Unit {0}
 Leaves SinkFailed played behind = Unit {0}
 Leaves Memory played behind = Unit {0}
 Leaves Unwritten played behind = Unit {0}
@@ -30,6 +33,8 @@ abbrev pub TellsWritten : Standing → Option (List ℕ) → List Entry → Opti
 TellsWritten Open first entries taken = IsWritten first entries taken
 TellsWritten Bad first entries taken = IsWritten first entries taken
 TellsWritten Full first entries taken = IsWritten first entries taken
+TellsWritten BootFault first entries taken = IsWritten first entries taken
+TellsWritten BootStopped first entries taken = IsWritten first entries taken
 TellsWritten Memory first entries taken = IsWritten first entries taken
 TellsWritten SinkFailed first entries taken = IsFrontWritten first entries taken
 TellsWritten Unwritten first entries taken = IsFrontWritten first entries taken
@@ -38,6 +43,33 @@ TellsWritten Unwritten first entries taken = IsFrontWritten first entries taken
 abbrev pub TellsCause : Standing → ℕ → ℕ → Type 0
 TellsCause SinkFailed before after = Rose before after
 TellsCause _ before after = Unit {0}
+
+-- the last entry tells that a boot ended the service: the bank failed in it, or a reset came into it
+abbrev pub EndsInBoot : Bool → List Entry → Type 0
+EndsInBoot stopped entries = (before : List Entry) × (last : Entry) × (entries ≡ before ++ last ∷ []) × (last.note.ended ≡ true) × (last.note.stopped ≡ stopped)
+
+-- a boot that ended the service is told. Else it goes on, unless the last entry wasn't written
+abbrev pub TellsBoot : {B C : Type 0} → Standing → CoreView B C → Type 0
+TellsBoot Open core = core.state.ended ≡ false
+TellsBoot Bad core = core.state.ended ≡ false
+TellsBoot Full core = core.state.ended ≡ false
+TellsBoot Memory core = core.state.ended ≡ false
+TellsBoot BootFault core = EndsInBoot false core.entries
+TellsBoot BootStopped core = EndsInBoot true core.entries
+TellsBoot SinkFailed core = Unit {0}
+TellsBoot Unwritten core = Unit {0}
+
+-- the same behind a record that was played: None where a further one may follow
+abbrev pub TellsService : {B C : Type 0} → Option Standing → CoreView B C → Type 0
+TellsService None core = core.state.ended ≡ false
+TellsService (Some standing) core = TellsBoot standing core
+
+-- what a step leaves to be told, once its entry is written: nothing, or a boot
+abbrev pub IsEnding : Option Standing → Type 0
+IsEnding None = Unit {0}
+IsEnding (Some BootFault) = Unit {0}
+IsEnding (Some BootStopped) = Unit {0}
+IsEnding (Some _) = ⊥
 
 -- why a write didn't go well, and what it left: the sink failed within the piece, or memory ran out before
 abbrev pub TellsStop : Standing → Option (List ℕ) → Option (List ℕ) → List ℕ → Type 0
@@ -51,3 +83,12 @@ TellsWhy None before after = Unit {0}
 TellsWhy (Some SinkFailed) before after = Rose before after
 TellsWhy (Some Unwritten) before after = Unit {0}
 TellsWhy (Some _) before after = ⊥
+
+-- a session ends with a record that was played by such a stop, or by a boot
+abbrev pub TellsLast : Option Standing → ℕ → ℕ → Type 0
+TellsLast None before after = Unit {0}
+TellsLast (Some SinkFailed) before after = Rose before after
+TellsLast (Some Unwritten) before after = Unit {0}
+TellsLast (Some BootFault) before after = Unit {0}
+TellsLast (Some BootStopped) before after = Unit {0}
+TellsLast (Some _) before after = ⊥

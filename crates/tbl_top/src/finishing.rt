@@ -1,10 +1,14 @@
 //! Ends the transcript.
 
 ghost use Rattle.std.specs.Prelude.{◌≡◌, ◌≤◌, length};
-ghost use Rattle.tbl_top.specs.Finishing.{Finishes, status_of};
+ghost use Rattle.tbl_top.specs.Finishing.{Finishes, FinishesUnbegun, WritesEndAlone, status_of};
 
-use crate::playback::{Playback, Standing};
-use tbl_outside::{Failed, Sink, Validator};
+use crate::playback::{END_LENGTH, Playback, Standing};
+use std::alloc::Global;
+use tbl_core::StartFault;
+use tbl_kinds::Bytes;
+use tbl_outside::{Bank, Failed, Sink, Validator};
+use transcript::write_end;
 
 /// The input was read to its end, and all of it was played.
 const DONE: u8 = 0;
@@ -24,6 +28,12 @@ const BAD_RECORD: u8 = 5;
 /// A byte behind as many records as a session may have.
 const TOO_MANY_RECORDS: u8 = 6;
 
+/// The bank failed in a boot.
+const BANK_FAILED: u8 = 7;
+
+/// The processor was reset in a boot.
+const BANK_STOPPED: u8 = 8;
+
 /// The status of an end, by whether a read failed and whether no byte is left behind the records that were played.
 fn end_status(standing: Standing, read_failed: bool, is_whole: bool) -> u8
     ensures { result ≡ status_of standing read_failed is_whole }
@@ -40,14 +50,16 @@ fn end_status(standing: Standing, read_failed: bool, is_whole: bool) -> u8
         }
         Standing::Bad => BAD_RECORD,
         Standing::Full => TOO_MANY_RECORDS,
+        Standing::BootFault => BANK_FAILED,
+        Standing::BootStopped => BANK_STOPPED,
         Standing::SinkFailed => SINK_FAILED,
         Standing::Memory | Standing::Unwritten => NO_MEMORY,
     }
 }
 
 /// Writes the end record, unless an entry before it wasn't written whole, and answers the status of the session.
-pub(crate) fn finish<C: Validator, K: Sink>(
-    playback: &mut Playback<C>,
+pub(crate) fn finish<B: Bank, C: Validator, K: Sink>(
+    playback: &mut Playback<B, C>,
     standing: Standing,
     read_failed: bool,
     is_whole: bool,
@@ -60,11 +72,41 @@ pub(crate) fn finish<C: Validator, K: Sink>(
     let status = end_status(standing, read_failed, is_whole);
     match standing {
         Standing::SinkFailed | Standing::Unwritten => status,
-        Standing::Open | Standing::Bad | Standing::Full | Standing::Memory => {
-            match playback.tell_end(status, sink) {
-                Ok(()) => status,
-                Err(Failed) => SINK_FAILED,
-            }
-        }
+        Standing::Open
+        | Standing::Bad
+        | Standing::Full
+        | Standing::BootFault
+        | Standing::BootStopped
+        | Standing::Memory => match playback.tell_end(status, sink) {
+            Ok(()) => status,
+            Err(Failed) => SINK_FAILED,
+        },
+    }
+}
+
+/// Writes the end record of a session that has no entry.
+fn tell_empty_end<K: Sink>(alloc: Global, status: u8, sink: &mut K) -> u8
+    ensures finishes { WritesEndAlone status result (K.taken sink.old) (K.taken sink.new) (K.faults sink.old) (K.faults sink.new) }
+    ensures count { K.faults sink.old ≤ K.faults sink.new }
+{
+    let Ok(mut end) = Bytes::make(alloc, END_LENGTH) else {
+        return NO_MEMORY;
+    };
+    write_end(&mut end, status, 0, 0);
+    match sink.write(end.bytes()) {
+        Ok(()) => status,
+        Err(Failed) => SINK_FAILED,
+    }
+}
+
+/// Ends a session whose service didn't begin: its transcript is the end record alone. Where memory ran out there is none.
+pub(crate) fn finish_unbegun<K: Sink>(alloc: Global, fault: StartFault, sink: &mut K) -> u8
+    ensures finishes { FinishesUnbegun fault result (K.taken sink.old) (K.taken sink.new) (K.faults sink.old) (K.faults sink.new) }
+    ensures count { K.faults sink.old ≤ K.faults sink.new }
+{
+    match fault {
+        StartFault::Memory => NO_MEMORY,
+        StartFault::BootFault => tell_empty_end(alloc, BANK_FAILED, sink),
+        StartFault::BootStopped => tell_empty_end(alloc, BANK_STOPPED, sink),
     }
 }

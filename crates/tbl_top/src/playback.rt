@@ -10,8 +10,9 @@ ghost use Rattle.std.specs.Io.KnownBytes.{append_known};
 ghost use Rattle.tbl_kinds.specs.Transcript.{pairs_of, end_bytes, offset_of};
 ghost use Rattle.tbl_outside.specs.Counts.{Rose};
 ghost use Rattle.tbl_outside.specs.Streams.{TakesFront};
-ghost use Rattle.tbl_top.specs.Playing.{played_before, IsSession, IsWritten, IsFrontWritten};
-ghost use Rattle.tbl_top.specs.Standing.{Leaves, TellsWritten, TellsCause, TellsWhy};
+ghost use Rattle.tbl_top.specs.Playing.{played_before, IsSession, IsWritten};
+ghost use Rattle.tbl_top.specs.Standing.{Leaves, TellsWritten, TellsCause, TellsBoot, TellsService, TellsLast};
+ghost use Rattle.tbl_top.specs.Trouble.{IsCaused};
 
 use crate::playing::play;
 use session_records::{Next, next_record};
@@ -19,14 +20,14 @@ use std::alloc::Global;
 use std::marker::Model;
 use tbl_core::Core;
 use tbl_kinds::{Actor, Bytes, Entry, Memory, Request};
-use tbl_outside::{Failed, Sink, Validator};
+use tbl_outside::{Bank, Failed, Sink, Validator};
 use transcript::write_end;
 
 /// The most records of a session.
 const RECORD_LIMIT: usize = 32_768;
 
 /// The length of the end record.
-const END_LENGTH: usize = 13;
+pub(crate) const END_LENGTH: usize = 13;
 
 /// How a session stands after a piece of the input.
 #[derive(Clone, Copy, Debug, PartialEq, Eq)]
@@ -37,6 +38,10 @@ pub(crate) enum Standing {
     Bad,
     /// As many records were played as a session may have, and bytes are left.
     Full,
+    /// The last request booted the service, and the bank failed in that boot.
+    BootFault,
+    /// The last request booted the service, and a reset came into that boot.
+    BootStopped,
     /// The sink failed.
     SinkFailed,
     /// Memory ran out. All entries are written.
@@ -47,9 +52,9 @@ pub(crate) enum Standing {
 
 /// The core, and the room that the transcript needs.
 #[derive(Drop)]
-pub(crate) struct Playback<C: Validator> {
+pub(crate) struct Playback<B: Bank, C: Validator> {
     alloc: Global,
-    core: Core<C>,
+    core: Core<B, C>,
     /// The number of bytes of the records that were played.
     offset: u32,
     /// Room for the spelling of one entry.
@@ -58,10 +63,10 @@ pub(crate) struct Playback<C: Validator> {
     end: Bytes,
 }
 
-impl<C: Validator> Model for Playback<C> {
+impl<B: Bank, C: Validator> Model for Playback<B, C> {
     ghost use Rattle.tbl_core.specs.Service.{CoreView};
 
-    ghost Value = { CoreView C };
+    ghost Value = { CoreView B C };
 
     ghost use Rattle.std.specs.Prelude.{◌≡◌, ◌≤◌, []};
     ghost use Rattle.tbl_kinds.specs.Transcript.{offset_of};
@@ -72,9 +77,9 @@ impl<C: Validator> Model for Playback<C> {
     ghost invariant = { λ p. (13 ≤ p.end.spare) × (p.end.list ≡ []) × IsSession p.core × (p.offset ≡ offset_of p.core.entries) };
 }
 
-impl<C: Validator> Playback<C> {
+impl<B: Bank, C: Validator> Playback<B, C> {
     /// A session in which nothing was played yet; the core again where memory ran out.
-    pub(crate) fn make(alloc: Global, core: Core<C>) -> Result<Playback<C>, Core<C>>
+    pub(crate) fn make(alloc: Global, core: Core<B, C>) -> Result<Playback<B, C>, Core<B, C>>
         requires live { core.state.ended ≡ false }
         requires empty { core.entries ≡ [] }
         ensures core { IfOk result (λ p. p ≡ core) }
@@ -96,14 +101,14 @@ impl<C: Validator> Playback<C> {
     }
 
     /// The core as it is.
-    pub(crate) fn end(self) -> Core<C>
+    pub(crate) fn end(self) -> Core<B, C>
         ensures { result ≡ self }
     {
         self.core
     }
 
-    /// Plays a record. `Ok(None)` where its entry was written, `Ok(Some(..))` where it was played and the entry wasn't
-    /// written whole.
+    /// Plays a record. `Ok(None)` where its entry was written and a further one may follow, `Ok(Some(..))` where it was played
+    /// and the session is over.
     fn play_record<K: Sink>(
         &mut self,
         actor: Actor,
@@ -113,13 +118,16 @@ impl<C: Validator> Playback<C> {
     ) -> Result<Option<Standing>, Memory>
         requires is_record { IsRecord (record { actor = actor; request = request }) }
         requires used { used ≡ length (spelling (record { actor = actor; request = request })) }
+        requires live { self.old.state.ended ≡ false }
         requires room { length self.old.entries < record_limit }
         ensures plays { OnOk result (joined (pairs_of self.new.entries) ≡ joined (pairs_of self.old.entries) ++ spelling (record { actor = actor; request = request })) }
-        ensures stands { (opening : State) → StandsFor opening self.old → StandsFor opening self.new }
-        ensures vouched { (opening : State) (given : List (Option (Function C))) → Vouches C.verdict given opening self.old → Vouches C.verdict given opening self.new }
+        ensures stands { (opening : State) → StandsFor B.tells B.now opening self.old → StandsFor B.tells B.now opening self.new }
+        ensures vouched { (opening : State) (given : List (Option (Function C))) → Vouches B.tells B.now C.verdict given opening self.old → Vouches B.tells B.now C.verdict given opening self.new }
+        ensures trouble { (bank : B) → IsCaused B.faults B.stops bank self.old → IsCaused B.faults B.stops bank self.new }
+        ensures boot { IfOk result (λ stop. TellsService stop self.new) }
         ensures written { (first : Option (List ℕ)) → IsWritten first self.old.entries (K.taken sink.old)
-            → IfOk result (λ stop. MatchOption stop (IsWritten first self.new.entries (K.taken sink.new)) (λ _. IsFrontWritten first self.new.entries (K.taken sink.new))) }
-        ensures why { IfOk result (λ stop. TellsWhy stop (K.faults sink.old) (K.faults sink.new)) }
+            → IfOk result (λ stop. MatchOption stop (IsWritten first self.new.entries (K.taken sink.new)) (λ standing. TellsWritten standing first self.new.entries (K.taken sink.new))) }
+        ensures why { IfOk result (λ stop. TellsLast stop (K.faults sink.old) (K.faults sink.new)) }
         ensures count { K.faults sink.old ≤ K.faults sink.new }
         ensures session { IsSession self.new }
         ensures err { OnErr result (self.new ≡ self.old) }
@@ -137,13 +145,16 @@ impl<C: Validator> Playback<C> {
     /// Plays the record at a place where one is whole, and answers None once its entry was written; else what stands in
     /// its way.
     fn play_next<K: Sink>(&mut self, bytes: &[u8], at: &mut usize, sink: &mut K) -> Option<Standing>
+        requires live { self.old.state.ended ≡ false }
         requires within { at.old ≤ length bytes.now }
         ensures within { at.new ≤ length bytes.now }
         ensures stream { played_before self.new (drop at.new bytes.now) ≡ played_before self.old (drop at.old bytes.now) }
         ensures further { MatchOption result (at.old < at.new) (λ _. at.old ≤ at.new) }
         ensures leaves { MatchOption result ⊤ (λ standing. Leaves standing (length self.new.entries) (drop at.new bytes.now)) }
-        ensures stands { (opening : State) → StandsFor opening self.old → StandsFor opening self.new }
-        ensures vouched { (opening : State) (given : List (Option (Function C))) → Vouches C.verdict given opening self.old → Vouches C.verdict given opening self.new }
+        ensures stands { (opening : State) → StandsFor B.tells B.now opening self.old → StandsFor B.tells B.now opening self.new }
+        ensures vouched { (opening : State) (given : List (Option (Function C))) → Vouches B.tells B.now C.verdict given opening self.old → Vouches B.tells B.now C.verdict given opening self.new }
+        ensures trouble { (bank : B) → IsCaused B.faults B.stops bank self.old → IsCaused B.faults B.stops bank self.new }
+        ensures boot { TellsService result self.new }
         ensures written { (first : Option (List ℕ)) → IsWritten first self.old.entries (K.taken sink.old)
             → MatchOption result (IsWritten first self.new.entries (K.taken sink.new)) (λ standing. TellsWritten standing first self.new.entries (K.taken sink.new)) }
         ensures why { MatchOption result ⊤ (λ standing. TellsCause standing (K.faults sink.old) (K.faults sink.new)) }
@@ -187,13 +198,16 @@ impl<C: Validator> Playback<C> {
         at: &mut usize,
         sink: &mut K,
     ) -> Standing
+        requires live { self.old.state.ended ≡ false }
         requires within { at.old ≤ length bytes.now }
         ensures within { at.new ≤ length bytes.now }
         ensures further { at.old ≤ at.new }
         ensures stream { played_before self.new (drop at.new bytes.now) ≡ played_before self.old (drop at.old bytes.now) }
         ensures leaves { Leaves result (length self.new.entries) (drop at.new bytes.now) }
-        ensures stands { (opening : State) → StandsFor opening self.old → StandsFor opening self.new }
-        ensures vouched { (opening : State) (given : List (Option (Function C))) → Vouches C.verdict given opening self.old → Vouches C.verdict given opening self.new }
+        ensures stands { (opening : State) → StandsFor B.tells B.now opening self.old → StandsFor B.tells B.now opening self.new }
+        ensures vouched { (opening : State) (given : List (Option (Function C))) → Vouches B.tells B.now C.verdict given opening self.old → Vouches B.tells B.now C.verdict given opening self.new }
+        ensures trouble { (bank : B) → IsCaused B.faults B.stops bank self.old → IsCaused B.faults B.stops bank self.new }
+        ensures boot { TellsBoot result self.new }
         ensures written { (first : Option (List ℕ)) → IsWritten first self.old.entries (K.taken sink.old) → TellsWritten result first self.new.entries (K.taken sink.new) }
         ensures cause { TellsCause result (K.faults sink.old) (K.faults sink.new) }
         ensures count { K.faults sink.old ≤ K.faults sink.new }

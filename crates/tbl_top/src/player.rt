@@ -10,7 +10,8 @@ ghost use Rattle.tbl_kinds.specs.Transcript.{pairs_of};
 ghost use Rattle.tbl_core.specs.Service.{StandsFor, Vouches};
 ghost use Rattle.tbl_outside.specs.declared.validator.KitEntry.{KitEntry as Function};
 ghost use Rattle.tbl_top.specs.Playing.{played_before, bytes_fed, IsBeginning, IsSession, IsWritten};
-ghost use Rattle.tbl_top.specs.Standing.{Leaves, HasPlayedAll, TellsWritten, TellsCause};
+ghost use Rattle.tbl_top.specs.Standing.{Leaves, HasPlayedAll, TellsWritten, TellsCause, TellsBoot};
+ghost use Rattle.tbl_top.specs.Trouble.{IsCaused};
 ghost use Rattle.tbl_top.specs.Feeding.{answer_of, Feeds};
 ghost use Rattle.tbl_top.specs.Finishing.{Finishes, status_of};
 ghost use Rattle.tbl_top.specs.declared.playback.Standing.TheVariants.{Open};
@@ -21,14 +22,15 @@ use session_records::bytes_lacking;
 use std::alloc::Global;
 use std::marker::Model;
 use tbl_core::Core;
-use tbl_outside::{Sink, Validator};
+use tbl_outside::{Bank, Sink, Validator};
 
 /// What a session answers to a piece of its input.
 #[derive(Clone, Copy, Debug, PartialEq, Eq)]
 pub enum Fed {
     /// All records that are whole were played and told.
     More,
-    /// The session is over: a bad record or a byte too many follows those that were played, or the sink failed.
+    /// The session is over: a bad record or a byte too many follows those that were played, a boot failed or was stopped, or
+    /// the sink failed.
     Over,
     /// The session is over, since memory ran out.
     Memory,
@@ -37,31 +39,31 @@ pub enum Fed {
 /// A session that is played as its bytes come in. It holds the beginning of one record at most, and each entry goes to
 /// the sink before the next record is looked for.
 #[derive(Drop)]
-pub struct Player<C: Validator> {
-    playback: Playback<C>,
+pub struct Player<B: Bank, C: Validator> {
+    playback: Playback<B, C>,
     /// The beginning of a record that isn't whole yet.
     kept: Vec<u8>,
     standing: Standing,
 }
 
-impl<C: Validator> Model for Player<C> {
+impl<B: Bank, C: Validator> Model for Player<B, C> {
     ghost use Rattle.tbl_top.specs.Playing.{Playing};
 
-    ghost Value = { Playing C };
+    ghost Value = { Playing B C };
 
-    ghost use Rattle.std.specs.Prelude.{◌≡◌, length};
+    ghost use Rattle.std.specs.Prelude.{◌≡◌, length, false};
     ghost use Rattle.tbl_top.specs.Playing.{IsBeginning, IsSession};
     ghost use Rattle.tbl_top.specs.declared.playback.Standing.TheVariants.{Open};
 
     ghost view = { λ p. record { core = p.playback; rest = p.kept.items; standing = p.standing } };
 
-    ghost invariant = { λ p. IsSession p.playback × (p.standing ≡ Open → IsBeginning (length p.playback.entries) p.kept.items) };
+    ghost invariant = { λ p. IsSession p.playback × (p.standing ≡ Open → IsBeginning (length p.playback.entries) p.kept.items) × (p.standing ≡ Open → p.playback.state.ended ≡ false) };
 }
 
-impl<C: Validator> Player<C> {
+impl<B: Bank, C: Validator> Player<B, C> {
     /// A session over a service with an empty history, of which nothing was fed yet. An Err is want of memory, and gives
     /// the core back.
-    pub fn make(alloc: Global, core: Core<C>) -> Result<Player<C>, Core<C>>
+    pub fn make(alloc: Global, core: Core<B, C>) -> Result<Player<B, C>, Core<B, C>>
         requires live { core.state.ended ≡ false }
         requires empty { core.entries ≡ [] }
         ensures core { IfOk result (λ player. player.core ≡ core) }
@@ -87,16 +89,21 @@ impl<C: Validator> Player<C> {
         ensures more { result ≡ Fed.More → bytes_fed self.new ≡ bytes_fed self.old ++ piece.now }
         ensures kept { result ≡ Fed.More → length self.new.rest < 32836 }
 
-        // The requests of the history are the records of what was fed; where memory ran out or the sink failed, the first of them.
+        // The requests of the history are the records of what was fed; where memory ran out, the sink failed or a boot did, the first of them.
         ensures begins { BeginsWith (bytes_fed self.old ++ piece.now) (pairs_of self.new.core.entries) }
         ensures records { HasPlayedAll self.new.standing → AreRecords (bytes_fed self.old ++ piece.now) (pairs_of self.new.core.entries) }
 
-        ensures stands { (opening : State) → StandsFor opening self.old.core → StandsFor opening self.new.core }
-
-        ensures verdicts { (opening : State) (given : List (Option (Function C))) → Vouches C.verdict given opening self.old.core → Vouches C.verdict given opening self.new.core }
-        ensures vouched { (opening : State) → opening.tables ≡ no_tables → opening.pending ≡ [] → StandsFor opening self.old.core → IsVouched opening self.new.core.entries }
-        ensures whole { (opening : State) → opening.tables ≡ no_tables → opening.pending ≡ [] → StandsFor opening self.old.core → HasWholeReads opening self.new.core.entries }
+        // Where the bank tells its bytes, the history stays legal, each read of it is whole, no image goes active unjudged, and
+        // the verdicts are the functions'.
+        ensures stands { (opening : State) → StandsFor B.tells B.now opening self.old.core → StandsFor B.tells B.now opening self.new.core }
+        ensures verdicts { (opening : State) (given : List (Option (Function C))) → Vouches B.tells B.now C.verdict given opening self.old.core → Vouches B.tells B.now C.verdict given opening self.new.core }
+        ensures vouched { B.tells → (opening : State) → opening.tables ≡ no_tables → opening.pending ≡ [] → StandsFor B.tells B.now opening self.old.core → IsVouched opening self.new.core.entries }
+        ensures whole { B.tells → (opening : State) → opening.tables ≡ no_tables → opening.pending ≡ [] → StandsFor B.tells B.now opening self.old.core → HasWholeReads opening self.new.core.entries }
         ensures session { IsSession self.new.core }
+
+        // The counts of the bank rise by what the entries tell at least, and a boot that ended the service is told by the last one.
+        ensures trouble { (bank : B) → IsCaused B.faults B.stops bank self.old.core → IsCaused B.faults B.stops bank self.new.core }
+        ensures boot { TellsBoot self.new.standing self.new.core }
 
         // The sink took the entries' spellings; where it failed or memory ran out for a spelling, a front of them.
         ensures written { (first : Option (List ℕ)) → IsWritten first self.old.core.entries (K.taken sink.old) → TellsWritten self.new.standing first self.new.core.entries (K.taken sink.new) }
@@ -130,7 +137,7 @@ impl<C: Validator> Player<C> {
     }
 
     /// The core as it is.
-    pub fn end(self) -> Core<C>
+    pub fn end(self) -> Core<B, C>
         ensures { result ≡ self.core }
     {
         self.playback.end()
@@ -142,25 +149,32 @@ fn answer(standing: Standing) -> Fed
 {
     match standing {
         Standing::Open => Fed::More,
-        Standing::Bad | Standing::Full | Standing::SinkFailed => Fed::Over,
+        Standing::Bad
+        | Standing::Full
+        | Standing::BootFault
+        | Standing::BootStopped
+        | Standing::SinkFailed => Fed::Over,
         Standing::Memory | Standing::Unwritten => Fed::Memory,
     }
 }
 
 /// Plays a piece, and notes how the session stands then.
-fn feed_fields<C: Validator, K: Sink>(
-    playback: &mut Playback<C>,
+fn feed_fields<B: Bank, C: Validator, K: Sink>(
+    playback: &mut Playback<B, C>,
     kept: &mut Vec<u8>,
     standing: &mut Standing,
     piece: &[u8],
     sink: &mut K,
 ) -> Fed
     requires session { IsSession playback.old }
+    requires live { playback.old.state.ended ≡ false }
     requires begun { IsBeginning (length playback.old.entries) kept.old.items }
     ensures answer { result ≡ answer_of standing.new }
     ensures feeds { Feeds standing.new (played_before playback.old (kept.old.items ++ piece.now)) (length kept.old.items + length piece.now) playback.new kept.new.items }
-    ensures stands { (opening : State) → StandsFor opening playback.old → StandsFor opening playback.new }
-    ensures vouched { (opening : State) (given : List (Option (Function C))) → Vouches C.verdict given opening playback.old → Vouches C.verdict given opening playback.new }
+    ensures stands { (opening : State) → StandsFor B.tells B.now opening playback.old → StandsFor B.tells B.now opening playback.new }
+    ensures vouched { (opening : State) (given : List (Option (Function C))) → Vouches B.tells B.now C.verdict given opening playback.old → Vouches B.tells B.now C.verdict given opening playback.new }
+    ensures trouble { (bank : B) → IsCaused B.faults B.stops bank playback.old → IsCaused B.faults B.stops bank playback.new }
+    ensures boot { TellsBoot standing.new playback.new }
     ensures session { IsSession playback.new }
     ensures written { (first : Option (List ℕ)) → IsWritten first playback.old.entries (K.taken sink.old) → TellsWritten standing.new first playback.new.entries (K.taken sink.new) }
     ensures cause { TellsCause standing.new (K.faults sink.old) (K.faults sink.new) }
@@ -171,17 +185,20 @@ fn feed_fields<C: Validator, K: Sink>(
 }
 
 /// Completes the record whose beginning is kept, and plays what is whole behind it.
-fn play_piece<C: Validator, K: Sink>(
-    playback: &mut Playback<C>,
+fn play_piece<B: Bank, C: Validator, K: Sink>(
+    playback: &mut Playback<B, C>,
     kept: &mut Vec<u8>,
     piece: &[u8],
     sink: &mut K,
 ) -> Standing
     requires session { IsSession playback.old }
+    requires live { playback.old.state.ended ≡ false }
     requires begun { IsBeginning (length playback.old.entries) kept.old.items }
     ensures feeds { Feeds result (played_before playback.old (kept.old.items ++ piece.now)) (length kept.old.items + length piece.now) playback.new kept.new.items }
-    ensures stands { (opening : State) → StandsFor opening playback.old → StandsFor opening playback.new }
-    ensures vouched { (opening : State) (given : List (Option (Function C))) → Vouches C.verdict given opening playback.old → Vouches C.verdict given opening playback.new }
+    ensures stands { (opening : State) → StandsFor B.tells B.now opening playback.old → StandsFor B.tells B.now opening playback.new }
+    ensures vouched { (opening : State) (given : List (Option (Function C))) → Vouches B.tells B.now C.verdict given opening playback.old → Vouches B.tells B.now C.verdict given opening playback.new }
+    ensures trouble { (bank : B) → IsCaused B.faults B.stops bank playback.old → IsCaused B.faults B.stops bank playback.new }
+    ensures boot { TellsBoot result playback.new }
     ensures session { IsSession playback.new }
     ensures written { (first : Option (List ℕ)) → IsWritten first playback.old.entries (K.taken sink.old) → TellsWritten result first playback.new.entries (K.taken sink.new) }
     ensures cause { TellsCause result (K.faults sink.old) (K.faults sink.new) }
@@ -202,14 +219,15 @@ fn play_piece<C: Validator, K: Sink>(
 
 /// Moves bytes of the piece behind the kept ones, as many as the record's head or its body lacks, and plays the record
 /// where it is whole.
-fn complete<C: Validator, K: Sink>(
-    playback: &mut Playback<C>,
+fn complete<B: Bank, C: Validator, K: Sink>(
+    playback: &mut Playback<B, C>,
     kept: &mut Vec<u8>,
     piece: &[u8],
     at: &mut usize,
     sink: &mut K,
 ) -> Standing
     requires session { IsSession playback.old }
+    requires live { playback.old.state.ended ≡ false }
     requires short { IsShort kept.old.items }
     requires some { at.old < length piece.now }
     ensures within { at.new ≤ length piece.now }
@@ -217,8 +235,10 @@ fn complete<C: Validator, K: Sink>(
     ensures bound { length kept.new.items + at.old ≤ length kept.old.items + at.new }
     ensures stream { played_before playback.new (kept.new.items ++ drop at.new piece.now) ≡ played_before playback.old (kept.old.items ++ drop at.old piece.now) }
     ensures leaves { Leaves result (length playback.new.entries) kept.new.items }
-    ensures stands { (opening : State) → StandsFor opening playback.old → StandsFor opening playback.new }
-    ensures vouched { (opening : State) (given : List (Option (Function C))) → Vouches C.verdict given opening playback.old → Vouches C.verdict given opening playback.new }
+    ensures stands { (opening : State) → StandsFor B.tells B.now opening playback.old → StandsFor B.tells B.now opening playback.new }
+    ensures vouched { (opening : State) (given : List (Option (Function C))) → Vouches B.tells B.now C.verdict given opening playback.old → Vouches B.tells B.now C.verdict given opening playback.new }
+    ensures trouble { (bank : B) → IsCaused B.faults B.stops bank playback.old → IsCaused B.faults B.stops bank playback.new }
+    ensures boot { TellsBoot result playback.new }
     ensures session { IsSession playback.new }
     ensures written { (first : Option (List ℕ)) → IsWritten first playback.old.entries (K.taken sink.old) → TellsWritten result first playback.new.entries (K.taken sink.new) }
     ensures cause { TellsCause result (K.faults sink.old) (K.faults sink.new) }
@@ -237,16 +257,19 @@ fn complete<C: Validator, K: Sink>(
 }
 
 /// Plays what is whole of the kept bytes, and drops it.
-fn play_kept<C: Validator, K: Sink>(
-    playback: &mut Playback<C>,
+fn play_kept<B: Bank, C: Validator, K: Sink>(
+    playback: &mut Playback<B, C>,
     kept: &mut Vec<u8>,
     sink: &mut K,
 ) -> Standing
+    requires live { playback.old.state.ended ≡ false }
     ensures bound { length kept.new.items ≤ length kept.old.items }
     ensures stream { played_before playback.new kept.new.items ≡ played_before playback.old kept.old.items }
     ensures leaves { Leaves result (length playback.new.entries) kept.new.items }
-    ensures stands { (opening : State) → StandsFor opening playback.old → StandsFor opening playback.new }
-    ensures vouched { (opening : State) (given : List (Option (Function C))) → Vouches C.verdict given opening playback.old → Vouches C.verdict given opening playback.new }
+    ensures stands { (opening : State) → StandsFor B.tells B.now opening playback.old → StandsFor B.tells B.now opening playback.new }
+    ensures vouched { (opening : State) (given : List (Option (Function C))) → Vouches B.tells B.now C.verdict given opening playback.old → Vouches B.tells B.now C.verdict given opening playback.new }
+    ensures trouble { (bank : B) → IsCaused B.faults B.stops bank playback.old → IsCaused B.faults B.stops bank playback.new }
+    ensures boot { TellsBoot result playback.new }
     ensures session { IsSession playback.new }
     ensures written { (first : Option (List ℕ)) → IsWritten first playback.old.entries (K.taken sink.old) → TellsWritten result first playback.new.entries (K.taken sink.new) }
     ensures cause { TellsCause result (K.faults sink.old) (K.faults sink.new) }
@@ -259,18 +282,21 @@ fn play_kept<C: Validator, K: Sink>(
 }
 
 /// Plays what is whole of a piece from a place on, and keeps the beginning of a record behind it.
-fn play_rest<C: Validator, K: Sink>(
-    playback: &mut Playback<C>,
+fn play_rest<B: Bank, C: Validator, K: Sink>(
+    playback: &mut Playback<B, C>,
     kept: &mut Vec<u8>,
     piece: &[u8],
     from: usize,
     sink: &mut K,
 ) -> Standing
+    requires live { playback.old.state.ended ≡ false }
     requires empty { kept.old.items ≡ [] }
     requires within { from ≤ length piece.now }
     ensures feeds { Feeds result (played_before playback.old (drop from piece.now)) (length piece.now - from) playback.new kept.new.items }
-    ensures stands { (opening : State) → StandsFor opening playback.old → StandsFor opening playback.new }
-    ensures vouched { (opening : State) (given : List (Option (Function C))) → Vouches C.verdict given opening playback.old → Vouches C.verdict given opening playback.new }
+    ensures stands { (opening : State) → StandsFor B.tells B.now opening playback.old → StandsFor B.tells B.now opening playback.new }
+    ensures vouched { (opening : State) (given : List (Option (Function C))) → Vouches B.tells B.now C.verdict given opening playback.old → Vouches B.tells B.now C.verdict given opening playback.new }
+    ensures trouble { (bank : B) → IsCaused B.faults B.stops bank playback.old → IsCaused B.faults B.stops bank playback.new }
+    ensures boot { TellsBoot result playback.new }
     ensures session { IsSession playback.new }
     ensures written { (first : Option (List ℕ)) → IsWritten first playback.old.entries (K.taken sink.old) → TellsWritten result first playback.new.entries (K.taken sink.new) }
     ensures cause { TellsCause result (K.faults sink.old) (K.faults sink.new) }

@@ -1,52 +1,76 @@
 //! Plays one record.
 
-ghost use Rattle.std.specs.Prelude.{◌≡◌, ℕ, ◌<◌, ◌≤◌, Option, List, ◌∷◌, [], ◌++◌, length, false, IfOk, OnOk, OnErr, MatchOption, Some, Ok};
+ghost use Rattle.std.specs.Prelude.{◌≡◌, ℕ, ◌<◌, ◌≤◌, Option, List, ◌∷◌, [], ◌++◌, length, false, IfOk, OnOk, OnErr, MatchOption};
 ghost use Rattle.tbl_model.specs.State.{State};
 ghost use Rattle.tbl_kinds.specs.Requests.{Fits};
-ghost use Rattle.tbl_kinds.specs.Records.{IsBuilt, record_limit};
+ghost use Rattle.tbl_kinds.specs.Records.{record_limit};
 ghost use Rattle.tbl_core.specs.Service.{StandsFor, Vouches};
 ghost use Rattle.tbl_outside.specs.declared.validator.KitEntry.{KitEntry as Function};
-ghost use Rattle.tbl_outside.specs.Counts.{Rose};
-ghost use Rattle.tbl_top.specs.Playing.{IsWritten, IsFrontWritten};
-ghost use Rattle.tbl_top.specs.Standing.{TellsWhy};
+ghost use Rattle.tbl_top.specs.Playing.{IsWritten};
+ghost use Rattle.tbl_top.specs.Standing.{IsEnding, TellsWritten, TellsService, TellsLast};
+ghost use Rattle.tbl_top.specs.Trouble.{IsCaused};
 ghost use Rattle.tbl_kinds.specs.declared.entry.Entry.{Entry};
 
 use crate::playback::Standing;
 use crate::writing::write;
 use tbl_core::{Core, StepFault};
 use tbl_kinds::{Actor, Bytes, Memory, Request};
-use tbl_outside::{Sink, Validator};
+use tbl_outside::{Bank, Sink, Validator};
 
-/// Plays a request and writes its entry. `Ok(None)` where the sink took the entry, `Ok(Some(..))` where the entry was
-/// added and not written whole.
-pub(crate) fn play<C: Validator, K: Sink>(
-    core: &mut Core<C>,
+/// Writes the last entry, and answers this where the sink took it.
+fn write_last<B: Bank, C: Validator, K: Sink>(
+    core: &Core<B, C>,
+    out: &mut Bytes,
+    ending: Option<Standing>,
+    sink: &mut K,
+) -> Option<Standing>
+    requires some { 0 < length core.now.entries }
+    requires few { length core.now.entries ≤ record_limit }
+    requires ending { IsEnding ending }
+    ensures written { (first : Option (List ℕ)) (before : List Entry) (e : Entry) → core.now.entries ≡ before ++ e ∷ [] → IsWritten first before (K.taken sink.old)
+        → MatchOption result (IsWritten first core.now.entries (K.taken sink.new)) (λ standing. TellsWritten standing first core.now.entries (K.taken sink.new)) }
+    ensures why { TellsLast result (K.faults sink.old) (K.faults sink.new) }
+    ensures boot { TellsService ending core.now → TellsService result core.now }
+    ensures count { K.faults sink.old ≤ K.faults sink.new }
+{
+    let entries = core.history();
+    let place = entries.len() - 1;
+    match write(out, place, &entries[place], sink) {
+        None => ending,
+        Some(stop) => Some(stop),
+    }
+}
+
+/// Plays a request and writes its entry. `Ok(None)` where the sink took the entry and a further request may follow,
+/// `Ok(Some(..))` where the entry was added and the session is over: it wasn't written whole, or a boot failed or was stopped.
+pub(crate) fn play<B: Bank, C: Validator, K: Sink>(
+    core: &mut Core<B, C>,
     out: &mut Bytes,
     actor: Actor,
     request: Request,
     sink: &mut K,
 ) -> Result<Option<Standing>, Memory>
     requires fits { Fits actor request }
-    requires built { IsBuilt request }
     requires live { core.old.state.ended ≡ false }
     requires room { length core.old.entries < record_limit }
     ensures adds { OnOk result ((e : Entry) × (core.new.entries ≡ core.old.entries ++ e ∷ []) × (e.actor ≡ actor) × (e.request ≡ request)) }
-    ensures stands { OnOk result ((opening : State) → StandsFor opening core.old → StandsFor opening core.new) }
-    ensures vouched { OnOk result ((opening : State) (given : List (Option (Function C))) → Vouches C.verdict given opening core.old → Vouches C.verdict given opening core.new) }
-    ensures live { OnOk result (core.new.state.ended ≡ false) }
+    ensures stands { OnOk result ((opening : State) → StandsFor B.tells B.now opening core.old → StandsFor B.tells B.now opening core.new) }
+    ensures vouched { OnOk result ((opening : State) (given : List (Option (Function C))) → Vouches B.tells B.now C.verdict given opening core.old → Vouches B.tells B.now C.verdict given opening core.new) }
+    ensures trouble { OnOk result ((bank : B) → IsCaused B.faults B.stops bank core.old → IsCaused B.faults B.stops bank core.new) }
+    ensures boot { IfOk result (λ stop. TellsService stop core.new) }
     ensures written { (first : Option (List ℕ)) → IsWritten first core.old.entries (K.taken sink.old)
-        → IfOk result (λ stop. MatchOption stop (IsWritten first core.new.entries (K.taken sink.new)) (λ _. IsFrontWritten first core.new.entries (K.taken sink.new))) }
-    ensures why { IfOk result (λ stop. TellsWhy stop (K.faults sink.old) (K.faults sink.new)) }
+        → IfOk result (λ stop. MatchOption stop (IsWritten first core.new.entries (K.taken sink.new)) (λ standing. TellsWritten standing first core.new.entries (K.taken sink.new))) }
+    ensures why { IfOk result (λ stop. TellsLast stop (K.faults sink.old) (K.faults sink.new)) }
     ensures count { K.faults sink.old ≤ K.faults sink.new }
     ensures err_core { OnErr result (core.new ≡ core.old) }
     ensures err_sink { OnErr result (sink.new ≡ sink.old) }
 {
     match core.step(actor, request) {
         Err(StepFault::Memory) => Err(Memory),
-        Ok(()) => {
-            let entries = core.history();
-            let place = entries.len() - 1;
-            Ok(write(out, place, &entries[place], sink))
+        Err(StepFault::BootFault) => Ok(write_last(core, out, Some(Standing::BootFault), sink)),
+        Err(StepFault::BootStopped) => {
+            Ok(write_last(core, out, Some(Standing::BootStopped), sink))
         }
+        Ok(()) => Ok(write_last(core, out, None, sink)),
     }
 }

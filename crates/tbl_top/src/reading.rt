@@ -1,18 +1,19 @@
 //! Reads the input piece by piece, and feeds it to the session.
 
-ghost use Rattle.std.specs.Prelude.{◌≡◌, ℕ, ◌+◌, ◌<◌, ◌≤◌, Option, List, [], ◌++◌, length, true, IfSome, IfNone, Some};
+ghost use Rattle.std.specs.Prelude.{◌≡◌, ℕ, ◌+◌, ◌<◌, ◌≤◌, Option, List, [], ◌++◌, length, true, false, IfSome, IfNone, Some};
 ghost use Rattle.std.specs.Io.KnownBytes.{prepend_known, IsAtEnd};
 ghost use Rattle.tbl_model.specs.State.{State};
 ghost use Rattle.tbl_core.specs.Service.{StandsFor, Vouches};
 ghost use Rattle.tbl_outside.specs.declared.validator.KitEntry.{KitEntry as Function};
 ghost use Rattle.tbl_outside.specs.Counts.{Rose};
 ghost use Rattle.tbl_top.specs.Playing.{bytes_fed, IsBeginning, IsSession, IsWritten};
-ghost use Rattle.tbl_top.specs.Standing.{TellsWritten, TellsCause};
+ghost use Rattle.tbl_top.specs.Standing.{TellsWritten, TellsCause, TellsBoot};
+ghost use Rattle.tbl_top.specs.Trouble.{IsCaused};
 ghost use Rattle.tbl_top.specs.Reading.{ReadsOn, EndsReading, piece_limit};
 ghost use Rattle.tbl_top.specs.declared.playback.Standing.TheVariants.{Open};
 
 use crate::player::{Fed, Player};
-use tbl_outside::{Failed, Sink, Source, Validator};
+use tbl_outside::{Bank, Failed, Sink, Source, Validator};
 
 /// How many bytes are asked for at a time.
 const PIECE_LENGTH: usize = 4096;
@@ -22,8 +23,8 @@ const PIECE_LENGTH: usize = 4096;
 const MOST_READS: u32 = 1_076_100_000;
 
 /// Reads one piece of the input and feeds it; None where the session goes on, and else whether a read failed.
-fn read_piece<C: Validator, S: Source, K: Sink>(
-    player: &mut Player<C>,
+fn read_piece<B: Bank, C: Validator, S: Source, K: Sink>(
+    player: &mut Player<B, C>,
     piece: &mut [u8],
     source: &mut S,
     sink: &mut K,
@@ -31,11 +32,14 @@ fn read_piece<C: Validator, S: Source, K: Sink>(
     requires is_open { player.old.standing ≡ Open }
     requires begun { IsBeginning (length player.old.core.entries) player.old.rest }
     requires session { IsSession player.old.core }
+    requires live { player.old.core.state.ended ≡ false }
     requires room { length piece.old ≡ piece_limit }
     ensures room { length piece.new ≡ piece_limit }
     ensures reads { (read : List ℕ) × (S.left source.old ≡ prepend_known read (S.left source.new)) × ReadsOn result player.old player.new read (IsAtEnd (S.left source.new)) }
-    ensures stands { (opening : State) → StandsFor opening player.old.core → StandsFor opening player.new.core }
-    ensures vouched { (opening : State) (given : List (Option (Function C))) → Vouches C.verdict given opening player.old.core → Vouches C.verdict given opening player.new.core }
+    ensures stands { (opening : State) → StandsFor B.tells B.now opening player.old.core → StandsFor B.tells B.now opening player.new.core }
+    ensures vouched { (opening : State) (given : List (Option (Function C))) → Vouches B.tells B.now C.verdict given opening player.old.core → Vouches B.tells B.now C.verdict given opening player.new.core }
+    ensures trouble { (bank : B) → IsCaused B.faults B.stops bank player.old.core → IsCaused B.faults B.stops bank player.new.core }
+    ensures boot { TellsBoot player.new.standing player.new.core }
     ensures written { (first : Option (List ℕ)) → IsWritten first player.old.core.entries (K.taken sink.old) → TellsWritten player.new.standing first player.new.core.entries (K.taken sink.new) }
     ensures source_failed { result ≡ Some true → Rose (S.faults source.old) (S.faults source.new) }
     ensures cause { TellsCause player.new.standing (K.faults sink.old) (K.faults sink.new) }
@@ -58,17 +62,20 @@ fn read_piece<C: Validator, S: Source, K: Sink>(
 }
 
 /// Reads the input to its end, or to what ends the session before, and answers whether a read failed.
-pub(crate) fn read_all<C: Validator, S: Source, K: Sink>(
-    player: &mut Player<C>,
+pub(crate) fn read_all<B: Bank, C: Validator, S: Source, K: Sink>(
+    player: &mut Player<B, C>,
     source: &mut S,
     sink: &mut K,
 ) -> bool
     requires is_open { player.old.standing ≡ Open }
     requires none { bytes_fed player.old ≡ [] }
     requires session { IsSession player.old.core }
+    requires live { player.old.core.state.ended ≡ false }
     ensures reads { (read : List ℕ) × (S.left source.old ≡ prepend_known read (S.left source.new)) × EndsReading player.new read result (IsAtEnd (S.left source.new)) }
-    ensures stands { (opening : State) → StandsFor opening player.old.core → StandsFor opening player.new.core }
-    ensures vouched { (opening : State) (given : List (Option (Function C))) → Vouches C.verdict given opening player.old.core → Vouches C.verdict given opening player.new.core }
+    ensures stands { (opening : State) → StandsFor B.tells B.now opening player.old.core → StandsFor B.tells B.now opening player.new.core }
+    ensures vouched { (opening : State) (given : List (Option (Function C))) → Vouches B.tells B.now C.verdict given opening player.old.core → Vouches B.tells B.now C.verdict given opening player.new.core }
+    ensures trouble { (bank : B) → IsCaused B.faults B.stops bank player.old.core → IsCaused B.faults B.stops bank player.new.core }
+    ensures boot { TellsBoot player.new.standing player.new.core }
     ensures written { (first : Option (List ℕ)) → IsWritten first player.old.core.entries (K.taken sink.old) → TellsWritten player.new.standing first player.new.core.entries (K.taken sink.new) }
     ensures source_failed { result ≡ true → Rose (S.faults source.old) (S.faults source.new) }
     ensures cause { TellsCause player.new.standing (K.faults sink.old) (K.faults sink.new) }

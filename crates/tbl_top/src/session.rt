@@ -1,23 +1,26 @@
 //! A session from its first byte to the end of its transcript.
 
-ghost use Rattle.std.specs.Prelude.{◌≡◌, ◌≢◌, ◌⊎◌, ◌↔◌, ◌≤◌, ◌<◌, ◌^◌, ℕ, Option, List, [], Some, length, All, IfSome, IfOk};
+ghost use Rattle.std.specs.Prelude.{◌≡◌, ◌≢◌, ◌↔◌, ◌≤◌, ◌<◌, ◌^◌, ℕ, Option, List, [], length, false, All, IfSome, IfOk, IfErr};
 ghost use Rattle.std.specs.Io.KnownBytes.{prepend_known, IsAtEnd};
 ghost use Rattle.tbl_model.specs.State.{State, no_tables};
-ghost use Rattle.tbl_core.specs.Service.{Vouches};
+ghost use Rattle.tbl_kinds.specs.Places.{bank_size};
+ghost use Rattle.tbl_core.specs.Called.{RoseBy};
+ghost use Rattle.tbl_core.specs.Service.{Vouches, StartCounted};
 ghost use Rattle.tbl_outside.specs.Counts.{Rose};
 ghost use Rattle.tbl_outside.specs.declared.validator.KitEntry.{KitEntry as Entry};
 ghost use Rattle.tbl_top.specs.Playing.{bytes_fed, IsSession};
-ghost use Rattle.tbl_top.specs.Session.{IsPlay, IsWellFormed, Session, given_of, opening_of};
+ghost use Rattle.tbl_top.specs.Session.{IsPlay, IsWellFormed, PlaysThrough, Session, given_of, opening_of};
+ghost use Rattle.tbl_top.specs.Trouble.{IsCaused};
 ghost use Rattle.tbl_top.specs.declared.playback.Standing.TheVariants.{Open};
 
-use crate::finishing::NO_MEMORY;
+use crate::finishing::finish_unbegun;
 use crate::player::Player;
 use crate::reading::read_all;
 use crate::words::is_play;
 use std::alloc::Global;
-use tbl_core::Core;
-use tbl_kinds::{Bytes, Memory};
-use tbl_outside::{KitEntry, Sink, Source, Validator};
+use tbl_core::{Core, StartFault};
+use tbl_kinds::Bytes;
+use tbl_outside::{Back, Bank, KitEntry, Sink, Source, Validator};
 use validation::Kit;
 
 /// The words aren't those that the program knows.
@@ -26,26 +29,41 @@ const USAGE: u8 = 2;
 /// A validation function as a session is given one.
 type Function = Box<dyn Validator + Send>;
 
-/// A session in which nothing was read yet, over a service at its start.
-#[tactic(auto, using(tbl_core::proofs::Vouching::vouch_first))]
-fn begin<C: Validator>(alloc: Global, kit: Vec<KitEntry<C>>) -> Result<Player<C>, Memory>
-    requires { All (λ (e : Entry C). C.asked e.check < 2 ^ 62) kit.items }
+/// A session in which nothing was read yet, over a service at its start; or the bank again.
+fn begin<B: Bank, C: Validator>(
+    alloc: Global,
+    bank: B,
+    kit: Vec<KitEntry<C>>,
+) -> Result<Player<B, C>, Back<StartFault, B>>
+    requires room { bank_size ≤ B.size bank }
+    requires asked { All (λ (e : Entry C). C.asked e.check < 2 ^ 62) kit.items }
     ensures is_open { IfOk result (λ player. player.standing ≡ Open) }
     ensures none { IfOk result (λ player. bytes_fed player ≡ []) }
     ensures empty { IfOk result (λ player. player.core.entries ≡ []) }
     ensures session { IfOk result (λ player. IsSession player.core) }
-    ensures vouched { IfOk result (λ player. Vouches C.verdict (given_of kit.items) (opening_of kit.items) player.core) }
+    ensures live { IfOk result (λ player. player.core.state.ended ≡ false) }
+    ensures vouched { IfOk result (λ player. Vouches B.tells B.now C.verdict (given_of kit.items) (opening_of (B.now bank) kit.items) player.core) }
+    ensures trouble { IfOk result (λ player. IsCaused B.faults B.stops bank player.core) }
+    ensures cause { IfErr result (λ back. StartCounted B.faults B.stops bank back.bank back.cause) }
 {
-    let kit = Kit::make(alloc, kit)?;
-    match Player::make(alloc, Core::start(alloc, kit)?) {
+    let Ok(kit) = Kit::make(alloc, kit) else {
+        return Err(Back {
+            cause: StartFault::Memory,
+            bank,
+        });
+    };
+    match Player::make(alloc, Core::start(alloc, bank, kit)?) {
         Ok(player) => Ok(player),
-        Err(_) => Err(Memory),
+        Err(core) => Err(Back {
+            cause: StartFault::Memory,
+            bank: core.end(),
+        }),
     }
 }
 
 /// Plays a session from its start.
-fn play<C: Validator, S: Source, K: Sink>(
-    player: &mut Player<C>,
+fn play<B: Bank, C: Validator, S: Source, K: Sink>(
+    player: &mut Player<B, C>,
     source: &mut S,
     sink: &mut K,
 ) -> u8
@@ -53,9 +71,11 @@ fn play<C: Validator, S: Source, K: Sink>(
     requires none { bytes_fed player.old ≡ [] }
     requires empty { player.old.core.entries ≡ [] }
     requires session { IsSession player.old.core }
-    ensures session { (given : List (Option (Entry C))) (opening : State) → opening.tables ≡ no_tables → opening.pending ≡ [] → Vouches C.verdict given opening player.old.core
+    requires live { player.old.core.state.ended ≡ false }
+    ensures session { (given : List (Option (Entry C))) (opening : State) (bank : B) → opening.tables ≡ no_tables → opening.pending ≡ [] → Vouches B.tells B.now C.verdict given opening player.old.core
+        → IsCaused B.faults B.stops bank player.old.core
         → (read : List ℕ) × (S.left source.old ≡ prepend_known read (S.left source.new))
-        × Session C.verdict given opening read (IsAtEnd (S.left source.new)) (Rose (S.faults source.old) (S.faults source.new)) result (K.taken sink.old) (K.taken sink.new) }
+        × Session B.tells B.faults B.stops C.verdict given opening bank player.new.core.state.store.bank read (IsAtEnd (S.left source.new)) (Rose (S.faults source.old) (S.faults source.new)) result (K.taken sink.old) (K.taken sink.new) }
     ensures source_failed { result ≡ 3 → Rose (S.faults source.old) (S.faults source.new) }
     ensures sink_failed { result ≡ 4 → Rose (K.faults sink.old) (K.faults sink.new) }
     ensures not_usage { result ≢ 2 }
@@ -65,62 +85,75 @@ fn play<C: Validator, S: Source, K: Sink>(
 }
 
 /// `run` with validation functions of one type, which need no box.
-pub fn run_with<C: Validator, S: Source, K: Sink>(
+pub fn run_with<B: Bank, C: Validator, S: Source, K: Sink>(
     alloc: Global,
     words: &[Bytes],
     source: &mut S,
     sink: &mut K,
+    bank: B,
     kit: Vec<KitEntry<C>>,
-) -> u8
-    requires { All (λ (e : Entry C). C.asked e.check < 2 ^ 62) kit.items }
-    ensures usage { (result ≡ 2) ↔ (¬ IsPlay words.now) }
-    ensures untouched { (¬ IsPlay words.now) → (source.new ≡ source.old) × (sink.new ≡ sink.old) }
+) -> (u8, B)
+    requires room { bank_size ≤ B.size bank }
+    requires asked { All (λ (e : Entry C). C.asked e.check < 2 ^ 62) kit.items }
+    ensures usage { (result.0 ≡ 2) ↔ (¬ IsPlay words.now) }
+    ensures untouched { (¬ IsPlay words.now) → (source.new ≡ source.old) × (sink.new ≡ sink.old) × (result.1 ≡ bank) }
     ensures session { IsPlay words.now → (read : List ℕ) × (S.left source.old ≡ prepend_known read (S.left source.new))
-        × Session C.verdict (given_of kit.items) (opening_of kit.items) read (IsAtEnd (S.left source.new)) (Rose (S.faults source.old) (S.faults source.new)) result (K.taken sink.old) (K.taken sink.new) }
+        × Session B.tells B.faults B.stops C.verdict (given_of kit.items) (opening_of (B.now bank) kit.items) bank result.1 read (IsAtEnd (S.left source.new)) (Rose (S.faults source.old) (S.faults source.new)) result.0 (K.taken sink.old) (K.taken sink.new) }
     ensures complete { IsPlay words.now → IfSome (S.left source.old) (λ input. IsWellFormed input
         → ¬ Rose (S.faults source.old) (S.faults source.new) → ¬ Rose (K.faults sink.old) (K.faults sink.new)
-        → ((result ≡ 0) × (S.left source.new ≡ Some [])) ⊎ (result ≡ 1)) }
-    ensures source_failed { result ≡ 3 → Rose (S.faults source.old) (S.faults source.new) }
-    ensures sink_failed { result ≡ 4 → Rose (K.faults sink.old) (K.faults sink.new) }
+        → PlaysThrough B.faults B.stops bank result.1 result.0 (S.left source.new)) }
+    ensures source_failed { result.0 ≡ 3 → Rose (S.faults source.old) (S.faults source.new) }
+    ensures sink_failed { result.0 ≡ 4 → Rose (K.faults sink.old) (K.faults sink.new) }
+    ensures boot_fault { result.0 ≡ 7 → RoseBy 1 (B.faults bank) (B.faults result.1) }
+    ensures boot_stopped { result.0 ≡ 8 → RoseBy 1 (B.stops bank) (B.stops result.1) }
 {
     if !is_play(words) {
-        return USAGE;
+        return (USAGE, bank);
     }
-    match begin(alloc, kit) {
-        Err(Memory) => NO_MEMORY,
-        Ok(mut player) => play(&mut player, source, sink),
+    match begin(alloc, bank, kit) {
+        Err(Back { cause, bank }) => (finish_unbegun(alloc, cause, sink), bank),
+        Ok(mut player) => {
+            let status = play(&mut player, source, sink);
+            (status, player.end().end())
+        }
     }
 }
 
-/// Plays a session: reads records from the source, and writes the transcript to the sink. The applications have the
-/// validation functions of the kit, which are numbered from 0.
-pub fn run<S: Source, K: Sink>(
+/// Plays a session: boots over the bank as after a reset of the processor, reads records from the source, and writes the
+/// transcript to the sink. The applications have the validation functions of the kit, which are numbered from 0. The bank
+/// comes back beside the status.
+pub fn run<S: Source, K: Sink, B: Bank>(
     alloc: Global,
     words: &[Bytes],
     source: &mut S,
     sink: &mut K,
+    bank: B,
     kit: Vec<KitEntry>,
-) -> u8
+) -> (u8, B)
+    requires room { bank_size ≤ B.size bank }
     requires few { length kit.items ≤ 254 }
     requires apps { All (λ e. (1 ≤ e.app) × (e.app ≤ 16)) kit.items }
     requires asked { All (λ e. ⟦<Function as Validator>⟧.asked e.check < 2 ^ 62) kit.items }
     // 2 exactly where the words aren't `play` alone; then nothing is read or written.
-    ensures usage { (result ≡ 2) ↔ (¬ IsPlay words.now) }
-    ensures untouched { (¬ IsPlay words.now) → (source.new ≡ source.old) × (sink.new ≡ sink.old) }
+    ensures usage { (result.0 ≡ 2) ↔ (¬ IsPlay words.now) }
+    ensures untouched { (¬ IsPlay words.now) → (source.new ≡ source.old) × (sink.new ≡ sink.old) × (result.1 ≡ bank) }
 
-    // The history that is told is legal and whole, and each verdict in it is the one that the function gives which stood under the
-    // number in the kit, also where it was dropped since.
+    // Where the bank tells its bytes, the history that is told is legal and whole from the blocks on that they show, and each verdict
+    // in it is the one that the function gives which stood under the number in the kit, also where it was dropped since. Each
+    // answer that tells of trouble with the bank has its cause in the bank's counts.
     ensures session { IsPlay words.now → (read : List ℕ) × (S.left source.old ≡ prepend_known read (S.left source.new))
-        × Session (⟦<Function as Validator>⟧.verdict) (given_of kit.items) (opening_of kit.items) read (IsAtEnd (S.left source.new)) (Rose (S.faults source.old) (S.faults source.new)) result (K.taken sink.old) (K.taken sink.new) }
+        × Session B.tells B.faults B.stops (⟦<Function as Validator>⟧.verdict) (given_of kit.items) (opening_of (B.now bank) kit.items) bank result.1 read (IsAtEnd (S.left source.new)) (Rose (S.faults source.old) (S.faults source.new)) result.0 (K.taken sink.old) (K.taken sink.new) }
 
-    // A session's records and nothing else are played to their end, unless something failed or memory ran out.
+    // A session's records and nothing else are played to their end, unless something failed, a boot was stopped or memory ran out.
     ensures complete { IsPlay words.now → IfSome (S.left source.old) (λ input. IsWellFormed input
         → ¬ Rose (S.faults source.old) (S.faults source.new) → ¬ Rose (K.faults sink.old) (K.faults sink.new)
-        → ((result ≡ 0) × (S.left source.new ≡ Some [])) ⊎ (result ≡ 1)) }
+        → PlaysThrough B.faults B.stops bank result.1 result.0 (S.left source.new)) }
 
-    // Statuses 3 and 4 have their cause in the source and in the sink.
-    ensures source_failed { result ≡ 3 → Rose (S.faults source.old) (S.faults source.new) }
-    ensures sink_failed { result ≡ 4 → Rose (K.faults sink.old) (K.faults sink.new) }
+    // Statuses 3 and 4 have their cause in the source and in the sink, 7 and 8 in the bank.
+    ensures source_failed { result.0 ≡ 3 → Rose (S.faults source.old) (S.faults source.new) }
+    ensures sink_failed { result.0 ≡ 4 → Rose (K.faults sink.old) (K.faults sink.new) }
+    ensures boot_fault { result.0 ≡ 7 → RoseBy 1 (B.faults bank) (B.faults result.1) }
+    ensures boot_stopped { result.0 ≡ 8 → RoseBy 1 (B.stops bank) (B.stops result.1) }
 {
-    run_with(alloc, words, source, sink, kit)
+    run_with(alloc, words, source, sink, bank, kit)
 }

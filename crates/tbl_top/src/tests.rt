@@ -1,14 +1,17 @@
-ghost use Rattle.std.specs.Prelude.{◌≡◌, IsTrue};
+ghost use Rattle.std.specs.Prelude.{◌≡◌, ◌≤◌, ◌<◌, ◌^◌, length, All, IfOk, IsTrue};
 ghost use Rattle.tbl_top.specs.declared.playback.Standing.TheVariants.{Open};
 
 use super::*;
 use std::alloc::Global;
 use std::test::Fail;
 use tbl_core::Core;
-use tbl_fakes::{FirstByte, MemSink, MemSource};
+use tbl_fakes::{CalmBank, FirstByte, MemSink, MemSource};
 use tbl_kinds::{Bytes, Memory};
 use tbl_outside::{KitEntry, Validator};
 use validation::Kit;
+
+/// How many bytes the bank has.
+const BANK_SIZE: u32 = 131_072;
 
 /// The records of a NOOP and of a housekeeping request.
 const NOOP: [u8; 12] = [
@@ -28,8 +31,15 @@ fn joined(alloc: Global, pieces: &[&[u8]]) -> Result<Bytes, Memory> {
     Ok(bytes)
 }
 
+/// A bank of zeros.
+fn zeros(alloc: Global, size: u32) -> Result<CalmBank, Memory>
+    ensures { IfOk result (λ bank. length bank ≡ size) }
+{
+    CalmBank::of_zeros(alloc, size)
+}
+
 /// Feeds a record byte by byte, and answers whether the session is open then.
-fn feed_each(player: &mut Player<FirstByte>, record: [u8; 12], sink: &mut MemSink) -> bool
+fn feed_each(player: &mut Player<CalmBank, FirstByte>, record: [u8; 12], sink: &mut MemSink) -> bool
     requires is_open { player.old.standing ≡ Open }
     ensures is_open { IsTrue result → player.new.standing ≡ Open }
 {
@@ -50,13 +60,23 @@ struct Told {
     sink: MemSink,
 }
 
+/// A kit of one function, which wasn't asked yet.
+fn boxed(alloc: Global) -> Result<Vec<KitEntry>, Memory>
+    ensures few { IfOk result (λ kit. length kit.items ≤ 254) }
+    ensures apps { IfOk result (λ kit. All (λ e. (1 ≤ e.app) × (e.app ≤ 16)) kit.items) }
+    ensures asked { IfOk result (λ kit. All (λ e. ⟦<Box<dyn Validator + Send> as Validator>⟧.asked e.check < 2 ^ 62) kit.items) }
+{
+    let check: Box<dyn Validator + Send> = Box::new(alloc, FirstByte::make())?;
+    Ok(vec![in alloc; KitEntry { app: 1, check }]?)
+}
+
 fn play_at_once(alloc: Global) -> Result<Told, Memory> {
     let words = vec![in alloc; joined(alloc, &[b"play"])?]?;
     let mut source = MemSource::make(alloc, joined(alloc, &[&NOOP, &HOUSEKEEPING])?, &[])?;
     let mut sink = MemSink::make(alloc, 400, &[])?;
-    let check: Box<dyn Validator + Send> = Box::new(alloc, FirstByte::make())?;
-    let kit = vec![in alloc; KitEntry { app: 1, check }]?;
-    let status = run(alloc, &words, &mut source, &mut sink, kit);
+    let bank = zeros(alloc, BANK_SIZE)?;
+    let kit = boxed(alloc)?;
+    let (status, _bank) = run(alloc, &words, &mut source, &mut sink, bank, kit);
     Ok(Told {
         status,
         first: 45,
@@ -65,10 +85,14 @@ fn play_at_once(alloc: Global) -> Result<Told, Memory> {
 }
 
 /// Feeds both records byte by byte, and gives the core back beside what came of it.
-fn play_each(alloc: Global) -> Result<(Told, Core<FirstByte>), Memory> {
+fn play_each(alloc: Global) -> Result<(Told, Core<CalmBank, FirstByte>), Memory> {
     let mut sink = MemSink::make(alloc, 400, &[])?;
     let kit = Kit::make(alloc, Vec::new(alloc))?;
-    let Ok(mut player) = Player::make(alloc, Core::start(alloc, kit)?) else {
+    let bank = zeros(alloc, BANK_SIZE)?;
+    let Ok(core) = Core::start(alloc, bank, kit) else {
+        return Err(Memory);
+    };
+    let Ok(mut player) = Player::make(alloc, core) else {
         return Err(Memory);
     };
     if !feed_each(&mut player, NOOP, &mut sink) {

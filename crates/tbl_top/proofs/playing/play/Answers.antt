@@ -1,9 +1,17 @@
-use Rattle.std.proofs.Common.{length, ap, ◌-◌}
-use Rattle.tbl_top.proofs.WritingLemmas.{wrote_last}
+use Rattle.tbl_top.proofs.TroubleLemmas.{on_fault, on_stop}
 use Rattle.tbl_top.proofs.playing.play.Goals as goal
+
+pub returns-in-Err-BootFault-clause-written : goal.returns-in-Err-BootFault-clause-written
+returns-in-Err-BootFault-clause-written g c = λ first written.
+    let one = on_fault c.in-Err-BootFault.field-0 c.in-Err-BootFault.field-0-is c.in-Err-BootFault.ensures.adds in
+    c.write_last.ensures.written first c.args.core.now.entries one.entry one.added written
+
+pub returns-in-Err-BootStopped-clause-written : goal.returns-in-Err-BootStopped-clause-written
+returns-in-Err-BootStopped-clause-written g c = λ first written.
+    let one = on_stop c.in-Err-BootStopped.field-0 c.in-Err-BootStopped.field-0-is c.in-Err-BootStopped.ensures.adds in
+    c.write_last-in-Err-BootStopped.ensures.written first c.args.core.now.entries one.entry one.added written
 
 pub returns-in-Ok-clause-written : goal.returns-in-Ok-clause-written
 returns-in-Ok-clause-written g c = λ first written.
-    let added = c.in-Ok.ensures.adds in
-    wrote_last c.write.result first (g.K.Sink.taken c.args.sink.now) (g.K.Sink.taken c.write.new.sink) c.args.core.now.entries c.step.new.self.entries c.index-entries-place.result (length c.history-entries.result.now - 1)
-    (added.0, added.1) (ap (λ es. length es - 1) c.history-entries.ensures.entries) (rw (← c.history-entries.ensures.entries) c.index-entries-place.is) c.write.ensures.wrote written
+    let one = c.in-Ok.ensures.adds in
+    c.write_last-in-Ok.ensures.written first c.args.core.now.entries one.entry one.added written

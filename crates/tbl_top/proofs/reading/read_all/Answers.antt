@@ -1,4 +1,6 @@
-use Rattle.std.proofs.Common.{◌++◌, arith, refl}
+use Rattle.std.proofs.Common.{◌++◌, ◌∙◌, length, arith, ap, refl, sym, rules}
+use Rattle.std.proofs.lemmas.List.{length-append}
+use Rattle.std.specs.Io.KnownBytes.{prepend_known}
 use Rattle.tbl_outside.proofs.Streams.{read_more}
 use Rattle.tbl_top.specs.Playing.{bytes_fed}
 use Rattle.tbl_top.proofs.ReadingLemmas.{left_at_first, begins_empty, session_bound}
@@ -14,6 +16,8 @@ reads-init g c = record {
   session = c.requires.session;
   stands = λ opening stood. stood;
   vouched = λ opening given vouched. vouched;
+  trouble = λ bank caused. caused;
+  live = c.requires.live;
   written = λ first written. written;
   source_count = omega arith;
   sink_count = omega arith;
@@ -29,3 +33,32 @@ returns-in-Some-clause-reads g c =
 
 pub unreachable-requires : goal.unreachable-requires
 unreachable-requires g c = omega (arith, session_bound c.reads.player c.reads.invariant.session c.reads.invariant.begun)
+
+pub returns-in-Some-clause-vouched : goal.returns-in-Some-clause-vouched
+returns-in-Some-clause-vouched g c = λ opening given vouched. c.in-Some.ensures.vouched opening given (c.reads.invariant.vouched opening given vouched)
+
+pub reads-preserved : goal.reads-preserved
+reads-preserved g c = record {
+  is_open = search rules;
+  room = search rules;
+  left =
+      read_more (g.S.Source.left c.args.source.now) (g.S.Source.left c.reads.source) (g.S.Source.left c.read_piece.new.source) (bytes_fed c.reads.player) c.in_default.ensures.reads.0 c.reads.invariant.left c.in_default.ensures.reads.1
+      ∙ ap (λ xs. prepend_known xs (g.S.Source.left c.read_piece.new.source)) (sym c.in_default.ensures.reads.2.parts);
+  many =
+      omega (
+        arith,
+        c.reads.invariant.many,
+        ap length c.in_default.ensures.reads.2.parts,
+        length-append (bytes_fed c.reads.player) c.in_default.ensures.reads.0,
+        c.in_default.ensures.reads.2.some,
+      );
+  begun = search rules;
+  session = search rules;
+  stands = search rules;
+  vouched = λ opening given vouched. c.in_default.ensures.vouched opening given (c.reads.invariant.vouched opening given vouched);
+  trouble = search rules;
+  live = search rules;
+  written = search rules;
+  source_count = search rules;
+  sink_count = search rules;
+}

@@ -23,11 +23,14 @@ returns-clause-records g c =
     (records_of f.new.standing (played_before old.playback (old.kept.items ++ c.args.piece.now)) (length old.kept.items + length c.args.piece.now) f.new.playback f.new.kept.items f.ensures.session f.ensures.feeds all))
 
 pub returns-clause-vouched : goal.returns-clause-vouched
-returns-clause-vouched g c = λ opening at_first unasked stood.
+returns-clause-vouched g c = λ told opening at_first unasked stood.
     let f = c.feed_fields in
-    vouched opening f.new.playback.entries _ at_first unasked (f.ensures.stands opening (subst (λ (p : Playing _). StandsFor opening p.core) (sym c.self.view_is) stood)).legal
+    vouched opening f.new.playback.entries _ at_first unasked ((f.ensures.stands opening (subst (λ (p : Playing g.row.B.Denot g.row.C.Denot). StandsFor g.B.Bank.tells g.B.Bank.now opening p.core) (sym c.self.view_is) stood)).legal told)
 
 pub returns-clause-whole : goal.returns-clause-whole
-returns-clause-whole g c = λ opening at_first unasked stood.
+returns-clause-whole g c = λ told opening at_first unasked stood.
     let f = c.feed_fields in
-    whole opening f.new.playback.entries _ at_first unasked (f.ensures.stands opening (subst (λ (p : Playing _). StandsFor opening p.core) (sym c.self.view_is) stood)).legal
+    whole opening f.new.playback.entries _ at_first unasked ((f.ensures.stands opening (subst (λ (p : Playing g.row.B.Denot g.row.C.Denot). StandsFor g.B.Bank.tells g.B.Bank.now opening p.core) (sym c.self.view_is) stood)).legal told)
+
+pub returns-clause-verdicts : goal.returns-clause-verdicts
+returns-clause-verdicts g c = rw (← c.self.view_is) c.feed_fields.ensures.vouched

@@ -1,0 +1,18 @@
+use Rattle.std.proofs.Common.{rules}
+use Rattle.tbl_top.proofs.playback.Playback.play_whole.Goals as goal
+
+pub returns-in-Some-clause-vouched : goal.returns-in-Some-clause-vouched
+returns-in-Some-clause-vouched g c = λ opening given vouched. c.in-Some.ensures.vouched opening given (c.records.invariant.vouched opening given vouched)
+
+pub records-preserved : goal.records-preserved
+records-preserved g c = record {
+  within = search rules;
+  further = search rules;
+  stream = search rules;
+  stands = search rules;
+  vouched = λ opening given vouched. c.in_default.ensures.vouched opening given (c.records.invariant.vouched opening given vouched);
+  trouble = search rules;
+  live = search rules;
+  written = search rules;
+  count = search rules;
+}
