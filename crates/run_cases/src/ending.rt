@@ -1,8 +1,10 @@
 //! A run, and how it ended.
 
+ghost use Rattle.std.specs.Prelude.{◌≡◌, length, IfOk};
+
 use case_tables::CaseFault;
 use std::alloc::Global;
-use tbl_fakes::{CalmSink, CalmSource, MemSink, MemSource};
+use tbl_fakes::{CalmBank, CalmSink, CalmSource, MemSink, MemSource};
 use tbl_kinds::{Bytes, Memory};
 use tbl_top::run;
 
@@ -35,6 +37,16 @@ pub(crate) fn kept(alloc: Global, piece: &[u8]) -> Result<Bytes, Memory> {
     Ok(bytes)
 }
 
+/// How many bytes the bank has.
+const BANK_SIZE: u32 = 131_072;
+
+/// A bank of zeros.
+fn bank(alloc: Global, size: u32) -> Result<CalmBank, Memory>
+    ensures { IfOk result (λ bank. length bank ≡ size) }
+{
+    CalmBank::of_zeros(alloc, size)
+}
+
 fn source_of(alloc: Global, given: &Given) -> Result<MemSource, Memory> {
     MemSource::make(alloc, kept(alloc, &given.input)?, &given.bad_reads)
 }
@@ -47,7 +59,9 @@ fn out_of_memory(_memory: Memory) -> CaseFault {
 pub(crate) fn run_in(alloc: Global, given: &Given, room: u32) -> Result<Ending, CaseFault> {
     let mut source = source_of(alloc, given).map_err(out_of_memory)?;
     let mut sink = MemSink::make(alloc, room, &given.bad_writes).map_err(out_of_memory)?;
-    let status = run(alloc, &given.words, &mut source, &mut sink, Vec::new(alloc));
+    let bank = bank(alloc, BANK_SIZE).map_err(out_of_memory)?;
+    let kit = Vec::new(alloc);
+    let (status, _bank) = run(alloc, &given.words, &mut source, &mut sink, bank, kit);
     Ok(Ending {
         status,
         read_faults: source.faults(),
@@ -60,11 +74,12 @@ pub(crate) fn run_in(alloc: Global, given: &Given, room: u32) -> Result<Ending, 
 /// Runs between a source and a sink that never fail. The status, and how many bytes of the input weren't read.
 pub(crate) fn run_calm(alloc: Global, given: &Given) -> Result<(u8, usize), CaseFault> {
     let mut source = CalmSource::make(kept(alloc, &given.input).map_err(out_of_memory)?);
-    let status = run(
+    let (status, _bank) = run(
         alloc,
         &given.words,
         &mut source,
         &mut CalmSink::make(),
+        bank(alloc, BANK_SIZE).map_err(out_of_memory)?,
         Vec::new(alloc),
     );
     Ok((status, source.left_bytes().len()))

@@ -1,13 +1,13 @@
 //! One step of a core, and the entry that it adds.
 
 ghost use Rattle.tbl_kinds.specs.Requests.{Fits};
-ghost use Rattle.tbl_kinds.specs.Records.{IsBuilt};
 
 use case_tables::CaseFault;
 use session_records::{Next, next_record};
 use shipped_kit::Shipped;
 use std::alloc::Global;
 use tbl_core::{Core, StepFault};
+use tbl_fakes::CalmBank;
 use tbl_kinds::{Actor, Bytes, Memory, Outcome, Request};
 use transcript::write_entry;
 
@@ -15,7 +15,11 @@ use transcript::write_entry;
 const MOST_ENTRIES: usize = 32_768;
 
 /// Appends the spelling of the entry at a place.
-fn tell_entry(core: &Core<Shipped>, place: usize, out: &mut Bytes) -> Result<(), CaseFault> {
+fn tell_entry(
+    core: &Core<CalmBank, Shipped>,
+    place: usize,
+    out: &mut Bytes,
+) -> Result<(), CaseFault> {
     let entries = core.history();
     if place >= MOST_ENTRIES || entries.len() <= place {
         return Err(CaseFault::Unreadable);
@@ -30,13 +34,12 @@ fn tell_entry(core: &Core<Shipped>, place: usize, out: &mut Bytes) -> Result<(),
 
 /// Plays a request, and appends the spelling of its entry.
 pub(crate) fn step(
-    core: &mut Core<Shipped>,
+    core: &mut Core<CalmBank, Shipped>,
     actor: Actor,
     request: Request,
     out: &mut Bytes,
 ) -> Result<(), CaseFault>
     requires fits { Fits actor request }
-    requires built { IsBuilt request }
 {
     let place = core.history().len();
     if !core.is_live() || place >= MOST_ENTRIES {
@@ -45,13 +48,14 @@ pub(crate) fn step(
     match core.step(actor, request) {
         Ok(()) => tell_entry(core, place, out),
         Err(StepFault::Memory) => Err(CaseFault::Memory),
+        Err(StepFault::BootFault | StepFault::BootStopped) => Err(CaseFault::Unreadable),
     }
 }
 
 /// Plays the record at the front of an input, and tells its length: 0 at the end of the input.
 fn step_front(
     alloc: Global,
-    core: &mut Core<Shipped>,
+    core: &mut Core<CalmBank, Shipped>,
     input: &[u8],
     out: &mut Bytes,
 ) -> Result<usize, CaseFault> {
@@ -75,7 +79,7 @@ fn step_front(
 /// Plays records that stand one behind the other, and tells how many there are.
 pub(crate) fn step_all(
     alloc: Global,
-    core: &mut Core<Shipped>,
+    core: &mut Core<CalmBank, Shipped>,
     records: &[u8],
     out: &mut Bytes,
 ) -> Result<u32, CaseFault> {

@@ -8,18 +8,23 @@ use crate::stepping::{step, step_all};
 use case_tables::{CaseFault, Cases, Pieces};
 use shipped_kit::{FUNCTIONS, Shipped, shipped_entry};
 use std::alloc::Global;
-use tbl_core::Core;
+use tbl_core::{Core, StartFault};
+use tbl_fakes::CalmBank;
 use tbl_kinds::{Actor, Bytes, Memory, Name, Request};
+use tbl_outside::Back;
 use validation::Kit;
 
 /// How many bytes the field of a file's name has.
 const NAME_FIELD: usize = 64;
 
+/// How many bytes the bank has.
+const BANK_SIZE: u32 = 131_072;
+
 /// The core that is played on, if one was started.
 #[derive(Drop)]
 pub(crate) struct Steps {
     alloc: Global,
-    core: Option<Core<Shipped>>,
+    core: Option<Core<CalmBank, Shipped>>,
 }
 
 fn out_of_memory(_memory: Memory) -> CaseFault {
@@ -59,9 +64,20 @@ impl Steps {
 
     fn start(&mut self) -> Result<u32, CaseFault> {
         let kit = shipped(self.alloc).map_err(out_of_memory)?;
-        let core = Core::start(self.alloc, kit).map_err(out_of_memory)?;
-        self.core = Some(core);
-        Ok(0)
+        let bank = CalmBank::of_zeros(self.alloc, BANK_SIZE).map_err(out_of_memory)?;
+        match Core::start(self.alloc, bank, kit) {
+            Ok(core) => {
+                self.core = Some(core);
+                Ok(0)
+            }
+            Err(
+                Back {
+                    cause: StartFault::Memory,
+                    ..
+                },
+            ) => Err(CaseFault::Memory),
+            Err(_) => Err(CaseFault::Unreadable),
+        }
     }
 
     /// Plays records.

@@ -1,22 +1,25 @@
 //! The program: it plays the session on standard input and writes its transcript to standard output.
 #![tactic(auto)]
 
-mod streams;
 mod words;
+
+ghost use Rattle.std.specs.Prelude.{◌≤◌};
+ghost use Rattle.tbl_kinds.specs.Places.{bank_size};
 
 use shipped_kit::{FUNCTIONS, shipped_entry};
 use std::alloc::Global;
 use std::process::ExitCode;
-use streams::{StandardInput, StandardOutput};
+use tbl_adapters::{StandardInput, StandardOutput, StoreFile};
 use tbl_kinds::{Bytes, Memory};
-use tbl_outside::{Sink, Source};
+use tbl_outside::{Bank, Sink, Source};
 use tbl_top::run_with;
 use words::{WordsFault, given_words};
 
 /// What `--help` answers.
 const HELP: &str = "tbl: the cFE table service, played from a session
 
-tbl play       reads session records from standard input and writes the transcript to standard output
+tbl play       reads session records from standard input and writes the transcript to standard output. Blocks of the
+               Critical Data Store are kept in the file cds.store of the working folder, which is made where it isn't there
 tbl --help     writes this text to standard output
 tbl --version  writes the version to standard output
 
@@ -28,6 +31,7 @@ It ends with one of these statuses:
 4  writing failed
 5  a record of the input is bad or cut short; the records before it were played
 6  the input goes on after 32,768 records, which were played
+7  the store file can't be opened or made longer, or failed in a boot; the records before it were played
 ";
 
 /// What `--version` answers.
@@ -50,18 +54,25 @@ fn tell(text: &str, sink: &mut StandardOutput) -> u8 {
     }
 }
 
+/// How many bytes the Critical Data Store has.
+const BANK_SIZE: u32 = 131_072;
+
 /// Plays a session with the shipped validation functions.
-fn play<S: Source, K: Sink>(
+fn play<S: Source, K: Sink, B: Bank>(
     alloc: Global,
     words: &[Bytes],
     source: &mut S,
     sink: &mut K,
-) -> Result<u8, Memory> {
+    bank: B,
+) -> Result<u8, Memory>
+    requires { bank_size ≤ B.size bank }
+{
     let mut kit = Vec::with_capacity(alloc, usize::from(FUNCTIONS))?;
     'functions: for number in 0..FUNCTIONS {
         kit.push(shipped_entry(number))?;
     }
-    Ok(run_with(alloc, words, source, sink, kit))
+    let (status, _bank) = run_with(alloc, words, source, sink, bank, kit);
+    Ok(status)
 }
 
 fn main(rt: HostRuntime) -> ExitCode {
@@ -74,8 +85,11 @@ fn main(rt: HostRuntime) -> ExitCode {
     if let Some(text) = text_for(&words) {
         return ExitCode::from(tell(text, &mut sink));
     }
+    let Ok(bank) = StoreFile::open(&rt, BANK_SIZE) else {
+        return ExitCode::from(7);
+    };
     let mut source = StandardInput::of(rt.stdin());
-    match play(rt.alloc(), &words, &mut source, &mut sink) {
+    match play(rt.alloc(), &words, &mut source, &mut sink, bank) {
         Ok(status) => ExitCode::from(status),
         Err(Memory) => ExitCode::from(1),
     }
