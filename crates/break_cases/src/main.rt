@@ -1,0 +1,18 @@
+//! Plays the sessions of a table over banks whose writes break off and whose reads fail, and says which of them came
+//! otherwise than it states.
+#![tactic(auto)]
+
+mod cells;
+mod notes;
+mod sessions;
+
+use case_tables::play_table;
+use sessions::Sessions;
+use std::process::ExitCode;
+
+fn main(rt: HostRuntime) -> ExitCode {
+    match play_table(&rt, &mut Sessions::make(rt.alloc())) {
+        Ok(true) => ExitCode::from(0),
+        _ => ExitCode::from(1),
+    }
+}
