@@ -1,21 +1,24 @@
 -- What holds of a request that isn't refused, and of one that is.
-use Rattle.std.proofs.Common.{◌≡◌, ℕ, ◌+◌, ◌<◌, ◌≤◌, ◌==◌, List, Bool, true, false, not, ◌&&◌, ◌||◌, cond, nat_lt, length, Option, Some, None, is_some, refl, arith}
-use Rattle.std.specs.Option.{option_or}
+use Rattle.std.proofs.Common.{◌≡◌, ℕ, ◌+◌, ◌<◌, ◌≤◌, ◌==◌, List, Bool, true, false, not, ◌&&◌, ◌||◌, cond, nat_lt, length, Option, Some, None, is_some, is_none, refl, arith}
+use Rattle.std.specs.Option.{option_map, option_or}
 use Rattle.std.proofs.lemmas.Bool.Decides.{nat_tests}
 use Rattle.tbl_kinds.specs.Names.{is_name}
 use Rattle.tbl_kinds.specs.Limits.{table_limit}
-use Rattle.tbl_model.specs.State.{Table, Tables}
-use Rattle.tbl_model.specs.Tables.{is_double, is_dump_only, is_quiet, in_use}
+use Rattle.tbl_kinds.specs.Free.{least_free}
+use Rattle.tbl_model.specs.State.{State, Table, Tables}
+use Rattle.tbl_model.specs.Tables.{table_at, is_double, is_dump_only, is_quiet, in_use}
 use Rattle.tbl_model.specs.Dumps.{dump_refusal, edit_refusal}
-use Rattle.tbl_model.specs.TableSteps.{locker, is_checked}
+use Rattle.tbl_model.specs.TableSteps.{find, locker, is_checked}
 use Rattle.tbl_model.specs.Pending.{is_pending}
 use Rattle.tbl_kinds.specs.TableFiles.{TableFile}
 use Rattle.std.specs.Str.{bytes_eq}
 use Rattle.tbl_model.specs.Refusals.{are_options, may_use, plan_refusal, lock_refusal, buffer_refusal, open_refusal, closed_refusal, busy_refusal, image_refusal, part_refusal, file_refusal, load_refusal, validation_refusal, activation_refusal, update_refusal}
+use Rattle.tbl_model.specs.Registration.{duplicate_answer, name_refusal, registration_refusal}
 use Rattle.tbl_model.specs.Whole.{is_done}
 use Rattle.tbl_model.specs.BankCounts.{tells_trouble}
 use Rattle.tbl_kinds.specs.declared.entry.Answer.{Answer}
 use Rattle.tbl_kinds.specs.declared.status.Status.{Status}
+use Rattle.tbl_kinds.specs.declared.status.TheConstants.Status.{WARN_DUPLICATE, ERR_DUPLICATE_NOT_OWNED, ERR_DUPLICATE_DIFF_SIZE}
 
 -- a test whose refusal there isn't
 passed : (b : Bool) (a : Answer) (rest : Option Answer) → cond b (Some a) rest ≡ None → (b ≡ false) × (rest ≡ None)
@@ -194,6 +197,34 @@ plan_taken kit app short size flags validator none =
       may = not_false _ d.0;
     }
 
+-- a registration that nothing refuses
+pub record TakesName (s : State) (app : ℕ) (name short : List ℕ) (size flags : ℕ) (validator : Option ℕ) : Type 0 where
+  pub plan : plan_refusal s.kit app short size flags validator ≡ None
+  pub new : find name s.tables ≡ None
+  pub row : (row : ℕ) × (least_free s.tables.rows ≡ Some row)
+  pub handle : (handle : ℕ) × (least_free s.tables.handles ≡ Some handle)
+
+pub registration_taken : (s : State) (app : ℕ) (name short : List ℕ) (size flags : ℕ) (validator : Option ℕ) → registration_refusal s app name short size flags validator ≡ None → TakesName s app name short size flags validator
+registration_taken s app name short size flags validator none =
+    let plan = neither (plan_refusal s.kit app short size flags validator) _ none in
+    let new = neither (name_refusal s.tables app size name) _ plan.1 in
+    let row = passed (is_none (least_free s.tables.rows)) _ _ new.1 in
+    let handle = passed (is_none (least_free s.tables.handles)) _ None row.1 in
+    record {
+      plan = plan.0;
+      new = unmapped (find name s.tables) new.0;
+      row = there (least_free s.tables.rows) row.0;
+      handle = there (least_free s.tables.handles) handle.0;
+    }
+  where
+    there : (found : Option ℕ) → is_none found ≡ false → (n : ℕ) × (found ≡ Some n)
+    there None is = absurd (cc is)
+    there (Some n) is = (n, refl)
+
+    unmapped : (found : Option ℕ) → option_map (λ row. duplicate_answer app size (table_at s.tables row)) found ≡ None → found ≡ None
+    unmapped None is = refl
+    unmapped (Some row) is = absurd (cc is)
+
 -- ---- what a refusal is
 
 -- a status that refuses: nothing was done, nothing begins anew, and the bank didn't fail
@@ -226,6 +257,26 @@ plan_refused kit app short size flags validator =
     (here (size == 0 || nat_lt table_limit size) _ _ refl
     (here (not (are_options flags)) _ _ refl
     (here (not (may_use kit app validator)) _ None refl tt)))
+
+pub registration_refused : (s : State) (app : ℕ) (name short : List ℕ) (size flags : ℕ) (validator : Option ℕ) → Refuses (registration_refusal s app name short size flags validator)
+registration_refused s app name short size flags validator =
+    first_of (plan_refusal s.kit app short size flags validator) _ (plan_refused s.kit app short size flags validator)
+    (first_of (name_refusal s.tables app size name) _ (by_name (find name s.tables))
+    (here (is_none (least_free s.tables.rows)) _ _ refl
+    (here (is_none (least_free s.tables.handles)) _ None refl tt)))
+  where
+    twice : (owned sized : Bool) (handle : ℕ) → Refuses (Some (cond {A = Answer} owned (record { status = ERR_DUPLICATE_NOT_OWNED; detail = 0 }) (cond sized (record { status = ERR_DUPLICATE_DIFF_SIZE; detail = 0 }) (record { status = WARN_DUPLICATE; detail = handle }))))
+    twice true sized handle = refl
+    twice false true handle = refl
+    twice false false handle = refl
+
+    by_table : (found : Option Table) → Refuses (Some (duplicate_answer app size found))
+    by_table None = refl
+    by_table (Some t) = twice (not (t.owner == app)) (not (t.size == size)) t.handle
+
+    by_name : (row : Option ℕ) → Refuses (option_map (λ row. duplicate_answer app size (table_at s.tables row)) row)
+    by_name None = tt
+    by_name (Some row) = by_table (table_at s.tables row)
 
 pub closed_refused : (t : Table) → Refuses (closed_refusal t)
 closed_refused t = here (is_dump_only t) _ _ refl (here (is_some t.load) _ None refl tt)

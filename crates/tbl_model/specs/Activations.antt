@@ -7,6 +7,8 @@ use Rattle.tbl_model.specs.Deeds.{activated}
 use Rattle.tbl_model.specs.Effects.{Effect, answered, named}
 use Rattle.tbl_model.specs.Refusals.{by_answer, activation_refusal, update_refusal}
 use Rattle.tbl_model.specs.Subjects.{if_table, if_owner}
+use Rattle.tbl_model.specs.Copies.{then_copy}
+use Rattle.tbl_kinds.specs.declared.note.BankNote.{BankNote}
 use Rattle.tbl_kinds.specs.declared.status.TheConstants.Status.{SUCCESS, ERR_NO_LOAD}
 
 -- the activation is asked, and the owner is told
@@ -25,8 +27,8 @@ updated_effect s row t = record (answered s SUCCESS 0) {
   next = record s { tables = set_time row s.seconds s.sub (activate row s.tables) };
 }
 
-unfoldable pub update_effect : State → ℕ → ℕ → Effect
-update_effect s app handle = if_owner s app handle (λ row t. by_answer s (update_refusal s.tables row t) (updated_effect s row t))
+unfoldable pub update_effect : State → ℕ → ℕ → BankNote → Effect
+update_effect s app handle note = if_owner s app handle (λ row t. then_copy row note (by_answer s (update_refusal s.tables row t) (updated_effect s row t)))
 
 -- the load is dropped, with its activation and its validation, and nothing else
 abbrev pub aborted_effect : State → ℕ → Effect

@@ -10,6 +10,7 @@ use Rattle.tbl_model.specs.Effects.{Effect, answered, named}
 use Rattle.tbl_model.specs.Given.{Given, verdict_at}
 use Rattle.tbl_model.specs.Refusals.{by_answer, by_refusal, closed_refusal, image_refusal, file_refusal}
 use Rattle.tbl_model.specs.Subjects.{if_owner, if_file}
+use Rattle.tbl_model.specs.Copies.{then_copy}
 use Rattle.tbl_model.specs.declared.deeds.Deed.TheVariants.{Judged}
 use Rattle.tbl_kinds.specs.declared.status.TheConstants.Status.{SUCCESS, ERR_VALIDATION_FAILED}
 
@@ -43,7 +44,7 @@ load_image_of s image given row t = by_refusal s (image_refusal s.tables row t (
 
 -- an image of the whole table
 unfoldable pub load_image_effect : State → ℕ → ℕ → List ℕ → Given → Effect
-load_image_effect s app handle image given = if_owner s app handle (load_image_of s image given)
+load_image_effect s app handle image given = if_owner s app handle (λ row t. then_copy row given.note (load_image_of s image given row t))
 
 -- ---- files
 
@@ -61,4 +62,4 @@ load_file_of s name given row t file =
 
 -- an uplinked file for the table, or a part of it
 unfoldable pub app_file_effect : State → ℕ → ℕ → List ℕ → Given → Effect
-app_file_effect s app handle name given = if_owner s app handle (λ row t. by_answer s (closed_refusal t) (if_file s name (load_file_of s name given row t)))
+app_file_effect s app handle name given = if_owner s app handle (λ row t. then_copy row given.note (by_answer s (closed_refusal t) (if_file s name (load_file_of s name given row t))))

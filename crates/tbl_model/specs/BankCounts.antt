@@ -1,5 +1,5 @@
 -- What a history tells of its bank: how often it failed, and how often a reset came inside a write of it.
-use Rattle.std.specs.Prelude.{◌≡◌, ◌≢◌, ◌⊎◌, ℕ, ◌+◌, ◌-◌, ◌^◌, ◌≤◌, ◌==◌, List, sum_by, Bool, true, false, not, ◌&&◌, ◌||◌, if◌then◌else◌}
+use Rattle.std.specs.Prelude.{◌≡◌, ◌≢◌, ℕ, ◌+◌, ◌==◌, List, sum_by, Bool, true, false, not, ◌&&◌, ◌||◌, if◌then◌else◌}
 use Rattle.tbl_kinds.specs.declared.entry.Entry.{Entry}
 use Rattle.tbl_kinds.specs.declared.note.BankNote.{BankNote}
 use Rattle.tbl_kinds.specs.declared.note.Outcome.{Outcome}
@@ -47,7 +47,3 @@ pub record HasCause (status : Status) (note : BankNote) : Type 0 where
   pub stop : status ≡ INFO_STOPPED → stops_in note ≢ 0
   pub fault : status ≡ ERR_CDS_FAULT → note.outcome ≡ Failed
   pub boot : status ≡ ERR_BOOT_FAULT → (note.ended ≡ true) × (note.stopped ≡ false)
-
--- a count of the bank rose by as many at least, or stands at the top of a u64, where it can't rise
-abbrev pub RoseBy : ℕ → ℕ → ℕ → Type 0
-RoseBy many before now = before + many ≤ now ⊎ now ≡ 2 ^ 64 - 1

@@ -6,7 +6,8 @@ use Rattle.tbl_model.specs.Given.{Given}
 use Rattle.tbl_model.specs.Boots.{reset_effect}
 use Rattle.tbl_model.specs.Commands.{command_effect}
 use Rattle.tbl_model.specs.Uplinks.{file_effect, time_effect}
-use Rattle.tbl_model.specs.Applications.{start_effect, register_effect}
+use Rattle.tbl_model.specs.Applications.{start_effect}
+use Rattle.tbl_model.specs.Registration.{register_effect}
 use Rattle.tbl_model.specs.AppLoads.{load_image_effect, app_file_effect}
 use Rattle.tbl_model.specs.Addresses.{get_effect, read_effect, release_effect}
 use Rattle.tbl_model.specs.Validations.{app_validate_effect}
@@ -31,12 +32,12 @@ ground_effect s _ given = None
 -- nor does an application
 abbrev pub app_effect : State → ℕ → Request → Given → Option Effect
 app_effect s app (ask.Start name) given = Some (start_effect s app name)
-app_effect s app (ask.Register name size flags validator) given = Some (register_effect s app name size flags validator)
+app_effect s app (ask.Register name size flags validator) given = Some (register_effect s app name size flags validator given.note)
 app_effect s app (ask.Share name) given = Some (share_effect s app name)
 app_effect s app (ask.Unregister handle) given = Some (unregister_effect s app handle)
 app_effect s app (ask.LoadImage handle image) given = Some (load_image_effect s app handle image.list given)
 app_effect s app (ask.LoadFile handle name) given = Some (app_file_effect s app handle name given)
-app_effect s app (ask.Update handle) given = Some (update_effect s app handle)
+app_effect s app (ask.Update handle) given = Some (update_effect s app handle given.note)
 app_effect s app (ask.Validate handle) given = Some (app_validate_effect s app handle given)
 app_effect s app (ask.Manage handle) given = Some (manage_effect s app handle given)
 app_effect s app (ask.DumpToBuffer handle) given = Some (dump_to_buffer_effect s app handle)

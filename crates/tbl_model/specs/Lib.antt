@@ -14,6 +14,10 @@ pub mod Subjects
 pub mod Applications
 pub mod Addresses
 pub mod Uplinks
+pub mod AppBlocks
+pub mod CriticalTables
+pub mod Registration
+pub mod Copies
 pub mod AppLoads
 pub mod GroundLoads
 pub mod Validations
@@ -21,7 +25,6 @@ pub mod Activations
 pub mod Management
 pub mod Dumps
 pub mod Sharing
-pub mod AppBlocks
 pub mod BankCounts
 pub mod Commands
 pub mod Dispatch

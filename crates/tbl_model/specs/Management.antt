@@ -12,6 +12,7 @@ use Rattle.tbl_model.specs.Given.{Given, verdict_at}
 use Rattle.tbl_model.specs.Refusals.{update_refusal}
 use Rattle.tbl_model.specs.Validations.{judged_image, questions, judged}
 use Rattle.tbl_model.specs.Subjects.{if_its_table, if_owner}
+use Rattle.tbl_model.specs.Copies.{then_copy}
 use Rattle.tbl_model.specs.declared.deeds.Deed.{Deed}
 use Rattle.tbl_kinds.specs.declared.entry.Answer.{Answer}
 use Rattle.tbl_kinds.specs.declared.status.Status.{Status}
@@ -95,7 +96,7 @@ managed_effect s answer d = record (answered s answer.status answer.detail) {
 }
 
 unfoldable pub manage_effect : State → ℕ → ℕ → Given → Effect
-manage_effect s app handle given = if_owner s app handle (λ row t. managed_effect s (manage_answer s.tables row t) (all_done s given row))
+manage_effect s app handle given = if_owner s app handle (λ row t. then_copy row given.note (managed_effect s (manage_answer s.tables row t) (all_done s given row)))
 
 -- ---- what is pending
 

@@ -32,9 +32,9 @@ by_refusal s (Some answer) effect = record (answered s answer.status answer.deta
 
 -- ---- registration
 
--- the options that can be asked for today: none, two buffers, or dump-only
+-- the options that can be asked for: none, two buffers, critical, both, or dump-only
 abbrev pub are_options : ℕ → Bool
-are_options flags = flags == 0 || flags == 1 || flags == 2
+are_options flags = flags == 0 || flags == 1 || flags == 2 || flags == 8 || flags == 9
 
 -- whether the application may use this validation function of the kit
 abbrev pub may_use : List (Option ℕ) → ℕ → Option ℕ → Bool

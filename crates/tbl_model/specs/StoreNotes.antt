@@ -1,5 +1,5 @@
 -- Which notes a request may leave: how the calls of the store went that it makes, and the boot behind them.
-use Rattle.std.specs.Prelude.{◌≡◌, ◌≢◌, ℕ, List, [], ◌∷◌, length, take, Bool, true, false, ◌&&◌, Option, Some, None, IsSome, slice_get}
+use Rattle.std.specs.Prelude.{◌≡◌, ◌≢◌, ℕ, List, [], ◌∷◌, length, take, Bool, true, false, ◌&&◌, Option, Some, None, IsSome, IfSome, slice_get}
 use Rattle.std.specs.List.{filter, range_with_len}
 use Rattle.std.specs.Option.{ForSome, option_map_or}
 use Rattle.tbl_kinds.specs.Blocks.{Stored, Store}
@@ -39,9 +39,9 @@ Ends Done calls store note = (calls ≢ []) × (note.done ≡ length calls) × N
 Ends Failed calls store note = BrokeOff calls store note
 Ends Stopped calls store note = (broke : BrokeOff calls store note) × (is_restore broke.call ≡ false)
 
--- what a call that is done may give: a restore what its block may hold
+-- what a call that is done may give: a restore what its block may hold, with as many bytes as the block has
 abbrev pub MayGo : StoreCall → Store → Type 0
-MayGo (restore slot given) store = ForSome (stored_at store slot) (λ b. MayGive b given)
+MayGo (restore slot given) store = ForSome (stored_at store slot) (λ b. MayGive b given × IfSome given (λ image. length image ≡ b.block.size))
 MayGo _ store = Unit {0}
 
 -- the same of several, each over the blocks that those before it left

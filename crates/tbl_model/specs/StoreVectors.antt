@@ -6,7 +6,8 @@ use Rattle.tbl_kinds.specs.StoreSteps.{stored_at, new_block}
 use Rattle.tbl_kinds.specs.Notes.{untouched}
 use Rattle.tbl_model.specs.State.{State, no_tables, first_state}
 use Rattle.tbl_model.specs.Effects.{Effect}
-use Rattle.tbl_model.specs.Applications.{start_effect, register_effect}
+use Rattle.tbl_model.specs.Applications.{start_effect}
+use Rattle.tbl_model.specs.Registration.{register_effect}
 use Rattle.tbl_model.specs.Boots.{reset_effect}
 use Rattle.tbl_model.specs.AppBlocks.{cds_register_effect, cds_copy_effect, cds_restore_effect, cds_delete_effect}
 use Rattle.tbl_kinds.specs.declared.block.BlockKind.TheVariants.{App}
@@ -110,7 +111,7 @@ the_application_stays = refl
 
 -- a table of 4 bytes is registered, and goes with each reset
 abbrev pub with_table : State
-with_table = (register_effect copied.next 1 (codes "T") 4 0 None).next
+with_table = (register_effect copied.next 1 (codes "T") 4 0 None untouched).next
 
 pub a_processor_reset_keeps_blocks : (reset_effect with_table Processor untouched).next ≡ record copied.next { tables = no_tables }
 unfolding cds_register_effect cds_copy_effect register_effect place

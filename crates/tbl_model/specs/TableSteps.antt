@@ -194,8 +194,11 @@ abbrev pub set_file : ℕ → List ℕ → Tables → Tables
 set_file row file tables = changed row (λ t. record t { file = file }) tables
 
 -- the option CRITICAL is taken away
+abbrev pub uncritical : Table → Table
+uncritical t = record t { options = bit_and t.options 0xFFF7 }
+
 abbrev pub not_critical : ℕ → Tables → Tables
-not_critical row tables = changed row (λ t. record t { options = bit_and t.options 0xFFF7 }) tables
+not_critical row tables = changed row uncritical tables
 
 -- ---- activation
 
@@ -308,3 +311,7 @@ as_registered t = with_first (first_image t) t
 -- a handle that was told of no image and pins none
 abbrev pub new_handle : ℕ → ℕ → Handle
 new_handle app row = record { app = app; row = Some row; told = 0; pin = None }
+
+-- a new table in this row, with the handle of its registration
+abbrev pub added : ℕ → Table → Tables → Tables
+added row t tables = with_handle t.handle (new_handle t.owner row) (with_table row t tables)

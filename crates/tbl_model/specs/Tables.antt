@@ -34,6 +34,14 @@ table_count tables = count_by is_some tables.rows
 abbrev pub handle_count : Tables → ℕ
 handle_count tables = count_by is_some tables.handles
 
+abbrev pub is_critical_in : Option Table → Bool
+is_critical_in None = false
+is_critical_in (Some t) = is_critical t
+
+-- how many tables are critical
+abbrev pub critical_count : Tables → ℕ
+critical_count tables = count_by is_critical_in tables.rows
+
 abbrev pub has_load : Option Table → Bool
 has_load None = false
 has_load (Some t) = is_some t.load
