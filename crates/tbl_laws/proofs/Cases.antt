@@ -2,10 +2,11 @@
 use Rattle.std.proofs.Common.{◌≡◌, ◌≤◌, ℕ, ◌+◌, eqb, nat_lt, List, [], ◌∷◌, length, ap, Bool, true, false, not, ◌&&◌, ◌||◌, cond, Option, Some, None, is_some, unwrap_or, Result, Ok, Err, refl, sym, subst, ◌⊎◌, inl, inr, ℤ}
 use Rattle.std.proofs.Common.{ℤ}
 use Rattle.std.specs.Option.{option_map, option_map_or}
-use Rattle.std.specs.Prelude.{◌-◌, slice_set}
-use Rattle.std.proofs.lemmas.Bool.{eqb-true, ltb-false, not-false, cond_both}
+use Rattle.std.specs.Prelude.{◌-◌, slice_set, bit_and, nat_le, IfSome, replicate}
+use Rattle.std.proofs.lemmas.Bool.{eqb-true, ltb-false, not-false, and_parts, cond_both}
+use Rattle.std.proofs.lemmas.List.{length-replicate}
 use Rattle.tbl_kinds.specs.Blocks.{Stored, Store}
-use Rattle.tbl_kinds.specs.StoreSteps.{open_of, stored_at}
+use Rattle.tbl_kinds.specs.StoreSteps.{same_kind, open_of, stored_at, has_room}
 use Rattle.tbl_kinds.specs.StoreCalls.{StoreCall, copy, restore, delete}
 use Rattle.tbl_kinds.specs.Notes.{restored_image}
 use Rattle.tbl_kinds.specs.Drawer.{contents_of, is_full_for, with_file}
@@ -16,14 +17,17 @@ use Rattle.tbl_kinds.specs.Numbers.{piece, patched}
 use Rattle.tbl_kinds.specs.TableFiles.{TableFile, FileFlaw, no_std_header, bad_content, bad_subtype, no_table_header, incomplete, too_big, file_flaw, file_status, table_file_in}
 use Rattle.tbl_kinds.specs.Telemetry.{registry_record}
 use Rattle.tbl_model.specs.State.{State, Table, Handle, Tables}
-use Rattle.tbl_model.specs.Tables.{table_at, is_dump_only}
-use Rattle.tbl_model.specs.TableSteps.{handle_at, access_of, Access, find, is_that, image_of, check_row, check_handle, stays, pin_last, get_address_of, release_of, read_of, base, last_image, load_image, put, fill_dump, set_notice}
+use Rattle.tbl_model.specs.Tables.{table_at, is_dump_only, is_critical, critical_count}
+use Rattle.tbl_model.specs.TableSteps.{handle_at, access_of, Access, find, is_that, image_of, check_row, check_handle, stays, pin_last, get_address_of, release_of, read_of, base, last_image, load_image, put, fill_dump, set_notice, new_table, with_first, first_image}
 use Rattle.tbl_model.specs.Registry.{registry_row}
 use Rattle.tbl_model.specs.Effects.{Effect, answered}
 use Rattle.tbl_model.specs.Given.{Given, verdict_at}
 use Rattle.tbl_model.specs.Deeds.{is_good, verdict_bits}
 use Rattle.tbl_model.specs.Subjects.{name_of, by_app, by_check, if_handle, by_table, if_its_table, by_row, if_table, by_flaw, by_contents, if_file}
-use Rattle.tbl_model.specs.Applications.{has_dot, full_name, start_effect, duplicate_effect, add_effect, by_name_effect, register_effect}
+use Rattle.tbl_model.specs.Applications.{has_dot, full_name, start_effect}
+use Rattle.tbl_model.specs.CriticalTables.{critical_limit, registered, not_kept, recovered, instead, kept_effect}
+use Rattle.tbl_model.specs.Registration.{registration_refusal, new_effect, named_effect, register_effect}
+use Rattle.tbl_model.specs.Copies.{went_active, block_of, copy_failed, copied_to, copied_of, then_copy}
 use Rattle.tbl_model.specs.Addresses.{stepped, get_effect, release_effect, read_answer, read_effect}
 use Rattle.tbl_model.specs.Refusals.{by_answer, by_refusal, plan_refusal, image_refusal, closed_refusal, file_refusal, load_refusal, validation_refusal, activation_refusal, update_refusal}
 use Rattle.tbl_model.specs.AppLoads.{activate_effect, with_verdict, by_function, load_image_effect, from_file, file_image, app_file_effect}
@@ -37,7 +41,7 @@ use Rattle.tbl_model.specs.Uplinks.{file_effect}
 use Rattle.tbl_model.specs.BankCounts.{tells_trouble}
 use Rattle.tbl_model.specs.Boots.{boot, stopped}
 use Rattle.tbl_model.specs.StoreUse.{left_by, with_calls, by_outcome, then_call}
-use Rattle.tbl_model.specs.AppBlocks.{faulted, any_of, renewal, new_slot, block_effect, cds_register_effect, is_own, by_block, if_block, cds_copy_effect, restore_answer, cds_restore_effect, cds_delete_effect, delete_table_block, delete_cds_effect}
+use Rattle.tbl_model.specs.AppBlocks.{faulted, any_of, renewal, new_slot, has_size, block_effect, cds_register_effect, is_own, by_block, if_block, cds_copy_effect, restore_answer, cds_restore_effect, cds_delete_effect, delete_table_block, delete_cds_effect}
 use Rattle.tbl_model.specs.Commands.{effect_by, command_effect}
 use Rattle.tbl_model.specs.declared.deeds.Named.{Named}
 use Rattle.tbl_model.specs.declared.deeds.Shown.TheVariants.{Registry}
@@ -48,9 +52,9 @@ use Rattle.tbl_kinds.specs.declared.note.Outcome.{Outcome}
 use Rattle.tbl_kinds.specs.declared.note.Outcome.TheVariants.{Untouched, Done, Failed, Stopped}
 use Rattle.tbl_kinds.specs.declared.request.ResetKind.TheVariants.{Processor}
 use Rattle.tbl_kinds.specs.declared.status.Status.{Status}
-use Rattle.tbl_kinds.specs.declared.status.TheConstants.Status.{SUCCESS, WARN_DUPLICATE, ERR_BAD_APP, ERR_INVALID_HANDLE, ERR_NO_ACCESS, ERR_UNREGISTERED, ERR_INVALID_NAME, ERR_DUPLICATE_NOT_OWNED, ERR_DUPLICATE_DIFF_SIZE, ERR_REGISTRY_FULL, ERR_HANDLES_FULL, ERR_ALREADY_PINNED, ERR_NEVER_LOADED, ERR_NOT_PINNED, ERR_OUT_OF_RANGE, ERR_APP_RUNNING, ERR_BAD_NAME, ERR_FILE_TOO_LARGE, ERR_DRAWER_FULL, ERR_FILE_NOT_FOUND, ERR_NO_SUCH_TABLE, INFO_NO_VALIDATION_PENDING, INFO_NO_DUMP_PENDING, ERR_BAD_SELECT, ERR_NO_LOAD, ERR_NOTICE_ID, ERR_VALIDATION_FAILED, INFO_STOPPED, INFO_CDS_EXISTS, ERR_INVALID_SIZE, ERR_IMAGE_SIZE, ERR_CDS_NOT_FOUND, ERR_TABLE_ACTIVE, ERR_CDS_NO_ROOM, ERR_CDS_FAULT, ERR_CDS_TORN}
+use Rattle.tbl_kinds.specs.declared.status.TheConstants.Status.{SUCCESS, INFO_RECOVERED_TBL, WARN_NOT_CRITICAL, ERR_BAD_APP, ERR_INVALID_HANDLE, ERR_NO_ACCESS, ERR_UNREGISTERED, ERR_INVALID_NAME, ERR_HANDLES_FULL, ERR_ALREADY_PINNED, ERR_NEVER_LOADED, ERR_NOT_PINNED, ERR_OUT_OF_RANGE, ERR_APP_RUNNING, ERR_BAD_NAME, ERR_FILE_TOO_LARGE, ERR_DRAWER_FULL, ERR_FILE_NOT_FOUND, ERR_NO_SUCH_TABLE, INFO_NO_VALIDATION_PENDING, INFO_NO_DUMP_PENDING, ERR_BAD_SELECT, ERR_NO_LOAD, ERR_NOTICE_ID, ERR_VALIDATION_FAILED, INFO_STOPPED, INFO_CDS_EXISTS, ERR_INVALID_SIZE, ERR_IMAGE_SIZE, ERR_CDS_NOT_FOUND, ERR_TABLE_ACTIVE, ERR_CDS_NO_ROOM, ERR_CDS_FAULT, ERR_CDS_TORN}
 use Rattle.tbl_laws.proofs.CommandAnswers.{CommandRefuses, command_refuses}
-use Rattle.tbl_model.proofs.RefusalLaws.{is_refusal, Refuses, plan_refused, image_refused, closed_refused, file_refused, load_refused, validation_refused, activation_refused, update_refused, dump_refused, edit_refused}
+use Rattle.tbl_model.proofs.RefusalLaws.{is_refusal, Refuses, registration_taken, registration_refused, image_refused, closed_refused, file_refused, load_refused, validation_refused, activation_refused, update_refused, dump_refused, edit_refused}
 
 -- this holds of the effect, if the request has one
 abbrev pub OfEffect : (Effect → Type 0) → Option Effect → Type 0
@@ -91,6 +95,43 @@ pub record CallsStore (s : State) (note : BankNote) (P : Effect → Type 0) : Ty
   pub fails : (store : Store) (e : Effect) → note.outcome ≡ Failed → e.next ≡ record s { store = store } → e.deeds ≡ [] → e.status ≡ ERR_CDS_FAULT → P e
   pub restarts : (store : Store) (e : Effect) → note.outcome ≡ Stopped → e.next ≡ boot Processor note (record s { store = store }) → e.deeds ≡ [] → e.status ≡ INFO_STOPPED → P e
 
+-- what the copy of an image that went active makes of an effect: other blocks, that the bank failed, which is told, or the service
+-- begins anew
+pub record Copies (note : BankNote) (P : Effect → Type 0) : Type 0 where
+  pub left : (slot : ℕ) (image : List ℕ) (e : Effect) → P e → P (with_calls (copy slot image ∷ []) note e)
+  pub fails : (row slot : ℕ) (e : Effect) → note.outcome ≡ Failed → P e → P (copy_failed row slot e)
+  pub stops : (e : Effect) → note.outcome ≡ Stopped → P e → P (stopped note e)
+
+-- a property of effects that copies keep is one of the effect with its copy
+module _ (note : BankNote) (P : Effect → Type 0) (copies : Copies note P) where
+  by_copy : (row : ℕ) (e : Effect) → P e → P (then_copy row note e)
+  by_copy row e p = cond_both (went_active e) _ _ P (λ _. of (table_at e.next.tables row)) (λ _. p) where
+    calls : (slot : ℕ) (image : List ℕ) (outcome : Outcome) → note.outcome ≡ outcome
+        → P (by_outcome outcome (with_calls (copy slot image ∷ []) note e) (copy_failed row slot (with_calls (copy slot image ∷ []) note e)) (stopped note (with_calls (copy slot image ∷ []) note e)))
+    calls slot image Untouched is = copies.left slot image e p
+    calls slot image Done is = copies.left slot image e p
+    calls slot image Failed is = copies.fails row slot _ is (copies.left slot image e p)
+    calls slot image Stopped is = copies.stops _ is (copies.left slot image e p)
+
+    to : (slot : Option ℕ) (image : Option (List ℕ)) → P (copied_to row note e slot image)
+    to None image = p
+    to (Some slot) None = p
+    to (Some slot) (Some image) = calls slot image note.outcome refl
+
+    of : (t : Option Table) → P (copied_of row note e t)
+    of None = p
+    of (Some t) = cond_both (is_critical t) _ _ P (λ _. to (block_of t e.next.store) t.last) (λ _. p)
+
+-- what a new table begins with has its size, or it is what its block gave, which has
+abbrev pub Begins : Store → BankNote → ℕ → List StoreCall → Option (List ℕ) → Type 0
+Begins store note size calls first =
+    IfSome first (λ image. length image ≡ size)
+    ⊎ ((slot : ℕ) × (calls ≡ restore slot first ∷ []) × (has_size size (stored_at store slot) ≡ true) × (first ≡ restored_image note))
+
+-- an effect with these calls, which left these blocks
+abbrev pub with_blocks : List StoreCall → Store → Effect → Effect
+with_blocks calls store e = record e { calls = calls; next = record e.next { store = store } }
+
 -- a property of effects that each refusal has, and what is done where nothing is refused, is one of the request's effect
 module _ (s : State) (P : Effect → Type 0) (refusal : (e : Effect) → e.next ≡ s → e.deeds ≡ [] → is_refusal e.status ≡ true → P e) where
   no : (status : Status) (detail : ℕ) → is_refusal status ≡ true → P (answered s status detail)
@@ -107,11 +148,11 @@ module _ (s : State) (P : Effect → Type 0) (refusal : (e : Effect) → e.next 
   unless_then false status detail rest is p = p refl
 
   -- a ladder of refusals stands before it
-  by_ladder : (r : Option Answer) (effect : Effect) → Refuses r → (r ≡ None → P effect) → P (by_answer s r effect)
+  pub by_ladder : (r : Option Answer) (effect : Effect) → Refuses r → (r ≡ None → P effect) → P (by_answer s r effect)
   by_ladder None effect refuses done = done refl
   by_ladder (Some answer) effect refuses done = no answer.status answer.detail refuses
 
-  by_load_ladder : (r : Option Answer) (effect : Effect) → Refuses r → (r ≡ None → P effect) → P (by_refusal s r effect)
+  pub by_load_ladder : (r : Option Answer) (effect : Effect) → Refuses r → (r ≡ None → P effect) → P (by_refusal s r effect)
   by_load_ladder None effect refuses done = done refl
   by_load_ladder (Some answer) effect refuses done = refusal _ refl refl refuses
 
@@ -161,7 +202,7 @@ module _ (s : State) (P : Effect → Type 0) (refusal : (e : Effect) → e.next 
 
   -- ---- an uplinked file
 
-  by_file_of : (name : List ℕ) (effect : TableFile → Effect) → ((file : TableFile) → P (effect file)) → P (if_file s name effect)
+  pub by_file_of : (name : List ℕ) (effect : TableFile → Effect) → ((file : TableFile) → P (effect file)) → P (if_file s name effect)
   by_file_of name effect done = there (contents_of s.drawer name) where
     read : (contents : List ℕ) (flaw : Option FileFlaw) → P (by_flaw s contents flaw effect)
     read contents (Some flaw) = no (file_status flaw) 0 (flaw_refuses flaw)
@@ -202,25 +243,68 @@ module _ (s : State) (P : Effect → Type 0) (refusal : (e : Effect) → e.next 
   pub by_start : (app : ℕ) (name : List ℕ) → P (record (answered s SUCCESS 0) { next = record s { apps = slice_set s.apps (app - 1) (Some name) } }) → P (start_effect s app name)
   by_start app name done = unless (is_some (name_of s app)) ERR_APP_RUNNING 0 _ refl (unless (not (is_name name) || has_dot name) ERR_INVALID_NAME 0 _ refl done)
 
-  module _ (app : ℕ) (short : List ℕ) (size flags : ℕ) (validator : Option ℕ)
-      (done : (name : List ℕ) (row handle : ℕ) → plan_refusal s.kit app short size flags validator ≡ None → least_free s.tables.rows ≡ Some row → least_free s.tables.handles ≡ Some handle → P (add_effect s app name size flags validator (Some row) (Some handle))) where
-    by_places : plan_refusal s.kit app short size flags validator ≡ None → (name : List ℕ) (row handle : Option ℕ) → least_free s.tables.rows ≡ row → least_free s.tables.handles ≡ handle → P (add_effect s app name size flags validator row handle)
-    by_places plan name None handle free given = no ERR_REGISTRY_FULL 0 refl
-    by_places plan name (Some row) None free given = no ERR_HANDLES_FULL 0 refl
-    by_places plan name (Some row) (Some handle) free given = done name row handle plan free given
-
-    by_duplicate : (found : Option Table) → P (duplicate_effect s app size found)
-    by_duplicate None = no ERR_REGISTRY_FULL 0 refl
-    by_duplicate (Some t) = unless (not (eqb t.owner app)) ERR_DUPLICATE_NOT_OWNED 0 _ refl (unless (not (eqb t.size size)) ERR_DUPLICATE_DIFF_SIZE 0 _ refl (no WARN_DUPLICATE t.handle refl))
-
-    by_full_name : plan_refusal s.kit app short size flags validator ≡ None → (name : List ℕ) (row : Option ℕ) → P (by_name_effect s app name size flags validator row)
-    by_full_name plan name (Some row) = by_duplicate (table_at s.tables row)
-    by_full_name plan name None = by_places plan name (least_free s.tables.rows) (least_free s.tables.handles) refl refl
-
-    pub by_register : P (register_effect s app short size flags validator)
+  module _ (app : ℕ) (short : List ℕ) (size flags : ℕ) (validator : Option ℕ) (note : BankNote)
+      (done : (name : List ℕ) (row handle : ℕ) → plan_refusal s.kit app short size flags validator ≡ None → find name s.tables ≡ None → least_free s.tables.rows ≡ Some row → least_free s.tables.handles ≡ Some handle → P (new_effect s row (new_table name app size flags validator handle) note)) where
+    -- a new table is registered
+    pub by_new : P (register_effect s app short size flags validator note)
     unfolding register_effect
-    by_register = by_name (name_of s app) _ (λ name. by_ladder (plan_refusal s.kit app short size flags validator) _ (plan_refused s.kit app short size flags validator)
-        (λ plan. by_full_name plan (full_name name short) (find (full_name name short) s.tables)))
+    by_new = by_name (name_of s app) _ (λ app_name. by_full_name (full_name app_name short)) where
+      by_full_name : (name : List ℕ) → P (named_effect s app name short size flags validator note)
+      by_full_name name = by_ladder (registration_refusal s app name short size flags validator) _ (registration_refused s app name short size flags validator) (λ none.
+          let taken = registration_taken s app name short size flags validator none in
+          rw (taken.row.1, taken.handle.1) (done name taken.row.0 taken.handle.0 taken.plan taken.new taken.row.1 taken.handle.1))
+
+  -- with whatever options, first image and status, and with whatever calls
+  module _ (app : ℕ) (short : List ℕ) (size flags : ℕ) (validator : Option ℕ) (note : BankNote) (calls_store : CallsStore s note P)
+      (done : (name : List ℕ) (row handle options : ℕ) (first : Option (List ℕ)) (status : Status) (calls : List StoreCall) (store : Store) → plan_refusal s.kit app short size flags validator ≡ None → least_free s.tables.rows ≡ Some row → least_free s.tables.handles ≡ Some handle
+      → Begins s.store note size calls first → tells_trouble status ≡ false → P (with_blocks calls store (registered s row (with_first first (new_table name app size options validator handle)) status))) where
+    module _ (name : List ℕ) (row handle : ℕ) (plan : plan_refusal s.kit app short size flags validator ≡ None) (free_row : least_free s.tables.rows ≡ Some row) (free_handle : least_free s.tables.handles ≡ Some handle) where
+      t : Table
+      t = new_table name app size flags validator handle
+
+      not_critical : (calls : List StoreCall) (store : Store) → P (with_blocks calls store (not_kept s row t))
+      unfolding t
+      not_critical calls store = done name row handle (bit_and flags 0xFFF7) None WARN_NOT_CRITICAL calls store plan free_row free_handle (inl tt) refl
+
+      called : (calls : List StoreCall) (first : Option (List ℕ)) (status : Status) → Begins s.store note size calls first → tells_trouble status ≡ false → P (then_call calls note (instead (not_kept s row t)) (registered s row (with_first first t) status))
+      unfolding t
+      called calls first status begins quiet = by note.outcome refl where
+        all : P (with_calls calls note (registered s row (with_first first t) status))
+        all = done name row handle flags first status calls (left_by calls note s.store) plan free_row free_handle begins quiet
+
+        by : (outcome : Outcome) → note.outcome ≡ outcome → P (by_outcome outcome (with_calls calls note (registered s row (with_first first t) status)) (instead (not_kept s row t) (with_calls calls note (registered s row (with_first first t) status)))
+            (stopped note (with_calls calls note (registered s row (with_first first t) status))))
+        by Untouched is = all
+        by Done is = all
+        by Failed is = not_critical calls (left_by calls note s.store)
+        by Stopped is = calls_store.restarts (left_by calls note s.store) _ is refl refl refl
+
+      recovers : (slot : ℕ) (image : Option (List ℕ)) → has_size size (stored_at s.store slot) ≡ true → image ≡ restored_image note → P (then_call (restore slot image ∷ []) note (instead (not_kept s row t)) (recovered s row t image))
+      recovers slot None sized gave = called (restore slot None ∷ []) None SUCCESS (inl tt) refl
+      recovers slot (Some image) sized gave = called (restore slot (Some image) ∷ []) (Some image) INFO_RECOVERED_TBL (inr (slot, refl, sized, gave)) refl
+
+      makes : (old : Option ℕ) → P (cond (not (has_room size (any_of of_table name s.store) s.store)) (not_kept s row t) (then_call (renewal of_table name size old) note (instead (not_kept s row t)) (registered s row t SUCCESS)))
+      unfolding t
+      makes old = cond_both (not (has_room size (any_of of_table name s.store) s.store)) _ _ P (λ _. not_critical [] s.store) (λ _. called (renewal of_table name size old) None SUCCESS (inl tt) refl)
+
+      keeps : (old : Option ℕ) → P (kept_effect s row t note old)
+      unfolding t
+      keeps None = makes None
+      keeps (Some slot) = cond_both (has_size size (stored_at s.store slot)) _ _ P (λ sized. recovers slot (restored_image note) sized refl) (λ _. makes (Some slot))
+
+      zeros : (b : Bool) → IfSome (cond b (Some (replicate {A = ℕ} size 0)) None) (λ image. length image ≡ size)
+      zeros true = length-replicate size 0
+      zeros false = tt
+
+      new : P (new_effect s row t note)
+      unfolding t
+      new = cond_both (is_critical t) _ _ P
+          (λ _. cond_both (nat_le critical_limit (critical_count s.tables)) _ _ P (λ _. not_critical [] s.store) (λ _. keeps (open_of of_table name s.store)))
+          (λ _. done name row handle flags (first_image t) SUCCESS [] s.store plan free_row free_handle (inl (zeros (is_dump_only t))) refl)
+
+    pub by_register : P (register_effect s app short size flags validator note)
+    unfolding t
+    by_register = by_new app short size flags validator note (λ name row handle plan found free_row free_handle. new name row handle plan free_row free_handle)
 
   -- a further handle on the table in this row
   pub by_share : (app : ℕ) (name : List ℕ) → ((row handle : ℕ) → least_free s.tables.handles ≡ Some handle → P (share_by s app row (Some handle))) → P (share_effect s app name)
@@ -261,7 +345,7 @@ module _ (s : State) (P : Effect → Type 0) (refusal : (e : Effect) → e.next 
   -- ---- loads of the owner
 
   -- a function that there is gives its verdict first, and a bad one is a refusal with a deed
-  by_verdict : (row : ℕ) (image : List ℕ) (validator : Option ℕ) (given : Given) (effect : Effect)
+  pub by_verdict : (row : ℕ) (image : List ℕ) (validator : Option ℕ) (given : Given) (effect : Effect)
       → ((number : ℕ) (verdict : ℤ) → validator ≡ Some number → verdict ≡ verdict_at 0 given → is_good verdict ≡ false → P (with_verdict row image number verdict (answered s ERR_VALIDATION_FAILED (verdict_bits verdict))))
       → ((number : ℕ) (verdict : ℤ) → validator ≡ Some number → verdict ≡ verdict_at 0 given → is_good verdict ≡ true → P (with_verdict row image number verdict effect)) → (validator ≡ None → P effect) → P (by_function s row image validator given effect)
   by_verdict row image None given effect bad good none = none refl
@@ -269,15 +353,15 @@ module _ (s : State) (P : Effect → Type 0) (refusal : (e : Effect) → e.next 
       cond_both (is_good (verdict_at 0 given)) (with_verdict row image number (verdict_at 0 given) effect) (with_verdict row image number (verdict_at 0 given) (answered s ERR_VALIDATION_FAILED (verdict_bits (verdict_at 0 given)))) P
       (good number (verdict_at 0 given) refl refl) (bad number (verdict_at 0 given) refl refl)
 
-  module _ (given : Given) (bad : (row : ℕ) (t : Table) (image : List ℕ) (number : ℕ) (verdict : ℤ) → table_at s.tables row ≡ Some t → t.validator ≡ Some number → verdict ≡ verdict_at 0 given → is_good verdict ≡ false → P (with_verdict row image number verdict (answered s ERR_VALIDATION_FAILED (verdict_bits verdict)))) where
+  module _ (given : Given) (bad : (row : ℕ) (t : Table) (image : List ℕ) (number : ℕ) (verdict : ℤ) → table_at s.tables row ≡ Some t → t.validator ≡ Some number → verdict ≡ verdict_at 0 given → is_good verdict ≡ false → P (with_verdict row image number verdict (answered s ERR_VALIDATION_FAILED (verdict_bits verdict)))) (copies : Copies given.note P) where
     pub by_load_image : (app m : ℕ) (image : List ℕ)
         → ((row : ℕ) (t : Table) → table_at s.tables row ≡ Some t → image_refusal s.tables row t (length image) ≡ None → t.validator ≡ None → P (activate_effect s row t image))
         → ((row : ℕ) (t : Table) (number : ℕ) (verdict : ℤ) → table_at s.tables row ≡ Some t → image_refusal s.tables row t (length image) ≡ None → t.validator ≡ Some number → verdict ≡ verdict_at 0 given → is_good verdict ≡ true → P (with_verdict row image number verdict (activate_effect s row t image)))
         → P (load_image_effect s app m image given)
     unfolding load_image_effect
-    by_load_image app m image plain good = by_its_table app m true _ (λ row t there.
+    by_load_image app m image plain good = by_its_table app m true _ (λ row t there. by_copy given.note P copies row _ (
         by_load_ladder (image_refusal s.tables row t (length image)) _ (image_refused s.tables row t (length image)) (λ none.
-        by_verdict row image t.validator given (activate_effect s row t image) (λ number verdict is one no. bad row t image number verdict there is one no) (λ number verdict is one yes. good row t number verdict there none is one yes) (plain row t there none)))
+        by_verdict row image t.validator given (activate_effect s row t image) (λ number verdict is one no. bad row t image number verdict there is one no) (λ number verdict is one yes. good row t number verdict there none is one yes) (plain row t there none))))
 
     pub by_load_file : (app m : ℕ) (name : List ℕ)
         → ((row : ℕ) (t : Table) (file : TableFile) → table_at s.tables row ≡ Some t → closed_refusal t ≡ None → file_refusal s.tables row t file ≡ None → t.validator ≡ None → P (from_file row name (activate_effect s row t (file_image t file))))
@@ -285,12 +369,12 @@ module _ (s : State) (P : Effect → Type 0) (refusal : (e : Effect) → e.next 
         → P (with_verdict row (file_image t file) number verdict (from_file row name (activate_effect s row t (file_image t file)))))
         → P (app_file_effect s app m name given)
     unfolding app_file_effect
-    by_load_file app m name plain good = by_its_table app m true _ (λ row t there.
+    by_load_file app m name plain good = by_its_table app m true _ (λ row t there. by_copy given.note P copies row _ (
         by_ladder (closed_refusal t) _ (closed_refused t) (λ open_to.
         by_file_of name _ (λ file.
         by_load_ladder (file_refusal s.tables row t file) _ (file_refused s.tables row t file) (λ none.
         by_verdict row (file_image t file) t.validator given (from_file row name (activate_effect s row t (file_image t file)))
-        (λ number verdict is one no. bad row t (file_image t file) number verdict there is one no) (λ number verdict is one yes. good row t file number verdict there open_to none is one yes) (plain row t file there open_to none)))))
+        (λ number verdict is one no. bad row t (file_image t file) number verdict there is one no) (λ number verdict is one yes. good row t file number verdict there open_to none is one yes) (plain row t file there open_to none))))))
 
   -- ---- validation, activation, dumps: the owner's part
 
@@ -302,13 +386,13 @@ module _ (s : State) (P : Effect → Type 0) (refusal : (e : Effect) → e.next 
     pends row t there None is = no INFO_NO_VALIDATION_PENDING 0 refl
     pends row t there (Some active) is = done row t active there is
 
-  pub by_update : (app m : ℕ) → ((row : ℕ) (t : Table) → table_at s.tables row ≡ Some t → update_refusal s.tables row t ≡ None → P (updated_effect s row t)) → P (update_effect s app m)
+  pub by_update : (app m : ℕ) (note : BankNote) → Copies note P → ((row : ℕ) (t : Table) → table_at s.tables row ≡ Some t → update_refusal s.tables row t ≡ None → P (updated_effect s row t)) → P (update_effect s app m note)
   unfolding update_effect
-  by_update app m done = by_its_table app m true _ (λ row t there. by_ladder (update_refusal s.tables row t) _ (update_refused s.tables row t) (done row t there))
+  by_update app m note copies done = by_its_table app m true _ (λ row t there. by_copy note P copies row _ (by_ladder (update_refusal s.tables row t) _ (update_refused s.tables row t) (done row t there)))
 
-  pub by_manage : (app m : ℕ) (given : Given) → ((row : ℕ) (t : Table) → table_at s.tables row ≡ Some t → P (managed_effect s (manage_answer s.tables row t) (all_done s given row))) → P (manage_effect s app m given)
+  pub by_manage : (app m : ℕ) (given : Given) → Copies given.note P → ((row : ℕ) (t : Table) → table_at s.tables row ≡ Some t → P (managed_effect s (manage_answer s.tables row t) (all_done s given row))) → P (manage_effect s app m given)
   unfolding manage_effect
-  by_manage app m given done = by_its_table app m true _ done
+  by_manage app m given copies done = by_its_table app m true _ (λ row t there. by_copy given.note P copies row _ (done row t there))
 
   pub by_get_status : (app m : ℕ) → ((row : ℕ) (t : Table) → P (answered s (pending_status s.pending row t) 0)) → P (get_status_effect s app m)
   unfolding get_status_effect
@@ -326,8 +410,40 @@ module _ (s : State) (P : Effect → Type 0) (refusal : (e : Effect) → e.next 
 
   -- ---- blocks of the store
 
+  -- the calls that each request makes, where nothing refuses it
+  pub makes_block : (app : ℕ) (short : List ℕ) (size : ℕ) (note : BankNote)
+      → ((name : List ℕ) → P (then_call (renewal App name size (open_of App name s.store)) note faulted (answered s SUCCESS (new_slot App name (open_of App name s.store) s.store)))) → P (cds_register_effect s app short size note)
+  unfolding cds_register_effect
+  makes_block app short size note done = by_name (name_of s app) _ (λ app_name. unless _ ERR_INVALID_NAME 0 _ refl (unless _ ERR_INVALID_SIZE 0 _ refl (of (full_name app_name short)))) where
+    of : (name : List ℕ) → P (block_effect s name size note (open_of App name s.store))
+    of name = unless _ INFO_CDS_EXISTS (unwrap_or (open_of App name s.store) 0) _ refl (unless _ ERR_CDS_NO_ROOM 0 _ refl (done name))
+
+  by_own_block : (app slot : ℕ) (effect : Stored → Effect) → ((b : Stored) → stored_at s.store slot ≡ Some b → same_kind b.block.kind App ≡ true → P (effect b)) → P (if_block s app slot effect)
+  by_own_block app slot effect done = by_name (name_of s app) _ (λ app_name. found app_name (stored_at s.store slot) refl) where
+    found : (app_name : List ℕ) (b : Option Stored) → stored_at s.store slot ≡ b → P (by_block s app_name b effect)
+    found app_name None there = no ERR_CDS_NOT_FOUND 0 refl
+    found app_name (Some b) there = unless_then (not (is_own app_name b)) ERR_CDS_NOT_FOUND 0 _ refl (λ own. done b there (and_parts (same_kind b.block.kind App) _ (and_parts _ _ (not-false (is_own app_name b) own)).0).0)
+
+  pub copies_block : (app slot : ℕ) (image : List ℕ) (note : BankNote) → P (then_call (copy slot image ∷ []) note faulted (answered s SUCCESS 0)) → P (cds_copy_effect s app slot image note)
+  unfolding cds_copy_effect
+  copies_block app slot image note done = by_own_block app slot _ (λ b there own. unless (not (eqb (length image) b.block.size)) ERR_IMAGE_SIZE 0 _ refl done)
+
+  pub restores_block : (app slot : ℕ) (note : BankNote)
+      → ((e : Effect) → e.next ≡ s → e.deeds ≡ [] → tells_trouble e.status ≡ false → P (then_call (restore slot (restored_image note) ∷ []) note faulted e)) → P (cds_restore_effect s app slot note)
+  unfolding cds_restore_effect
+  restores_block app slot note done = by_own_block app slot _ (λ b there own. given (restored_image note)) where
+    given : (restored : Option (List ℕ)) → P (then_call (restore slot (restored_image note) ∷ []) note faulted (restore_answer s note.torn restored))
+    given None = done (answered s ERR_CDS_TORN note.torn) refl refl refl
+    given (Some image) = done (record (answered s SUCCESS 0) { bytes = image }) refl refl refl
+
+  pub deletes_block : (app slot : ℕ) (note : BankNote)
+      → ((b : Stored) → stored_at s.store slot ≡ Some b → same_kind b.block.kind App ≡ true → P (then_call (delete slot ∷ []) note faulted (answered s SUCCESS 0))) → P (cds_delete_effect s app slot note)
+  unfolding cds_delete_effect
+  deletes_block app slot note done = by_own_block app slot _ done
+
+  -- what they make of the request
   module _ (note : BankNote) (calls_store : CallsStore s note P) where
-    by_calls : (calls : List StoreCall) (e : Effect) → e.next ≡ s → e.deeds ≡ [] → tells_trouble e.status ≡ false → P (then_call calls note faulted e)
+    pub by_calls : (calls : List StoreCall) (e : Effect) → e.next ≡ s → e.deeds ≡ [] → tells_trouble e.status ≡ false → P (then_call calls note faulted e)
     by_calls calls e same no_deeds no_trouble = by note.outcome refl where
       next : (with_calls calls note e).next ≡ record s { store = left_by calls note e.next.store }
       next = ap (λ (t : State). record t { store = left_by calls note e.next.store }) same
@@ -339,36 +455,19 @@ module _ (s : State) (P : Effect → Type 0) (refusal : (e : Effect) → e.next 
       by Stopped is = calls_store.restarts (left_by calls note e.next.store) _ is (ap (boot Processor note) next) no_deeds refl
 
     pub by_cds_register : (app : ℕ) (short : List ℕ) (size : ℕ) → P (cds_register_effect s app short size note)
-    unfolding cds_register_effect
-    by_cds_register app short size = by_name (name_of s app) _ (λ app_name. unless _ ERR_INVALID_NAME 0 _ refl (unless _ ERR_INVALID_SIZE 0 _ refl (of (full_name app_name short) (open_of App (full_name app_name short) s.store)))) where
-      of : (name : List ℕ) (old : Option ℕ) → P (block_effect s name size note old)
-      of name old = unless _ INFO_CDS_EXISTS (unwrap_or old 0) _ refl (unless _ ERR_CDS_NO_ROOM 0 _ refl (by_calls (renewal App name size old) (answered s SUCCESS (new_slot App name old s.store)) refl refl refl))
-
-    by_own_block : (app slot : ℕ) (effect : Stored → Effect) → ((b : Stored) → P (effect b)) → P (if_block s app slot effect)
-    by_own_block app slot effect done = by_name (name_of s app) _ (λ app_name. found app_name (stored_at s.store slot)) where
-      found : (app_name : List ℕ) (b : Option Stored) → P (by_block s app_name b effect)
-      found app_name None = no ERR_CDS_NOT_FOUND 0 refl
-      found app_name (Some b) = unless (not (is_own app_name b)) ERR_CDS_NOT_FOUND 0 _ refl (done b)
+    by_cds_register app short size = makes_block app short size note (λ name. by_calls _ (answered s SUCCESS (new_slot App name (open_of App name s.store) s.store)) refl refl refl)
 
     pub by_cds_copy : (app slot : ℕ) (image : List ℕ) → P (cds_copy_effect s app slot image note)
-    unfolding cds_copy_effect
-    by_cds_copy app slot image = by_own_block app slot _ (λ b. unless (not (eqb (length image) b.block.size)) ERR_IMAGE_SIZE 0 _ refl (by_calls (copy slot image ∷ []) (answered s SUCCESS 0) refl refl refl))
+    by_cds_copy app slot image = copies_block app slot image note (by_calls (copy slot image ∷ []) (answered s SUCCESS 0) refl refl refl)
 
     pub by_cds_restore : (app slot : ℕ) → P (cds_restore_effect s app slot note)
-    unfolding cds_restore_effect
-    by_cds_restore app slot = by_own_block app slot _ (λ b. given (restored_image note)) where
-      given : (restored : Option (List ℕ)) → P (then_call (restore slot (restored_image note) ∷ []) note faulted (restore_answer s note.torn restored))
-      given None = by_calls (restore slot (restored_image note) ∷ []) (answered s ERR_CDS_TORN note.torn) refl refl refl
-      given (Some image) = by_calls (restore slot (restored_image note) ∷ []) (record (answered s SUCCESS 0) { bytes = image }) refl refl refl
+    by_cds_restore app slot = restores_block app slot note (by_calls (restore slot (restored_image note) ∷ []))
+
+    pub by_delete : (slot : ℕ) → P (then_call (delete slot ∷ []) note faulted (answered s SUCCESS 0))
+    by_delete slot = by_calls (delete slot ∷ []) (answered s SUCCESS 0) refl refl refl
 
     pub by_cds_delete : (app slot : ℕ) → P (cds_delete_effect s app slot note)
-    unfolding cds_delete_effect
-    by_cds_delete app slot = by_own_block app slot _ (λ b. by_calls (delete slot ∷ []) (answered s SUCCESS 0) refl refl refl)
-
-    by_table_block : (slot row : Option ℕ) → P (delete_table_block s note slot row)
-    by_table_block None row = no ERR_CDS_NOT_FOUND 0 refl
-    by_table_block (Some slot) (Some row) = no ERR_TABLE_ACTIVE 0 refl
-    by_table_block (Some slot) None = by_calls (delete slot ∷ []) (answered s SUCCESS 0) refl refl refl
+    by_cds_delete app slot = deletes_block app slot note (λ b there own. by_delete slot)
 
   -- ---- the ground's files
 
@@ -418,9 +517,14 @@ module _ (s : State) (P : Effect → Type 0) (refusal : (e : Effect) → e.next 
     unfolding send_registry_effect
     by_send_registry name done = by_named name _ (λ row t there. done row)
 
-    pub by_delete_cds : (note : BankNote) → CallsStore s note P → (name : List ℕ) → P (delete_cds_effect s name note)
+    -- the block of a table that isn't registered
+    pub by_delete_cds : (note : BankNote) (name : List ℕ) → ((slot : ℕ) → any_of of_table name s.store ≡ Some slot → find name s.tables ≡ None → P (then_call (delete slot ∷ []) note faulted (answered s SUCCESS 0))) → P (delete_cds_effect s name note)
     unfolding delete_cds_effect
-    by_delete_cds note calls_store name = about _ _ (by_table_block note calls_store (any_of of_table name s.store) (find name s.tables))
+    by_delete_cds note name done = about _ _ (by (any_of of_table name s.store) (find name s.tables) refl refl) where
+      by : (slot row : Option ℕ) → any_of of_table name s.store ≡ slot → find name s.tables ≡ row → P (delete_table_block s note slot row)
+      by None row block table = no ERR_CDS_NOT_FOUND 0 refl
+      by (Some slot) (Some row) block table = no ERR_TABLE_ACTIVE 0 refl
+      by (Some slot) None block table = done slot block table
 
     module _ (written : (row : Option ℕ) (file bytes : List ℕ) → is_full_for s.drawer file ≡ false → P (written_effect s row file bytes)) where
       pub by_dump : (select : ℕ) (name file : List ℕ)
@@ -456,7 +560,7 @@ pub record Commands (s : State) (note : BankNote) (P : Effect → Type 0) : Type
   pub asks : (row : ℕ) (t : Table) → table_at s.tables row ≡ Some t → activation_refusal s.pending row t ≡ None → P (ask_effect s row t)
   pub aborted : (row : ℕ) (t : Table) → table_at s.tables row ≡ Some t → is_some t.load ≡ true → P (aborted_effect s row)
   pub shown : (row : ℕ) → P (record (answered s SUCCESS 0) { shown = Registry row })
-  pub calls_store : CallsStore s note P
+  pub deletes : (name : List ℕ) (slot : ℕ) → any_of of_table name s.store ≡ Some slot → find name s.tables ≡ None → P (then_call (delete slot ∷ []) note faulted (answered s SUCCESS 0))
   pub written : (row : Option ℕ) (file bytes : List ℕ) → is_full_for s.drawer file ≡ false → P (written_effect s row file bytes)
   pub dump_asked : (file : List ℕ) (row : ℕ) (t : Table) → table_at s.tables row ≡ Some t → is_dump_only t ≡ true → dump_refusal s.tables t ≡ None → P (ask_dump_effect s file row t)
 
@@ -472,7 +576,7 @@ module _ (s : State) (note : BankNote) (P : Effect → Type 0) (refusal : (e : E
   by_asked (Ok (activate table)) refuses = by_activate s P refusal done.about table done.asks
   by_asked (Ok (dump_registry file)) refuses = by_dump_registry s P refusal done.about done.written file
   by_asked (Ok (send_registry table)) refuses = by_send_registry s P refusal done.about table done.shown
-  by_asked (Ok (delete_cds table)) refuses = by_delete_cds s P refusal done.about note done.calls_store table
+  by_asked (Ok (delete_cds table)) refuses = by_delete_cds s P refusal done.about note table (done.deletes table)
   by_asked (Ok (abort table)) refuses = by_abort s P refusal done.about table done.aborted
 
   pub by_command : (bytes : List ℕ) → P (command_effect s bytes note)

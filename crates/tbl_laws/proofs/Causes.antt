@@ -18,13 +18,14 @@ use Rattle.tbl_model.specs.Dispatch.{effect_of}
 use Rattle.tbl_model.proofs.RefusalLaws.{is_refusal}
 use Rattle.tbl_kinds.specs.declared.entry.Answer.{Answer}
 use Rattle.tbl_kinds.specs.declared.note.BankNote.{BankNote}
+use Rattle.tbl_kinds.specs.declared.note.Outcome.TheVariants.{Stopped}
 use Rattle.tbl_kinds.specs.declared.request.Actor.{Actor}
 use Rattle.tbl_kinds.specs.declared.request.Actor.TheVariants.{Ground, App}
 use Rattle.tbl_kinds.specs.declared.request.Request.{Request}
 use Rattle.tbl_kinds.specs.declared.request.Request.TheVariants as ask
 use Rattle.tbl_kinds.specs.declared.status.Status.{Status}
 use Rattle.tbl_kinds.specs.declared.status.TheConstants.Status.{SUCCESS, INFO_UPDATED, INFO_TABLE_LOCKED, INFO_STOPPED, INFO_UPDATE_PENDING, INFO_VALIDATION_PENDING, INFO_DUMP_PENDING, ERR_VALIDATION_FAILED, ERR_CDS_FAULT, ERR_BOOT_FAULT}
-use Rattle.tbl_laws.proofs.Cases.{OfEffect, Commands, by_command, by_file, by_start, by_register, by_share, by_unregister, by_load_image, by_load_file, by_app_validate, by_update, by_manage, by_dump_to_buffer, by_edit, by_get_status, by_get, by_read, by_release, by_info, by_notify, by_exit, CallsStore, by_cds_register, by_cds_copy, by_cds_restore, by_cds_delete}
+use Rattle.tbl_laws.proofs.Cases.{OfEffect, Commands, by_command, by_file, by_start, by_register, by_share, by_unregister, by_load_image, by_load_file, by_app_validate, by_update, by_manage, by_dump_to_buffer, by_edit, by_get_status, by_get, by_read, by_release, by_info, by_notify, by_exit, CallsStore, by_delete, by_cds_register, by_cds_copy, by_cds_restore, by_cds_delete, Copies}
 
 -- an answer that tells of no trouble needs none
 harmless : (status : Status) (note : BankNote) → tells_trouble status ≡ false → HasCause status note
@@ -88,16 +89,25 @@ module _ (s : State) (given : Given) where
   refused : (e : Effect) → e.next ≡ s → e.deeds ≡ [] → is_refusal e.status ≡ true → Caused e
   refused e same no_deeds refuses = of e (or_parts (is_done e.status) (tells_trouble e.status) (not-true _ refuses)).1
 
+  -- a stop has its cause in the note
+  stop_caused : given.note.outcome ≡ Stopped → HasCause INFO_STOPPED given.note
+  stop_caused stopped = record {
+    stop = λ is none. let once : stopped_once given.note.outcome ≡ 1 = rw stopped refl in omega (arith, once, none);
+    fault = λ is. absurd (apart INFO_STOPPED ERR_CDS_FAULT refl is);
+    boot = λ is. absurd (apart INFO_STOPPED ERR_BOOT_FAULT refl is);
+  }
+
+  -- a copy that failed leaves the answer
+  copies : Copies given.note Caused
+  unfolding Caused
+  copies = record { left = λ slot image e p. p; fails = λ row slot e failed p. p; stops = λ e stopped p. stop_caused stopped }
+
   calls_store : CallsStore s given.note Caused
   unfolding Caused
   calls_store = record {
     answers = λ store e is no_deeds no_trouble. of e no_trouble;
     fails = λ store e failed is no_deeds status. rw status (record { stop = λ is. absurd (apart ERR_CDS_FAULT INFO_STOPPED refl is); fault = λ is. failed; boot = λ is. absurd (apart ERR_CDS_FAULT ERR_BOOT_FAULT refl is) });
-    restarts = λ store e stopped is no_deeds status. rw status (record {
-      stop = λ is none. let once : stopped_once given.note.outcome ≡ 1 = rw stopped refl in omega (arith, once, none);
-      fault = λ is. absurd (apart INFO_STOPPED ERR_CDS_FAULT refl is);
-      boot = λ is. absurd (apart INFO_STOPPED ERR_BOOT_FAULT refl is);
-    });
+    restarts = λ store e stopped is no_deeds status. rw status (stop_caused stopped);
   }
 
   commands : Commands s given.note Caused
@@ -112,7 +122,7 @@ module _ (s : State) (given : Given) where
     asks = λ row t there none. harmless _ _ refl;
     aborted = λ row t there open_load. harmless _ _ refl;
     shown = λ row. harmless _ _ refl;
-    calls_store = calls_store;
+    deletes = λ name slot block none. by_delete s Caused refused given.note calls_store slot;
     written = λ row file bytes free. rw free (harmless SUCCESS given.note refl);
     dump_asked = λ file row t there only none. rw none (harmless SUCCESS given.note refl);
   }
@@ -125,16 +135,16 @@ module _ (s : State) (given : Given) where
   caused Ground (ask.Reset kind) = reset_caused given.note
   caused Ground _ = tt
   caused (App app) (ask.Start name) = by_start s Caused refused app name (harmless _ _ refl)
-  caused (App app) (ask.Register short size flags validator) = by_register s Caused refused app short size flags validator (λ name row handle may free_row free_handle. harmless _ _ refl)
+  caused (App app) (ask.Register short size flags validator) = by_register s Caused refused app short size flags validator given.note calls_store (λ name row handle options first status calls store plan free_row free_handle begins quiet. harmless status given.note quiet)
   caused (App app) (ask.Share name) = by_share s Caused refused app name (λ row handle free. harmless _ _ refl)
   caused (App app) (ask.Unregister handle) = by_unregister s Caused refused app handle (λ h place own. harmless _ _ refl)
-  caused (App app) (ask.LoadImage handle image) = by_load_image s Caused refused given (λ row t bytes number verdict there is one bad. harmless _ _ refl) app handle image.list
+  caused (App app) (ask.LoadImage handle image) = by_load_image s Caused refused given (λ row t bytes number verdict there is one bad. harmless _ _ refl) copies app handle image.list
       (λ row t there none no_function. harmless _ _ refl) (λ row t number verdict there none is one good. harmless _ _ refl)
-  caused (App app) (ask.LoadFile handle name) = by_load_file s Caused refused given (λ row t bytes number verdict there is one bad. harmless _ _ refl) app handle name
+  caused (App app) (ask.LoadFile handle name) = by_load_file s Caused refused given (λ row t bytes number verdict there is one bad. harmless _ _ refl) copies app handle name
       (λ row t file there open_to none no_function. harmless _ _ refl) (λ row t file number verdict there open_to none is one good. harmless _ _ refl)
-  caused (App app) (ask.Update handle) = by_update s Caused refused app handle (λ row t there none. harmless _ _ refl)
+  caused (App app) (ask.Update handle) = by_update s Caused refused app handle given.note copies (λ row t there none. harmless _ _ refl)
   caused (App app) (ask.Validate handle) = by_app_validate s Caused refused app handle given (λ row t active there first. harmless _ _ (judged (is_good (verdict_at 0 given))))
-  caused (App app) (ask.Manage handle) = by_manage s Caused refused app handle given (λ row t there. harmless _ _ (managed s.tables row t))
+  caused (App app) (ask.Manage handle) = by_manage s Caused refused app handle given copies (λ row t there. harmless _ _ (managed s.tables row t))
   caused (App app) (ask.DumpToBuffer handle) = by_dump_to_buffer s Caused refused app handle (λ row t there is. harmless _ _ refl)
   caused (App app) (ask.Edit handle offset bytes) = by_edit s Caused refused app handle offset bytes.list (λ row t there none. harmless _ _ refl)
   caused (App app) (ask.Get handle) = by_get s Caused refused app handle (λ a leads some. harmless _ _ (updated (nat_lt a.handle.told a.table.count)))

@@ -1,12 +1,16 @@
 -- Each request is fair to pins.
 use Rattle.tbl_kinds.specs.Numbers.{patched}
-use Rattle.std.proofs.Common.{◌≡◌, ◌≢◌, ℕ, eqb, nat_lt, List, [], ◌∷◌, length, Bool, true, false, not, ◌&&◌, ◌||◌, cond, Option, Some, None, is_some, refl, ap, sym, ◌∙◌, arith, ℤ, pos}
+use Rattle.std.proofs.Common.{◌≡◌, ◌≢◌, ℕ, zero, suc, eqb, nat_lt, List, [], ◌∷◌, length, Bool, true, false, not, ◌&&◌, ◌||◌, cond, Option, Some, None, is_some, refl, ap, sym, ◌∙◌, subst, inl, inr, arith, ℤ, pos}
 use Rattle.std.proofs.Common.{ℤ, pos}
+use Rattle.std.specs.Prelude.{take, IfSome}
 use Rattle.std.specs.List.{fold, range_with_len}
-use Rattle.std.specs.Option.{option_map_or}
-use Rattle.std.proofs.lemmas.Bool.{eq-eqb, ne_eqb, cond_both}
+use Rattle.std.specs.Option.{ForSome, option_map, option_map_or}
+use Rattle.std.proofs.lemmas.Bool.{eq-eqb, eqb-true, ne_eqb, cond_both}
 use Rattle.tbl_kinds.specs.Buffers.{Buffer}
 use Rattle.tbl_kinds.specs.Drawer.{is_full_for}
+use Rattle.tbl_kinds.specs.Blocks.{Stored}
+use Rattle.tbl_kinds.specs.StoreSteps.{stored_at, MayGive}
+use Rattle.tbl_kinds.specs.StoreCalls.{StoreCall, restore}
 use Rattle.tbl_kinds.specs.TableFiles.{TableFile}
 use Rattle.tbl_model.specs.State.{State, Load, Table, Handle, Tables, Dump, quiet, asked, filled}
 use Rattle.tbl_model.specs.Tables.{table_at, is_quiet, rows_where}
@@ -21,6 +25,9 @@ use Rattle.tbl_model.specs.AppLoads.{file_image}
 use Rattle.tbl_model.specs.Management.{Done, nothing_done, with_validation, then_validate, with_update, then_update, with_fill, then_fill, all_done, is_asked, manage_answer, pending_status}
 use Rattle.tbl_model.specs.Dumps.{Ended, end_by, then_end, dumps_ended, housekeeping_effect, is_filled}
 use Rattle.tbl_model.specs.Sharing.{give_up, give_up_if, without_handles_of, ended_app}
+use Rattle.tbl_model.specs.AppBlocks.{has_size}
+use Rattle.tbl_model.specs.Registration.{register_effect}
+use Rattle.tbl_model.specs.StoreNotes.{MayGoOn, Tells, IsNoteOf}
 use Rattle.tbl_model.specs.Dispatch.{effect_of}
 use Rattle.tbl_model.specs.Counts.{is_reset}
 use Rattle.tbl_model.specs.Whole.{asks_address, asks_end, asks_removal, is_exit}
@@ -41,7 +48,7 @@ use Rattle.tbl_laws.proofs.Ordinary.{free_place}
 use Rattle.tbl_laws.proofs.Pins.{AreLoaded, Keeps, stays_keeps, unpinned_set, release_keeps, add_keeps, put_keeps, unseen_keeps, then_keeps, file_keeps, close_keeps, mark_keeps, patched_sized, stays_goes_on}
 use Rattle.tbl_laws.proofs.PinsKept.{update_keeps, give_up_keeps, leave_keeps, put_alone_keeps}
 use Rattle.tbl_laws.proofs.Fair.{IsPlain, Fair, fair_keeps, fair_plain, fair_refused, fair_anew, no_stop, pin_fair, back_fair, granted}
-use Rattle.tbl_laws.proofs.Cases.{OfEffect, Commands, by_command, by_file, by_start, by_register, by_load_image, by_load_file, by_app_validate, by_update, by_manage, by_get_status, by_get, by_read, by_release, by_share, by_unregister, by_dump_to_buffer, by_edit, by_info, by_notify, by_exit, CallsStore, by_cds_register, by_cds_copy, by_cds_restore, by_cds_delete}
+use Rattle.tbl_laws.proofs.Cases.{OfEffect, Commands, by_command, by_file, by_start, by_register, by_load_image, by_load_file, by_app_validate, by_update, by_manage, by_get_status, by_get, by_read, by_release, by_share, by_unregister, by_dump_to_buffer, by_edit, by_info, by_notify, by_exit, CallsStore, by_delete, by_cds_register, by_cds_copy, by_cds_restore, by_cds_delete, Copies, Begins}
 
 -- a load that is about to go active is open
 pub open_checked : (t : Table) → is_checked t ≡ true → is_some t.load ≡ true
@@ -132,7 +139,7 @@ module _ (s : State) (n : ℕ) (fit : AreFit n s) where
         asks = λ row t there none. keeps _ (unseen_keeps s.tables row (λ u. record u { activation = true }) (λ u. refl) (λ u. refl)) refl;
         aborted = λ row t there open_load. keeps _ (close_keeps s.tables row) refl;
         shown = λ row. keeps _ (stays_keeps s.tables) refl;
-        calls_store = calls_store Ground request note plain;
+        deletes = λ name slot block none. by_delete s (Fair s Ground request) (fair_refused s Ground request plain.no_reset) note (calls_store Ground request note plain) slot;
         written = λ row file bytes free. rw free (keeps _ (stays_keeps s.tables) refl);
         dump_asked = λ file row t there only none. rw none (keeps _ (unseen_keeps s.tables row (λ u. record u { dump = asked file }) (λ u. refl) (λ u. refl)) refl);
       }
@@ -221,102 +228,133 @@ module _ (s : State) (n : ℕ) (fit : AreFit n s) where
   plain_of : (request : Request) → ((k : ℕ) → asks_address k request ≡ false) → ((k : ℕ) → asks_end k request ≡ false) → ((k : ℕ) → asks_removal k request ≡ false) → is_exit request ≡ false → is_reset request ≡ false → IsPlain request
   plain_of request address end removal exit reset = record { no_address = address; no_end = end; no_removal = removal; no_exit = exit; no_reset = reset }
 
-  pub request_fair : AreLoaded s.tables.rows → (actor : Actor) (request : Request) (given : Given) → OfEffect (Fair s actor request) (effect_of s actor request given)
-  request_fair loaded Ground (ask.Command bytes) given = by_command s given.note (Fair s Ground (ask.Command bytes)) (fair_refused s Ground (ask.Command bytes) refl) (commands bytes given.note) bytes.list
-  request_fair loaded Ground (ask.File name bytes) given =
+  -- an image that a restore gave has its block's size
+  sized : (note : BankNote) (request : Request) (size : ℕ) (calls : List StoreCall) (first : Option (List ℕ)) → Begins s.store note size calls first → IsNoteOf request calls s.store note → IfSome first (λ image. length image ≡ size)
+  sized note request size calls first (inl is) noted = is
+  sized note request size calls first (inr (slot, are, has, gave)) noted = by note.done (rw are at noted.gave) (rw are at noted.tells) where
+    of : (b : Option Stored) → has_size size b ≡ true → ForSome b (λ b. MayGive b first × IfSome first (λ image. length image ≡ b.block.size)) → IfSome first (λ image. length image ≡ size)
+    of None is may = absurd (cc is)
+    of (Some b) is may = subst (λ (n : ℕ). IfSome first (λ image. length image ≡ n)) (eqb-true b.block.size size is) (may b refl).1
+
+    by : (done : ℕ) → MayGoOn (take done (restore slot first ∷ [])) s.store → Tells (take done (restore slot first ∷ [])) note → IfSome first (λ image. length image ≡ size)
+    by zero may tells = rw (gave ∙ ap (option_map (λ (b : Buffer). b.list)) tells.0) tt
+    by (suc done) may tells = of (stored_at s.store slot) has may.0
+
+  -- of each request, with a note that it may leave
+  abbrev Goes : Actor → Request → BankNote → Effect → Type 0
+  Goes actor request note e = IsNoteOf request e.calls s.store note → Fair s actor request e
+
+  goes_copies : (actor : Actor) (request : Request) (note : BankNote) → Copies note (Fair s actor request)
+  goes_copies actor request note = record {
+    left = λ slot image e p. record { pins = p.pins; loaded = p.loaded };
+    fails = λ row slot e failed p. record { pins = p.pins; loaded = p.loaded };
+    stops = λ e stop p. fair_anew s actor request _ refl;
+  }
+
+  registered_fair : (app : ℕ) (short : List ℕ) (size flags : ℕ) (validator : Option ℕ) (request : Request) (note : BankNote) → IsPlain request → Goes (App app) request note (register_effect s app short size flags validator note)
+  registered_fair app short size flags validator request note plain =
+      let store_called = calls_store (App app) request note plain in
+      by_register s (Goes (App app) request note) (λ e same no_deeds is noted. refuses app request plain e same no_deeds is) app short size flags validator note (record {
+        answers = λ store e is no_deeds quiet noted. store_called.answers store e is no_deeds quiet;
+        fails = λ store e failed is no_deeds status noted. store_called.fails store e failed is no_deeds status;
+        restarts = λ store e stopped is no_deeds status noted. store_called.restarts store e stopped is no_deeds status;
+      }) (λ name row handle options first status calls store plan free_row free_handle begins quiet noted.
+      keeps app request plain _ (add_keeps s.tables row (new_table name app size options validator handle) first (free_place s.tables.rows row free_row).1 refl (sized note request size calls first begins noted)) (no_stop status quiet))
+
+  pub request_fair : AreLoaded s.tables.rows → (actor : Actor) (request : Request) (given : Given) → OfEffect (Goes actor request given.note) (effect_of s actor request given)
+  request_fair loaded Ground (ask.Command bytes) given = λ noted. by_command s given.note (Fair s Ground (ask.Command bytes)) (fair_refused s Ground (ask.Command bytes) refl) (commands bytes given.note) bytes.list
+  request_fair loaded Ground (ask.File name bytes) given = λ noted.
       let request : Request = ask.File name bytes in
       by_file s (Fair s Ground request) (fair_refused s Ground request refl) name bytes.list (fair_plain s Ground request (plain_of request (λ k. refl) (λ k. refl) (λ k. refl) refl refl) _ (stays_keeps s.tables) refl)
-  request_fair loaded Ground (ask.Time seconds sub) given =
+  request_fair loaded Ground (ask.Time seconds sub) given = λ noted.
       let request : Request = ask.Time seconds sub in
       fair_plain s Ground request (plain_of request (λ k. refl) (λ k. refl) (λ k. refl) refl refl) _ (stays_keeps s.tables) refl
-  request_fair loaded Ground (ask.Reset kind) given = fair_anew s Ground (ask.Reset kind) _ refl
+  request_fair loaded Ground (ask.Reset kind) given = λ noted. fair_anew s Ground (ask.Reset kind) _ refl
   request_fair loaded Ground _ given = tt
-  request_fair loaded (App app) (ask.Start name) given =
+  request_fair loaded (App app) (ask.Start name) given = λ noted.
       let request : Request = ask.Start name in
       let plain = plain_of request (λ k. refl) (λ k. refl) (λ k. refl) refl refl in
       by_start s (Fair s (App app) request) (refuses app request plain) app name (quiet_fair app request plain _ refl refl)
   request_fair loaded (App app) (ask.Register short size flags validator) given =
       let request : Request = ask.Register short size flags validator in
-      let plain = plain_of request (λ k. refl) (λ k. refl) (λ k. refl) refl refl in
-      by_register s (Fair s (App app) request) (refuses app request plain) app short size flags validator (λ name row handle may free_row free_handle.
-      keeps app request plain _ (add_keeps s.tables row handle app (new_table name app size flags validator handle) (free_place s.tables.rows row free_row).1 refl) refl)
-  request_fair loaded (App app) (ask.Share name) given =
+      registered_fair app short size flags validator request given.note (plain_of request (λ k. refl) (λ k. refl) (λ k. refl) refl refl)
+  request_fair loaded (App app) (ask.Share name) given = λ noted.
       let request : Request = ask.Share name in
       let plain = plain_of request (λ k. refl) (λ k. refl) (λ k. refl) refl refl in
       by_share s (Fair s (App app) request) (refuses app request plain) app name (λ row handle free. keeps app request plain _ (record {
         remains = λ k h p at pin. record { was = (unpinned_set s.tables.handles handle (new_handle app row) k h p refl at pin).1; goes_on = λ j t of there near. stays_goes_on s.tables.rows j p t there near };
         loaded = λ all. all;
       }) refl)
-  request_fair loaded (App app) (ask.Unregister m) given = by_unregister s (Fair s (App app) (ask.Unregister m)) (fair_refused s (App app) (ask.Unregister m) refl) app m (λ h place own. unregistered app m h place)
-  request_fair loaded (App app) (ask.LoadImage handle image) given =
+  request_fair loaded (App app) (ask.Unregister m) given = λ noted. by_unregister s (Fair s (App app) (ask.Unregister m)) (fair_refused s (App app) (ask.Unregister m) refl) app m (λ h place own. unregistered app m h place)
+  request_fair loaded (App app) (ask.LoadImage handle image) given = λ noted.
       let request : Request = ask.LoadImage handle image in
       let plain = plain_of request (λ k. refl) (λ k. refl) (λ k. refl) refl refl in
-      by_load_image s (Fair s (App app) request) (refuses app request plain) given (λ row t bytes number verdict there is one bad. quiet_fair app request plain _ refl refl) app handle image.list
+      by_load_image s (Fair s (App app) request) (refuses app request plain) given (λ row t bytes number verdict there is one bad. quiet_fair app request plain _ refl refl) (goes_copies (App app) request given.note) app handle image.list
       (λ row t there none no_function. keeps app request plain _ (loaded_image row t image.list there none) refl) (λ row t number verdict there none is one good. keeps app request plain _ (loaded_image row t image.list there none) refl)
-  request_fair loaded (App app) (ask.LoadFile handle name) given =
+  request_fair loaded (App app) (ask.LoadFile handle name) given = λ noted.
       let request : Request = ask.LoadFile handle name in
       let plain = plain_of request (λ k. refl) (λ k. refl) (λ k. refl) refl refl in
-      by_load_file s (Fair s (App app) request) (refuses app request plain) given (λ row t bytes number verdict there is one bad. quiet_fair app request plain _ refl refl) app handle name
+      by_load_file s (Fair s (App app) request) (refuses app request plain) given (λ row t bytes number verdict there is one bad. quiet_fair app request plain _ refl refl) (goes_copies (App app) request given.note) app handle name
       (λ row t file there open_to none no_function. keeps app request plain _ (loaded_from name row t file there loaded none) refl) (λ row t file number verdict there open_to none is one good. keeps app request plain _ (loaded_from name row t file there loaded none) refl)
-  request_fair loaded (App app) (ask.Update handle) given =
+  request_fair loaded (App app) (ask.Update handle) given = λ noted.
       let request : Request = ask.Update handle in
       let plain = plain_of request (λ k. refl) (λ k. refl) (λ k. refl) refl refl in
-      by_update s (Fair s (App app) request) (refuses app request plain) app handle (λ row t there none.
+      by_update s (Fair s (App app) request) (refuses app request plain) app handle given.note (goes_copies (App app) request given.note) (λ row t there none.
       let taken = update_taken s.tables row t none in
       keeps app request plain _ (update_keeps s.tables row t s.seconds s.sub there taken.1 (open_checked t ((was n s fit row t there).checked taken.0))) refl)
-  request_fair loaded (App app) (ask.Validate handle) given =
+  request_fair loaded (App app) (ask.Validate handle) given = λ noted.
       let request : Request = ask.Validate handle in
       let plain = plain_of request (λ k. refl) (λ k. refl) (λ k. refl) refl refl in
       by_app_validate s (Fair s (App app) request) (refuses app request plain) app handle given (λ row t active there first. keeps app request plain _ (marks row active (verdict_at 0 given)) (judged_goes_on (is_good (verdict_at 0 given))))
-  request_fair loaded (App app) (ask.Manage handle) given =
+  request_fair loaded (App app) (ask.Manage handle) given = λ noted.
       let request : Request = ask.Manage handle in
       let plain = plain_of request (λ k. refl) (λ k. refl) (λ k. refl) refl refl in
-      by_manage s (Fair s (App app) request) (refuses app request plain) app handle given (λ row t there. keeps app request plain _ (manage_keeps n row given s fit) (manage_goes_on s.tables row t))
-  request_fair loaded (App app) (ask.DumpToBuffer handle) given =
+      by_manage s (Fair s (App app) request) (refuses app request plain) app handle given (goes_copies (App app) request given.note) (λ row t there. keeps app request plain _ (manage_keeps n row given s fit) (manage_goes_on s.tables row t))
+  request_fair loaded (App app) (ask.DumpToBuffer handle) given = λ noted.
       let request : Request = ask.DumpToBuffer handle in
       let plain = plain_of request (λ k. refl) (λ k. refl) (λ k. refl) refl refl in
       by_dump_to_buffer s (Fair s (App app) request) (refuses app request plain) app handle (λ row t there is. keeps app request plain _ (unseen_keeps s.tables row (λ u. record u { dump = filled_with (last_image u) u.dump }) (λ u. refl) (λ u. refl)) refl)
-  request_fair loaded (App app) (ask.Edit handle offset bytes) given =
+  request_fair loaded (App app) (ask.Edit handle offset bytes) given = λ noted.
       let request : Request = ask.Edit handle offset bytes in
       let plain = plain_of request (λ k. refl) (λ k. refl) (λ k. refl) refl refl in
       by_edit s (Fair s (App app) request) (refuses app request plain) app handle offset bytes.list (λ row t there none.
       let taken = edit_taken s.tables row t offset (length bytes.list) none in
       keeps app request plain _ (put_alone_keeps s.tables row t (patched (base t) offset bytes.list) there taken.2 (patched_sized t offset bytes.list (loaded row t there) taken.1)) refl)
-  request_fair loaded (App app) (ask.Get handle) given = by_get s (Fair s (App app) (ask.Get handle)) (fair_refused s (App app) (ask.Get handle) refl) app handle (pin_fair s app handle)
-  request_fair loaded (App app) (ask.Read handle offset len) given =
+  request_fair loaded (App app) (ask.Get handle) given = λ noted. by_get s (Fair s (App app) (ask.Get handle)) (fair_refused s (App app) (ask.Get handle) refl) app handle (pin_fair s app handle)
+  request_fair loaded (App app) (ask.Read handle offset len) given = λ noted.
       let request : Request = ask.Read handle offset len in
       let plain = plain_of request (λ k. refl) (λ k. refl) (λ k. refl) refl refl in
       by_read s (Fair s (App app) request) (refuses app request plain) app handle offset len (λ a leads pinned inside. quiet_fair app request plain _ refl refl)
-  request_fair loaded (App app) (ask.Release handle) given =
+  request_fair loaded (App app) (ask.Release handle) given = λ noted.
       by_release s (Fair s (App app) (ask.Release handle)) (fair_refused s (App app) (ask.Release handle) refl) app handle (λ a leads pinned. rw pinned
       (back_fair s app handle (ask.Release handle) (λ k. refl) (λ k. refl) refl refl _ (release_keeps s.tables handle a.handle a.row a.table leads.there) (granted (nat_lt a.handle.told a.table.count)).1
       (λ k g p at pin. (unpinned_set s.tables.handles handle (record a.handle { pin = None }) k g p refl at pin).0) (λ k g p row t at pin of there on. refl)))
-  request_fair loaded (App app) (ask.GetStatus handle) given =
+  request_fair loaded (App app) (ask.GetStatus handle) given = λ noted.
       let request : Request = ask.GetStatus handle in
       let plain = plain_of request (λ k. refl) (λ k. refl) (λ k. refl) refl refl in
       by_get_status s (Fair s (App app) request) (refuses app request plain) app handle (λ row t. quiet_fair app request plain _ refl (status_goes_on s.pending row t))
-  request_fair loaded (App app) (ask.GetInfo name) given =
+  request_fair loaded (App app) (ask.GetInfo name) given = λ noted.
       let request : Request = ask.GetInfo name in
       let plain = plain_of request (λ k. refl) (λ k. refl) (λ k. refl) refl refl in
       by_info s (Fair s (App app) request) (refuses app request plain) app name (λ t. quiet_fair app request plain _ refl refl)
-  request_fair loaded (App app) (ask.Notify handle msg code parameter) given =
+  request_fair loaded (App app) (ask.Notify handle msg code parameter) given = λ noted.
       let request : Request = ask.Notify handle msg code parameter in
       let plain = plain_of request (λ k. refl) (λ k. refl) (λ k. refl) refl refl in
       by_notify s (Fair s (App app) request) (refuses app request plain) app handle msg code parameter (λ row t there is. keeps app request plain _ (unseen_keeps s.tables row (λ u. record u { notice = Some (record { msg = msg; code = code; parameter = parameter }) }) (λ u. refl) (λ u. refl)) refl)
-  request_fair loaded (App app) ask.Exit given = by_exit s (Fair s (App app) ask.Exit) (fair_refused s (App app) ask.Exit refl) app (ended app)
-  request_fair loaded (App app) (ask.CdsRegister name size) given =
+  request_fair loaded (App app) ask.Exit given = λ noted. by_exit s (Fair s (App app) ask.Exit) (fair_refused s (App app) ask.Exit refl) app (ended app)
+  request_fair loaded (App app) (ask.CdsRegister name size) given = λ noted.
       let request : Request = ask.CdsRegister name size in
       let plain = plain_of request (λ k. refl) (λ k. refl) (λ k. refl) refl refl in
       by_cds_register s (Fair s (App app) request) (refuses app request plain) given.note (calls_store (App app) request given.note plain) app name size
-  request_fair loaded (App app) (ask.CdsCopy slot image) given =
+  request_fair loaded (App app) (ask.CdsCopy slot image) given = λ noted.
       let request : Request = ask.CdsCopy slot image in
       let plain = plain_of request (λ k. refl) (λ k. refl) (λ k. refl) refl refl in
       by_cds_copy s (Fair s (App app) request) (refuses app request plain) given.note (calls_store (App app) request given.note plain) app slot image.list
-  request_fair loaded (App app) (ask.CdsRestore slot) given =
+  request_fair loaded (App app) (ask.CdsRestore slot) given = λ noted.
       let request : Request = ask.CdsRestore slot in
       let plain = plain_of request (λ k. refl) (λ k. refl) (λ k. refl) refl refl in
       by_cds_restore s (Fair s (App app) request) (refuses app request plain) given.note (calls_store (App app) request given.note plain) app slot
-  request_fair loaded (App app) (ask.CdsDelete slot) given =
+  request_fair loaded (App app) (ask.CdsDelete slot) given = λ noted.
       let request : Request = ask.CdsDelete slot in
       let plain = plain_of request (λ k. refl) (λ k. refl) (λ k. refl) refl refl in
       by_cds_delete s (Fair s (App app) request) (refuses app request plain) given.note (calls_store (App app) request given.note plain) app slot

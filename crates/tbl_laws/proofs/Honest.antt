@@ -122,6 +122,13 @@ index_before [] ys (suc place) x is = absurd (cc is)
 index_before (z ∷ zs) ys zero x is = is
 index_before (z ∷ zs) ys (suc place) x is = index_before zs ys place x is
 
+-- what stands before nothing
+pub index_none : {X : Type 0} (xs : List (Option X)) (place : ℕ) (x : X) → slice_index_or (xs ++ None ∷ []) place None ≡ Some x → slice_index_or xs place None ≡ Some x
+index_none [] zero x is = absurd (cc is)
+index_none [] (suc place) x is = absurd (cc is)
+index_none (z ∷ zs) zero x is = is
+index_none (z ∷ zs) (suc place) x is = index_none zs place x is
+
 pub passes_more : (deeds more : List Deed) (images others : List (Option (List ℕ))) (row : ℕ) (image : List ℕ) (most least : ℕ) → most ≤ least → PassesIn deeds images row image most → PassesIn (deeds ++ more) (images ++ others) row image least
 passes_more deeds more images others row image most least low p = record {
   place = p.place;

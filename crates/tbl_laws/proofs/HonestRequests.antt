@@ -11,7 +11,7 @@ use Rattle.tbl_kinds.specs.Drawer.{is_full_for}
 use Rattle.tbl_kinds.specs.Numbers.{patched}
 use Rattle.tbl_model.specs.State.{State, Load, Table, Handle, Tables, Dump, quiet, asked, filled, no_tables}
 use Rattle.tbl_model.specs.Tables.{table_at, rows_where}
-use Rattle.tbl_model.specs.TableSteps.{handle_at, base, unchecked, last_image, load_image, let_go, with_image, put, put_in, set_time, set_time_in, set_file, set_checked, patch, activate, changed, changed_in, filled_with, end_dump, without_handle, give_back_by, remove, registered_by, with_table, with_handle, new_table, new_handle, as_registered}
+use Rattle.tbl_model.specs.TableSteps.{handle_at, base, unchecked, last_image, load_image, let_go, with_image, put, put_in, set_time, set_time_in, set_file, set_checked, patch, activate, changed, changed_in, filled_with, end_dump, without_handle, give_back_by, remove, registered_by, with_table, with_handle, new_table, with_first, added}
 use Rattle.tbl_model.specs.Effects.{Effect, answered}
 use Rattle.tbl_model.specs.Deeds.{is_good, verdict_bits, activated, finished}
 use Rattle.tbl_model.specs.Given.{Given, verdict_at}
@@ -20,12 +20,13 @@ use Rattle.tbl_model.specs.Refusals.{update_refusal}
 use Rattle.tbl_model.specs.Validations.{judged_image, marked, validated_effect}
 use Rattle.tbl_model.specs.AppLoads.{activate_effect, with_verdict, file_image}
 use Rattle.tbl_model.specs.Activations.{updated_effect}
+use Rattle.tbl_model.specs.Copies.{copy_failed}
 use Rattle.tbl_model.specs.Management.{Done, nothing_done, with_validation, then_validate, with_update, then_update, with_fill, then_fill, all_done, is_asked}
 use Rattle.tbl_model.specs.Dumps.{Ended, end_by, then_end, dumps_ended, housekeeping_effect, is_filled}
 use Rattle.tbl_model.specs.Sharing.{give_up, give_up_by, give_up_if, is_handle_of, without_handles_of}
 use Rattle.tbl_model.specs.Dispatch.{effect_of}
 use Rattle.tbl_model.specs.declared.deeds.Deed.{Deed}
-use Rattle.tbl_model.specs.declared.deeds.Deed.TheVariants.{Judged, Activated, Dumped, NotDumped}
+use Rattle.tbl_model.specs.declared.deeds.Deed.TheVariants.{Judged, Activated, CopyFailed, Dumped, NotDumped}
 use Rattle.tbl_model.proofs.RefusalLaws.{is_refusal, update_taken}
 use Rattle.tbl_kinds.specs.declared.entry.Answer.{Answer}
 use Rattle.tbl_kinds.specs.declared.status.TheConstants.Status.{ERR_VALIDATION_FAILED}
@@ -40,8 +41,8 @@ use Rattle.tbl_laws.proofs.Fits.{was}
 use Rattle.tbl_laws.proofs.Changes.{with_found, either, validated}
 use Rattle.tbl_laws.proofs.Ordinary.{free_place}
 use Rattle.tbl_laws.proofs.Pins.{nothing_there}
-use Rattle.tbl_laws.proofs.Honest.{TellsIn, PassesIn, NoneActive, none_active_nil, none_active_one, none_active_more, slice_get_more, passes_more, last_tells, Inherits, inherits_same, then_inherits, inherits_row, inherits_none, IsHonest, honest_plain}
-use Rattle.tbl_laws.proofs.Cases.{OfEffect, Commands, by_command, by_file, by_start, by_register, by_load_image, by_load_file, by_app_validate, by_update, by_manage, by_get_status, by_get, by_read, by_release, by_share, by_unregister, by_dump_to_buffer, by_edit, by_info, by_notify, by_exit, CallsStore, by_cds_register, by_cds_copy, by_cds_restore, by_cds_delete}
+use Rattle.tbl_laws.proofs.Honest.{TellsIn, PassesIn, NoneActive, none_active_nil, none_active_one, none_active_more, slice_get_more, index_none, passes_more, is_activated, last_tells, Inherits, inherits_same, then_inherits, inherits_row, inherits_none, IsHonest, honest_plain}
+use Rattle.tbl_laws.proofs.Cases.{OfEffect, Commands, by_command, by_file, by_start, by_register, by_load_image, by_load_file, by_app_validate, by_update, by_manage, by_get_status, by_get, by_read, by_release, by_share, by_unregister, by_dump_to_buffer, by_edit, by_info, by_notify, by_exit, CallsStore, by_delete, by_cds_register, by_cds_copy, by_cds_restore, by_cds_delete, Copies}
 
 -- ---- changes that make no mark
 
@@ -392,6 +393,30 @@ module _ (s : State) (n : ℕ) (fit : AreFit n s) where
     restarts = λ store e stopped is no_deeds status. anew e no_deeds (ap (λ (t : State). t.tables) is);
   }
 
+  -- that a copy failed is told behind all else
+  failed : (row slot : ℕ) (e : Effect) → IsHonest s e → IsHonest s (copy_failed row slot e)
+  failed row slot e p = record {
+    active = λ place k count name image t tells there function. elim (slice_get_more e.deeds (CopyFailed row slot) (Activated k count name) place tells.deed_is) [
+      | inl old ↦ elim (p.active place k count name image t (record { deed_is = old; image_is = index_none e.images place image tells.image_is }) there function) [
+        | inl passes ↦ inl (passes_more e.deeds (CopyFailed row slot ∷ []) e.images (None ∷ []) k image place place (omega arith) passes)
+        | inr load ↦ inr load
+      ]
+      | inr end ↦ absurd (cc (ap is_activated end.1))
+    ];
+    marks = λ k u l at load checked function. elim (p.marks k u l at load checked function) [
+      | inl passes ↦ inl (passes_more e.deeds (CopyFailed row slot ∷ []) e.images (None ∷ []) k l.image (length e.deeds) _ (omega (arith, length-append e.deeds (CopyFailed row slot ∷ []))) passes)
+      | inr before ↦ inr before
+    ];
+  }
+
+  -- and a stop leaves no table
+  copies : (note : BankNote) → Copies note (IsHonest s)
+  copies note = record {
+    left = λ slot image e p. record { active = p.active; marks = p.marks };
+    fails = λ row slot e fails p. failed row slot e p;
+    stops = λ e stop p. record { active = p.active; marks = λ k u l at load checked function. absurd (nothing_there 128 k u at) };
+  }
+
   commands : (note : BankNote) → Commands s note (IsHonest s)
   unfolding housekeeping_effect dumps_ended
   commands note = record {
@@ -406,7 +431,7 @@ module _ (s : State) (n : ℕ) (fit : AreFit n s) where
     asks = λ row t there none. plain _ refl (inherits_unseen s.tables row (λ u. record u { activation = true }) (λ u. refl) (λ u. refl));
     aborted = λ row t there open_load. plain _ refl (inherits_changed s.tables row (λ u. record u { load = None; activation = false }) (λ u. refl) (λ u l is checked. absurd (cc is)));
     shown = λ row. same_tables _ refl refl;
-    calls_store = calls_store note;
+    deletes = λ name slot block none. by_delete s (IsHonest s) refused note (calls_store note) slot;
     written = λ row file bytes free. rw free (honest_plain s _ (none_active_one (Dumped row file (length bytes)) refl) (inherits_same s.tables s.tables refl));
     dump_asked = λ file row t there only none. rw none (plain _ refl (inherits_unseen s.tables row (λ u. record u { dump = asked file }) (λ u. refl) (λ u. refl)));
   } where
@@ -429,19 +454,19 @@ module _ (s : State) (n : ℕ) (fit : AreFit n s) where
   honest Ground (ask.Reset kind) given = anew _ refl refl
   honest Ground _ given = tt
   honest (App app) (ask.Start name) given = by_start s (IsHonest s) refused app name (same_tables _ refl refl)
-  honest (App app) (ask.Register short size flags validator) given = by_register s (IsHonest s) refused app short size flags validator (λ name row handle may free_row free_handle.
-      let u : Table = as_registered (new_table name app size flags validator handle) in
-      plain _ refl (inherits_none s.tables (with_handle handle (new_handle app row) (with_table row u s.tables)) row (Some u) (record { here = get_or-set_same s.tables.rows row (Some u) None (free_place s.tables.rows row free_row).0; others = λ k other. get_or-set_other s.tables.rows row k (Some u) None other }) (λ v is. ap (λ (x : Table). x.load) (sym (same_Some u v is)))))
+  honest (App app) (ask.Register short size flags validator) given = by_register s (IsHonest s) refused app short size flags validator given.note (calls_store given.note) (λ name row handle options first status calls store plan free_row free_handle begins quiet.
+      let u : Table = with_first first (new_table name app size options validator handle) in
+      plain _ refl (inherits_none s.tables (added row u s.tables) row (Some u) (record { here = get_or-set_same s.tables.rows row (Some u) None (free_place s.tables.rows row free_row).0; others = λ k other. get_or-set_other s.tables.rows row k (Some u) None other }) (λ v is. ap (λ (x : Table). x.load) (sym (same_Some u v is)))))
   honest (App app) (ask.Share name) given = by_share s (IsHonest s) refused app name (λ row handle free. same_rows_of _ refl refl)
   honest (App app) (ask.Unregister m) given = by_unregister s (IsHonest s) refused app m (λ h place own. plain _ refl (inherits_given_up m s))
-  honest (App app) (ask.LoadImage handle image) given = by_load_image s (IsHonest s) refused given (λ row t bytes number verdict there is one bad. judged_badly row bytes number verdict (answered s ERR_VALIDATION_FAILED (verdict_bits verdict)) refl refl) app handle image.list
+  honest (App app) (ask.LoadImage handle image) given = by_load_image s (IsHonest s) refused given (λ row t bytes number verdict there is one bad. judged_badly row bytes number verdict (answered s ERR_VALIDATION_FAILED (verdict_bits verdict)) refl refl) (copies given.note) app handle image.list
       (λ row t there none no_function. loaded_image row t image.list there no_function) (λ row t number verdict there none is one good. judged_active s row t image.list verdict _ good refl refl (inherits_imaged s.tables row image.list s.seconds s.sub))
-  honest (App app) (ask.LoadFile handle name) given = by_load_file s (IsHonest s) refused given (λ row t bytes number verdict there is one bad. judged_badly row bytes number verdict (answered s ERR_VALIDATION_FAILED (verdict_bits verdict)) refl refl) app handle name
+  honest (App app) (ask.LoadFile handle name) given = by_load_file s (IsHonest s) refused given (λ row t bytes number verdict there is one bad. judged_badly row bytes number verdict (answered s ERR_VALIDATION_FAILED (verdict_bits verdict)) refl refl) (copies given.note) app handle name
       (λ row t file there open_to none no_function. plain_active s row t (file_image t file) _ there no_function refl refl (inherits_from row (file_image t file) name))
       (λ row t file number verdict there open_to none is one good. judged_active s row t (file_image t file) verdict _ good refl refl (inherits_from row (file_image t file) name))
-  honest (App app) (ask.Update handle) given = by_update s (IsHonest s) refused app handle (λ row t there none. loaded_active s n fit row t there (update_taken s.tables row t none).0)
+  honest (App app) (ask.Update handle) given = by_update s (IsHonest s) refused app handle given.note (copies given.note) (λ row t there none. loaded_active s n fit row t there (update_taken s.tables row t none).0)
   honest (App app) (ask.Validate handle) given = by_app_validate s (IsHonest s) refused app handle given (λ row t active there first. validated_mark s row t active (verdict_at 0 given) _ there refl refl refl)
-  honest (App app) (ask.Manage handle) given = by_manage s (IsHonest s) refused app handle given (λ row t there. let end = managed_end n row given s fit in record { active = end.active; marks = λ k u l at load checked function. end.marks k u l at load checked })
+  honest (App app) (ask.Manage handle) given = by_manage s (IsHonest s) refused app handle given (copies given.note) (λ row t there. let end = managed_end n row given s fit in record { active = end.active; marks = λ k u l at load checked function. end.marks k u l at load checked })
   honest (App app) (ask.DumpToBuffer handle) given = by_dump_to_buffer s (IsHonest s) refused app handle (λ row t there is. plain _ refl (inherits_unseen s.tables row (λ u. record u { dump = filled_with (last_image u) u.dump }) (λ u. refl) (λ u. refl)))
   honest (App app) (ask.Edit handle offset bytes) given = by_edit s (IsHonest s) refused app handle offset bytes.list (λ row t there none. plain _ refl (inherits_put s.tables row (patched (base t) offset bytes.list)))
   honest (App app) (ask.Get handle) given = by_get s (IsHonest s) refused app handle (λ a leads some. same_rows_of _ refl refl)

@@ -22,7 +22,7 @@ use Rattle.tbl_model.specs.Management.{Done, nothing_done, is_asked, with_valida
 use Rattle.tbl_model.specs.Dumps.{Ended, end_by, then_end, is_filled, dumps_ended, housekeeping_effect}
 use Rattle.tbl_model.specs.Vouched.{verdict_for}
 use Rattle.tbl_model.specs.declared.deeds.Deed.{Deed}
-use Rattle.tbl_model.specs.declared.deeds.Deed.TheVariants.{Judged, Activated, Dumped, NotDumped}
+use Rattle.tbl_model.specs.declared.deeds.Deed.TheVariants.{Judged, Activated, CopyFailed, Dumped, NotDumped}
 use Rattle.tbl_kinds.specs.declared.status.TheConstants.Status.{ERR_VALIDATION_FAILED}
 use Rattle.tbl_kinds.specs.declared.request.Actor.{Actor}
 use Rattle.tbl_kinds.specs.declared.request.Actor.TheVariants.{Ground, App}
@@ -31,8 +31,8 @@ use Rattle.tbl_kinds.specs.declared.request.Request.TheVariants as ask
 use Rattle.tbl_model.proofs.RefusalLaws.{is_refusal}
 use Rattle.tbl_laws.proofs.Changes.{with_found, either}
 use Rattle.tbl_laws.proofs.Rows.{OneRow, changed_row}
-use Rattle.tbl_laws.proofs.Honest.{TellsIn, slice_get_more, get_before, last_tells}
-use Rattle.tbl_laws.proofs.Cases.{OfEffect, Commands, by_command, by_file, by_start, by_register, by_share, by_unregister, by_load_image, by_load_file, by_app_validate, by_update, by_manage, by_dump_to_buffer, by_edit, by_get_status, by_get, by_read, by_release, by_info, by_notify, by_exit, CallsStore, by_cds_register, by_cds_copy, by_cds_restore, by_cds_delete}
+use Rattle.tbl_laws.proofs.Honest.{TellsIn, slice_get_more, get_before, index_none, last_tells}
+use Rattle.tbl_laws.proofs.Cases.{OfEffect, Commands, by_command, by_file, by_start, by_register, by_share, by_unregister, by_load_image, by_load_file, by_app_validate, by_update, by_manage, by_dump_to_buffer, by_edit, by_get_status, by_get, by_read, by_release, by_info, by_notify, by_exit, CallsStore, by_delete, by_cds_register, by_cds_copy, by_cds_restore, by_cds_delete, Copies}
 
 -- the verdict is the answer to a question about this image, for the function of this number
 pub record WasAsked (questions : List Question) (given : Given) (number : ℕ) (image : List ℕ) (v : ℤ) : Type 0 where
@@ -242,6 +242,17 @@ module _ (s : State) (given : Given) where
     restarts = λ store e stopped is no_deeds status. none_told s given e.deeds e.images e.asked no_deeds;
   }
 
+  -- that a copy failed is no verdict
+  copies : Copies given.note (IsKept s given)
+  copies = record {
+    left = λ slot image e p. p;
+    fails = λ row slot e failed p place k number deed image v t tells is there function. elim (slice_get_more e.deeds (CopyFailed row slot) deed place tells.deed_is) [
+      | inl old ↦ p place k number deed image v t (record { deed_is = old; image_is = index_none e.images place image tells.image_is }) is there function
+      | inr end ↦ absurd (cc (ap (verdict_for k) end.1, is))
+    ];
+    stops = λ e stop p. p;
+  }
+
   commands : Commands s given.note (IsKept s given)
   unfolding housekeeping_effect dumps_ended
   commands = record {
@@ -254,7 +265,7 @@ module _ (s : State) (given : Given) where
     asks = λ row t there none. nothing_told;
     aborted = λ row t there open_load. nothing_told;
     shown = λ row. nothing_told;
-    calls_store = calls_store;
+    deletes = λ name slot block none. by_delete s (IsKept s given) refused given.note calls_store slot;
     written = λ row file bytes free. rw free (one_told s given (Dumped row file (length bytes)) (None ∷ []) [] (λ r. refl));
     dump_asked = λ file row t there only none. rw none (nothing_told);
   }
@@ -276,16 +287,16 @@ module _ (s : State) (given : Given) where
   kept Ground (ask.Reset kind) = nothing_told
   kept Ground _ = tt
   kept (App app) (ask.Start name) = by_start s (IsKept s given) refused app name (nothing_told)
-  kept (App app) (ask.Register short size flags validator) = by_register s (IsKept s given) refused app short size flags validator (λ name row handle may free_row free_handle. nothing_told)
+  kept (App app) (ask.Register short size flags validator) = by_register s (IsKept s given) refused app short size flags validator given.note calls_store (λ name row handle options first status calls store plan free_row free_handle begins quiet. nothing_told)
   kept (App app) (ask.Share name) = by_share s (IsKept s given) refused app name (λ row handle free. nothing_told)
   kept (App app) (ask.Unregister handle) = by_unregister s (IsKept s given) refused app handle (λ h place own. nothing_told)
-  kept (App app) (ask.LoadImage handle image) = by_load_image s (IsKept s given) refused given (λ row t bytes number verdict there is one bad. judged_badly row t bytes number verdict (answered s ERR_VALIDATION_FAILED (verdict_bits verdict)) there is one refl) app handle image.list
+  kept (App app) (ask.LoadImage handle image) = by_load_image s (IsKept s given) refused given (λ row t bytes number verdict there is one bad. judged_badly row t bytes number verdict (answered s ERR_VALIDATION_FAILED (verdict_bits verdict)) there is one refl) copies app handle image.list
       (λ row t there none no_function. one_told s given (activated row t) (Some image.list ∷ []) [] (λ r. refl)) (λ row t number verdict there none is one good. judged_well row t image.list number verdict (activate_effect s row t image.list) there is one refl)
-  kept (App app) (ask.LoadFile handle name) = by_load_file s (IsKept s given) refused given (λ row t bytes number verdict there is one bad. judged_badly row t bytes number verdict (answered s ERR_VALIDATION_FAILED (verdict_bits verdict)) there is one refl) app handle name
+  kept (App app) (ask.LoadFile handle name) = by_load_file s (IsKept s given) refused given (λ row t bytes number verdict there is one bad. judged_badly row t bytes number verdict (answered s ERR_VALIDATION_FAILED (verdict_bits verdict)) there is one refl) copies app handle name
       (λ row t file there open_to none no_function. one_told s given (activated row t) (Some (file_image t file) ∷ []) [] (λ r. refl)) (λ row t file number verdict there open_to none is one good. judged_well row t (file_image t file) number verdict (from_file row name (activate_effect s row t (file_image t file))) there is one refl)
-  kept (App app) (ask.Update handle) = by_update s (IsKept s given) refused app handle (λ row t there none. one_told s given (activated row t) (Some (load_image t) ∷ []) [] (λ r. refl))
+  kept (App app) (ask.Update handle) = by_update s (IsKept s given) refused app handle given.note copies (λ row t there none. one_told s given (activated row t) (Some (load_image t) ∷ []) [] (λ r. refl))
   kept (App app) (ask.Validate handle) = by_app_validate s (IsKept s given) refused app handle given (λ row t active there first. finished_told s given row t active (judged_image t active) (verdict_at 0 given) there (λ some. refl))
-  kept (App app) (ask.Manage handle) = by_manage s (IsKept s given) refused app handle given (λ row t there. manages 0 row)
+  kept (App app) (ask.Manage handle) = by_manage s (IsKept s given) refused app handle given copies (λ row t there. manages 0 row)
   kept (App app) (ask.DumpToBuffer handle) = by_dump_to_buffer s (IsKept s given) refused app handle (λ row t there is. nothing_told)
   kept (App app) (ask.Edit handle offset bytes) = by_edit s (IsKept s given) refused app handle offset bytes.list (λ row t there none. nothing_told)
   kept (App app) (ask.Get handle) = by_get s (IsKept s given) refused app handle (λ a leads some. nothing_told)

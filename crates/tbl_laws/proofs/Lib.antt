@@ -16,4 +16,13 @@ pub mod HonestRequests
 pub mod Kept
 pub mod VouchedLaws
 pub mod BootLaws
+pub mod Blocks
+pub mod TableBlocks
+pub mod Calls
 pub mod Causes
+pub mod Descents
+pub mod Options
+pub mod Backing
+pub mod BackedRequests
+pub mod BackedLaws
+pub mod CopiedLaws

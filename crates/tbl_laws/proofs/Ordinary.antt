@@ -6,6 +6,7 @@ use Rattle.std.specs.List.{fold}
 use Rattle.std.specs.Option.{option_map_or}
 use Rattle.std.proofs.Common.{pos}
 use Rattle.std.proofs.lemmas.Bool.{eqb-true, cond_both}
+use Rattle.tbl_kinds.specs.Blocks.{Store}
 use Rattle.tbl_kinds.specs.Drawer.{is_full_for}
 use Rattle.std.proofs.lemmas.List.{get_or-set_same, get_or-set_other}
 use Rattle.std.proofs.lemmas.List.Quantifiers.{position-Some}
@@ -13,7 +14,7 @@ use Rattle.std.proofs.lemmas.Option.{same_Some, get_or_from_slice_get}
 use Rattle.tbl_kinds.specs.Free.{least_free}
 use Rattle.tbl_model.specs.State.{State, Table, Handle, Tables, Dump, quiet, asked, filled, no_tables}
 use Rattle.tbl_model.specs.Tables.{table_at, rows_where}
-use Rattle.tbl_model.specs.TableSteps.{is_that, end_dump, handle_at, Access, let_go, with_table, with_handle, new_table, new_handle, filled_with, last_image, as_registered, first_image}
+use Rattle.tbl_model.specs.TableSteps.{is_that, end_dump, handle_at, Access, let_go, with_table, with_handle, new_table, new_handle, filled_with, last_image, with_first, added}
 use Rattle.tbl_model.specs.Effects.{Effect}
 use Rattle.tbl_model.specs.Given.{Given, verdict_at}
 use Rattle.tbl_model.specs.Pending.{is_pending}
@@ -29,7 +30,7 @@ use Rattle.tbl_laws.proofs.Rows.{nothing_at, set_row}
 use Rattle.tbl_laws.proofs.Fits.{fit_on, fit_same, was, unseen, mark}
 use Rattle.tbl_laws.proofs.Changes.{grown, told, imaged, imaged_from, loads, pends, asks, aborts, updates, managed, goes_on, put_alone, noticed}
 use Rattle.tbl_laws.proofs.GivingUp.{kept_with, given_up, fewer_handles, exited, still_live}
-use Rattle.tbl_laws.proofs.Cases.{OfEffect, Leads, Commands, by_command, by_file, by_start, by_register, by_load_image, by_load_file, by_app_validate, by_update, by_manage, by_get_status, by_get, by_read, by_release, by_share, by_unregister, by_dump_to_buffer, by_edit, by_info, by_notify, by_exit, CallsStore, by_cds_register, by_cds_copy, by_cds_restore, by_cds_delete}
+use Rattle.tbl_laws.proofs.Cases.{OfEffect, Leads, Commands, by_command, by_file, by_start, by_register, by_load_image, by_load_file, by_app_validate, by_update, by_manage, by_get_status, by_get, by_read, by_release, by_share, by_unregister, by_dump_to_buffer, by_edit, by_info, by_notify, by_exit, CallsStore, by_delete, by_cds_register, by_cds_copy, by_cds_restore, by_cds_delete, Copies}
 use Rattle.tbl_kinds.specs.declared.note.BankNote.{BankNote}
 use Rattle.tbl_kinds.specs.declared.request.Actor.{Actor}
 use Rattle.tbl_kinds.specs.declared.request.Actor.TheVariants.{Ground, App}
@@ -77,6 +78,37 @@ pending_first pending row active first = by (is_pending row true pending) (is_pe
   by true load is_last is_load found = rw (sym (same_Some true active found)) is_last
   by false true is_last is_load found = rw (sym (same_Some false active found)) is_load
   by false false is_last is_load found = absurd (cc found)
+
+-- other blocks, and nothing else
+other_blocks : (n : ℕ) (s : State) (store : Store) → AreFit n s → AreFit n (record s { store = store })
+other_blocks n s store fits = record { each = fits.each; few_pending = fits.few_pending }
+
+-- a new table in a free row, with whatever options and first image
+module _ (s : State) (n : ℕ) (fit : AreFit n s) (name : List ℕ) (row handle app size options : ℕ) (validator : Option ℕ) (first : Option (List ℕ)) (free_row : least_free s.tables.rows ≡ Some row) (free_handle : least_free s.tables.handles ≡ Some handle)
+    (may : may_use s.kit app validator ≡ true) where
+  pub new_row : AreFit (suc n) (record s { tables = added row (with_first first (new_table name app size options validator handle)) s.tables })
+  new_row =
+      let place = free_place s.tables.rows row free_row in
+      let number = free_place s.tables.handles handle free_handle in
+      let u : Table = with_first first (new_table name app size options validator handle) in
+      fit_on n (suc n) s _ row (Some u) (omega arith) fit (record {
+        rows = record { here = get_or-set_same s.tables.rows row (Some u) None place.0; others = λ k other. get_or-set_other s.tables.rows row k (Some u) None other };
+        pending = λ k active other. refl;
+        handles = λ k t other there reg. kept_with s.tables.handles handle (new_handle app row) k t.handle t.owner (λ g at. absurd (cc (at, number.1))) reg;
+        kit = refl;
+        few_pending = fit.few_pending;
+      }) (record {
+        few = first_alone first;
+        registered = record { handle = new_handle app row; place = get_or-set_same s.tables.handles handle (Some (new_handle app row)) None number.0; app = refl; leads = refl };
+        function = usable s.kit app validator may;
+        notice = tt;
+        checked = λ asked_now. cc asked_now;
+        pends = λ active pending. absurd (cc (pending, (subst (FitAt n s.kit s.pending s.tables.handles row) place.1 (fit.each row)) active));
+      })
+    where
+      first_alone : (first : Option (List ℕ)) → cond (is_some first) 1 0 ≤ suc n
+      first_alone None = omega arith
+      first_alone (Some image) = omega arith
 
 module _ (s : State) (n : ℕ) (lives : s.ended ≡ false) (fit : AreFit n s) (given : Given) where
   live : given.note.ended ≡ false → s.ended ≡ false
@@ -154,6 +186,13 @@ module _ (s : State) (n : ℕ) (lives : s.ended ≡ false) (fit : AreFit n s) (g
     restarts = λ store e stopped is no_deeds status. rw is (record { fit = fit_at_first (suc n) (boot Processor given.note (record s { store = store })) refl refl; live = λ goes. goes });
   }
 
+  copies : Copies given.note (IsOrdinary n given.note)
+  copies = record {
+    left = λ slot image e p. record { fit = other_blocks (suc n) e.next _ p.fit; live = p.live };
+    fails = λ row slot e failed p. record { fit = p.fit; live = p.live };
+    stops = λ e stop p. record { fit = fit_at_first (suc n) (boot Processor given.note e.next) refl refl; live = λ goes. goes };
+  }
+
   commands : Commands s given.note (IsOrdinary n given.note)
   commands = record {
     about = λ e table p. record { fit = p.fit; live = p.live };
@@ -165,37 +204,10 @@ module _ (s : State) (n : ℕ) (lives : s.ended ≡ false) (fit : AreFit n s) (g
     asks = λ row t there none. record { fit = asks n s fit row t there none; live = live };
     aborted = λ row t there open_load. record { fit = grown n _ (aborts n s fit row t there); live = live };
     shown = λ row. same _ refl;
-    calls_store = calls_store;
+    deletes = λ name slot block none. by_delete s (IsOrdinary n given.note) refused given.note calls_store slot;
     written = λ row file bytes free. rw free (record { fit = elsewhere _ refl refl refl; live = live });
     dump_asked = λ file row t there only none. rw none (record { fit = told n s fit row t there (suc n) (λ u. record u { dump = asked file }) (omega arith) refl refl refl refl refl refl refl; live = live });
   }
-
-  -- ---- a registration
-
-  new_row : (name : List ℕ) (row handle app size flags : ℕ) (validator : Option ℕ) → least_free s.tables.rows ≡ Some row → least_free s.tables.handles ≡ Some handle → may_use s.kit app validator ≡ true
-      → AreFit (suc n) (record s { tables = with_handle handle (new_handle app row) (with_table row (as_registered (new_table name app size flags validator handle)) s.tables) })
-  new_row name row handle app size flags validator free_row free_handle may =
-      let place = free_place s.tables.rows row free_row in
-      let number = free_place s.tables.handles handle free_handle in
-      let u : Table = as_registered (new_table name app size flags validator handle) in
-      fit_on n (suc n) s _ row (Some u) (omega arith) fit (record {
-        rows = record { here = get_or-set_same s.tables.rows row (Some u) None place.0; others = λ k other. get_or-set_other s.tables.rows row k (Some u) None other };
-        pending = λ k active other. refl;
-        handles = λ k t other there reg. kept_with s.tables.handles handle (new_handle app row) k t.handle t.owner (λ g at. absurd (cc (at, number.1))) reg;
-        kit = refl;
-        few_pending = fit.few_pending;
-      }) (record {
-        few = first_alone (first_image (new_table name app size flags validator handle));
-        registered = record { handle = new_handle app row; place = get_or-set_same s.tables.handles handle (Some (new_handle app row)) None number.0; app = refl; leads = refl };
-        function = usable s.kit app validator may;
-        notice = tt;
-        checked = λ asked_now. cc asked_now;
-        pends = λ active pending. absurd (cc (pending, (subst (FitAt n s.kit s.pending s.tables.handles row) place.1 (fit.each row)) active));
-      })
-    where
-      first_alone : (first : Option (List ℕ)) → cond (is_some first) 1 0 ≤ suc n
-      first_alone None = omega arith
-      first_alone (Some image) = omega arith
 
   -- ---- all requests
 
@@ -206,8 +218,8 @@ module _ (s : State) (n : ℕ) (lives : s.ended ≡ false) (fit : AreFit n s) (g
   of_request Ground (ask.Reset kind) = record { fit = fit_at_first (suc n) (boot kind given.note s) refl refl; live = λ goes. goes }
   of_request Ground request = tt
   of_request (App app) (ask.Start name) = by_start s (IsOrdinary n given.note) refused app name (record { fit = elsewhere _ refl refl refl; live = live })
-  of_request (App app) (ask.Register name size flags validator) = by_register s (IsOrdinary n given.note) refused app name size flags validator (λ full row handle plan free_row free_handle. record {
-    fit = new_row full row handle app size flags validator free_row free_handle (plan_taken s.kit app name size flags validator plan).may;
+  of_request (App app) (ask.Register name size flags validator) = by_register s (IsOrdinary n given.note) refused app name size flags validator given.note calls_store (λ full row handle options first status calls store plan free_row free_handle begins quiet. record {
+    fit = other_blocks (suc n) _ store (new_row s n fit full row handle app size options validator first free_row free_handle (plan_taken s.kit app name size flags validator plan).may);
     live = live;
   })
   of_request (App app) (ask.Share name) = by_share s (IsOrdinary n given.note) refused app name (λ row handle free. record {
@@ -215,16 +227,16 @@ module _ (s : State) (n : ℕ) (lives : s.ended ≡ false) (fit : AreFit n s) (g
     live = live;
   })
   of_request (App app) (ask.Unregister handle) = by_unregister s (IsOrdinary n given.note) refused app handle (λ h place own. record { fit = grown n _ (given_up n handle s fit); live = λ _. (fewer_handles s handle).ended ∙ lives })
-  of_request (App app) (ask.LoadImage handle image) = by_load_image s (IsOrdinary n given.note) refused given (λ row t bytes number verdict there is one bad. record { fit = grown n s fit; live = live }) app handle image.list
+  of_request (App app) (ask.LoadImage handle image) = by_load_image s (IsOrdinary n given.note) refused given (λ row t bytes number verdict there is one bad. record { fit = grown n s fit; live = live }) copies app handle image.list
       (λ row t there none plain. record { fit = imaged n s fit row t there image.list s.seconds s.sub; live = live }) (λ row t number verdict there none is one good. record { fit = imaged n s fit row t there image.list s.seconds s.sub; live = live })
-  of_request (App app) (ask.LoadFile handle name) = by_load_file s (IsOrdinary n given.note) refused given (λ row t bytes number verdict there is one bad. record { fit = grown n s fit; live = live }) app handle name
+  of_request (App app) (ask.LoadFile handle name) = by_load_file s (IsOrdinary n given.note) refused given (λ row t bytes number verdict there is one bad. record { fit = grown n s fit; live = live }) copies app handle name
       (λ row t file there open_to none plain. record { fit = imaged_from n s fit row t there _ s.seconds s.sub name; live = live }) (λ row t file number verdict there open_to none is one good. record { fit = imaged_from n s fit row t there _ s.seconds s.sub name; live = live })
-  of_request (App app) (ask.Update handle) = by_update s (IsOrdinary n given.note) refused app handle (λ row t there none. record { fit = updates n s fit row t there s.seconds s.sub (update_taken s.tables row t none).0; live = live })
+  of_request (App app) (ask.Update handle) = by_update s (IsOrdinary n given.note) refused app handle given.note copies (λ row t there none. record { fit = updates n s fit row t there s.seconds s.sub (update_taken s.tables row t none).0; live = live })
   of_request (App app) (ask.Validate handle) = by_app_validate s (IsOrdinary n given.note) refused app handle given (λ row t active there first. record {
     fit = grown n _ (mark n s fit row t there active (verdict_at 0 given) ((was n s fit row t there).pends active (pending_first s.pending row active first)).unasked);
     live = live;
   })
-  of_request (App app) (ask.Manage handle) = by_manage s (IsOrdinary n given.note) refused app handle given (λ row t there. record { fit = managed n row given s fit; live = λ _. goes_on n row given s ∙ lives })
+  of_request (App app) (ask.Manage handle) = by_manage s (IsOrdinary n given.note) refused app handle given copies (λ row t there. record { fit = managed n row given s fit; live = λ _. goes_on n row given s ∙ lives })
   of_request (App app) (ask.DumpToBuffer handle) = by_dump_to_buffer s (IsOrdinary n given.note) refused app handle (λ row t there is. record {
     fit = told n s fit row t there (suc n) (λ u. record u { dump = filled_with (last_image u) u.dump }) (omega arith) refl refl refl refl refl refl refl;
     live = live;

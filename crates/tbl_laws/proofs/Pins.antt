@@ -1,5 +1,5 @@
 -- What changes of the tables do to pins: each handle that pins an image goes on to lead to that image.
-use Rattle.std.specs.Prelude.{replicate}
+use Rattle.std.specs.Prelude.{replicate, IfSome}
 use Rattle.std.proofs.Common.{◌≡◌, ◌≢◌, ◌<◌, ◌≤◌, ℕ, ◌+◌, ◌-◌, eqb, nat_lt, zero, suc, List, [], ◌∷◌, ◌++◌, length, take, drop, replicate, unwrap_or, length-append, position, slice_index_or, slice_set, Bool, true, false, cond, Option, Some, None, is_some, is_none, IsSome, refl, ap, sym, ◌∙◌, subst, ◌⊎◌, inl, inr, arith}
 use Rattle.std.specs.List.{list_any, position_or_len}
 use Rattle.std.specs.Option.{option_map, option_map_or}
@@ -11,20 +11,24 @@ use Rattle.std.proofs.lemmas.List.Sums.{fails_before_first}
 use Rattle.std.proofs.lemmas.Option.{same_Some}
 use Rattle.tbl_kinds.specs.Numbers.{patched}
 use Rattle.tbl_model.specs.State.{Load, Table, Handle, Tables}
-use Rattle.tbl_model.specs.Tables.{table_at, is_double, is_dump_only}
-use Rattle.tbl_model.specs.TableSteps.{handle_at, pins, is_in_way, locker, image_of, let_go, with_table, with_handle, with_image, put, set_time, base, unchecked, changed, changed_in, patch, set_file, set_checked, new_handle, as_registered, with_first}
+use Rattle.tbl_model.specs.Tables.{table_at, is_double}
+use Rattle.tbl_model.specs.TableSteps.{handle_at, pins, is_in_way, locker, image_of, let_go, with_table, with_handle, with_image, put, set_time, base, unchecked, changed, changed_in, patch, set_file, set_checked, new_handle, with_first, added}
 
 -- ---- places
 
--- what stands at a place after something was put at one of them
+-- what stands at a place after something, or nothing, was put at one of them
+pub at_put : {X : Type 0} (xs : List (Option X)) (n k : ℕ) (x : Option X) (y : X) → slice_index_or (slice_set xs n x) k None ≡ Some y
+    → ((k ≡ n) × (x ≡ Some y)) ⊎ ((k ≢ n) × (slice_index_or xs k None ≡ Some y))
+at_put [] n k x y there = absurd (cc there)
+at_put (z ∷ zs) zero zero x y there = inl (refl, there)
+at_put (z ∷ zs) zero (suc k) x y there = inr (λ same. absurd (omega (arith, same)), there)
+at_put (z ∷ zs) (suc n) zero x y there = inr (λ same. absurd (omega (arith, same)), there)
+at_put (z ∷ zs) (suc n) (suc k) x y there =
+    elim (at_put zs n k x y there) [ inl here ↦ inl (ap suc here.0, here.1) | inr other ↦ inr (λ same. other.0 (omega arith), other.1) ]
+
 pub at_set : {X : Type 0} (xs : List (Option X)) (n k : ℕ) (x y : X) → slice_index_or (slice_set xs n (Some x)) k None ≡ Some y
     → ((k ≡ n) × (x ≡ y)) ⊎ ((k ≢ n) × (slice_index_or xs k None ≡ Some y))
-at_set [] n k x y there = absurd (cc there)
-at_set (z ∷ zs) zero zero x y there = inl (refl, same_Some x y there)
-at_set (z ∷ zs) zero (suc k) x y there = inr (λ same. absurd (omega (arith, same)), there)
-at_set (z ∷ zs) (suc n) zero x y there = inr (λ same. absurd (omega (arith, same)), there)
-at_set (z ∷ zs) (suc n) (suc k) x y there =
-    elim (at_set zs n k x y there) [ inl here ↦ inl (ap suc here.0, here.1) | inr other ↦ inr (λ same. other.0 (omega arith), other.1) ]
+at_set xs n k x y there = elim (at_put xs n k (Some x) y there) [ inl here ↦ inl (here.0, same_Some x y here.1) | inr other ↦ inr other ]
 
 -- something stands only within the list
 pub within : {X : Type 0} (xs : List (Option X)) (k : ℕ) (x : X) → slice_index_or xs k None ≡ Some x → k < length xs
@@ -181,15 +185,15 @@ release_keeps tables m h row t there =
     (λ all. let loaded = all row t there in record { some = loaded.some; sized = loaded.sized; load_sized = loaded.load_sized })
 
 -- a table comes into a free row, with a handle that pins nothing
-pub add_keeps : (tables : Tables) (row m app : ℕ) (t : Table) → table_at tables row ≡ None → t.load ≡ None → Keeps tables (with_handle m (new_handle app row) (with_table row (as_registered t) tables))
-add_keeps tables row m app t free no_load =
-    set_keeps tables row (as_registered t) (slice_set tables.handles m (Some (new_handle app row))) (λ n g p at pin. (unpinned_set tables.handles m (new_handle app row) n g p refl at pin).1)
+pub add_keeps : (tables : Tables) (row : ℕ) (t : Table) (first : Option (List ℕ)) → table_at tables row ≡ None → t.load ≡ None → IfSome first (λ image. length image ≡ t.size) → Keeps tables (added row (with_first first t) tables)
+add_keeps tables row t first free no_load sized =
+    set_keeps tables row (with_first first t) (slice_set tables.handles t.handle (Some (new_handle t.owner row))) (λ n g p at pin. (unpinned_set tables.handles t.handle (new_handle t.owner row) n g p refl at pin).1)
     (λ n g p u is stood near. absurd (cc (stood, free)))
-    (λ all. begins (is_dump_only t))
+    (λ all. begins first sized)
   where
-    begins : (zeros : Bool) → IsLoaded (with_first (cond zeros (Some (replicate t.size 0)) None) t)
-    begins true = record { some = λ some. refl; sized = λ image is. ap length (sym (same_Some _ image is)) ∙ length-replicate t.size 0; load_sized = λ load is. absurd (cc (is, no_load)) }
-    begins false = record { some = λ some. absurd (some refl); sized = λ image is. absurd (cc is); load_sized = λ load is. absurd (cc (is, no_load)) }
+    begins : (first : Option (List ℕ)) → IfSome first (λ image. length image ≡ t.size) → IsLoaded (with_first first t)
+    begins (Some image) size = record { some = λ some. refl; sized = λ other is. ap length (sym (same_Some image other is)) ∙ size; load_sized = λ load is. absurd (cc (is, no_load)) }
+    begins None size = record { some = λ some. absurd (some refl); sized = λ image is. absurd (cc is); load_sized = λ load is. absurd (cc (is, no_load)) }
 
 -- a new image and its time are put into the table's row
 put_is : (tables : Tables) (row : ℕ) (t : Table) (image : List ℕ) (seconds sub : ℕ) → table_at tables row ≡ Some t

@@ -11,6 +11,7 @@ use Rattle.tbl_model.specs.Tables.{table_at}
 use Rattle.tbl_model.specs.TableSteps.{handle_at, image_of}
 use Rattle.tbl_model.specs.Effects.{Effect}
 use Rattle.tbl_model.specs.Given.{Given}
+use Rattle.tbl_model.specs.StoreNotes.{IsNoteOf}
 use Rattle.tbl_model.specs.Dispatch.{effect_of}
 use Rattle.tbl_model.specs.Addresses.{read_effect}
 use Rattle.tbl_model.specs.History.{Run, begins_at, onward_by, run_from, given_in, IsAnswered, AreAnswered, IsLegal}
@@ -197,7 +198,7 @@ module _ (opening : State) where
   holds_after : (entries : List Entry) (e : Entry) → HoldsAt entries → IsAnswered (run_at entries) e → HoldsAt (entries ++ e ∷ [])
   holds_after entries e holds is =
       let s : State = (run_at entries).state in
-      let fair : Fair s e.actor e.request is.effect = subst (OfEffect (Fair s e.actor e.request)) is.effect_is (request_fair s (length entries) holds.fit holds.loaded e.actor e.request (given_in e)) in
+      let fair : Fair s e.actor e.request is.effect = (subst (OfEffect (λ (f : Effect). IsNoteOf e.request f.calls s.store e.note → Fair s e.actor e.request f)) is.effect_is (request_fair s (length entries) holds.fit holds.loaded e.actor e.request (given_in e))) is.given.note in
       let left : IsOrdinary (length entries) e.note is.effect = subst (OfEffect (IsOrdinary (length entries) e.note)) is.effect_is (ordinary s (length entries) is.live holds.fit e.actor e.request (given_in e)) in
       let on : Holds opening (entries ++ e ∷ []) is.effect.next = holds_on opening entries e s is.effect refl holds is.status fair left in
       subst (λ (r : Run). Holds opening (entries ++ e ∷ []) r.state) (sym (run_push (begins_at opening) entries e))
