@@ -171,6 +171,13 @@ impl Handles {
         Some(free as u16)
     }
 
+    /// The number that the next handle gets: the least free one.
+    pub fn next(&self) -> Option<u16>
+        ensures least_free { result ≡ position is_none self.now }
+    {
+        number(first_free(&self.places))
+    }
+
     /// Frees the numbers of all handles.
     pub fn clear(&mut self)
         ensures { self.new ≡ replicate 256 None }

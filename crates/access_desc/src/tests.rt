@@ -15,14 +15,14 @@ fn unpin(rt: &impl Abort, handles: &mut Handles, handle: u16) {
 #[test]
 fn least_free_number(rt: HostRuntime) -> Result<(), Fail> {
     let mut handles = Handles::make(rt.alloc())?;
-    assert_eq!(rt; handles.limit(), 256);
+    assert_eq!(rt; (handles.limit(), handles.next()), (256, Some(0)));
     for n in 0..256 {
         assert_eq!(rt; handles.add(1, 0), Some(n));
     }
     assert_eq!(rt; handles.add(1, 0), None);
     assert!(rt; handles.view(7).is_some());
     handles.drop_handle(7);
-    assert_eq!(rt; handles.view(7), None);
+    assert_eq!(rt; (handles.view(7), handles.next()), (None, Some(7)));
     assert_eq!(rt; handles.add(2, 3), Some(7));
     handles.clear();
     assert_eq!(rt; handles.view(7), None);

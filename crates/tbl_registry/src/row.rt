@@ -5,7 +5,7 @@ ghost use Rattle.std.specs.Str.{bytes_eq};
 ghost use Rattle.tbl_kinds.specs.Limits.{table_limit};
 ghost use Rattle.tbl_kinds.specs.Numbers.{patched};
 ghost use Rattle.tbl_model.specs.State.{Load, quiet, asked};
-ghost use Rattle.tbl_model.specs.Tables.{has_option, option_bits, is_double, is_dump_only, is_quiet, uses_buffer};
+ghost use Rattle.tbl_model.specs.Tables.{has_option, option_bits, is_double, is_dump_only, is_critical, is_quiet, uses_buffer};
 ghost use Rattle.tbl_model.specs.Management.{pending_status};
 ghost use Rattle.tbl_model.specs.TableSteps.{new_table, with_first, unchecked, base, filled_with, last_image};
 
@@ -215,6 +215,13 @@ impl Row {
         ensures { result ≡ is_dump_only self.now }
     {
         self.flags.contains(Options::DUMP_ONLY)
+    }
+
+    /// Whether it is critical.
+    pub(crate) fn is_critical(&self) -> bool
+        ensures { result ≡ is_critical self.now }
+    {
+        self.flags.contains(Options::CRITICAL)
     }
 
     /// Whether no dump of it is pending.

@@ -3,7 +3,7 @@
 ghost use Rattle.std.specs.Prelude.{◌≡◌, ◌<◌, ◌≤◌, ◌↔◌, ◌+◌, None, Some, IsSome, IsNone, IfOk, IfSome, if◌then◌else◌, length, position, replicate, count_by, is_some, is_none, slice_index_or, ◌∷◌, take};
 ghost use Rattle.std.specs.Option.{option_copied};
 ghost use Rattle.tbl_kinds.specs.Free.{least_free};
-ghost use Rattle.tbl_model.specs.Tables.{has_load, uses_buffer, rows_from};
+ghost use Rattle.tbl_model.specs.Tables.{has_load, is_critical_in, uses_buffer, rows_from};
 ghost use Rattle.tbl_model.specs.TableSteps.{has_name};
 ghost use Rattle.tbl_registry.specs.Seen.{padded};
 
@@ -121,6 +121,29 @@ pub(crate) fn loads_in(rows: &[Option<Row>]) -> u16
     let mut count = 0;
     for row in rows {
         count = counted(count, has_load(row));
+    }
+    count
+}
+
+/// Whether the row has a critical table.
+fn has_critical(row: &Option<Row>) -> bool
+    ensures { result ≡ is_critical_in row.now }
+{
+    match row {
+        Some(table) => table.is_critical(),
+        None => false,
+    }
+}
+
+/// How many tables are critical.
+pub(crate) fn critical_in(rows: &[Option<Row>]) -> u16
+    requires { length rows.now ≤ 256 }
+    ensures tables { result ≡ count_by is_critical_in rows.now }
+    ensures within { result ≤ length rows.now }
+{
+    let mut count = 0;
+    for row in rows {
+        count = counted(count, has_critical(row));
     }
     count
 }

@@ -4,7 +4,7 @@ ghost use Rattle.std.specs.Borrow.{Bor};
 ghost use Rattle.tbl_kinds.specs.Free.{least_free};
 ghost use Rattle.tbl_kinds.specs.Limits.{table_limit};
 ghost use Rattle.tbl_model.specs.State.{no_tables, Load, Table};
-ghost use Rattle.tbl_model.specs.Tables.{table_count, handle_count, load_count, in_use, has_option, option_bits, table_at};
+ghost use Rattle.tbl_model.specs.Tables.{table_count, handle_count, load_count, critical_count, in_use, has_option, option_bits, table_at};
 ghost use Rattle.tbl_model.specs.TableSteps.{find, new_table, with_first, new_handle, with_table, with_handle};
 ghost use Rattle.tbl_model.specs.Registry.{registry_row};
 ghost use Rattle.tbl_model.specs.Validations.{selected};
@@ -13,7 +13,7 @@ ghost use Rattle.tbl_registry.specs.Seen.{padded};
 
 use crate::row::{NewTable, Row, RowView};
 use crate::rows::{
-    free_row, free_rows, loads_in, row_of_name, rows_with_buffer, table_in, tables_in,
+    critical_in, free_row, free_rows, loads_in, row_of_name, rows_with_buffer, table_in, tables_in,
 };
 use access_desc::Handles;
 use std::alloc::Global;
@@ -111,6 +111,28 @@ impl Tables {
         ensures within { result ≤ 128 }
     {
         loads_in(&self.rows)
+    }
+
+    /// How many tables are critical.
+    pub fn critical_count(&self) -> u16
+        ensures tables { result ≡ critical_count self.now }
+        ensures within { result ≤ 128 }
+    {
+        critical_in(&self.rows)
+    }
+
+    /// The row that the next table takes: the least free one.
+    pub fn next_row(&self) -> Option<u8>
+        ensures { result ≡ least_free self.now.rows }
+    {
+        free_row(&self.rows)
+    }
+
+    /// The number of the next handle: the least free one.
+    pub fn next_handle(&self) -> Option<u16>
+        ensures { result ≡ least_free self.now.handles }
+    {
+        self.handles.next()
     }
 
     /// Registers a table in the least free row, and gives its owner the least free handle on it. A dump-only table has one buffer.

@@ -88,10 +88,18 @@ fn reads(tables: &Tables, handle: u16, offset: u32, bytes: &[u8; 2]) -> bool {
 fn registered_tables(rt: HostRuntime) -> Result<(), Fail> {
     let mut tables = Tables::make(rt.alloc())?;
     may_go_to_threads(&tables);
-    let handle = register(&mut tables, b"A.T", 4, 0)?;
+    let handle = register(&mut tables, b"A.T", 4, 8)?;
     assert_eq!(rt;
         (tables.find(b"A.T"), tables.find(b"A."), tables.count()),
         (Some(0), None, 1)
+    );
+    assert_eq!(rt;
+        (
+            tables.critical_count(),
+            tables.next_row(),
+            tables.next_handle()
+        ),
+        (1, Some(1), Some(1))
     );
     let row = tables.row(0).ok_or("row")?;
     assert_eq!(rt; (row.owner, row.handle, row.size), (1, handle, 4));
