@@ -1,4 +1,4 @@
-ghost use Rattle.std.specs.Prelude.{◌≡◌, ◌+◌, ◌≤◌, length, IfOk, if◌then◌else◌};
+ghost use Rattle.std.specs.Prelude.{◌≡◌, ◌+◌, ◌≤◌, length, replicate, IfOk, if◌then◌else◌};
 ghost use Rattle.std.specs.Arc.{arc_value};
 ghost use Rattle.tbl_kinds.specs.Numbers.{patched};
 
@@ -51,6 +51,23 @@ impl Image {
         Ok(Image {
             bytes: Arc::new(alloc, bytes)?,
         })
+    }
+
+    /// An image of as many zeros.
+    pub fn zeros(alloc: Global, size: u32) -> Result<Image, Memory>
+        ensures { IfOk result (λ image. image ≡ replicate size 0) }
+    {
+        let bytes = vec![in alloc; 0; size as usize]?;
+        Ok(Image {
+            bytes: Arc::new(alloc, bytes)?,
+        })
+    }
+
+    /// An image of bytes that stand in their place already, as where they were read into it.
+    pub fn from_shared(bytes: Arc<Vec<u8>, Global>) -> Image
+        ensures { result ≡ (arc_value bytes).items }
+    {
+        Image { bytes }
     }
 
     /// A new image of the base's bytes, with other bytes over them from an offset on.

@@ -14,6 +14,7 @@ fn images(rt: HostRuntime) -> Result<(), Fail> {
     assert_eq!(rt; read, 4);
     assert!(rt; first.write(0, &[7]));
     assert_eq!(rt; first.bytes(), [7, 2, 3, 4].as_slice());
+    assert_eq!(rt; Image::zeros(rt.alloc(), 3)?.bytes(), [0; 3].as_slice());
     Ok(())
 }
 
