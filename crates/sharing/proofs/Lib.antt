@@ -1,6 +1,6 @@
 pub mod Functions
 pub mod GivenUp
 pub mod Names
-pub mod Passing
 pub mod Running
 pub mod Options
+pub mod Plans

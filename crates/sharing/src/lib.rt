@@ -9,7 +9,7 @@ mod registering;
 pub use apps::{Apps, plan_name};
 pub use handles::{info, notify, share};
 pub use leaving::{app_exit, unregister};
-pub use registering::register;
+pub use registering::{plan_table, register, register_plain, register_uncritical};
 
 #[cfg(test)]
 mod tests;

@@ -1,21 +1,23 @@
-ghost use Rattle.std.specs.Prelude.{◌≡◌, ◌<◌, ◌≤◌, true, None, Some, IfOk, OnErr, IfNone, replicate, if◌then◌else◌};
+ghost use Rattle.std.specs.Prelude.{◌≡◌, length, true, false, None, Some, IfSome, IfNone, IfOk, IfErr, OnOk, OnErr, replicate, if◌then◌else◌};
 ghost use Rattle.tbl_model.specs.State.{State};
 ghost use Rattle.tbl_model.specs.Tables.{option_bits, has_option, table_at};
-ghost use Rattle.tbl_kinds.specs.Free.{least_free};
-ghost use Rattle.tbl_model.specs.TableSteps.{find};
-ghost use Rattle.tbl_kinds.specs.Limits.{table_limit};
-ghost use Rattle.tbl_model.specs.Applications.{duplicate_effect, add_effect, by_name_effect, register_effect};
+ghost use Rattle.tbl_model.specs.TableSteps.{with_first, uncritical, as_registered, added};
+ghost use Rattle.tbl_model.specs.Effects.{answered};
+ghost use Rattle.tbl_model.specs.BankCounts.{tells_trouble};
+ghost use Rattle.tbl_model.specs.Registration.{duplicate_answer, name_refusal, place_refusal, new_effect, register_effect};
 ghost use Rattle.tbl_model.specs.Refusals.{refusal, are_options, may_use, plan_refusal};
+ghost use Rattle.tbl_kinds.specs.Names.{is_name};
+ghost use Rattle.tbl_kinds.specs.declared.note.BankNote.{BankNote};
 ghost use Rattle.validation.specs.Kits.{owners};
-ghost use Rattle.sharing.specs.Registering.{answered_with};
+ghost use Rattle.sharing.specs.Registering.{next_row, next_handle, planned, CanRegister};
 
 use crate::apps::{Apps, plan_name};
 use bitflags::Flags;
 use buffer_pairs::Image;
-use std::alloc::{AllocError, Global};
+use std::alloc::Global;
 use tbl_kinds::{Answer, Memory, Name16, Name40, Options, Status};
 use tbl_outside::Validator;
-use tbl_registry::{AddFault, NewTable, RowView, Tables};
+use tbl_registry::{NewTable, Tables};
 use validation::Kit;
 
 /// The largest table (`CFE_PLATFORM_TBL_MAX_SNGL_TABLE_SIZE`), in bytes.
@@ -39,11 +41,17 @@ fn may_use<C: Validator>(kit: &Kit<C>, app: u8, validator: Option<u8>) -> bool
     }
 }
 
-/// Whether these options can be asked for: none, two buffers, or dump-only.
+/// Whether these options can be asked for: none, two buffers, critical, both, or dump-only.
 fn are_options(flags: u16) -> bool
     ensures { result ≡ are_options flags }
 {
-    flags == 0 || flags == Options::DOUBLE.bits() || flags == Options::DUMP_ONLY.bits()
+    let double = Options::DOUBLE.bits();
+    let critical = Options::CRITICAL.bits();
+    flags == 0
+        || flags == double
+        || flags == Options::DUMP_ONLY.bits()
+        || flags == critical
+        || flags == critical + double
 }
 
 /// The first thing that can't be asked for: the name, the size, the options, the validation function.
@@ -56,6 +64,7 @@ fn plan_refusal<C: Validator>(
     validator: Option<u8>,
 ) -> Option<Answer>
     ensures refusal { result ≡ plan_refusal (owners kit.now) app short.now size flags validator }
+    ensures named { IfNone result (is_name short.now ≡ true) }
     ensures options { IfNone result (are_options flags ≡ true) }
 {
     if !short.is_name() {
@@ -73,34 +82,19 @@ fn plan_refusal<C: Validator>(
     None
 }
 
-/// The options of a registration.
-fn options(flags: u16) -> Options
-    ensures { option_bits result ≡ flags }
-{
-    Options::from_bits_retain(flags)
-}
-
-/// As many zeros as a table has bytes.
-fn zeros(alloc: Global, size: u32) -> Result<Vec<u8>, AllocError>
-    ensures { IfOk result (λ v. v.items ≡ replicate size 0) }
-{
-    vec![in alloc; 0; size as usize]
-}
-
 /// What a new table begins with: an image of zeros if it is dump-only, else none.
-fn first_image(alloc: Global, size: u32, flags: Options) -> Result<Option<Image>, Memory>
-    ensures { IfOk result (λ first. first ≡ (if has_option 0x0002 (option_bits flags) then Some (replicate size 0) else None)) }
+fn first_image(alloc: Global, size: u32, flags: &Options) -> Result<Option<Image>, Memory>
+    ensures { IfOk result (λ first. first ≡ (if has_option 0x0002 (option_bits flags.now) then Some (replicate size 0) else None)) }
 {
     if !flags.contains(Options::DUMP_ONLY) {
         return Ok(None);
     }
-    let zeros = zeros(alloc, size)?;
-    Ok(Some(Image::of(alloc, &zeros)?))
+    Ok(Some(Image::zeros(alloc, size)?))
 }
 
-/// The answer where a table of this name is there.
+/// The answer where a table of this name is there, in this row.
 fn duplicate(tables: &Tables, row: u8, app: u8, size: u32) -> Answer
-    ensures { (s : State) → s.tables ≡ tables.now → duplicate_effect s app size (table_at tables.now row) ≡ answered_with s result tables.now }
+    ensures { result ≡ duplicate_answer app size (table_at tables.now row) }
 {
     let Some(table) = tables.row(row) else {
         return Answer::plain(Status::ERR_REGISTRY_FULL);
@@ -113,55 +107,36 @@ fn duplicate(tables: &Tables, row: u8, app: u8, size: u32) -> Answer
     }
     Answer {
         status: Status::WARN_DUPLICATE,
-        detail: table.handle as u32,
+        detail: u32::from(table.handle),
     }
 }
 
-/// Adds a table whose name is new.
-#[tactic(auto, using(crate::proofs::Options::one_buffer))]
-fn add(
-    alloc: Global,
-    tables: &mut Tables,
-    app: u8,
-    name: Name40,
-    size: u32,
-    flags: Options,
-    validator: Option<u8>,
-) -> Result<Answer, Memory>
-    requires new { find name tables.old ≡ None }
-    requires some_bytes { 0 < size }
-    requires within { size ≤ table_limit }
-    requires options { are_options (option_bits flags) ≡ true }
-    ensures effect { IfOk result (λ answer. (s : State) → s.tables ≡ tables.old → add_effect s app name size (option_bits flags) validator (least_free tables.old.rows) (least_free tables.old.handles) ≡ answered_with s answer tables.new) }
-    ensures err { OnErr result (tables.new ≡ tables.old) }
+/// The answer where a table of this name is there.
+fn name_refusal(tables: &Tables, app: u8, size: u32, name: &Name40) -> Option<Answer>
+    ensures { result ≡ name_refusal tables.now app size name.now }
 {
-    let plan = NewTable {
-        name,
-        size,
-        flags,
-        validator,
-        first: first_image(alloc, size, flags)?,
-    };
-    match tables.add(app, plan) {
-        Ok(handle) => Ok(Answer {
-            status: Status::SUCCESS,
-            detail: handle as u32,
-        }),
-        Err(AddFault::RegistryFull) => Ok(Answer::plain(Status::ERR_REGISTRY_FULL)),
-        Err(AddFault::HandlesFull) => Ok(Answer::plain(Status::ERR_HANDLES_FULL)),
-        Err(AddFault::Memory) => Err(Memory),
-    }
+    let row = tables.find(name.bytes())?;
+    Some(duplicate(tables, row, app, size))
 }
 
-/// Registers a table for an application, under its name, a dot and the short name (`CFE_TBL_Register`). Where it asks for
-/// a validation function, that is one of its own in the kit. A new table's handle is the detail, and also that of a table which
-/// the application has registered already under this name and with this size (`WARN_DUPLICATE`). A new table that is
-/// dump-only (`CFE_TBL_OPT_DUMP_ONLY`) begins with an image of zeros, another with none.
-/// Out of memory: nothing was changed.
-#[tactic(auto, unfolding(tbl_model::specs::Applications::register_effect))]
-pub fn register<C: Validator>(
-    alloc: Global,
-    tables: &mut Tables,
+/// What is full: the registry, or the handles.
+fn place_refusal(tables: &Tables) -> Option<Answer>
+    ensures { result ≡ place_refusal tables.now }
+{
+    if tables.next_row().is_none() {
+        return refusal(Status::ERR_REGISTRY_FULL);
+    }
+    if tables.next_handle().is_none() {
+        return refusal(Status::ERR_HANDLES_FULL);
+    }
+    None
+}
+
+/// The table that an application's registration makes (`CFE_TBL_Register`), or the answer with which one ends that makes none:
+/// its name, size, options and validation function can't be asked for, a table of its full name is there, or the registry or
+/// the handles are full. `WARN_DUPLICATE`: the application has registered it already, and the detail is its handle.
+pub fn plan_table<C: Validator>(
+    tables: &Tables,
     kit: &Kit<C>,
     apps: &Apps,
     app: u8,
@@ -169,19 +144,81 @@ pub fn register<C: Validator>(
     size: u32,
     flags: u16,
     validator: Option<u8>,
-) -> Result<Answer, Memory>
-    ensures effect { IfOk result (λ answer. (s : State) → s.tables ≡ tables.old → s.apps ≡ apps.now → s.kit ≡ owners kit.now → register_effect s app short.now size flags validator ≡ answered_with s answer tables.new) }
-    ensures err { OnErr result (tables.new ≡ tables.old) }
+) -> Result<NewTable, Answer>
+    ensures can { IfOk result (CanRegister tables.now) }
+    ensures begins { IfOk result (λ plan. plan.first ≡ None) }
+    ensures may { IfOk result (λ plan. may_use (owners kit.now) app plan.validator ≡ true) }
+    ensures ok { IfOk result (λ plan. (s : State) (note : BankNote) → s.tables ≡ tables.now → s.kit ≡ owners kit.now → s.apps ≡ apps.now
+        → register_effect s app short.now size flags validator note ≡ new_effect s (next_row tables.now) (planned tables.now app plan) note) }
+    ensures err { IfErr result (λ answer. (s : State) (note : BankNote) → s.tables ≡ tables.now → s.kit ≡ owners kit.now → s.apps ≡ apps.now
+        → register_effect s app short.now size flags validator note ≡ answered s answer.status answer.detail) }
+    // No refusal tells of trouble with the bank.
+    ensures harmless { IfErr result (λ answer. tells_trouble answer.status ≡ false) }
 {
     let Some(name) = plan_name(apps, app, short) else {
-        return Ok(Answer::plain(Status::ERR_BAD_APP));
+        return Err(Answer::plain(Status::ERR_BAD_APP));
     };
     if let Some(answer) = plan_refusal(kit, app, short, size, flags, validator) {
-        return Ok(answer);
+        return Err(answer);
     }
-    let flags = options(flags);
-    match tables.find(name.bytes()) {
-        Some(row) => Ok(duplicate(tables, row, app, size)),
-        None => add(alloc, tables, app, name, size, flags, validator),
+    if let Some(answer) = name_refusal(tables, app, size, &name) {
+        return Err(answer);
     }
+    if let Some(answer) = place_refusal(tables) {
+        return Err(answer);
+    }
+    Ok(NewTable {
+        name,
+        size,
+        flags: Options::from_bits_retain(flags),
+        validator,
+        first: None,
+    })
+}
+
+/// Registers a table for an application, which nothing refuses, with the image that it begins with, and answers so. The
+/// detail is the handle of its registration.
+#[tactic(auto, using(crate::proofs::Options::one_buffer))]
+pub fn register(tables: &mut Tables, app: u8, plan: NewTable, status: Status) -> Answer
+    requires can { CanRegister tables.old plan }
+    requires first { IfSome plan.first (λ image. length image ≡ plan.size) }
+    ensures answer { result ≡ record { status = status; detail = next_handle tables.old } }
+    ensures tables { tables.new ≡ added (next_row tables.old) (with_first plan.first (planned tables.old app plan)) tables.old }
+{
+    match tables.add(app, plan) {
+        Ok(handle) => Answer {
+            status,
+            detail: u32::from(handle),
+        },
+        Err(_) => unreachable!(),
+    }
+}
+
+/// Registers a table that was to be critical (`CFE_TBL_OPT_CRITICAL`), and isn't.
+pub fn register_uncritical(tables: &mut Tables, app: u8, mut plan: NewTable) -> Answer
+    requires can { CanRegister tables.old plan }
+    requires begins { plan.first ≡ None }
+    ensures answer { result ≡ record { status = Status.WARN_NOT_CRITICAL; detail = next_handle tables.old } }
+    ensures tables { tables.new ≡ added (next_row tables.old) (uncritical (planned tables.old app plan)) tables.old }
+{
+    plan.flags.remove(Options::CRITICAL);
+    register(tables, app, plan, Status::WARN_NOT_CRITICAL)
+}
+
+/// Registers a table that isn't to be critical. It begins with an image of zeros if it is dump-only (`CFE_TBL_OPT_DUMP_ONLY`),
+/// else with none.
+pub fn register_plain(
+    alloc: Global,
+    tables: &mut Tables,
+    app: u8,
+    plan: NewTable,
+) -> Result<Answer, Memory>
+    requires can { CanRegister tables.old plan }
+    ensures answer { IfOk result (λ answer. answer ≡ record { status = Status.SUCCESS; detail = next_handle tables.old }) }
+    ensures tables { OnOk result (tables.new ≡ added (next_row tables.old) (as_registered (planned tables.old app plan)) tables.old) }
+    ensures err { OnErr result (tables.new ≡ tables.old) }
+{
+    let first = first_image(alloc, plan.size, &plan.flags)?;
+    let plan = NewTable { first, ..plan };
+    Ok(register(tables, app, plan, Status::SUCCESS))
 }

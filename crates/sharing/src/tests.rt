@@ -1,11 +1,15 @@
-use super::{Apps, app_exit, info, notify, plan_name, register, share, unregister};
+use super::{
+    Apps, app_exit, info, notify, plan_name, plan_table, register, register_plain,
+    register_uncritical, share, unregister,
+};
+use buffer_pairs::Image;
 use std::alloc::Global;
 use std::process::Abort;
 use std::test::Fail;
 use tbl_fakes::FirstByte;
-use tbl_kinds::{Answer, Memory, Name, Name16, Name20, Name40, Status};
+use tbl_kinds::{Answer, Memory, Name, Name16, Name20, Name40, Options, Status};
 use tbl_outside::KitEntry;
-use tbl_registry::Tables;
+use tbl_registry::{NewTable, Tables};
 use validation::{Kit, Pending};
 
 fn app_name(rt: &impl Abort, name: &[u8]) -> Name20 {
@@ -72,6 +76,24 @@ fn one_function(alloc: Global) -> Result<Kit<FirstByte>, Memory> {
     Kit::make(alloc, vec![in alloc; function]?)
 }
 
+/// What an application is answered that registers a table, which isn't to be critical.
+fn registration(
+    alloc: Global,
+    tables: &mut Tables,
+    kit: &Kit<FirstByte>,
+    apps: &Apps,
+    app: u8,
+    short: &Name16,
+    size: u32,
+    flags: u16,
+    validator: Option<u8>,
+) -> Result<Answer, Memory> {
+    match plan_table(tables, kit, apps, app, short, size, flags, validator) {
+        Ok(plan) => register_plain(alloc, tables, app, plan),
+        Err(answer) => Ok(answer),
+    }
+}
+
 #[test]
 fn registered(rt: HostRuntime) -> Result<(), Fail> {
     let mut tables = Tables::make(rt.alloc())?;
@@ -81,12 +103,12 @@ fn registered(rt: HostRuntime) -> Result<(), Fail> {
     assert_eq!(rt; apps.start(3, &app_name(&rt, b"A")), Status::SUCCESS);
     for (app, size, status) in [(1, 16_384, 0), (1, 16_384, 16), (1, 8, 41), (3, 16_384, 40)] {
         assert_eq!(rt;
-            register(rt.alloc(), &mut tables, &kit, &apps, app, &t, size, 0, None),
+            registration(rt.alloc(), &mut tables, &kit, &apps, app, &t, size, 0, None),
             answer(Status(status), 0)
         );
     }
     assert_eq!(rt;
-        register(
+        registration(
             rt.alloc(),
             &mut tables,
             &kit,
@@ -118,7 +140,7 @@ fn refused(rt: HostRuntime) -> Result<(), Fail> {
         (8, 0, Some(1), 39),
     ] {
         assert_eq!(rt;
-            register(
+            registration(
                 rt.alloc(),
                 &mut tables,
                 &kit,
@@ -133,11 +155,11 @@ fn refused(rt: HostRuntime) -> Result<(), Fail> {
         );
     }
     assert_eq!(rt;
-        register(rt.alloc(), &mut tables, &kit, &apps, 3, &t, 8, 0, None),
+        registration(rt.alloc(), &mut tables, &kit, &apps, 3, &t, 8, 0, None),
         answer(Status(32), 0)
     );
     assert_eq!(rt;
-        register(
+        registration(
             rt.alloc(),
             &mut tables,
             &kit,
@@ -159,7 +181,7 @@ fn dump_only_begins_with_zeros(rt: HostRuntime) -> Result<(), Fail> {
     let apps = running(&rt);
     let kit = one_function(rt.alloc())?;
     assert_eq!(rt;
-        register(
+        registration(
             rt.alloc(),
             &mut tables,
             &kit,
@@ -176,6 +198,44 @@ fn dump_only_begins_with_zeros(rt: HostRuntime) -> Result<(), Fail> {
     Ok(())
 }
 
+#[test]
+fn critical_or_not(rt: HostRuntime) -> Result<(), Fail> {
+    let mut tables = Tables::make(rt.alloc())?;
+    let apps = running(&rt);
+    let kit = one_function(rt.alloc())?;
+    let plan = plan_table(&tables, &kit, &apps, 1, &short(&rt, b"T"), 4, 9, None);
+    let plan = plan.ok().ok_or("plan")?;
+    assert_eq!(rt; plan.flags, Options::DOUBLE | Options::CRITICAL);
+    assert_eq!(rt;
+        register_uncritical(&mut tables, 1, plan),
+        Answer::plain(Status(17))
+    );
+    assert_eq!(rt; tables.row(0).ok_or("row")?.flags, Options::DOUBLE);
+    Ok(())
+}
+
+#[test]
+fn recovered(rt: HostRuntime) -> Result<(), Fail> {
+    let mut tables = Tables::make(rt.alloc())?;
+    let apps = running(&rt);
+    let kit = one_function(rt.alloc())?;
+    let plan = plan_table(&tables, &kit, &apps, 1, &short(&rt, b"T"), 2, 8, None);
+    let plan = plan.ok().ok_or("plan")?;
+    let image = Image::of(rt.alloc(), &[7, 8])?;
+    if image.bytes().len() != plan.size as usize {
+        return Err("size")?;
+    }
+    let first = Some(image);
+    let status = Status::INFO_RECOVERED_TBL;
+    assert_eq!(rt;
+        register(&mut tables, 1, NewTable { first, ..plan }, status),
+        Answer::plain(status)
+    );
+    assert_eq!(rt; tables.last(0).ok_or("image")?, [7, 8].as_slice());
+    assert_eq!(rt; tables.critical_count(), 1);
+    Ok(())
+}
+
 /// Applications 1 and 2 run as `A` and `B`, and 1 has registered `A.T` under handle 0.
 fn two(
     rt: &impl Abort,
@@ -186,7 +246,7 @@ fn two(
     let mut apps = running(rt);
     assert_eq!(rt; apps.start(2, &app_name(rt, b"B")), Status::SUCCESS);
     assert_eq!(rt;
-        register(alloc, tables, &kit, &apps, 1, &short(rt, b"T"), 8, 0, None),
+        registration(alloc, tables, &kit, &apps, 1, &short(rt, b"T"), 8, 0, None),
         answer(Status(0), 0)
     );
     Ok((apps, kit))
