@@ -1,0 +1,197 @@
+-- A call of a table's owner, behind which an image that went active was copied: what is made of it, over any bank and over one that tells.
+use Rattle.std.proofs.Common.{◌≡◌, ◌∙◌, ℕ, suc, List, [], ◌∷◌, length, Bool, true, false, not, Option, Some, None, ℤ, refl, sym, ap, subst, ◌⊎◌, inl, inr, arith}
+use Rattle.std.specs.Option.{option_map}
+use Rattle.std.proofs.lemmas.Bool.{cond_both}
+use Rattle.tbl_kinds.specs.Blocks.{Store as Blocks}
+use Rattle.tbl_kinds.specs.StoreCalls.{StoreCall, copy}
+use Rattle.tbl_kinds.specs.Notes.{untouched}
+use Rattle.tbl_kinds.specs.declared.note.BankNote.{BankNote}
+use Rattle.tbl_kinds.specs.declared.note.Outcome.{Outcome}
+use Rattle.tbl_kinds.specs.declared.note.Outcome.TheVariants.{Untouched, Done, Failed, Stopped}
+use Rattle.tbl_kinds.specs.declared.request.Actor.{Actor}
+use Rattle.tbl_kinds.specs.declared.request.Request.{Request}
+use Rattle.tbl_kinds.specs.declared.request.Request.TheVariants as ask
+use Rattle.tbl_kinds.specs.declared.status.Status.{Status}
+use Rattle.tbl_kinds.specs.declared.status.TheConstants.Status.{INFO_STOPPED}
+use Rattle.tbl_kinds.specs.TableFiles.{TableFile}
+use Rattle.tbl_model.specs.State.{State, Table}
+use Rattle.tbl_model.specs.Tables.{table_at, is_critical}
+use Rattle.tbl_model.specs.Effects as model
+use Rattle.tbl_model.specs.Given.{Given}
+use Rattle.tbl_model.specs.BankCounts.{stopped_once, HasCause}
+use Rattle.tbl_model.specs.Copies.{went_active, block_of, copy_failed, copied_to, copied_of, then_copy}
+use Rattle.tbl_model.specs.StoreUse.{with_calls, by_outcome}
+use Rattle.tbl_model.specs.Boots.{stopped}
+use Rattle.tbl_model.specs.Refusals.{by_answer, by_refusal, closed_refusal, image_refusal, file_refusal}
+use Rattle.tbl_model.specs.Subjects.{if_file}
+use Rattle.tbl_model.specs.AppLoads.{activate_effect, by_function, from_file, file_image, load_file_of}
+use Rattle.tbl_model.specs.Dispatch.{effect_of}
+use Rattle.tbl_model.specs.Counts.{is_reset}
+use Rattle.tbl_laws.specs.Fit.{AreFit}
+use Rattle.tbl_laws.proofs.Cases.{OfEffect}
+use Rattle.tbl_laws.proofs.Causes.{caused}
+use Rattle.tbl_laws.proofs.Ordinary.{IsOrdinary, ordinary}
+use Rattle.tbl_core.specs.Asked.{activates}
+use Rattle.tbl_core.specs.Called.{with_boot, RestoresHeld}
+use Rattle.tbl_core.specs.Effects.{IsEffect, given_of}
+use Rattle.tbl_core.specs.Owned.{owned_effect, owned_at}
+use Rattle.tbl_core.specs.Service.{Held, Stands, state_of, DoesAndCopies, Has, HasEffect, Makes, Meets}
+use Rattle.tbl_core.specs.Verdicts.{Judged}
+use Rattle.cds_store.specs.Standing.{StandsFor as HasBlocks}
+use Rattle.tbl_core.specs.declared.effect.Effect.{Effect}
+use Rattle.tbl_core.proofs.Behind.{stands_in, state_is, effect_left, asked_there, fit_without, has_called}
+
+-- ---- the model
+
+-- over no blocks nothing is copied
+pub uncopied : (row : ℕ) (note : BankNote) (e : model.Effect) → e.next.store ≡ [] → then_copy row note e ≡ e
+uncopied row note e empty = cond_both (went_active e) _ _ (λ x. x ≡ e) (λ _. of (table_at e.next.tables row)) (λ _. refl) where
+  none : (t : Table) → block_of t e.next.store ≡ None
+  none t = rw empty refl
+
+  to : (t : Table) (slot : Option ℕ) → slot ≡ None → copied_to row note e slot t.last ≡ e
+  to t None is = refl
+  to t (Some slot) is = absurd (cc is)
+
+  of : (t : Option Table) → copied_of row note e t ≡ e
+  of None = refl
+  of (Some t) = cond_both (is_critical t) _ _ (λ x. x ≡ e) (λ _. to t (block_of t e.next.store) (none t)) (λ _. refl)
+
+-- a copy restores nothing
+module _ (bytes : List ℕ) (blocks : Blocks) (row : ℕ) (note : BankNote) where
+  abbrev Holds : model.Effect → Type 0
+  Holds x = RestoresHeld bytes x.calls blocks note
+
+  copy_holds : (slot : ℕ) (image : List ℕ) (outcome : Outcome) (e : model.Effect) → Holds (by_outcome outcome (with_calls (copy slot image ∷ []) note e) (copy_failed row slot (with_calls (copy slot image ∷ []) note e)) (stopped note (with_calls (copy slot image ∷ []) note e)))
+  copy_holds slot image Untouched e = tt
+  copy_holds slot image Done e = tt
+  copy_holds slot image Failed e = tt
+  copy_holds slot image Stopped e = tt
+
+  to_holds : (e : model.Effect) → Holds e → (slot : Option ℕ) (image : Option (List ℕ)) → Holds (copied_to row note e slot image)
+  to_holds e plain None image = plain
+  to_holds e plain (Some slot) None = plain
+  to_holds e plain (Some slot) (Some image) = copy_holds slot image note.outcome e
+
+  of_holds : (e : model.Effect) → Holds e → (t : Option Table) → Holds (copied_of row note e t)
+  of_holds e plain None = plain
+  of_holds e plain (Some t) = cond_both (is_critical t) _ _ Holds (λ _. to_holds e plain (block_of t e.next.store) t.last) (λ _. plain)
+
+  pub copies_hold : (e : model.Effect) → e.calls ≡ [] → Holds (then_copy row note e)
+  copies_hold e none =
+      let plain : Holds e = subst (λ (calls : List StoreCall). RestoresHeld bytes calls blocks note) (sym none) tt in
+      cond_both (went_active e) _ _ Holds (λ _. of_holds e plain (table_at e.next.tables row)) (λ _. plain)
+
+-- what the request does to the table takes verdicts alone from what is given
+module _ (s : State) (row : ℕ) (one other : BankNote) (verdicts : List (Option ℤ)) where
+  abbrev first : Given
+  first = record { note = one; verdicts = verdicts }
+
+  abbrev second : Given
+  second = record { note = other; verdicts = verdicts }
+
+  same_function : (image : List ℕ) (validator : Option ℕ) (e : model.Effect) → by_function s row image validator first e ≡ by_function s row image validator second e
+  same_function image None e = refl
+  same_function image (Some number) e = refl
+
+  same_file : (name : List ℕ) (t : Table) (file : TableFile) → load_file_of s name first row t file ≡ load_file_of s name second row t file
+  same_file name t file = ap (by_refusal s (file_refusal s.tables row t file)) (same_function (file_image t file) t.validator (from_file row name (activate_effect s row t (file_image t file))))
+
+  same_effect : (t : Table) (request : Request) → activates request ≡ true → owned_effect s row t request first ≡ owned_effect s row t request second
+  same_effect t (ask.LoadImage handle image) is = ap (λ e. Some (by_refusal s (image_refusal s.tables row t (length image.list)) e)) (same_function image.list t.validator (activate_effect s row t image.list))
+  same_effect t (ask.LoadFile handle name) is = λ i. Some (by_answer s (closed_refusal t) (if_file s name (λ file. same_file name t file i)))
+  same_effect t (ask.Update handle) is = refl
+  same_effect t (ask.Manage handle) is = refl
+  same_effect t request is = absurd (cc is)
+
+  pub same_owned : (request : Request) → activates request ≡ true → owned_at (table_at s.tables row) s row request first ≡ owned_at (table_at s.tables row) s row request second
+  same_owned request is = by (table_at s.tables row) where
+    by : (t : Option Table) → owned_at t s row request first ≡ owned_at t s row request second
+    by None = refl
+    by (Some t) = same_effect t request is
+
+-- ---- the request
+
+module _ {B C : Type 0} (tells : Type 0) (now : B → List ℕ) (faults stops : B → ℕ) (verdict : C → List ℕ → ℤ) (asked : C → ℕ) (most room : ℕ) (owes : Bool) (old new : Held B C) (actor : Actor) (request : Request) (row : ℕ) (done : Effect)
+    (does : DoesAndCopies tells now faults stops verdict asked most room owes old new row (λ s given. owned_at (table_at s.tables row) s row request given) done)
+    (can : activates request ≡ true) (live : old.ended ≡ false) (so_many : ℕ) (fits : AreFit so_many (state_of old))
+    (taken : (s : State) → Stands s.store old s → (given : Given) → effect_of s actor request given ≡ option_map (then_copy row given.note) (owned_at (table_at s.tables row) s row request given)) where
+  mid : Held B C
+  mid = record new { store = old.store }
+
+  -- what it did to the table, without blocks
+  left : (e : model.Effect) × (owned_at (table_at old.tables row) (state_of old) row request (given_of does.before) ≡ Some e) × (IsEffect does.before e.asked e.next e) × (Stands [] (record new { store = old.store }) e.next)
+  left = effect_left [] does.before (record new { store = old.store }) _ (does.does.effect (state_of old) (stands_in old))
+
+  -- nothing is copied then
+  whole : effect_of (state_of old) actor request (given_of does.before) ≡ Some left.0
+  whole = taken (state_of old) (stands_in old) (given_of does.before) ∙ ap (option_map (then_copy row does.before.note)) left.1 ∙ ap (λ (e : model.Effect). Some e) (uncopied row does.before.note left.0 left.3.store)
+
+  ordinary_left : (n : ℕ) → AreFit n (state_of old) → IsOrdinary n does.before.note left.0
+  ordinary_left n fit = subst (OfEffect (IsOrdinary n does.before.note)) whole (ordinary (state_of old) n live fit actor request (given_of does.before))
+
+  goes : new.ended ≡ false
+  goes = sym left.3.ended ∙ (ordinary_left so_many fits).live (rw does.does.note refl)
+
+  -- what was answered before the copy tells of no trouble
+  quiet : HasCause does.before.answer.status untouched
+  quiet = subst (HasCause does.before.answer.status) does.does.note (subst (λ (status : Status). HasCause status does.before.note) left.2.status (subst (OfEffect (λ e. HasCause e.status does.before.note)) whole (caused (state_of old) (given_of does.before) actor request)))
+
+  cause : HasCause done.answer.status done.note
+  cause = by does.call.answer where
+    by : (done.answer.status ≡ does.before.answer.status) ⊎ ((done.answer.status ≡ INFO_STOPPED) × (done.note.outcome ≡ Stopped)) → HasCause done.answer.status done.note
+    by (inl same) = record {
+      stop = λ is. absurd (quiet.stop (sym same ∙ is) refl);
+      fault = λ is. absurd (cc (quiet.fault (sym same ∙ is)));
+      boot = λ is. absurd (cc ((quiet.boot (sym same ∙ is)).0));
+    }
+    by (inr cut) = record {
+      stop = λ is none. let once : stopped_once done.note.outcome ≡ 1 = rw cut.1 refl in omega (arith, once, none);
+      fault = λ is. let same = ap (λ (status : Status). status.0) (sym cut.0 ∙ is) in absurd (omega (arith, same));
+      boot = λ is. let same = ap (λ (status : Status). status.0) (sym cut.0 ∙ is) in absurd (omega (arith, same));
+    }
+
+  pub copies_makes : Makes asked verdict faults stops (suc most) room owes old new done
+  copies_makes = record {
+    fit = λ n fit. fit_without (suc n) [] (state_of new) (subst (AreFit (suc n)) (state_is (record new { store = old.store }) [] left.0.next left.3) (ordinary_left n fit).fit);
+    judged = (
+      left.0.asked,
+      subst (λ (verdicts : List (Option ℤ)). Judged verdict asked old.kit new.kit left.0.asked verdicts) (sym does.call.verdicts)
+          (asked_there verdict asked old.kit new.kit does.before.verdicts _ left.0 left.1 (does.does.asks (state_of old) (stands_in old))),
+    );
+    two = ap length does.call.verdicts ∙ does.does.two;
+    within = does.call.within most room owes does.does.within;
+    booted = does.call.booted ∙ sym (ap not goes);
+    ended = goes ∙ sym does.call.no_boot.ended;
+    stopped = λ is. (does.call.stopped is, does.call.no_boot);
+    trouble = does.call.trouble;
+    cause = cause;
+  }
+
+  pub copies_meets : is_reset request ≡ false → Meets tells now verdict asked old new request (λ s given. effect_of s actor request given) done
+  copies_meets plain told s holds note follows =
+      let found = effect_left s.store does.before (record new { store = old.store }) _ (does.does.effect s holds.parts) in
+      let e = found.0 in
+      let n = with_boot follows.ended follows.stopped follows.found done.note in
+      let means : effect_of s actor request (record { note = note; verdicts = done.verdicts }) ≡ Some (then_copy row note e) =
+      taken s holds.parts (record { note = note; verdicts = done.verdicts })
+      ∙ ap (option_map (then_copy row note)) (ap (λ (verdicts : List (Option ℤ)). owned_at (table_at s.tables row) s row request (record { note = note; verdicts = verdicts })) does.call.verdicts
+      ∙ same_owned s row note does.before.note does.before.verdicts request can ∙ found.1) in
+      let stands : Stands e.next.store new e.next = record {
+        tables = found.3.tables;
+        pending = found.3.pending;
+        store = refl;
+        drawer = found.3.drawer;
+        apps = found.3.apps;
+        kit = found.3.kit;
+        seconds = found.3.seconds;
+        sub = found.3.sub;
+        ended = found.3.ended;
+      } in
+      let c = does.copied told e found.2 found.3.tables (subst (λ (blocks : Blocks). HasBlocks tells now old.store blocks) (sym found.3.store) (holds.blocks live)) follows.ended follows.stopped follows.found in
+      subst (Has tells now verdict asked old new request s done note) (sym means)
+      (subst (λ (n : BankNote). HasEffect tells now verdict asked old new request s done n (then_copy row n e)) (sym follows.is)
+      (has_called tells now faults stops verdict asked old new request done plain does.call.no_boot s e.next e.asked (then_copy row n e) follows.ended follows.stopped follows.found (λ goes. sym follows.is ∙ follows.same goes) c
+      found.3.store stands
+      (subst (λ (verdicts : List (Option ℤ)). Judged verdict asked old.kit new.kit e.asked verdicts) (sym does.call.verdicts) (asked_there verdict asked old.kit new.kit does.before.verdicts _ e found.1 (does.does.asks s holds.parts)))
+      (copies_hold (now old.store.bank) s.store row n e found.2.calls)))

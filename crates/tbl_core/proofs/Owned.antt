@@ -1,0 +1,49 @@
+-- What the owner of a table asked did not make the table another: it stays critical, or not.
+use Rattle.std.proofs.Common.{◌≡◌, ◌∙◌, ◌≤◌, ℕ, List, [], Bool, true, false, Option, Some, None, ℤ, sym, ap, subst, arith}
+use Rattle.std.specs.Prelude.{IfSome}
+use Rattle.std.proofs.lemmas.Option.{same_Some}
+use Rattle.tbl_model.specs.State.{State, Table, Tables}
+use Rattle.tbl_model.specs.Tables.{table_at, is_critical, has_option}
+use Rattle.tbl_model.specs.Effects as model
+use Rattle.tbl_model.specs.Given.{Given}
+use Rattle.tbl_laws.proofs.Options.{update_options, load_image_options, app_file_options, manage_options}
+use Rattle.tbl_kinds.specs.declared.request.Request.{Request}
+use Rattle.tbl_kinds.specs.declared.request.Request.TheVariants as ask
+use Rattle.tbl_core.specs.Asked.{activates, owned_deeds}
+use Rattle.tbl_core.specs.Effects.{given_of}
+use Rattle.tbl_core.specs.Owned.{owned_effect, owned_at}
+use Rattle.tbl_core.specs.Service.{Held, state_of, Does}
+use Rattle.tbl_core.specs.declared.effect.Effect.{Effect}
+use Rattle.tbl_core.proofs.Behind.{stands_in, effect_left}
+
+abbrev Stay : ℕ → Table → model.Effect → Type 0
+Stay row t e = IfSome (table_at e.next.tables row) (λ (u : Table). u.options ≡ t.options)
+
+options_stay : (s : State) (row : ℕ) (t : Table) → table_at s.tables row ≡ Some t → (request : Request) (given : Given) (e : model.Effect) → activates request ≡ true → owned_effect s row t request given ≡ Some e → Stay row t e
+options_stay s row t there (ask.LoadImage h image) given e can is = subst (Stay row t) (same_Some _ e is) (load_image_options s row t there image.list given)
+options_stay s row t there (ask.LoadFile h name) given e can is = subst (Stay row t) (same_Some _ e is) (app_file_options s row t there name given)
+options_stay s row t there (ask.Update h) given e can is = subst (Stay row t) (same_Some _ e is) (update_options s row t there)
+options_stay s row t there (ask.Manage h) given e can is = subst (Stay row t) (same_Some _ e is) (manage_options s row t there given)
+options_stay s row t there request given e can is = absurd (cc can)
+
+by_options : (t : Table) (o : Option Table) (is : Bool) → is ≡ is_critical t → IfSome o (λ (u : Table). u.options ≡ t.options) → IfSome o (λ u. is ≡ is_critical u)
+by_options t None is critical stay = tt
+by_options t (Some u) is critical stay = critical ∙ ap (has_option 0x0008) (sym stay)
+
+pub stays_critical : {B C : Type 0} (verdict : C → List ℕ → ℤ) (asked : C → ℕ) (old new : Held B C) (row : ℕ) (request : Request) (done : Effect) (t : Table) → table_at old.tables row ≡ Some t → activates request ≡ true
+    → Does verdict asked (owned_deeds request) 0 false old new (λ s given. owned_at (table_at s.tables row) s row request given) done
+    → (is : Bool) → is ≡ is_critical t → IfSome (table_at new.tables row) (λ u. is ≡ is_critical u)
+stays_critical verdict asked old new row request done t there can does is critical =
+    let left = effect_left [] done new _ (does.effect (state_of old) (stands_in old)) in
+    let e = left.0 in
+    let found : owned_effect (state_of old) row t request (given_of done) ≡ Some e = ap (λ (o : Option Table). owned_at o (state_of old) row request (given_of done)) (sym there) ∙ left.1 in
+    subst (λ (tables : Tables). IfSome (table_at tables row) (λ u. is ≡ is_critical u)) left.3.tables
+    (by_options t (table_at e.next.tables row) is critical (options_stay (state_of old) row t there request (given_of done) e can found))
+
+pub few_deeds : (request : Request) (n : ℕ) → n ≤ owned_deeds request → n ≤ 3
+few_deeds (ask.LoadImage h image) n few = omega (arith, few)
+few_deeds (ask.LoadFile h name) n few = omega (arith, few)
+few_deeds (ask.Update h) n few = omega (arith, few)
+few_deeds (ask.Validate h) n few = omega (arith, few)
+few_deeds (ask.Manage h) n few = omega (arith, few)
+few_deeds request n few = omega (arith, few)
