@@ -3,7 +3,7 @@ use Rattle.std.proofs.Common.{◌≡◌, ◌≢◌, ◌≤◌, ◌∙◌, ℕ, s
 use Rattle.tbl_kinds.specs.Notes.{untouched}
 use Rattle.tbl_kinds.specs.Blocks.{Store as Blocks}
 use Rattle.tbl_kinds.specs.StoreCalls.{StoreCall}
-use Rattle.tbl_model.specs.State.{State}
+use Rattle.tbl_model.specs.State.{State, Tables}
 use Rattle.tbl_model.specs.Effects as model
 use Rattle.tbl_model.specs.Deeds.{Question}
 use Rattle.tbl_model.specs.BankCounts.{HasCause}
@@ -34,8 +34,9 @@ use Rattle.tbl_kinds.specs.declared.entry.Answer.{Answer}
 use Rattle.tbl_kinds.specs.declared.request.Actor.TheVariants.{Ground}
 use Rattle.tbl_model.specs.AppBlocks.{delete_cds_effect}
 use Rattle.tbl_model.specs.Commands.{Asked, asked_in, effect_by}
-use Rattle.tbl_core.specs.Asked.{asks_store, owners_handle, most_deeds}
-use Rattle.tbl_core.specs.Called.{Follows, with_boot, boots_behind, boot_only, Troubled, RestoresHeld, IsCall, Calls}
+use Rattle.tbl_core.specs.Asked.{asks_store, activates, owners_handle, owned_deeds, most_deeds}
+use Rattle.validation.specs.Kits.{owners}
+use Rattle.tbl_core.specs.Called.{NoBoot, Follows, with_boot, boots_behind, boot_only, Troubled, RestoresHeld, IsCall, IsCalled, Calls}
 use Rattle.tbl_core.specs.Effects.{IsEffect, given_of}
 use Rattle.tbl_core.specs.Service.{Held, Stands, HoldsAll, state_of, Leaves, Asks, Does, HasEffect, Has, Makes, Meets, IsMade, after_stop}
 use Rattle.tbl_core.specs.Verdicts.{Judged}
@@ -64,18 +65,18 @@ state_is held blocks s stands = λ i. record {
 }
 
 -- no blocks count for what is fit
-fit_without : (n : ℕ) (blocks : Blocks) (s : State) → AreFit n (record s { store = blocks }) → AreFit n s
+pub fit_without : (n : ℕ) (blocks : Blocks) (s : State) → AreFit n (record s { store = blocks }) → AreFit n s
 fit_without n blocks s fit = record { each = fit.each; few_pending = fit.few_pending }
 
 -- ---- requests about tables
 
 -- the effect that the parts stand behind
-effect_left : {B C : Type 0} (blocks : Blocks) (done : Effect) (held : Held B C) (found : Option model.Effect) → Leaves blocks done held found → (e : model.Effect) × (found ≡ Some e) × (IsEffect done e.asked e.next e) × (Stands blocks held e.next)
+pub effect_left : {B C : Type 0} (blocks : Blocks) (done : Effect) (held : Held B C) (found : Option model.Effect) → Leaves blocks done held found → (e : model.Effect) × (found ≡ Some e) × (IsEffect done e.asked e.next e) × (Stands blocks held e.next)
 effect_left blocks done held None leaves = absurd leaves
 effect_left blocks done held (Some e) leaves = (e, refl, leaves.0, leaves.1)
 
 -- what its effect asks
-asked_there : {C : Type 0} (verdict : C → List ℕ → ℤ) (asked : C → ℕ) (old new : List (Option (KitEntry C))) (verdicts : List (Option ℤ)) (found : Option model.Effect) (e : model.Effect)
+pub asked_there : {C : Type 0} (verdict : C → List ℕ → ℤ) (asked : C → ℕ) (old new : List (Option (KitEntry C))) (verdicts : List (Option ℤ)) (found : Option model.Effect) (e : model.Effect)
     → found ≡ Some e → Asks verdict asked old new verdicts found → Judged verdict asked old new e.asked verdicts
 asked_there verdict asked old new verdicts found e is asks = subst (Asks verdict asked old new verdicts) is asks
 
@@ -104,8 +105,8 @@ module _ {B C : Type 0} (tells : Type 0) (now : B → List ℕ) (faults stops : 
     cause = rw (← left.2.status) (subst (OfEffect (λ e. HasCause e.status done.note)) left.1 (caused (state_of old) (given_of done) actor request));
   }
 
-  pub table_meets : is_reset request ≡ false → ((bytes : List ℕ) (blocks : Blocks) (note : BankNote) → RestoresHeld bytes request blocks note) → Meets tells now verdict asked old new request (λ s given. effect_of s actor request given) done
-  table_meets plain gave told s holds note follows =
+  pub table_meets : is_reset request ≡ false → Meets tells now verdict asked old new request (λ s given. effect_of s actor request given) done
+  table_meets plain told s holds note follows =
       let same : note ≡ done.note = follows.same (rw does.note (λ is. cc is)) in
       let found = effect_left s.store done new _ (does.effect s holds.parts) in
       let noted : untouched ≡ done.note = sym does.note in
@@ -128,7 +129,7 @@ module _ {B C : Type 0} (tells : Type 0) (now : B → List ℕ) (faults stops : 
           next = ap (λ (n : BankNote). boots_behind n.outcome n found.0.next) noted;
         };
         judged = asked_there verdict asked old.kit new.kit done.verdicts _ found.0 found.1 (does.asks s holds.parts);
-        gave = gave (now old.store.bank) s.store done.note;
+        gave = subst (λ (calls : List StoreCall). RestoresHeld (now old.store.bank) calls s.store done.note) (sym found.2.calls) tt;
         noted = λ _. subst (IsNoteOf request found.0.calls s.store) noted (subst (λ (calls : List StoreCall). IsNoteOf request calls s.store untouched) (sym found.2.calls) (may_be_untouched request s.store plain));
       } in
       subst (λ (n : BankNote). Has tells now verdict asked old new request s done n (effect_of s actor request (record { note = n; verdicts = done.verdicts }))) (sym same)
@@ -232,87 +233,119 @@ no_boot_at : (request : Request) → is_reset request ≡ false → (boot_in req
 no_boot_at (ask.Reset kind) plain = absurd (cc plain)
 no_boot_at request plain = (refl, refl, refl)
 
-module _ {B C : Type 0} (tells : Type 0) (now : B → List ℕ) (faults stops : B → ℕ) (verdict : C → List ℕ → ℤ) (asked : C → ℕ) (old new : Held B C) (request : Request) (done : Effect)
-    (held : new ≡ record old { store = new.store }) (live : old.ended ≡ false) (call : IsCall faults stops old.store new.store done) where
-  unasked : (questions : List Question) → questions ≡ [] → Judged verdict asked old.kit new.kit questions done.verdicts
-  unasked questions none =
-      let same : new.kit ≡ old.kit = ap (λ (h : Held B C). h.kit) held in
-      rw (same, call.verdicts) (none_judged verdict asked old.kit questions untouched (None ∷ None ∷ []) none refl)
+-- with what a boot behind it told, where it was stopped
+module _ (request : Request) (plain : is_reset request ≡ false) (called : BankNote) (no_boot : NoBoot called) (left : Blocks) (ended stopped : Bool) (found : List ℕ) (same : called.outcome ≢ Stopped → with_boot ended stopped found called ≡ called) where
+  abbrev told_note : BankNote
+  told_note = with_boot ended stopped found called
 
-  pub call_makes : Makes asked verdict faults stops 0 0 false old new done
-  call_makes =
-      let goes : new.ended ≡ false = ap (λ (h : Held B C). h.ended) held ∙ live in record {
-        fit = λ n fit. rw held (fit_without (suc n) [] (state_of old) (grown n (state_of old) fit));
-        judged = ([], unasked [] refl);
-        two = rw call.verdicts refl;
-        within = call.within;
-        booted = call.booted ∙ sym (ap not goes);
-        ended = goes ∙ sym call.no_boot.ended;
-        stopped = λ is. (call.stopped is, call.no_boot);
-        trouble = call.trouble;
-        cause = call.cause;
+  kind_is : (outcome : Outcome) (kind : Option ResetKind) → called.outcome ≡ outcome → boot_in request outcome ≡ kind → Boots kind left told_note → Boots (boot_in request called.outcome) left told_note
+  kind_is outcome kind at is boots = subst (λ (b : Option ResetKind). Boots b left told_note) (sym (ap (boot_in request) at ∙ is)) boots
+
+  none : called.outcome ≢ Stopped → Boots None left told_note
+  none goes = subst (λ (n : BankNote). Boots None left n) (sym (same goes)) (no_boot.found, no_boot.ended, no_boot.stopped)
+
+  boots_at : (called.outcome ≡ Stopped → Boots (Some Processor) left told_note) → Boots (boot_in request called.outcome) left told_note
+  boots_at boots = by called.outcome refl where
+    by : (outcome : Outcome) → called.outcome ≡ outcome → Boots (boot_in request called.outcome) left told_note
+    by Stopped at = kind_is Stopped (Some Processor) at (boot_at request plain) (boots at)
+    by Untouched at = kind_is Untouched None at (no_boot_at request plain).0 (none (λ stop. cc (at, stop)))
+    by Done at = kind_is Done None at (no_boot_at request plain).1 (none (λ stop. cc (at, stop)))
+    by Failed at = kind_is Failed None at (no_boot_at request plain).2 (none (λ stop. cc (at, stop)))
+
+module _ {B C : Type 0} (tells : Type 0) (now : B → List ℕ) (faults stops : B → ℕ) (verdict : C → List ℕ → ℤ) (asked : C → ℕ) (old new : Held B C) (request : Request) (done : Effect) where
+  -- what it did to the state before its calls, and what it asked
+  pub has_called : (plain : is_reset request ≡ false) (no_boot : NoBoot done.note) (s after : State) (questions : List Question) (e : model.Effect) (ended stopped : Bool) (found : List ℕ)
+      (same : done.note.outcome ≢ Stopped → with_boot ended stopped found done.note ≡ done.note) → IsCalled tells now new.store after questions done (with_boot ended stopped found done.note) e
+      → after.store ≡ s.store → Stands after.store new after → Judged verdict asked old.kit new.kit questions done.verdicts → RestoresHeld (now old.store.bank) e.calls s.store (with_boot ended stopped found done.note)
+      → HasEffect tells now verdict asked old new request s done (with_boot ended stopped found done.note) e
+  has_called plain no_boot s after questions e ended stopped found same c kept stands judged gave =
+      let note = with_boot ended stopped found done.note in
+      let left = left_by e.calls note after.store in record {
+        before = record after { store = left };
+        holds = record {
+          parts = record {
+            tables = stands.tables;
+            pending = stands.pending;
+            store = refl;
+            drawer = stands.drawer;
+            apps = stands.apps;
+            kit = stands.kit;
+            seconds = stands.seconds;
+            sub = stands.sub;
+            ended = stands.ended;
+          };
+          blocks = λ _. c.blocks;
+        };
+        effect = record {
+          status = c.effect.status;
+          detail = c.effect.detail;
+          bytes = c.effect.bytes;
+          table = c.effect.table;
+          deeds = c.effect.deeds;
+          shown = c.effect.shown;
+          asked = refl;
+          calls = refl;
+          notice = c.effect.notice;
+          next = c.effect.next;
+        };
+        judged = subst (λ (questions : List Question). Judged verdict asked old.kit new.kit questions done.verdicts) (sym c.effect.asked) judged;
+        gave = gave;
+        noted = λ boots. subst (λ (store : Blocks). IsNoteOf request e.calls store note) kept
+            (record { ends = c.ends; gave = c.gave; tells = c.says; boots = boots_at request plain done.note no_boot left ended stopped found same boots });
       }
 
-  -- where the model's effect is this
-  module _ (means : State → BankNote → model.Effect) (calls : tells → (s : State) → HoldsAll tells now old s → Calls tells now new.store s done (means s)) (plain : is_reset request ≡ false)
-      (gave : tells → (s : State) → HoldsAll tells now old s → (ended stopped : Bool) (found : List ℕ) → RestoresHeld (now old.store.bank) request s.store (with_boot ended stopped found done.note)) where
-    has : tells → (s : State) → HoldsAll tells now old s → (ended stopped : Bool) (found : List ℕ) → (done.note.outcome ≢ Stopped → with_boot ended stopped found done.note ≡ done.note)
-        → HasEffect tells now verdict asked old new request s done (with_boot ended stopped found done.note) (means s (with_boot ended stopped found done.note))
-    has told s holds ended stopped found same =
-        let note = with_boot ended stopped found done.note in
-        let e = means s note in
-        let c = calls told s holds ended stopped found in record {
-          before = record s { store = left_by e.calls note s.store };
-          holds = record {
-            parts = rw held (record {
-              tables = holds.parts.tables;
-              pending = holds.parts.pending;
-              store = refl;
-              drawer = holds.parts.drawer;
-              apps = holds.parts.apps;
-              kit = holds.parts.kit;
-              seconds = holds.parts.seconds;
-              sub = holds.parts.sub;
-              ended = holds.parts.ended;
-            });
-            blocks = λ _. c.blocks;
-          };
-          effect = record {
-            status = c.effect.status;
-            detail = c.effect.detail;
-            bytes = c.effect.bytes;
-            table = c.effect.table;
-            deeds = c.effect.deeds;
-            shown = c.effect.shown;
-            asked = refl;
-            calls = refl;
-            notice = c.effect.notice;
-            next = c.effect.next;
-          };
-          judged = unasked e.asked c.effect.asked;
-          gave = gave told s holds ended stopped found;
-          noted = λ boots. record { ends = c.ends; gave = c.gave; tells = c.says; boots = by done.note.outcome refl boots };
+  module _ (held : new ≡ record old { store = new.store; tables = new.tables }) (live : old.ended ≡ false) (call : IsCall faults stops old.store new.store done) where
+    unasked : (questions : List Question) → questions ≡ [] → Judged verdict asked old.kit new.kit questions done.verdicts
+    unasked questions none =
+        let same : new.kit ≡ old.kit = ap (λ (h : Held B C). h.kit) held in
+        rw (same, call.verdicts) (none_judged verdict asked old.kit questions untouched (None ∷ None ∷ []) none refl)
+
+    pub call_makes : ((n : ℕ) → AreFit n (state_of old) → AreFit (suc n) (record (state_of old) { tables = new.tables })) → Makes asked verdict faults stops 0 0 false old new done
+    call_makes fit =
+        let goes : new.ended ≡ false = ap (λ (h : Held B C). h.ended) held ∙ live in record {
+          fit = λ n was. subst (AreFit (suc n)) (ap state_of (sym held)) (fit n was);
+          judged = ([], unasked [] refl);
+          two = rw call.verdicts refl;
+          within = call.within;
+          booted = call.booted ∙ sym (ap not goes);
+          ended = goes ∙ sym call.no_boot.ended;
+          stopped = λ is. (call.stopped is, call.no_boot);
+          trouble = call.trouble;
+          cause = call.cause;
         }
-      where
-        none : Boots None (left_by (means s (with_boot ended stopped found done.note)).calls (with_boot ended stopped found done.note) s.store) done.note
-        none = (call.no_boot.found, call.no_boot.ended, call.no_boot.stopped)
 
-        kind_is : (outcome : Outcome) (kind : Option ResetKind) → done.note.outcome ≡ outcome → boot_in request outcome ≡ kind → Boots kind (left_by (means s (with_boot ended stopped found done.note)).calls (with_boot ended stopped found done.note) s.store) (with_boot ended stopped found done.note) → Boots (boot_in request done.note.outcome) (left_by (means s (with_boot ended stopped found done.note)).calls (with_boot ended stopped found done.note) s.store) (with_boot ended stopped found done.note)
-        kind_is outcome kind at is boots = subst (λ (b : Option ResetKind). Boots b (left_by (means s (with_boot ended stopped found done.note)).calls (with_boot ended stopped found done.note) s.store) (with_boot ended stopped found done.note)) (sym (ap (boot_in request) at ∙ is)) boots
-
-        goes : done.note.outcome ≢ Stopped → Boots None (left_by (means s (with_boot ended stopped found done.note)).calls (with_boot ended stopped found done.note) s.store) (with_boot ended stopped found done.note)
-        goes on = subst (λ (n : BankNote). Boots None (left_by (means s (with_boot ended stopped found done.note)).calls (with_boot ended stopped found done.note) s.store) n) (sym (same on)) none
-
-        by : (outcome : Outcome) → done.note.outcome ≡ outcome → (done.note.outcome ≡ Stopped → Boots (Some Processor) (left_by (means s (with_boot ended stopped found done.note)).calls (with_boot ended stopped found done.note) s.store) (with_boot ended stopped found done.note)) → Boots (boot_in request done.note.outcome) (left_by (means s (with_boot ended stopped found done.note)).calls (with_boot ended stopped found done.note) s.store) (with_boot ended stopped found done.note)
-        by Stopped at boots = kind_is Stopped (Some Processor) at (boot_at request plain) (boots at)
-        by Untouched at boots = kind_is Untouched None at (no_boot_at request plain).0 (goes (λ stop. cc (at, stop)))
-        by Done at boots = kind_is Done None at (no_boot_at request plain).1 (goes (λ stop. cc (at, stop)))
-        by Failed at boots = kind_is Failed None at (no_boot_at request plain).2 (goes (λ stop. cc (at, stop)))
-
-    pub call_meets : Meets tells now verdict asked old new request (λ s given. Some (means s given.note)) done
-    call_meets told s holds note follows =
+    -- where the model's effect is this
+    pub call_meets : (means : State → BankNote → model.Effect) (calls : tells → (s : State) → HoldsAll tells now old s → Calls tells now new.store (record s { tables = new.tables }) done (means s)) (plain : is_reset request ≡ false)
+        (gave : tells → (s : State) → HoldsAll tells now old s → (ended stopped : Bool) (found : List ℕ) → RestoresHeld (now old.store.bank) (means s (with_boot ended stopped found done.note)).calls s.store (with_boot ended stopped found done.note))
+        → Meets tells now verdict asked old new request (λ s given. Some (means s given.note)) done
+    call_meets means calls plain gave told s holds note follows =
         subst (λ (n : BankNote). HasEffect tells now verdict asked old new request s done n (means s n)) (sym follows.is)
-        (has told s holds follows.ended follows.stopped follows.found (λ goes. sym follows.is ∙ follows.same goes))
+        (has_called plain call.no_boot s (record s { tables = new.tables }) [] (means s (with_boot follows.ended follows.stopped follows.found done.note)) follows.ended follows.stopped follows.found (λ goes. sym follows.is ∙ follows.same goes)
+        (calls told s holds follows.ended follows.stopped follows.found) refl (record {
+          tables = refl;
+          pending = holds.parts.pending ∙ sym (ap (λ (h : Held B C). h.pending) held);
+          store = refl;
+          drawer = holds.parts.drawer ∙ sym (ap (λ (h : Held B C). h.drawer) held);
+          apps = holds.parts.apps ∙ sym (ap (λ (h : Held B C). h.apps) held);
+          kit = holds.parts.kit ∙ sym (ap (λ (h : Held B C). owners h.kit) held);
+          seconds = holds.parts.seconds ∙ sym (ap (λ (h : Held B C). h.seconds) held);
+          sub = holds.parts.sub ∙ sym (ap (λ (h : Held B C). h.sub) held);
+          ended = holds.parts.ended ∙ sym (ap (λ (h : Held B C). h.ended) held);
+        }) (unasked [] refl) (gave told s holds follows.ended follows.stopped follows.found))
+
+  -- tables stay
+  module _ (held : new ≡ record old { store = new.store }) (live : old.ended ≡ false) (call : IsCall faults stops old.store new.store done) where
+    same_tables : new ≡ record old { store = new.store; tables = new.tables }
+    same_tables = held ∙ ap (λ (tables : Tables). record old { store = new.store; tables = tables }) (sym (ap (λ (h : Held B C). h.tables) held))
+
+    pub block_makes : Makes asked verdict faults stops 0 0 false old new done
+    block_makes = call_makes same_tables live call (λ n fit. subst (λ (tables : Tables). AreFit (suc n) (record (state_of old) { tables = tables })) (sym (ap (λ (h : Held B C). h.tables) held)) (grown n (state_of old) fit))
+
+    pub block_meets : (means : State → BankNote → model.Effect) (calls : tells → (s : State) → HoldsAll tells now old s → Calls tells now new.store s done (means s)) (plain : is_reset request ≡ false)
+        (gave : tells → (s : State) → HoldsAll tells now old s → (ended stopped : Bool) (found : List ℕ) → RestoresHeld (now old.store.bank) (means s (with_boot ended stopped found done.note)).calls s.store (with_boot ended stopped found done.note))
+        → Meets tells now verdict asked old new request (λ s given. Some (means s given.note)) done
+    block_meets means calls = call_meets same_tables live call means
+        (λ told s holds. subst (λ (tables : Tables). Calls tells now new.store (record s { tables = tables }) done (means s)) (holds.parts.tables ∙ sym (ap (λ (h : Held B C). h.tables) held)) (calls told s holds))
 
 -- ---- how much may be told
 
@@ -342,22 +375,37 @@ owners_deeds (ask.Validate h) asked handle is = omega arith
 owners_deeds (ask.Manage h) asked handle is = omega arith
 owners_deeds request asked handle is = omega arith
 
--- what doesn't reach the store restores nothing
-pub no_restore : (request : Request) (asked : Asked) → asks_store request asked ≡ false → (bytes : List ℕ) (blocks : Blocks) (note : BankNote) → RestoresHeld bytes request blocks note
-no_restore (ask.CdsRestore slot) asked reaches bytes blocks note = absurd (cc reaches)
-no_restore request asked reaches bytes blocks note = tt
+-- nor are those more than a request may have, with the failure of a copy behind them
+pub owned_fewer : (request : Request) → owned_deeds request ≤ most_deeds request None
+owned_fewer (ask.LoadImage h image) = omega arith
+owned_fewer (ask.LoadFile h name) = omega arith
+owned_fewer (ask.Update h) = omega arith
+owned_fewer (ask.Validate h) = omega arith
+owned_fewer (ask.Manage h) = omega arith
+owned_fewer request = omega arith
 
--- and is no Reset
+pub copied_fewer : (request : Request) → activates request ≡ true → suc (owned_deeds request) ≤ most_deeds request None
+copied_fewer (ask.LoadImage h image) can = omega arith
+copied_fewer (ask.LoadFile h name) can = omega arith
+copied_fewer (ask.Update h) can = omega arith
+copied_fewer (ask.Manage h) can = omega arith
+copied_fewer request can = absurd (cc can)
+
+-- such a call is no Reset
+pub owner_resets : (request : Request) (handle : ℕ) → owners_handle request ≡ Some handle → is_reset request ≡ false
+owner_resets (ask.Reset kind) handle is = absurd (cc is)
+owner_resets request handle is = refl
+
+-- what doesn't reach the store is no Reset
 pub no_reset : (request : Request) (asked : Asked) → asks_store request asked ≡ false → is_reset request ≡ false
 no_reset (ask.Reset kind) asked reaches = absurd (cc reaches)
 no_reset request asked reaches = refl
 
 -- ---- the command that deletes a block
 
-pub deletes : (request : Request) (name : List ℕ) → asked_in request ≡ Some (Ok (delete_cds name)) → (is_reset request ≡ false) × ((bytes : List ℕ) (blocks : Blocks) (note : BankNote) → RestoresHeld bytes request blocks note) × ((s : State) (given : Given) → effect_of s Ground request given ≡ Some (delete_cds_effect s name given.note))
+pub deletes : (request : Request) (name : List ℕ) → asked_in request ≡ Some (Ok (delete_cds name)) → (is_reset request ≡ false) × ((s : State) (given : Given) → effect_of s Ground request given ≡ Some (delete_cds_effect s name given.note))
 deletes (ask.Command bytes) name is = (
   refl,
-  λ bytes blocks note. tt,
   λ s given. ap (λ (r : Result GroundCommand Answer). Some (effect_by s r given.note)) (same_Some (command_in bytes.list) (Ok (delete_cds name)) is),
 )
 deletes request name is = absurd (cc is)

@@ -19,7 +19,7 @@ use Rattle.tbl_model.specs.Effects as model
 use Rattle.tbl_model.specs.Effects.{answered}
 use Rattle.tbl_model.specs.Boots.{boot}
 use Rattle.tbl_model.specs.StoreUse.{left_by, then_broken, then_call}
-use Rattle.tbl_model.specs.StoreNotes.{NoGate, is_restore, MayGoOn, Tells}
+use Rattle.tbl_model.specs.StoreNotes.{NoGate, is_restore, MayGo, MayGoOn, Tells}
 use Rattle.tbl_model.specs.AppBlocks.{faulted, restore_answer}
 use Rattle.cds_store.specs.Calls.{HasFlags, is_gate, is_old}
 use Rattle.cds_store.specs.Standing.{StoreParts, StandsFor, AreHeld, slot_of, held_at, after_fault}
@@ -68,10 +68,10 @@ torn_told {done} {status} {words} {bytes} {note} fresh empty told =
 
 -- it is enough to know it of the note that is told
 pub by_note : {B : Type 0} (tells : Type 0) (now : B → List ℕ) (kept : StoreParts B) (s : State) (done : Effect) (means : BankNote → model.Effect) (note : BankNote) → done.note ≡ note
-    → ((ended stopped : Bool) (found : List ℕ) → IsCalled tells now kept s done (with_boot ended stopped found note) (means (with_boot ended stopped found note)))
+    → ((ended stopped : Bool) (found : List ℕ) → IsCalled tells now kept s [] done (with_boot ended stopped found note) (means (with_boot ended stopped found note)))
     → Calls tells now kept s done means
 by_note tells now kept s done means note is all =
-    subst (λ (n : BankNote). (ended stopped : Bool) (found : List ℕ) → IsCalled tells now kept s done (with_boot ended stopped found n) (means (with_boot ended stopped found n))) (sym is) all
+    subst (λ (n : BankNote). (ended stopped : Bool) (found : List ℕ) → IsCalled tells now kept s [] done (with_boot ended stopped found n) (means (with_boot ended stopped found n))) (sym is) all
 
 -- a note that tells of no restore
 abbrev pub Plain : BankNote → Type 0
@@ -94,7 +94,7 @@ module _ {B : Type 0} (tells : Type 0) (now : B → List ℕ) (kept : StoreParts
         → calls ≢ [] → note.done + 1 ≡ length calls → NoGate note
         → MayGoOn (take (note.done + 1) calls) s.store → ((n : BankNote) → n.restored ≡ note.restored → n.torn ≡ note.torn → Tells (take (note.done + 1) calls) n)
         → (ended stopped : Bool) (found : List ℕ)
-        → IsCalled tells now kept s done (with_boot ended stopped found (done_note note)) (then_call calls (with_boot ended stopped found (done_note note)) faulted (record (answered s status detail) { bytes = bytes }))
+        → IsCalled tells now kept s [] done (with_boot ended stopped found (done_note note)) (then_call calls (with_boot ended stopped found (done_note note)) faulted (record (answered s status detail) { bytes = bytes }))
     calls_done told stands some many no_gate gave says ended stopped found = record {
       blocks = stands;
       effect = told_so s (record s { store = left_by calls (done_note note) s.store }) done status detail bytes (done_note note) told;
@@ -110,7 +110,7 @@ module _ {B : Type 0} (tells : Type 0) (now : B → List ℕ) (kept : StoreParts
         → CanBreak (is_gate fault) (is_old fault) call (after_first note.done calls s.store) → ((broken_note fault note).outcome ≡ Stopped → is_restore call ≡ false)
         → MayGoOn (take note.done calls) s.store → ((n : BankNote) → n.restored ≡ note.restored → n.torn ≡ note.torn → Tells (take note.done calls) n)
         → (ended stopped : Bool) (found : List ℕ)
-        → IsCalled tells now kept s done (with_boot ended stopped found (broken_note fault note)) (then_call calls (with_boot ended stopped found (broken_note fault note)) faulted (record (answered s status detail) { bytes = bytes }))
+        → IsCalled tells now kept s [] done (with_boot ended stopped found (broken_note fault note)) (then_call calls (with_boot ended stopped found (broken_note fault note)) faulted (record (answered s status detail) { bytes = bytes }))
     calls_broke call next (Fault gate old) told stands can writes gave says ended stopped found =
         let n = broken_note (Fault gate old) note in record {
           blocks = subst (λ o. StandsFor tells now kept (then_broken n o (after_first note.done calls s.store))) (sym next) stands;
@@ -135,7 +135,7 @@ module _ {B : Type 0} (tells : Type 0) (now : B → List ℕ) (kept : StoreParts
       → ((blocks : Blocks) → StandsFor tells now before blocks → StandsFor tells now kept (broken (is_gate fault) (is_old fault) call blocks))
       → IsTold done (broken_status fault) 0 [] (broken_note fault untouched)
       → (ended stopped : Bool) (found : List ℕ)
-      → IsCalled tells now kept s done (with_boot ended stopped found (broken_note fault untouched)) (then_call (call ∷ more) (with_boot ended stopped found (broken_note fault untouched)) faulted (answered s status detail))
+      → IsCalled tells now kept s [] done (with_boot ended stopped found (broken_note fault untouched)) (then_call (call ∷ more) (with_boot ended stopped found (broken_note fault untouched)) faulted (answered s status detail))
   first_broke call more status detail fault before gate old writes can flags stands err told =
       calls_broke (call ∷ more) status detail [] untouched call refl fault told (err s.store stands)
       (subst (λ g. CanBreak g (is_old fault) call s.store) (sym flags.gate_is) (subst (λ o. CanBreak gate o call s.store) (sym flags.old_is) can))
@@ -161,7 +161,7 @@ module _ {B : Type 0} (tells : Type 0) (now : B → List ℕ) (kept : StoreParts
   pub calls_same : (one other : BankNote → model.Effect) → ((n : BankNote) → other n ≡ one n) → Calls tells now kept s done one → Calls tells now kept s done other
   calls_same one other same all ended stopped found =
       let n = with_boot ended stopped found done.note in
-      subst (IsCalled tells now kept s done n) (sym (same n)) (all ended stopped found)
+      subst (IsCalled tells now kept s [] done n) (sym (same n)) (all ended stopped found)
 
   -- a command is about this table
   pub calls_about : (table named : Option Named) (means : BankNote → model.Effect) → named ≡ table → Calls tells now kept s done means
@@ -249,17 +249,17 @@ module _ {B : Type 0} (tells : Type 0) (now : B → List ℕ) (before kept : Sto
   means n = then_call (restore slot (restored_image n) ∷ []) n faulted (restore_answer s n.torn (restored_image n))
 
   pub given_called : (image : List ℕ) (kept_bytes : Option Buffer) → option_map (λ (b : Buffer). b.list) kept_bytes ≡ Some image
-      → ForSome (stored_at s.store slot) (λ b. MayGive b (Some image))
+      → ForSome (stored_at s.store slot) (λ b. MayGive b (Some image)) → ForSome (stored_at s.store slot) (λ b. length image ≡ b.block.size)
       → StandsFor tells now kept (after (restore slot (Some image)) s.store)
       → IsTold done SUCCESS 0 image (record (done_note untouched) { restored = kept_bytes })
       → Restores
-  given_called image None is gives left told = absurd (cc is)
-  given_called image (Some b) is gives left told =
+  given_called image None is gives sized left told = absurd (cc is)
+  given_called image (Some b) is gives sized left told =
       let same : b.list ≡ image = same_Some b.list image is in
       by_note tells now kept s done means (record (done_note untouched) { restored = Some b }) told.note_is
       (calls_done tells now kept s done (restore slot (Some b.list) ∷ []) SUCCESS 0 b.list (record untouched { restored = Some b }) (told_with (sym same) refl told)
       (subst (λ i. StandsFor tells now kept (after (restore slot (Some i)) s.store)) (sym same) left) (λ is. cc is) refl (refl, refl)
-      (subst (λ i. ForSome (stored_at s.store slot) (λ b. MayGive b (Some i))) (sym same) gives, tt)
+      (subst (λ (i : List ℕ). MayGo (restore slot (Some i)) s.store) (sym same) (λ b there. (gives b there, sized b there)), tt)
       (λ n restored torn. (ap (option_map (λ (b : Buffer). b.list)) restored, λ given. torn)))
 
   pub torn_called : tells → (broke : RestoreFault) (length word found words : ℕ) → broke ≡ Torn length word found
@@ -271,7 +271,7 @@ module _ {B : Type 0} (tells : Type 0) (now : B → List ℕ) (before kept : Sto
       let gives = gives_none (now before.bank) s.store slot before.slots stands.slots (stands.holds told) (λ t at. (subst (TellsTorn (now before.bank) t.block) is (none told t at)).no_image) in
       let there = subst (λ f. StandsFor tells now kept (after_fault f slot s.store)) is (left s.store stands) in
       by_note tells now kept s done means (record (done_note untouched) { torn = words }) answer.note_is
-      (calls_done tells now kept s done (restore slot None ∷ []) ERR_CDS_TORN words [] (record untouched { torn = words }) answer there (λ is. cc is) refl (refl, refl) (gives, tt)
+      (calls_done tells now kept s done (restore slot None ∷ []) ERR_CDS_TORN words [] (record untouched { torn = words }) answer there (λ is. cc is) refl (refl, refl) ((λ b there. (gives b there, tt)), tt)
       (λ n restored torn. (ap (option_map (λ (b : Buffer). b.list)) restored, λ given. absurd (cc given))))
 
   pub unread_called : (broke : RestoreFault) → broke ≡ Unread

@@ -3,6 +3,8 @@ pub mod Both
 pub mod Buffers
 pub mod Calls
 pub mod CommandReadings
+pub mod CopiedBehind
+pub mod CopyEnds
 pub mod Doing
 pub mod Dumping
 pub mod Few
@@ -10,11 +12,14 @@ pub mod Functions
 pub mod Keeping
 pub mod Managing
 pub mod OwnBlocks
+pub mod Owned
 pub mod Owners
 pub mod Places
 pub mod Ready
+pub mod Registrations
 pub mod Reserved
 pub mod Resets
+pub mod Restoring
 pub mod Starting
 pub mod Steps
 pub mod Trouble

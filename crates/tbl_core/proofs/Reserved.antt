@@ -33,21 +33,21 @@ use Rattle.tbl_core.specs.declared.effect.Effect.{Effect}
 
 -- ---- what the model does
 
-chosen : (same room : Bool) (exists full done : model.Effect) → same ≡ false → room ≡ true → (if same then exists else (if not room then full else done)) ≡ done
+pub chosen : (same room : Bool) (exists full done : model.Effect) → same ≡ false → room ≡ true → (if same then exists else (if not room then full else done)) ≡ done
 chosen false true exists full done same room = refl
 chosen true room exists full done same there = absurd (cc same)
 chosen false false exists full done same room = absurd (cc room)
 
-refused : (same room : Bool) (exists full done : model.Effect) → same ≡ false → room ≡ false → (if same then exists else (if not room then full else done)) ≡ full
+pub refused : (same room : Bool) (exists full done : model.Effect) → same ≡ false → room ≡ false → (if same then exists else (if not room then full else done)) ≡ full
 refused false false exists full done same room = refl
 refused true room exists full done same none = absurd (cc same)
 refused false true exists full done same room = absurd (cc room)
 
-not_lacking : (b : Bool) → false ≡ not b → b ≡ true
+pub not_lacking : (b : Bool) → false ≡ not b → b ≡ true
 not_lacking true is = refl
 not_lacking false is = absurd (cc is)
 
-lacking : (b : Bool) → true ≡ not b → b ≡ false
+pub lacking : (b : Bool) → true ≡ not b → b ≡ false
 lacking false is = refl
 lacking true is = absurd (cc is)
 

@@ -15,7 +15,7 @@ use Rattle.tbl_core.specs.Log.{Logged, entry_of}
 use Rattle.tbl_core.specs.Called.{OnPlayed, RestoresHeld, session_end}
 use Rattle.tbl_core.specs.Effects.{IsEffect, uncalled, given_of, without_images, told_at}
 use Rattle.tbl_core.specs.Service.{CoreView, HoldsAll, Shows, StandsFor, Finishes, IsMade, Plays, IsReady}
-use Rattle.tbl_core.specs.Verdicts.{Judged, questions_in}
+use Rattle.tbl_core.specs.Verdicts.{Judged, questions_in, calls_in}
 use Rattle.tbl_core.proofs.Verdicts.{answers_each, few_more}
 use Rattle.tbl_core.specs.declared.effect.Effect.{Effect}
 use Rattle.tbl_core.specs.declared.parts.Clock.{Clock}
@@ -80,7 +80,7 @@ module _ {B C : Type 0} (tells : Type 0) (now : B → List ℕ) (faults stops : 
 
   -- its effect, whatever run the core stood for
   left : tells → (r : Run) → Shows tells now old r → (e : model.Effect) × (effect_of r.state actor request (given_of done) ≡ Some e) × IsEffect done e.asked e.next (uncalled e) × HoldsAll tells now new.state e.next
-      × Judged verdict asked old.state.kit new.state.kit e.asked done.verdicts × IsNoteOf request e.calls r.state.store done.note × RestoresHeld (now old.state.store.bank) request r.state.store done.note
+      × Judged verdict asked old.state.kit new.state.kit e.asked done.verdicts × IsNoteOf request e.calls r.state.store done.note × RestoresHeld (now old.state.store.bank) e.calls r.state.store done.note
   left told r shown = did.made.effect told r.state shown.state
 
   counted_on : (is_told : tells) (r : Run) (shown : Shows tells now old r) → counts_of (r.past ++ told r.state actor request (left is_told r shown).0 ∷ []) ≡ new.counts
@@ -123,6 +123,10 @@ module _ {B C : Type 0} (tells : Type 0) (now : B → List ℕ) (faults stops : 
   unfolding entry
   judged is_told r shown = rw (left is_told r shown).1 (left is_told r shown).4
 
+  gave : tells → (r : Run) → Shows tells now old r → RestoresHeld (now old.state.store.bank) (calls_in r entry) r.state.store entry.note
+  unfolding entry
+  gave is_told r shown = rw (left is_told r shown).1 (left is_told r shown).6
+
   ready : IsReady asked new
   ready = record {
     fit = rw one_more (did.made.fit (length old.entries) did.ready.fit);
@@ -144,7 +148,7 @@ module _ {B C : Type 0} (tells : Type 0) (now : B → List ℕ) (faults stops : 
     ready = ready;
     judged = judged;
     kit = did.made.judged;
-    gave = λ is_told r shown. (left is_told r shown).6;
+    gave = gave;
     trouble = did.made.trouble;
     cause = rw did.finishes.status did.made.cause;
   }

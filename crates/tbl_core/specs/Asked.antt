@@ -44,14 +44,23 @@ command_deeds (Some (Ok (validate select table))) = 1
 command_deeds (Some (Ok (dump_registry file))) = 1
 command_deeds _ = 0
 
+-- the most deeds of what the owner of a table asks, before an image of a critical table is copied
+abbrev pub owned_deeds : Request → ℕ
+owned_deeds (ask.LoadImage handle image) = 2
+owned_deeds (ask.LoadFile handle name) = 2
+owned_deeds (ask.Update handle) = 1
+owned_deeds (ask.Validate handle) = 1
+owned_deeds (ask.Manage handle) = 3
+owned_deeds _ = 0
+
 -- the most deeds of a request
 abbrev pub most_deeds : Request → model.Asked → ℕ
 most_deeds (ask.Command bytes) asked = command_deeds asked
-most_deeds (ask.LoadImage handle image) asked = 2
-most_deeds (ask.LoadFile handle name) asked = 2
-most_deeds (ask.Update handle) asked = 1
+most_deeds (ask.LoadImage handle image) asked = 3
+most_deeds (ask.LoadFile handle name) asked = 3
+most_deeds (ask.Update handle) asked = 2
 most_deeds (ask.Validate handle) asked = 1
-most_deeds (ask.Manage handle) asked = 3
+most_deeds (ask.Manage handle) asked = 4
 most_deeds _ asked = 0
 
 -- the handle of a call that the owner of its table alone may make
@@ -66,10 +75,19 @@ owners_handle (ask.Edit handle offset bytes) = Some handle
 owners_handle (ask.Notify handle msg code parameter) = Some handle
 owners_handle _ = None
 
+-- a request by which an image of the table can go active
+abbrev pub activates : Request → Bool
+activates (ask.LoadImage handle image) = true
+activates (ask.LoadFile handle name) = true
+activates (ask.Update handle) = true
+activates (ask.Manage handle) = true
+activates _ = false
+
 -- a request that boots the Critical Data Store, or calls it
 abbrev pub asks_store : Request → model.Asked → Bool
 asks_store (ask.Reset kind) asked = true
 asks_store (ask.Command bytes) asked = asks_delete asked
+asks_store (ask.Register name size flags validator) asked = true
 asks_store (ask.CdsRegister name size) asked = true
 asks_store (ask.CdsCopy slot image) asked = true
 asks_store (ask.CdsRestore slot) asked = true

@@ -17,8 +17,8 @@ use Rattle.tbl_kinds.specs.Blocks.{Store}
 use Rattle.tbl_kinds.specs.StoreSteps.{stored_at}
 use Rattle.tbl_kinds.specs.Notes.{untouched, restored_image}
 use Rattle.tbl_kinds.specs.declared.block.Block.{Block}
-use Rattle.tbl_kinds.specs.declared.request.Request.{Request}
-use Rattle.tbl_kinds.specs.declared.request.Request.TheVariants as ask
+use Rattle.tbl_kinds.specs.StoreCalls.{StoreCall, restore}
+use Rattle.tbl_model.specs.Deeds.{Question}
 use Rattle.cds_layout.specs.Images.{data_in, kept_word, held_in}
 use Rattle.tbl_kinds.specs.declared.note.BankNote.{BankNote}
 use Rattle.tbl_kinds.specs.declared.note.Outcome.{Outcome}
@@ -171,20 +171,29 @@ pub record GaveHeld (bytes : List ℕ) (b : Block) (note : BankNote) : Type 0 wh
   pub image : restored_image note ≡ held_in bytes b
   pub words : restored_image note ≡ None → note.torn ≡ kept_word bytes b * 65536 + check16 (data_in bytes b)
 
--- so did the restore of a request, where it was read
-abbrev pub RestoresHeld : List ℕ → Request → Store → BankNote → Type 0
-RestoresHeld bytes (ask.CdsRestore slot) blocks note = note.outcome ≡ Done → ForSome (stored_at blocks slot) (λ b. GaveHeld bytes b.block note)
-RestoresHeld bytes _ blocks note = Unit {0}
+-- so did a call of the store, where it is a restore and was read
+abbrev pub RestoreHeld : List ℕ → StoreCall → Store → BankNote → Type 0
+RestoreHeld bytes (restore slot image) blocks note = note.outcome ≡ Done → ForSome (stored_at blocks slot) (λ b. GaveHeld bytes b.block note)
+RestoreHeld bytes call blocks note = Unit {0}
 
--- in this state the request has this effect, where the service has this note behind it; before a boot the store stands for the
--- blocks that the calls leave, and the note is one that they may leave
-pub record IsCalled {B : Type 0} (tells : Type 0) (now : B → List ℕ) (kept : StoreParts B) (s : State) (done : Effect) (note : BankNote) (e : model.Effect) : Type 0 where
+-- so did the calls of a request, of which only the first can be a restore
+abbrev pub RestoresHeld : List ℕ → List StoreCall → Store → BankNote → Type 0
+RestoresHeld bytes [] blocks note = Unit {0}
+RestoresHeld bytes (call ∷ calls) blocks note = RestoreHeld bytes call blocks note
+
+-- a request that did this to the state and asked these questions before it called the store has this effect, where the service has
+-- this note behind it; before a boot the store stands for the blocks that the calls leave, and the note is one that they may leave
+pub record IsCalled {B : Type 0} (tells : Type 0) (now : B → List ℕ) (kept : StoreParts B) (s : State) (questions : List Question) (done : Effect) (note : BankNote) (e : model.Effect) : Type 0 where
   pub blocks : StandsFor tells now kept (left_by e.calls note s.store)
-  pub effect : IsEffect done [] (boots_behind note.outcome note (record s { store = left_by e.calls note s.store })) (uncalled e)
+  pub effect : IsEffect done questions (boots_behind note.outcome note (record s { store = left_by e.calls note s.store })) (uncalled e)
   pub ends : Ends note.outcome e.calls s.store note
   pub gave : MayGoOn (take note.done e.calls) s.store
   pub says : Tells (take note.done e.calls) note
 
 -- this holds whatever a boot behind the calls tells
+abbrev pub CallsBehind : {B : Type 0} → Type 0 → (B → List ℕ) → StoreParts B → State → List Question → Effect → (BankNote → model.Effect) → Type 0
+CallsBehind tells now kept s questions done means = (ended stopped : Bool) (found : List ℕ) → IsCalled tells now kept s questions done (with_boot ended stopped found done.note) (means (with_boot ended stopped found done.note))
+
+-- no question is asked in it
 abbrev pub Calls : {B : Type 0} → Type 0 → (B → List ℕ) → StoreParts B → State → Effect → (BankNote → model.Effect) → Type 0
-Calls tells now kept s done means = (ended stopped : Bool) (found : List ℕ) → IsCalled tells now kept s done (with_boot ended stopped found done.note) (means (with_boot ended stopped found done.note))
+Calls tells now kept s done means = CallsBehind tells now kept s [] done means

@@ -1,5 +1,6 @@
 pub mod Asked
 pub mod Called
+pub mod Copying
 pub mod Counters
 pub mod Effects
 pub mod Finish
@@ -8,6 +9,7 @@ pub mod Loads
 pub mod Log
 pub mod Managed
 pub mod Owned
+pub mod Registering
 pub mod Rows
 pub mod Service
 pub mod Verdicts

@@ -13,6 +13,9 @@ use Rattle.tbl_model.specs.Management.{managed_effect, manage_answer, all_done, 
 use Rattle.tbl_model.specs.Dumps.{edit_refusal}
 use Rattle.tbl_kinds.specs.Numbers.{patched}
 use Rattle.tbl_model.specs.Sharing.{is_notice}
+use Rattle.std.specs.Option.{option_map}
+use Rattle.tbl_model.specs.Copies.{then_copy}
+use Rattle.tbl_kinds.specs.declared.note.BankNote.{BankNote}
 use Rattle.tbl_kinds.specs.declared.status.TheConstants.Status.{SUCCESS, INFO_NO_DUMP_PENDING, ERR_NOTICE_ID}
 use Rattle.tbl_kinds.specs.declared.request.Request.{Request}
 use Rattle.tbl_kinds.specs.declared.request.Request.TheVariants as ask
@@ -50,3 +53,11 @@ owned_effect s row t _ given = None
 abbrev pub owned_at : Option Table → State → ℕ → Request → Given → Option Effect
 owned_at None s row request given = None
 owned_at (Some t) s row request given = owned_effect s row t request given
+
+-- behind a call by which an image can go active, that of a critical table is copied
+abbrev pub copied_at : Request → ℕ → BankNote → Option Effect → Option Effect
+copied_at (ask.LoadImage handle image) row note o = option_map (then_copy row note) o
+copied_at (ask.LoadFile handle name) row note o = option_map (then_copy row note) o
+copied_at (ask.Update handle) row note o = option_map (then_copy row note) o
+copied_at (ask.Manage handle) row note o = option_map (then_copy row note) o
+copied_at _ row note o = o

@@ -32,11 +32,13 @@ use Rattle.tbl_kinds.specs.declared.note.Outcome.{Outcome}
 use Rattle.tbl_kinds.specs.declared.note.Outcome.TheVariants.{Untouched, Done, Failed, Stopped}
 use Rattle.tbl_kinds.specs.declared.request.ResetKind.TheVariants.{Processor}
 use Rattle.tbl_kinds.specs.declared.status.TheConstants.Status.{INFO_STOPPED}
-use Rattle.tbl_core.specs.Called.{NoBoot, Follows, boots_behind, session_end, Troubled, RestoresHeld}
+use Rattle.tbl_model.specs.Copies.{then_copy}
+use Rattle.tbl_core.specs.Called.{NoBoot, Follows, boots_behind, session_end, Troubled, RestoresHeld, CallsBehind}
+use Rattle.tbl_core.specs.Copying.{IsCopyCall}
 use Rattle.tbl_core.specs.Effects.{IsEffect, IsWithin, uncalled, given_of, told_at}
 use Rattle.tbl_kinds.specs.Notes.{untouched}
 use Rattle.tbl_model.specs.Given.{Given}
-use Rattle.tbl_core.specs.Verdicts.{Judged, questions_in, AreGiven, AreOf}
+use Rattle.tbl_core.specs.Verdicts.{Judged, questions_in, calls_in, AreGiven, AreOf}
 use Rattle.tbl_core.specs.declared.effect.Effect.{Effect}
 use Rattle.tbl_core.specs.declared.parts.Clock.{Clock}
 use Rattle.tbl_core.specs.declared.parts.Parts.{Parts}
@@ -182,6 +184,13 @@ pub record Does {B C : Type 0} (verdict : C → List ℕ → ℤ) (asked : C →
   pub two : length done.verdicts ≡ 2
   pub within : IsWithin most room owes done
 
+-- the request did this to the table in this row, and an image that went active by it was copied
+pub record DoesAndCopies {B C : Type 0} (tells : Type 0) (now : B → List ℕ) (faults stops : B → ℕ) (verdict : C → List ℕ → ℤ) (asked : C → ℕ) (most room : ℕ) (owes : Bool) (old new : Held B C) (row : ℕ) (means : State → Given → Option model.Effect) (done : Effect) : Type 0 where
+  pub before : Effect
+  pub does : Does verdict asked most room owes old (record new { store = old.store }) means before
+  pub copied : tells → (e : model.Effect) → IsEffect before e.asked e.next e → e.next.tables ≡ new.tables → HasBlocks tells now old.store e.next.store → CallsBehind tells now new.store e.next e.asked done (λ n. then_copy row n e)
+  pub call : IsCopyCall faults stops old.store new.store before done
+
 -- ---- any request, before the boot behind a stop of it
 
 -- in this state it has this effect, where the service has this note behind it
@@ -190,7 +199,7 @@ pub record HasEffect {B C : Type 0} (tells : Type 0) (now : B → List ℕ) (ver
   pub holds : HoldsAll tells now new before
   pub effect : IsEffect done e.asked (boots_behind note.outcome note before) (uncalled e)
   pub judged : Judged verdict asked old.kit new.kit e.asked done.verdicts
-  pub gave : RestoresHeld (now old.store.bank) request s.store note
+  pub gave : RestoresHeld (now old.store.bank) e.calls s.store note
   pub noted : (note.outcome ≡ Stopped → Boots (Some Processor) before.store note) → IsNoteOf request e.calls s.store note
 
 abbrev pub Has : {B C : Type 0} → Type 0 → (B → List ℕ) → (C → List ℕ → ℤ) → (C → ℕ) → Held B C → Held B C → Request → State → Effect → BankNote → Option model.Effect → Type 0
@@ -226,7 +235,7 @@ after_stop Failed note store held = held
 -- the request was made, and the service booted behind it where it was stopped
 pub record IsMade {B C : Type 0} (tells : Type 0) (now : B → List ℕ) (faults stops : B → ℕ) (verdict : C → List ℕ → ℤ) (asked : C → ℕ) (old new : Held B C) (request : Request) (means : State → Given → Option model.Effect) (done : Effect) : Type 0 where
   pub effect : tells → (s : State) → HoldsAll tells now old s → (e : model.Effect) × (means s (given_of done) ≡ Some e) × IsEffect done e.asked e.next (uncalled e) × HoldsAll tells now new e.next
-      × Judged verdict asked old.kit new.kit e.asked done.verdicts × IsNoteOf request e.calls s.store done.note × RestoresHeld (now old.store.bank) request s.store done.note
+      × Judged verdict asked old.kit new.kit e.asked done.verdicts × IsNoteOf request e.calls s.store done.note × RestoresHeld (now old.store.bank) e.calls s.store done.note
   pub fit : (n : ℕ) → AreFit n (state_of old) → AreFit (suc n) (state_of new)
   pub judged : (questions : List Question) × Judged verdict asked old.kit new.kit questions done.verdicts
   pub two : length done.verdicts ≡ 2
@@ -260,7 +269,7 @@ pub record Plays {B C : Type 0} (tells : Type 0) (now : B → List ℕ) (faults 
   pub ready : IsReady asked new
   pub judged : tells → (r : Run) → Shows tells now old r → Judged verdict asked old.state.kit new.state.kit (questions_in r entry) entry.verdicts
   pub kit : (questions : List Question) × Judged verdict asked old.state.kit new.state.kit questions entry.verdicts
-  pub gave : tells → (r : Run) → Shows tells now old r → RestoresHeld (now old.state.store.bank) request r.state.store entry.note
+  pub gave : tells → (r : Run) → Shows tells now old r → RestoresHeld (now old.state.store.bank) (calls_in r entry) r.state.store entry.note
   pub trouble : Troubled faults stops old.state.store.bank new.state.store.bank entry.note
   pub cause : HasCause entry.reply.status entry.note
 

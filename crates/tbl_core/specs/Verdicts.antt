@@ -7,6 +7,7 @@ use Rattle.tbl_model.specs.Effects as model
 use Rattle.tbl_model.specs.History.{Run, begins_at, onward, run_from, effect_in, told}
 use Rattle.tbl_model.specs.State.{State}
 use Rattle.tbl_model.specs.Vouched.{KeepsTo}
+use Rattle.tbl_kinds.specs.StoreCalls.{StoreCall}
 use Rattle.tbl_kinds.specs.declared.entry.Entry.{Entry}
 use Rattle.tbl_outside.specs.declared.validator.KitEntry.{KitEntry}
 use Rattle.validation.specs.Kits.{entry_at}
@@ -33,6 +34,10 @@ pub record Judged {C : Type 0} (verdict : C → List ℕ → ℤ) (asked : C →
 -- what the request of an entry asks
 abbrev pub questions_in : Run → Entry → List Question
 questions_in r e = option_map_or (λ (effect : model.Effect). effect.asked) (effect_in r e) []
+
+-- the calls of the store that it makes
+abbrev pub calls_in : Run → Entry → List StoreCall
+calls_in r e = option_map_or (λ (effect : model.Effect). effect.calls) (effect_in r e) []
 
 -- ---- over a history
 

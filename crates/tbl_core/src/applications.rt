@@ -1,17 +1,16 @@
-//! Applications start, register their tables and share others', give handles back, and end.
+//! Applications start, share others' tables, give handles back, and end.
 
-ghost use Rattle.std.specs.Prelude.{◌≡◌, ◌≤◌, [], if◌then◌else◌, IfOk, OnErr};
+ghost use Rattle.std.specs.Prelude.{◌≡◌, ◌≤◌, [], if◌then◌else◌};
 ghost use Rattle.tbl_kinds.specs.Statuses.{is_success};
 ghost use Rattle.tbl_model.specs.State.{State};
-ghost use Rattle.tbl_model.specs.Applications.{start_effect, register_effect};
+ghost use Rattle.tbl_model.specs.Applications.{start_effect};
 ghost use Rattle.tbl_model.specs.Sharing.{share_effect, unregister_effect, exit_effect};
 ghost use Rattle.validation.specs.Kits.{owners, dropped};
 ghost use Rattle.tbl_core.specs.Effects.{IsEffect, IsQuiet};
 
 use crate::effect::Effect;
 use sharing::Apps;
-use std::alloc::Global;
-use tbl_kinds::{Answer, Bytes, Memory, Name16, Name20, Name40};
+use tbl_kinds::{Answer, Bytes, Name20, Name40};
 use tbl_outside::Validator;
 use tbl_registry::Tables;
 use validation::{Kit, Pending};
@@ -25,29 +24,6 @@ pub(crate) fn start(apps: &mut Apps, app: u8, name: &Name20, empty: Bytes) -> Ef
     ensures quiet { IsQuiet result }
 {
     Effect::of(Answer::plain(apps.start(app, name)), empty)
-}
-
-/// An application registers a table (`CFE_TBL_Register`).
-#[inline(never)]
-pub(crate) fn register<C: Validator>(
-    alloc: Global,
-    tables: &mut Tables,
-    kit: &Kit<C>,
-    apps: &Apps,
-    app: u8,
-    name: &Name16,
-    size: u32,
-    flags: u16,
-    validator: Option<u8>,
-    empty: Bytes,
-) -> Result<Effect, Memory>
-    requires { empty.list ≡ [] }
-    ensures effect { IfOk result (λ done. (s : State) → s.tables ≡ tables.old → s.apps ≡ apps.now → s.kit ≡ owners kit.now → IsEffect done [] (record s { tables = tables.new }) (register_effect s app name.now size flags validator)) }
-    ensures quiet { IfOk result IsQuiet }
-    ensures err { OnErr result (tables.new ≡ tables.old) }
-{
-    let answer = sharing::register(alloc, tables, kit, apps, app, name, size, flags, validator)?;
-    Ok(Effect::of(answer, empty))
 }
 
 /// An application gets a further handle on a table (`CFE_TBL_Share`).

@@ -6,7 +6,7 @@ ghost use Rattle.tbl_kinds.specs.GroundCommands.{code_of, command_in};
 ghost use Rattle.tbl_model.specs.Commands.{asked_in, asks_housekeeping, asks_reset_counters, asks_validate, asked_file, asked_code};
 ghost use Rattle.tbl_model.specs.Counts.{is_reset, asks_load, load_file_of};
 ghost use Rattle.cmd_packets.specs.Views.{command_of};
-ghost use Rattle.tbl_core.specs.Asked.{read_of, asked_of, asks_notice, asks_delete, asks_store, shown_room, owners_handle, command_deeds, most_deeds};
+ghost use Rattle.tbl_core.specs.Asked.{read_of, asked_of, asks_notice, asks_delete, asks_store, activates, shown_room, owners_handle, command_deeds, most_deeds};
 
 use crate::packets::{HOUSEKEEPING_LENGTH, REGISTRY_LENGTH};
 use cmd_packets::{CmdFault, Ground, read_command};
@@ -139,6 +139,7 @@ pub(crate) fn asks_store(request: &Request, asked: &Asked) -> bool
 {
     match request {
         Request::Reset { .. }
+        | Request::Register { .. }
         | Request::CdsRegister { .. }
         | Request::CdsCopy { .. }
         | Request::CdsRestore { .. }
@@ -146,6 +147,19 @@ pub(crate) fn asks_store(request: &Request, asked: &Asked) -> bool
         Request::Command { .. } => asks_delete(asked),
         _ => false,
     }
+}
+
+/// Whether an image of the table can go active by it.
+pub(crate) fn activates(request: &Request) -> bool
+    ensures { result ≡ activates request.now }
+{
+    matches!(
+        request,
+        Request::LoadImage { .. }
+            | Request::LoadFile { .. }
+            | Request::Update { .. }
+            | Request::Manage { .. }
+    )
 }
 
 /// How long the packet is that a command shows behind its events, if it is accepted.
@@ -193,11 +207,11 @@ pub(crate) fn most_deeds(request: &Request, asked: &Asked) -> usize
 {
     match request {
         Request::Command { .. } => command_deeds(asked),
-        Request::LoadImage { .. } => 2,
-        Request::LoadFile { .. } => 2,
-        Request::Update { .. } => 1,
+        Request::LoadImage { .. } => 3,
+        Request::LoadFile { .. } => 3,
+        Request::Update { .. } => 2,
         Request::Validate { .. } => 1,
-        Request::Manage { .. } => 3,
+        Request::Manage { .. } => 4,
         _ => 0,
     }
 }

@@ -10,7 +10,8 @@ ghost use Rattle.tbl_kinds.specs.StoreSteps.{stored_at, open_of, has_room};
 ghost use Rattle.tbl_kinds.specs.StoreCalls.{copy as copied, restore as restored, delete as deleted};
 ghost use Rattle.tbl_kinds.specs.declared.block.BlockKind.TheVariants as kind;
 ghost use Rattle.tbl_kinds.specs.declared.note.Outcome.TheVariants as went;
-ghost use Rattle.tbl_model.specs.State.{State};
+ghost use Rattle.tbl_model.specs.State.{State, Table};
+ghost use Rattle.tbl_model.specs.Copies.{block_of};
 ghost use Rattle.tbl_model.specs.BankCounts.{tells_trouble};
 ghost use Rattle.tbl_model.specs.Effects.{Effect as Model, answered};
 ghost use Rattle.tbl_model.specs.StoreUse.{then_call};
@@ -93,7 +94,7 @@ fn renew<B: Bank>(
 }
 
 /// Whether the block of a slot has this size.
-fn has_size<B: Bank>(store: &Store<B>, slot: u8, size: u32) -> bool
+pub(crate) fn has_size<B: Bank>(store: &Store<B>, slot: u8, size: u32) -> bool
     ensures { (blocks : Blocks) → StandsFor B.tells B.now store.now blocks → result ≡ has_size size (stored_at blocks slot) }
 {
     match store.block(slot) {
@@ -483,13 +484,27 @@ pub(crate) fn cds_delete<B: Bank>(
 // ---- a table's block
 
 /// The block of a table of this name, open or in doubt.
-fn table_block<B: Bank>(store: &Store<B>, name: &Name40) -> Option<u8>
+pub(crate) fn table_block<B: Bank>(store: &Store<B>, name: &Name40) -> Option<u8>
     ensures block { (blocks : Blocks) → StandsFor B.tells B.now store.now blocks → result ≡ any_of kind.Table name.now blocks }
     ensures taken { IfSome result (λ slot. IsSome (slot_at store.now.slots slot)) }
 {
     match store.find(BlockKind::Table, name) {
         Some(slot) => Some(slot),
         None => store.doubtful(BlockKind::Table, name),
+    }
+}
+
+/// The open block of a table of this name, if its image has this size.
+pub(crate) fn sized_block<B: Bank>(store: &Store<B>, name: &Name40, size: usize) -> Option<u8>
+    ensures block { (t : Table) (blocks : Blocks) → t.name ≡ name.now → t.size ≡ size → StandsFor B.tells B.now store.now blocks → result ≡ block_of t blocks }
+    ensures sized { IfSome result (λ slot. IsOpenOf size (slot_at store.now.slots slot)) }
+{
+    let slot = store.find(BlockKind::Table, name)?;
+    let block = store.block(slot)?;
+    if block.size as usize == size {
+        Some(slot)
+    } else {
+        None
     }
 }
 

@@ -7,23 +7,25 @@ ghost use Rattle.tbl_model.specs.Tables.{table_at};
 ghost use Rattle.tbl_model.specs.Commands.{asked_in};
 ghost use Rattle.tbl_kinds.specs.declared.request.Actor.TheVariants as by;
 ghost use Rattle.tbl_model.specs.Dispatch.{ground_effect, app_effect, effect_of};
-ghost use Rattle.tbl_core.specs.Asked.{asked_of, asks_notice, asks_store, shown_room, owners_handle, most_deeds};
+ghost use Rattle.tbl_core.specs.Asked.{asked_of, asks_notice, asks_store, activates, shown_room, owners_handle, owned_deeds, most_deeds};
 ghost use Rattle.tbl_core.specs.Owned.{owned_at};
-ghost use Rattle.tbl_core.specs.Service.{MayPlay, Does, Makes, Meets, held_of, state_of};
+ghost use Rattle.tbl_core.specs.Service.{MayPlay, Does, DoesAndCopies, Makes, Meets, held_of, state_of};
 
 use crate::activations::update;
 use crate::addresses::{get, read, release};
-use crate::applications::{exit, register, share, start};
-use crate::asked::{Asked, asks_store, owners_handle};
+use crate::applications::{exit, share, start};
+use crate::asked::{Asked, activates, asks_store, owners_handle};
 use crate::blocks::{cds_copy, cds_delete, cds_register, cds_restore, delete_cds};
 use crate::checks::check;
 use crate::commands::command;
+use crate::copies::{copy_room, then_copy};
 use crate::dumps::{dump_to_buffer, edit};
 use crate::effect::{Effect, room_for_deeds};
 use crate::files::file;
 use crate::loads::{load_file, load_image};
 use crate::management::{get_status, manage, notify};
 use crate::parts::{Clock, Parts};
+use crate::registration::register;
 use crate::registry::get_info;
 use crate::validations::app_validate;
 use cmd_packets::Ground;
@@ -95,7 +97,7 @@ impl<B: Bank, C: Validator> Parts<B, C> {
         requires no_deeds { deeds.items ≡ [] }
         requires room { vec_capacity deeds ≡ most_deeds request.now None }
         requires empty { empty.list ≡ [] }
-        ensures does { IfOk result (Does C.verdict C.asked (most_deeds request.now None) 0 false (held_of self.old) (held_of self.new) (λ s given. owned_at (table_at s.tables row) s row request.now given)) }
+        ensures does { IfOk result (Does C.verdict C.asked (owned_deeds request.now) 0 false (held_of self.old) (held_of self.new) (λ s given. owned_at (table_at s.tables row) s row request.now given)) }
         ensures log { self.new.log ≡ self.old.log }
         ensures err { OnErr result (held_of self.new ≡ held_of self.old) }
     {
@@ -132,8 +134,31 @@ impl<B: Bank, C: Validator> Parts<B, C> {
         }
     }
 
+    /// Does what the owner of the table of a row asks for it, by which an image can go active. Where one did and the table is
+    /// critical, the image is copied into its block.
+    fn owned_and_copied(
+        &mut self,
+        row: u8,
+        request: &Request,
+        deeds: Vec<Deed>,
+        empty: Bytes,
+    ) -> Result<Effect, Memory>
+        requires activates { activates request.now ≡ true }
+        requires table { IsSome (table_at self.old.tables row) }
+        requires ready { MayPlay C.asked (held_of self.old) }
+        requires no_deeds { deeds.items ≡ [] }
+        requires room { vec_capacity deeds ≡ most_deeds request.now None }
+        requires empty { empty.list ≡ [] }
+        ensures does { IfOk result (DoesAndCopies B.tells B.now B.faults B.stops C.verdict C.asked (owned_deeds request.now) 0 false (held_of self.old) (held_of self.new) row (λ s given. owned_at (table_at s.tables row) s row request.now given)) }
+        ensures log { self.new.log ≡ self.old.log }
+        ensures err { OnErr result (held_of self.new ≡ held_of self.old) }
+    {
+        let room = copy_room(self.alloc, &self.tables, row)?;
+        let effect = self.owned(row, request, deeds, empty)?;
+        Ok(then_copy(&self.tables, &mut self.store, row, room, effect))
+    }
+
     /// Does what an application asks for the table of a handle, whose owner alone may.
-    #[tactic(auto, using(crate::proofs::Verdicts::none_judged))]
     fn owner(
         &mut self,
         app: u8,
@@ -144,14 +169,18 @@ impl<B: Bank, C: Validator> Parts<B, C> {
     ) -> Result<Effect, Memory>
         requires owners { owners_handle request.now ≡ Some handle }
         requires ready { MayPlay C.asked (held_of self.old) }
+        requires fit { AreFit (length self.old.log.entries) (state_of (held_of self.old)) }
+        requires live { self.old.ended ≡ false }
         requires no_deeds { deeds.items ≡ [] }
         requires room { vec_capacity deeds ≡ most_deeds request.now None }
         requires empty { empty.list ≡ [] }
-        ensures does { IfOk result (Does C.verdict C.asked (most_deeds request.now None) 0 false (held_of self.old) (held_of self.new) (λ s given. app_effect s app request.now given)) }
+        ensures makes { IfOk result (Makes C.asked C.verdict B.faults B.stops (most_deeds request.now None) 0 false (held_of self.old) (held_of self.new)) }
+        ensures meets { IfOk result (Meets B.tells B.now C.verdict C.asked (held_of self.old) (held_of self.new) request.now (λ s given. app_effect s app request.now given)) }
         ensures log { self.new.log ≡ self.old.log }
         ensures err { OnErr result (held_of self.new ≡ held_of self.old) }
     {
         match check(&self.tables, &self.apps, app, handle, true) {
+            Ok(row) if activates(request) => self.owned_and_copied(row, request, deeds, empty),
             Ok(row) => self.owned(row, request, deeds, empty),
             Err(status) => Ok(Effect::of(Answer::plain(status), empty)),
         }
@@ -174,14 +203,6 @@ impl<B: Bank, C: Validator> Parts<B, C> {
         let apps = &mut self.apps;
         match request {
             Request::Start { name } => Ok(start(apps, app, name, empty)),
-            Request::Register {
-                name,
-                size,
-                flags,
-                validator,
-            } => register(
-                self.alloc, tables, &self.kit, apps, app, name, *size, *flags, *validator, empty,
-            ),
             Request::Share { name } => Ok(share(tables, apps, app, name, empty)),
             Request::Unregister { handle } => {
                 let answer = sharing::unregister(tables, pending, apps, app, *handle);
@@ -244,6 +265,24 @@ impl<B: Bank, C: Validator> Parts<B, C> {
             Actor::App(app) => {
                 let apps = &self.apps;
                 match request {
+                    Request::Register {
+                        name,
+                        size,
+                        flags,
+                        validator,
+                    } => register(
+                        alloc,
+                        &mut self.tables,
+                        store,
+                        &self.kit,
+                        apps,
+                        app,
+                        name,
+                        *size,
+                        *flags,
+                        *validator,
+                        empty,
+                    ),
                     Request::CdsRegister { name, size } => {
                         cds_register(alloc, store, apps, app, name, *size, empty)
                     }

@@ -4,6 +4,7 @@ ghost use Rattle.std.specs.Prelude.{◌≡◌, false, ◌+◌, ◌^◌, ◌<◌,
 ghost use Rattle.tbl_model.specs.State.{State, first_state, no_tables};
 ghost use Rattle.tbl_model.specs.Vouched.{IsVouched};
 ghost use Rattle.tbl_model.specs.Whole.{IsWhole};
+ghost use Rattle.tbl_laws.specs.Backed.{AreSingle, AreBacked};
 ghost use Rattle.tbl_kinds.specs.Requests.{Fits};
 ghost use Rattle.tbl_kinds.specs.Records.{record_limit};
 ghost use Rattle.tbl_kinds.specs.Places.{bank_size};
@@ -15,7 +16,7 @@ ghost use Rattle.validation.specs.Kits.{owners};
 ghost use Rattle.tbl_outside.specs.Counts.{Still};
 ghost use Rattle.tbl_outside.specs.declared.validator.KitEntry.{KitEntry as Function};
 ghost use Rattle.tbl_core.specs.Service.{StandsFor, Vouches, AskedBelow, AddsOne, start_fault, StartCounted};
-ghost use Rattle.tbl_core.specs.Verdicts.{Judged, questions_in, KeepsToFunctions};
+ghost use Rattle.tbl_core.specs.Verdicts.{Judged, questions_in, calls_in, KeepsToFunctions};
 ghost use Rattle.tbl_kinds.specs.declared.entry.Entry.{Entry};
 
 use crate::parts::Parts;
@@ -150,6 +151,8 @@ impl<B: Bank, C: Validator> Core<B, C> {
         ensures adds { OnPlayed result (AddsOne B.faults B.stops self.old self.new actor request result) }
         ensures legal { OnPlayed result ((opening : State) → StandsFor B.tells B.now opening self.old → StandsFor B.tells B.now opening self.new) }
         ensures whole { OnPlayed result (B.tells → (opening : State) → opening.tables ≡ no_tables → opening.pending ≡ [] → StandsFor B.tells B.now opening self.old → IsWhole opening self.new.entries) }
+        // Each critical table has its block in the store, and at most 32 are critical.
+        ensures backed { OnPlayed result (B.tells → (opening : State) → opening.tables ≡ no_tables → AreSingle opening.store → StandsFor B.tells B.now opening self.old → AreBacked (run_from (begins_at opening) self.new.entries).state) }
         // The functions were asked what the request asks, and the entry has their verdicts.
         ensures judged { OnPlayed result ((e : Entry) × (self.new.entries ≡ self.old.entries ++ e ∷ []) × (B.tells → (opening : State) → StandsFor B.tells B.now opening self.old
             → Judged C.verdict C.asked self.old.state.kit self.new.state.kit (questions_in (run_from (begins_at opening) self.old.entries) e) e.verdicts)) }
@@ -161,7 +164,7 @@ impl<B: Bank, C: Validator> Core<B, C> {
         ensures kept { OnPlayed result (B.tells → (opening : State) (given : List (Option (Function C))) → Vouches B.tells B.now C.verdict given opening self.old → KeepsToFunctions C.verdict given opening self.new.entries) }
         // What a restore gave is what its block held in the bank as the step began.
         ensures gave { OnPlayed result ((e : Entry) × (self.new.entries ≡ self.old.entries ++ e ∷ []) × (B.tells → (opening : State) → StandsFor B.tells B.now opening self.old
-            → RestoresHeld (B.now self.old.state.store.bank) request (run_from (begins_at opening) self.old.entries).state.store e.note)) }
+            → RestoresHeld (B.now self.old.state.store.bank) (calls_in (run_from (begins_at opening) self.old.entries) e) (run_from (begins_at opening) self.old.entries).state.store e.note)) }
         ensures live { OnOk result (self.new.state.ended ≡ false) }
         ensures err { result ≡ Err StepFault.Memory → self.new ≡ self.old }
     {

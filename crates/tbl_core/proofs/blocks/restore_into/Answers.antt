@@ -1,10 +1,11 @@
-use Rattle.std.proofs.Common.{◌≡◌, ◌∙◌, ◌+◌, ◌*◌, ap, sym, subst, rules, refl, false}
+use Rattle.std.proofs.Common.{◌≡◌, length, ◌∙◌, ◌+◌, ◌*◌, ap, sym, subst, rules, refl, false}
 use Rattle.tbl_kinds.specs.declared.note.BankNote.{BankNote}
 use Rattle.cds_layout.specs.declared.blocks.RestoreFault.TheVariants.{Torn}
 use Rattle.cds_store.specs.declared.fault.BankFault.TheVariants.{Fault}
 use Rattle.tbl_kinds.specs.Notes.{restored_image}
 use Rattle.cds_layout.specs.Restores.{TellsTorn}
 use Rattle.cds_store.specs.Standing.{slot_of}
+use Rattle.cds_store.specs.Sound.{IsOpenOf}
 use Rattle.tbl_core.specs.Called.{done_note, broken_note}
 use Rattle.tbl_core.proofs.Calls.{block_there, held_image, told_with, given_called, gives_image, torn_called, torn_told, unread_called}
 use Rattle.tbl_core.proofs.blocks.restore_into.Goals as goal
@@ -17,6 +18,7 @@ returns-in-Ok-clause-effect g c = λ tells s stands.
     given_called b.tells b.now c.args.store.now c.restore.new.self s c.given.result c.args.slot stands image kept
     c.given.ensures.restored
     (gives_image (b.now c.args.store.now.bank) s.store c.args.slot image (stands.shows tells) (c.in-Ok.ensures.image tells))
+    (λ x there. let same : length image ≡ length c.args.image.now = search rules in same ∙ sym (subst (IsOpenOf (length c.args.image.now)) (block_there c.args.store.now.slots s.store c.args.slot x stands.slots there) c.requires.own).1)
     (c.in-Ok.ensures.ok s.store stands)
     (told_with refl (ap (λ (n : BankNote). record (done_note n) { restored = kept }) c.requires.untouched) c.given.ensures.told)
 

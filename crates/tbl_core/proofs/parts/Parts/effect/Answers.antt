@@ -2,7 +2,7 @@ use Rattle.std.proofs.Common.{None, arith, rules}
 use Rattle.std.proofs.lemmas.Result.{IfOk-weaker}
 use Rattle.tbl_core.specs.Asked.{asked_of, most_deeds}
 use Rattle.tbl_kinds.specs.declared.request.Actor.TheVariants.{Ground, App}
-use Rattle.tbl_core.proofs.Behind.{table_makes, table_meets, wider, owners_deeds, no_reset, no_restore}
+use Rattle.tbl_core.proofs.Behind.{table_makes, table_meets, wider, owners_deeds, no_reset}
 use Rattle.tbl_core.proofs.parts.Parts.effect.Goals as goal
 
 pub returns-then-asks_store-clause-makes : goal.returns-then-asks_store-clause-makes
@@ -19,19 +19,15 @@ pub returns-in-Ground-clause-meets : goal.returns-in-Ground-clause-meets
 returns-in-Ground-clause-meets g c =
     let b = g.B.Bank in
     rw c.in-Ground.is
-    (IfOk-weaker c.ground.result _ _ (λ done does. table_meets b.tells b.now b.faults b.stops g.C.Validator.verdict g.C.Validator.asked _ _ _ _ _ Ground c.args.request.now done does c.requires.live _ c.requires.fit (no_reset c.args.request.now (asked_of c.args.asked.now) (search rules)) (no_restore c.args.request.now (asked_of c.args.asked.now) (search rules))) c.ground.ensures.does)
+    (IfOk-weaker c.ground.result _ _ (λ done does. table_meets b.tells b.now b.faults b.stops g.C.Validator.verdict g.C.Validator.asked _ _ _ _ _ Ground c.args.request.now done does c.requires.live _ c.requires.fit (no_reset c.args.request.now (asked_of c.args.asked.now) (search rules))) c.ground.ensures.does)
 
 pub returns-in-Some-clause-makes : goal.returns-in-Some-clause-makes
 returns-in-Some-clause-makes g c =
     let b = g.B.Bank in
-    IfOk-weaker c.owner.result _ _ (λ done does. wider g.C.Validator.asked g.C.Validator.verdict b.faults b.stops (most_deeds c.args.request.now None) _ _ _ _ _ done (owners_deeds c.args.request.now (asked_of c.args.asked.now) c.in-Some.handle (search rules))
-    (table_makes b.tells b.now b.faults b.stops g.C.Validator.verdict g.C.Validator.asked _ _ _ _ _ (App c.in-App.app) c.args.request.now done does c.requires.live _ c.requires.fit c.requires.ready.booted)) c.owner.ensures.does
+    IfOk-weaker c.owner.result _ _ (λ done makes. wider g.C.Validator.asked g.C.Validator.verdict b.faults b.stops (most_deeds c.args.request.now None) _ _ _ _ _ done (owners_deeds c.args.request.now (asked_of c.args.asked.now) c.in-Some.handle (search rules)) makes) c.owner.ensures.makes
 
 pub returns-in-Some-clause-meets : goal.returns-in-Some-clause-meets
-returns-in-Some-clause-meets g c =
-    let b = g.B.Bank in
-    rw c.in-App.is
-    (IfOk-weaker c.owner.result _ _ (λ done does. table_meets b.tells b.now b.faults b.stops g.C.Validator.verdict g.C.Validator.asked _ _ _ _ _ (App c.in-App.app) c.args.request.now done does c.requires.live _ c.requires.fit (no_reset c.args.request.now (asked_of c.args.asked.now) (search rules)) (no_restore c.args.request.now (asked_of c.args.asked.now) (search rules))) c.owner.ensures.does)
+returns-in-Some-clause-meets g c = rw c.in-App.is c.owner.ensures.meets
 
 pub returns-in-None-clause-makes : goal.returns-in-None-clause-makes
 returns-in-None-clause-makes g c =
@@ -43,4 +39,4 @@ pub returns-in-None-clause-meets : goal.returns-in-None-clause-meets
 returns-in-None-clause-meets g c =
     let b = g.B.Bank in
     rw c.in-App.is
-    (IfOk-weaker c.user.result _ _ (λ done does. table_meets b.tells b.now b.faults b.stops g.C.Validator.verdict g.C.Validator.asked _ _ _ _ _ (App c.in-App.app) c.args.request.now done does c.requires.live _ c.requires.fit (no_reset c.args.request.now (asked_of c.args.asked.now) (search rules)) (no_restore c.args.request.now (asked_of c.args.asked.now) (search rules))) c.user.ensures.does)
+    (IfOk-weaker c.user.result _ _ (λ done does. table_meets b.tells b.now b.faults b.stops g.C.Validator.verdict g.C.Validator.asked _ _ _ _ _ (App c.in-App.app) c.args.request.now done does c.requires.live _ c.requires.fit (no_reset c.args.request.now (asked_of c.args.asked.now) (search rules))) c.user.ensures.does)

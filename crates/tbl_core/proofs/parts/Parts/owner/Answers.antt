@@ -1,37 +1,87 @@
-use Rattle.std.proofs.Common.{◌∙◌, refl, sym, ap, subst, rules}
+use Rattle.std.proofs.Common.{◌≡◌, ◌∙◌, None, suc, refl, ap, arith, true, false, rules}
 use Rattle.std.proofs.lemmas.Result.{IfOk-weaker}
 use Rattle.tbl_model.specs.State.{Tables}
 use Rattle.tbl_model.specs.Tables.{table_at}
+use Rattle.tbl_model.specs.Dispatch.{app_effect}
+use Rattle.tbl_kinds.specs.declared.request.Actor.TheVariants.{App}
+use Rattle.tbl_core.specs.Asked.{activates, owned_deeds, most_deeds}
 use Rattle.tbl_core.specs.Effects.{given_of}
-use Rattle.tbl_core.specs.Service.{Leaves, Asks}
+use Rattle.tbl_core.specs.Owned.{owned_at}
+use Rattle.tbl_core.specs.Service.{Does, held_of}
+use Rattle.tbl_core.proofs.Behind.{table_makes, table_meets, wider, owner_resets, owned_fewer, copied_fewer}
+use Rattle.tbl_core.proofs.CopiedBehind.{copies_makes, copies_meets}
 use Rattle.tbl_core.proofs.Places.{some_is}
-use Rattle.tbl_core.proofs.Owners.{refused, taken}
+use Rattle.tbl_core.proofs.Owners.{refused, taken, is_copied, does_plainly}
 use Rattle.tbl_core.proofs.Verdicts.{none_judged}
 use Rattle.tbl_core.proofs.parts.Parts.owner.Goals as goal
 
-pub returns-in-Ok-clause-does : goal.returns-in-Ok-clause-does
-returns-in-Ok-clause-does g c = IfOk-weaker c.owned.result _ _ (λ done does.
+-- an image may have gone active by it
+pub returns-in-Ok-clause-makes : goal.returns-in-Ok-clause-makes
+returns-in-Ok-clause-makes g c =
+    let b = g.B.Bank in
+    let r = c.args.request.now in
     let row = c.in-Ok.row in
-    let t = some_is (table_at c.args.self.now.tables row) c.in-Ok.ensures.table in record {
-      effect = λ s stands. subst (Leaves s.store done _)
-          (sym (taken s c.args.app c.args.handle (given_of done) row t.0 (λ effect. c.in-Ok.ensures.ok s effect stands.tables stands.apps) (ap (λ (tables : Tables). table_at tables row) stands.tables ∙ t.1) c.args.request.now c.requires.owners))
-          (does.effect s stands);
-      asks = λ s stands. subst (Asks g.C.Validator.verdict g.C.Validator.asked _ _ done.verdicts)
-          (sym (taken s c.args.app c.args.handle (given_of done) row t.0 (λ effect. c.in-Ok.ensures.ok s effect stands.tables stands.apps) (ap (λ (tables : Tables). table_at tables row) stands.tables ∙ t.1) c.args.request.now c.requires.owners))
-          (does.asks s stands);
-      store = does.store;
-      note = does.note;
-      two = does.two;
-      within = does.within;
-    }) c.owned.ensures.does
+    let t = some_is (table_at c.args.self.now.tables row) c.in-Ok.ensures.table in
+    let can : activates r ≡ true = search rules in
+    IfOk-weaker c.owned_and_copied.result _ _ (λ done does. wider g.C.Validator.asked g.C.Validator.verdict b.faults b.stops (suc (owned_deeds r)) (most_deeds r None) 0 false _ _ done (copied_fewer r can)
+    (copies_makes b.tells b.now b.faults b.stops g.C.Validator.verdict g.C.Validator.asked (owned_deeds r) 0 false _ _ (App c.args.app) r row done does can c.requires.live _ c.requires.fit
+    (λ s stands given. taken s c.args.app c.args.handle given row t.0 (λ effect. c.in-Ok.ensures.ok s effect stands.tables stands.apps) (ap (λ (tables : Tables). table_at tables row) stands.tables ∙ t.1) r c.requires.owners
+    ∙ is_copied r row given.note (owned_at (table_at s.tables row) s row r given) can))) c.owned_and_copied.ensures.does
 
-pub returns-in-Err-clause-does : goal.returns-in-Err-clause-does
-returns-in-Err-clause-does g c =
-    let none = none_judged g.C.Validator.verdict g.C.Validator.asked in record {
-      effect = λ s stands. rw (refused s c.args.app c.args.handle (given_of c.of.result) c.in-Err.status (λ effect. c.in-Err.ensures.err s effect stands.tables stands.apps) c.args.request.now c.requires.owners) (search rules);
-      asks = λ s stands. rw (refused s c.args.app c.args.handle (given_of c.of.result) c.in-Err.status (λ effect. c.in-Err.ensures.err s effect stands.tables stands.apps) c.args.request.now c.requires.owners) (search rules);
+pub returns-in-Ok-clause-meets : goal.returns-in-Ok-clause-meets
+returns-in-Ok-clause-meets g c =
+    let b = g.B.Bank in
+    let r = c.args.request.now in
+    let row = c.in-Ok.row in
+    let t = some_is (table_at c.args.self.now.tables row) c.in-Ok.ensures.table in
+    let can : activates r ≡ true = search rules in
+    IfOk-weaker c.owned_and_copied.result _ _ (λ done does.
+    copies_meets b.tells b.now b.faults b.stops g.C.Validator.verdict g.C.Validator.asked (owned_deeds r) 0 false _ _ (App c.args.app) r row done does can c.requires.live _ c.requires.fit
+    (λ s stands given. taken s c.args.app c.args.handle given row t.0 (λ effect. c.in-Ok.ensures.ok s effect stands.tables stands.apps) (ap (λ (tables : Tables). table_at tables row) stands.tables ∙ t.1) r c.requires.owners
+    ∙ is_copied r row given.note (owned_at (table_at s.tables row) s row r given) can) (owner_resets r c.args.handle c.requires.owners)) c.owned_and_copied.ensures.does
+
+-- none can
+pub returns-in-Ok-2-clause-makes : goal.returns-in-Ok-2-clause-makes
+returns-in-Ok-2-clause-makes g c =
+    let b = g.B.Bank in
+    let r = c.args.request.now in
+    let row = c.in-Ok.row in
+    let t = some_is (table_at c.args.self.now.tables row) c.in-Ok.ensures.table in
+    let plain : activates r ≡ false = search rules in
+    IfOk-weaker c.owned.result _ _ (λ done does. wider g.C.Validator.asked g.C.Validator.verdict b.faults b.stops (owned_deeds r) (most_deeds r None) 0 false _ _ done (owned_fewer r)
+    (table_makes b.tells b.now b.faults b.stops g.C.Validator.verdict g.C.Validator.asked (owned_deeds r) 0 false _ _ (App c.args.app) r done (does_plainly g.C.Validator.verdict g.C.Validator.asked (owned_deeds r) 0 false _ _ c.args.app row r done
+    (λ s stands given. taken s c.args.app c.args.handle given row t.0 (λ effect. c.in-Ok.ensures.ok s effect stands.tables stands.apps) (ap (λ (tables : Tables). table_at tables row) stands.tables ∙ t.1) r c.requires.owners) plain does)
+    c.requires.live _ c.requires.fit c.requires.ready.booted)) c.owned.ensures.does
+
+pub returns-in-Ok-2-clause-meets : goal.returns-in-Ok-2-clause-meets
+returns-in-Ok-2-clause-meets g c =
+    let b = g.B.Bank in
+    let r = c.args.request.now in
+    let row = c.in-Ok.row in
+    let t = some_is (table_at c.args.self.now.tables row) c.in-Ok.ensures.table in
+    let plain : activates r ≡ false = search rules in
+    IfOk-weaker c.owned.result _ _ (λ done does.
+    table_meets b.tells b.now b.faults b.stops g.C.Validator.verdict g.C.Validator.asked (owned_deeds r) 0 false _ _ (App c.args.app) r done (does_plainly g.C.Validator.verdict g.C.Validator.asked (owned_deeds r) 0 false _ _ c.args.app row r done
+    (λ s stands given. taken s c.args.app c.args.handle given row t.0 (λ effect. c.in-Ok.ensures.ok s effect stands.tables stands.apps) (ap (λ (tables : Tables). table_at tables row) stands.tables ∙ t.1) r c.requires.owners) plain does)
+    c.requires.live _ c.requires.fit (owner_resets r c.args.handle c.requires.owners)) c.owned.ensures.does
+
+-- the handle may not be used so
+pub returns-in-Err : goal.returns-in-Err
+returns-in-Err g c =
+    let b = g.B.Bank in
+    let r = c.args.request.now in
+    let none = none_judged g.C.Validator.verdict g.C.Validator.asked in
+    let does : Does g.C.Validator.verdict g.C.Validator.asked 0 0 false (held_of c.args.self.now) (held_of c.args.self.now) (λ s given. app_effect s c.args.app r given) c.of.result = record {
+      effect = λ s stands. rw (refused s c.args.app c.args.handle (given_of c.of.result) c.in-Err.status (λ effect. c.in-Err.ensures.err s effect stands.tables stands.apps) r c.requires.owners) (search rules);
+      asks = λ s stands. rw (refused s c.args.app c.args.handle (given_of c.of.result) c.in-Err.status (λ effect. c.in-Err.ensures.err s effect stands.tables stands.apps) r c.requires.owners) (search rules);
       store = refl;
       note = search rules;
       two = search rules;
       within = search rules;
+    } in record {
+      makes = wider g.C.Validator.asked g.C.Validator.verdict b.faults b.stops 0 (most_deeds r None) 0 false _ _ c.of.result (omega arith)
+          (table_makes b.tells b.now b.faults b.stops g.C.Validator.verdict g.C.Validator.asked 0 0 false _ _ (App c.args.app) r c.of.result does c.requires.live _ c.requires.fit c.requires.ready.booted);
+      meets = table_meets b.tells b.now b.faults b.stops g.C.Validator.verdict g.C.Validator.asked 0 0 false _ _ (App c.args.app) r c.of.result does c.requires.live _ c.requires.fit (owner_resets r c.args.handle c.requires.owners);
+      log = refl;
+      err = tt;
     }

@@ -4,13 +4,6 @@ use Rattle.tbl_core.proofs.Doing.{quietly}
 use Rattle.tbl_core.proofs.Verdicts.{none_judged}
 use Rattle.tbl_core.proofs.parts.Parts.user.Goals as goal
 
-pub returns-in-Register-clause-does : goal.returns-in-Register-clause-does
-returns-in-Register-clause-does g c = both c.register.result _ _ _ c.register.ensures.effect c.register.ensures.quiet (λ done is quiet.
-    let none = none_judged g.C.Validator.verdict g.C.Validator.asked in
-    quietly g.C.Validator.verdict g.C.Validator.asked _ _ _ _ _ _ done
-    (λ s stands. let e = is s stands.tables stands.apps stands.kit in search rules)
-    (λ s stands. let e = is s stands.tables stands.apps stands.kit in search rules) refl quiet)
-
 pub returns-in-Read-clause-does : goal.returns-in-Read-clause-does
 returns-in-Read-clause-does g c = both c.read.result _ _ _ c.read.ensures.effect c.read.ensures.quiet (λ done is quiet.
     let none = none_judged g.C.Validator.verdict g.C.Validator.asked in

@@ -3,6 +3,7 @@ use Rattle.tbl_core.proofs.Steps.{on_played, plays_on}
 use Rattle.tbl_core.proofs.Vouching.{vouches_on}
 use Rattle.tbl_laws.proofs.VouchedLaws.{vouched}
 use Rattle.tbl_laws.proofs.WholeLaws.{whole}
+use Rattle.tbl_laws.proofs.BackedLaws.{backed}
 use Rattle.tbl_core.proofs.service.Core.step.Goals as goal
 
 pub returns-clause-adds : goal.returns-clause-adds
@@ -24,6 +25,10 @@ returns-clause-legal g c = rw (← c.self.view_is)
 pub returns-clause-whole : goal.returns-clause-whole
 returns-clause-whole g c = rw (← c.self.view_is)
     (on_played c.play.result (λ p told opening none unasked stood. whole opening _ _ none unasked ((plays_on _ _ g.B.Bank.faults g.B.Bank.stops _ _ _ _ c.args.actor c.args.request c.play.result p opening stood).legal told)) c.play.ensures.plays)
+
+pub returns-clause-backed : goal.returns-clause-backed
+returns-clause-backed g c = rw (← c.self.view_is)
+    (on_played c.play.result (λ p told opening none single stood. backed opening _ _ none single ((plays_on _ _ g.B.Bank.faults g.B.Bank.stops _ _ _ _ c.args.actor c.args.request c.play.result p opening stood).legal told)) c.play.ensures.plays)
 
 pub returns-clause-judged : goal.returns-clause-judged
 returns-clause-judged g c = rw (← c.self.view_is) (on_played c.play.result (λ p. (p.entry, p.added, λ told opening stood. p.judged told _ (stood.shows told))) c.play.ensures.plays)

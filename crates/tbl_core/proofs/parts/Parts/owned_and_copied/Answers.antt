@@ -1,0 +1,35 @@
+use Rattle.std.proofs.Common.{◌∙◌, length, sym, ap, subst, false, is_some, rules}
+use Rattle.tbl_model.specs.Tables.{table_at}
+use Rattle.cds_store.specs.Standing.{StoreParts, StandsFor}
+use Rattle.tbl_core.specs.Copying.{IsCopyCall}
+use Rattle.tbl_core.specs.Asked.{owned_deeds}
+use Rattle.tbl_core.specs.Owned.{owned_at}
+use Rattle.tbl_core.specs.Service.{Does, held_of}
+use Rattle.tbl_core.proofs.Places.{some_is}
+use Rattle.tbl_core.proofs.Owned.{stays_critical, few_deeds}
+use Rattle.tbl_core.proofs.parts.Parts.owned_and_copied.Goals as goal
+
+pub then_copy-requires-clause-booted : goal.then_copy-requires-clause-booted
+then_copy-requires-clause-booted g c = ap (λ (store : StoreParts g.row.B.Denot). store.booted) c.in_ok-effect.ensures.does.store ∙ c.requires.ready.booted
+
+pub then_copy-requires-clause-critical : goal.then_copy-requires-clause-critical
+then_copy-requires-clause-critical g c =
+    let t = some_is (table_at c.args.self.now.tables c.args.row) c.requires.table in
+    stays_critical g.C.Validator.verdict g.C.Validator.asked (held_of c.args.self.now) (held_of c.owned.new.self) c.args.row c.args.request.now c.in_ok-effect.effect t.0 t.1 (search rules) c.in_ok-effect.ensures.does (is_some c.in_ok-room.room) (search rules)
+
+pub then_copy-requires-clause-few : goal.then_copy-requires-clause-few
+then_copy-requires-clause-few g c = few_deeds c.args.request.now (length c.in_ok-effect.effect.deeds.items) c.in_ok-effect.ensures.does.within.deeds
+
+pub then_copy-requires-clause-untouched : goal.then_copy-requires-clause-untouched
+then_copy-requires-clause-untouched g c = c.in_ok-effect.ensures.does.note
+
+pub returns-clause-does : goal.returns-clause-does
+returns-clause-does g c =
+    let does = c.in_ok-effect.ensures.does in
+    let b = g.B.Bank in record {
+      before = c.in_ok-effect.effect;
+      does = subst (λ (store : StoreParts g.row.B.Denot). Does g.C.Validator.verdict g.C.Validator.asked (owned_deeds c.args.request.now) 0 false (held_of c.args.self.now) (record (held_of c.owned.new.self) { store = store })
+          (λ s given. owned_at (table_at s.tables c.args.row) s c.args.row c.args.request.now given) c.in_ok-effect.effect) does.store does;
+      copied = λ tells e is tables stands. c.then_copy.ensures.behind tells e is tables (subst (λ (store : StoreParts g.row.B.Denot). StandsFor b.tells b.now store e.next.store) (sym does.store) stands);
+      call = subst (λ (store : StoreParts g.row.B.Denot). IsCopyCall b.faults b.stops store c.then_copy.new.store c.in_ok-effect.effect c.then_copy.result) does.store c.then_copy.ensures.call;
+    }
