@@ -3,42 +3,74 @@
 ghost use Rattle.std.specs.Prelude.{◌≡◌, length, IfOk};
 
 use case_tables::{CaseFault, number_in};
-use std::alloc::{AllocError, Global};
+use std::alloc::Global;
 use tbl_fakes::{Break, Span};
+use tbl_kinds::{Bytes, Memory};
 
 /// How many bytes a bank has.
 const BANK_SIZE: usize = 131_072;
 
-fn zeros(alloc: Global) -> Result<Vec<u8>, AllocError>
-    ensures { IfOk result (λ v. length v.items ≡ 131072) }
-{
-    vec![in alloc; 0; BANK_SIZE]
+/// A bank that nothing was written to. Copies of it, and comparisons with a part of it, take a build that checks each
+/// access far less time than loops over single bytes.
+static ZEROS: [u8; BANK_SIZE] = [0; BANK_SIZE];
+
+/// Bytes that stand at a place of a bank.
+#[derive(Drop)]
+pub(crate) struct Run {
+    at: usize,
+    bytes: Vec<u8>,
 }
 
-/// Writes bytes over those of a bank from a place on.
-fn patch(bytes: &mut [u8], from: usize, piece: &[u8]) -> Option<()>
-    ensures { length bytes.new ≡ length bytes.old }
-{
-    let into = bytes.get_mut(from..)?.get_mut(..piece.len())?;
-    into.copy_from_slice(piece);
-    Some(())
+pub(crate) fn out_of_memory(_memory: Memory) -> CaseFault {
+    CaseFault::Memory
 }
 
-/// The bytes of a bank: zeros, over which the cell has places and what stands there, as `0 43445331 16 A5`.
-pub(crate) fn bank_in(alloc: Global, cell: &str) -> Result<Vec<u8>, CaseFault>
-    ensures { IfOk result (λ v. length v.items ≡ 131072) }
-{
-    let mut bytes = zeros(alloc)?;
+/// What a bank has beside zeros: places and what stands there, as `0 43445331 16 A5`.
+pub(crate) fn runs_in(alloc: Global, cell: &str) -> Result<Vec<Run>, CaseFault> {
+    let mut runs = Vec::new(alloc);
     let mut place = None;
-    'words: for word in cell.split_ascii_whitespace() {
+    for word in cell.split_ascii_whitespace() {
         match place {
             None => place = Some(number_in(word)?),
-            Some(from) => {
-                let piece = hex::decode(alloc, word)?;
-                patch(&mut bytes, from as usize, &piece).ok_or(CaseFault::Unreadable)?;
+            Some(at) => {
+                let bytes = hex::decode(alloc, word)?;
+                let at = at as usize;
+                runs.push(Run { at, bytes })?;
                 place = None;
             }
         }
+    }
+    Ok(runs)
+}
+
+/// Writes a run over the bytes of a bank, where it lies inside.
+fn patch(bytes: &mut Bytes, run: &Run) -> Result<(), CaseFault>
+    ensures { length bytes.new.list ≡ length bytes.old.list }
+{
+    let size = bytes.bytes().len();
+    if run.at <= size && run.bytes.len() <= size - run.at {
+        bytes.write_over(run.at, &run.bytes);
+        return Ok(());
+    }
+    Err(CaseFault::Unreadable)
+}
+
+/// The bytes of a bank that nothing was written to.
+fn zeros(alloc: Global) -> Result<Bytes, Memory>
+    ensures { IfOk result (λ b. length b.list ≡ 131072) }
+{
+    let mut bytes = Bytes::make(alloc, BANK_SIZE)?;
+    bytes.append(&ZEROS);
+    Ok(bytes)
+}
+
+/// The bytes of a bank: zeros, over which the runs are written.
+pub(crate) fn bank_of(alloc: Global, runs: &[Run]) -> Result<Bytes, CaseFault>
+    ensures { IfOk result (λ b. length b.list ≡ 131072) }
+{
+    let mut bytes = zeros(alloc).map_err(out_of_memory)?;
+    'runs: for run in runs {
+        patch(&mut bytes, run)?;
     }
     Ok(bytes)
 }
@@ -79,4 +111,48 @@ pub(crate) fn spans_in(alloc: Global, cell: &str) -> Result<Vec<Span>, CaseFault
         spans.push(span_in(word)?)?;
     }
     Ok(spans)
+}
+
+/// The place behind the last that runs or writes reach.
+pub(crate) fn end_of(runs: &[Run], writes: &[Span]) -> usize {
+    let mut end = 0;
+    for run in runs {
+        end = end.max(run.at.saturating_add(run.bytes.len()));
+    }
+    for write in writes {
+        end = end.max(write.at.saturating_add(write.length) as usize);
+    }
+    end
+}
+
+/// Whether these bytes stand in a bank from a place on.
+fn stands(bank: &[u8], from: usize, bytes: &[u8]) -> bool {
+    match bank.get(from..) {
+        Some(rest) => rest.starts_with(bytes),
+        None => false,
+    }
+}
+
+/// Whether a bank has zeros from one place up to another.
+fn is_empty(bank: &[u8], from: usize, to: usize) -> bool {
+    match ZEROS.get(from..to) {
+        Some(zeros) => stands(bank, from, zeros),
+        None => false,
+    }
+}
+
+/// The place from which on a bank doesn't have the next run, or the zeros before it; none where up to the end it has
+/// these runs and zeros elsewhere.
+pub(crate) fn first_unlike(bank: &[u8], runs: &[Run], end: usize) -> Option<usize> {
+    let mut from = 0;
+    for run in runs {
+        if !is_empty(bank, from, run.at) || !stands(bank, run.at, &run.bytes) {
+            return Some(from);
+        }
+        from = run.at.saturating_add(run.bytes.len());
+    }
+    if end <= from || is_empty(bank, from, end) {
+        return None;
+    }
+    Some(from)
 }

@@ -1,4 +1,4 @@
-//! What the notes of a session's entries tell.
+//! The statuses and notes of a session's entries.
 
 ghost use Rattle.std.specs.Prelude.{◌≤◌, length, IfOk};
 ghost use Rattle.tbl_kinds.specs.Places.{bank_size};
@@ -30,14 +30,16 @@ fn shipped(alloc: Global) -> Result<Kit<Shipped>, Memory>
     Kit::make(alloc, entries)
 }
 
-/// The letter of an outcome.
-fn outcome(outcome: Outcome) -> &'static str {
-    match outcome {
-        Outcome::Untouched => "U",
+/// Writes how the calls went and how many were done: `-` where none was made.
+fn tell_calls(told: &mut String, outcome: Outcome, done: u8) -> fmt::Result {
+    let letter = match outcome {
+        Outcome::Untouched => return told.write_str("-"),
         Outcome::Done => "D",
         Outcome::Failed => "F",
         Outcome::Stopped => "S",
-    }
+    };
+    write!(told, "{letter}{done}")?;
+    Ok(())
 }
 
 /// Writes a mark where it holds.
@@ -56,30 +58,38 @@ fn tell_image(told: &mut String, image: &Option<Bytes>) -> fmt::Result {
     Ok(())
 }
 
-/// Writes a note: the outcome and how many calls were done, `g` for a gate, `o` for that of a doubtful block, `e` where a
-/// boot ended the service and `s` where that was stopped, the image that was restored behind `r`, `t` where the reply's
-/// detail has the check words, and each slot that was found behind `f`.
-fn tell_note(told: &mut String, note: &BankNote, detail: u32) -> fmt::Result {
-    let done = note.done;
-    told.write_str(outcome(note.outcome))?;
-    write!(told, "{done}")?;
+/// Writes the check words of a torn block behind `t`, if there are any.
+fn tell_torn(told: &mut String, torn: u32) -> fmt::Result {
+    if torn != 0 {
+        write!(told, "t{torn:08X}")?;
+    }
+    Ok(())
+}
+
+/// Writes a note: how the calls went and how many were done, `g` for a gate, `o` for that of a doubtful block, `e` where a
+/// boot ended the service and `s` where that was stopped, the image that was restored behind `r`, the check words of a torn
+/// block behind `t`, and each slot that was found behind `f`.
+fn tell_note(told: &mut String, note: &BankNote) -> fmt::Result {
+    tell_calls(told, note.outcome, note.done)?;
     tell_mark(told, "g", note.gate)?;
     tell_mark(told, "o", note.old)?;
     tell_mark(told, "e", note.ended)?;
     tell_mark(told, "s", note.stopped)?;
     tell_image(told, &note.restored)?;
-    tell_mark(told, "t", note.torn != 0 && note.torn == detail)?;
+    tell_torn(told, note.torn)?;
     for slot in note.found.list() {
         write!(told, "f{slot}")?;
     }
     Ok(())
 }
 
-/// Writes the note of an entry, and a blank behind it: `-` where no call was made.
+/// Writes the status of an entry and its note, and a blank behind them. One that takes no memory tells that nothing was done.
 fn tell_entry(told: &mut String, entry: &Entry) -> fmt::Result {
+    let status = entry.reply.status.0;
+    write!(told, "{status}:")?;
     match entry.note.touched() {
         None => told.write_str("-")?,
-        Some(note) => tell_note(told, note, entry.reply.detail)?,
+        Some(note) => tell_note(told, note)?,
     }
     told.write_str(" ")
 }
@@ -138,7 +148,7 @@ fn step_all(
     Ok(())
 }
 
-/// The notes of a session over a bank, with blanks behind them.
+/// The statuses and notes of a session over a bank, with blanks behind them.
 pub(crate) fn notes_of(alloc: Global, records: &[u8], bank: MemBank) -> Result<String, CaseFault>
     requires { bank_size ≤ length bank.bytes }
 {

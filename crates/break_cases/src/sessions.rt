@@ -4,7 +4,9 @@ ghost use Rattle.std.specs.Prelude.{◌≡◌, ◌≤◌, length, All, IfOk};
 ghost use Rattle.shipped_kit.specs.Verdicts.{asked_of};
 ghost use Rattle.tbl_kinds.specs.Places.{bank_size};
 
-use crate::cells::{bank_in, breaks_in, spans_in};
+use crate::cells::{
+    Run, bank_of, breaks_in, end_of, first_unlike, out_of_memory, runs_in, spans_in,
+};
 use crate::notes::notes_of;
 use case_tables::{CaseFault, Cases, Pieces, number_in, numbers_in};
 use shipped_kit::{FUNCTIONS, Shipped, shipped_entry};
@@ -23,23 +25,29 @@ const MOST_WRITTEN: u32 = 65_536;
 /// For how many bytes the sink has room beside those that are wanted.
 const MORE_OUTPUT: u32 = 65_536;
 
-/// How a session ended.
+/// How a session is to end.
 #[derive(Drop)]
-struct Ending {
+struct Wanted {
     status: u8,
     output: Vec<u8>,
     writes: Vec<Span>,
-    bank: Vec<u8>,
+    bank: Vec<Run>,
+    /// Behind this place the bank is to have zeros before and behind the session, and no write.
+    end: usize,
+}
+
+/// How a session ended.
+#[derive(Drop)]
+struct Came {
+    status: u8,
+    sink: MemSink,
+    bank: MemBank,
 }
 
 /// Plays sessions.
 #[derive(Drop)]
 pub(crate) struct Sessions {
     alloc: Global,
-}
-
-fn out_of_memory(_memory: Memory) -> CaseFault {
-    CaseFault::Memory
 }
 
 /// The same bytes as the service keeps them.
@@ -63,12 +71,7 @@ fn functions(alloc: Global) -> Result<Vec<KitEntry<Shipped>>, CaseFault>
 }
 
 /// Plays a session over a bank.
-fn play(
-    alloc: Global,
-    input: &[u8],
-    bank: MemBank,
-    room: u32,
-) -> Result<(u8, MemSink, MemBank), CaseFault>
+fn play(alloc: Global, input: &[u8], bank: MemBank, room: u32) -> Result<Came, CaseFault>
     requires { bank_size ≤ length bank.bytes }
 {
     let play = kept(alloc, b"play").map_err(out_of_memory)?;
@@ -78,7 +81,7 @@ fn play(
     let mut sink = MemSink::make(alloc, room, &[]).map_err(out_of_memory)?;
     let kit = functions(alloc)?;
     let (status, bank) = run_with(alloc, &words, &mut source, &mut sink, bank, kit);
-    Ok((status, sink, bank))
+    Ok(Came { status, sink, bank })
 }
 
 /// The first place at which bytes differ, or where the shorter end.
@@ -90,22 +93,23 @@ fn first_difference(came: &[u8], wanted: &[u8]) -> usize {
 }
 
 /// Whether a session ended so.
-fn compare(alloc: Global, came: &Ending, wanted: &Ending) -> Result<(), CaseFault> {
-    if came.status != wanted.status || came.output != wanted.output {
-        let at = first_difference(&came.output, &wanted.output);
+fn compare(alloc: Global, came: &Came, wanted: &Wanted) -> Result<(), CaseFault> {
+    let output = came.sink.taken();
+    if came.status != wanted.status || output != wanted.output.as_slice() {
+        let at = first_difference(output, &wanted.output);
         let status = came.status;
-        let output = hex::encode(alloc, &came.output)?;
+        let output = hex::encode(alloc, output)?;
         return Err(CaseFault::Differs(format!(in alloc;
             "status {status}, and from byte {at} on output {output}"
         )?));
     }
-    if came.writes != wanted.writes {
-        let count = came.writes.len();
+    let writes = came.bank.spans();
+    if writes != wanted.writes.as_slice() {
+        let count = writes.len();
         return Err(CaseFault::Differs(format!(in alloc; "{count} writes, or others")?));
     }
-    if came.bank != wanted.bank {
-        let at = first_difference(&came.bank, &wanted.bank);
-        return Err(CaseFault::Differs(format!(in alloc; "the bank from byte {at} on")?));
+    if let Some(at) = first_unlike(came.bank.bytes(), &wanted.bank, wanted.end) {
+        return Err(CaseFault::Differs(format!(in alloc; "the bank behind byte {at}")?));
     }
     Ok(())
 }
@@ -116,12 +120,10 @@ impl Sessions {
     }
 
     /// The bank with which a session begins.
-    fn bank(&self, cells: [&str; 3]) -> Result<MemBank, CaseFault>
+    fn bank(&self, runs: &[Run], breaks: &str, bad_reads: &str) -> Result<MemBank, CaseFault>
         ensures { IfOk result (λ bank. bank_size ≤ length bank.bytes) }
     {
-        let [bank, breaks, bad_reads] = cells;
-        let bytes = bank_in(self.alloc, bank)?;
-        let bytes = kept(self.alloc, &bytes).map_err(out_of_memory)?;
+        let bytes = bank_of(self.alloc, runs)?;
         let breaks = breaks_in(self.alloc, breaks)?;
         let bad_reads = numbers_in(self.alloc, bad_reads)?;
         MemBank::make(
@@ -135,25 +137,21 @@ impl Sessions {
         .map_err(out_of_memory)
     }
 
-    fn wanted(&self, pieces: &Pieces, cells: [&str; 4]) -> Result<Ending, CaseFault> {
+    fn wanted(
+        &self,
+        pieces: &Pieces,
+        cells: [&str; 4],
+        before: &[Run],
+    ) -> Result<Wanted, CaseFault> {
         let [status, output, writes, bank] = cells;
-        Ok(Ending {
+        let writes = spans_in(self.alloc, writes)?;
+        let end = end_of(before, &writes);
+        Ok(Wanted {
             status: u8::try_from(number_in(status)?).map_err(|_| CaseFault::Unreadable)?,
             output: pieces.bytes(output)?,
-            writes: spans_in(self.alloc, writes)?,
-            bank: bank_in(self.alloc, bank)?,
-        })
-    }
-
-    fn came(&self, input: &[u8], bank: MemBank, room: u32) -> Result<Ending, CaseFault>
-        requires { bank_size ≤ length bank.bytes }
-    {
-        let (status, sink, bank) = play(self.alloc, input, bank, room)?;
-        Ok(Ending {
-            status,
-            output: sink.taken().to_vec(self.alloc)?,
-            writes: bank.spans().to_vec(self.alloc)?,
-            bank: bank.bytes().to_vec(self.alloc)?,
+            writes,
+            bank: runs_in(self.alloc, bank)?,
+            end,
         })
     }
 }
@@ -169,8 +167,8 @@ fn compare_notes(alloc: Global, came: &str, wanted: &str) -> Result<(), CaseFaul
 impl Cases for Sessions {
     /// A row is `play | NAME | INPUT | BANK | BREAKS | BAD READS | STATUS | OUTPUT | WRITES | BANK`: a session, the bank
     /// before it, which of the bank's writes break off and which of its reads fail, and then how it ends, with the
-    /// ranges of all writes and the bank behind it. `notes | NAME | INPUT | BANK | BREAKS | BAD READS | NOTES` is one whose
-    /// notes are told.
+    /// ranges of all writes and the bank behind it. `notes | NAME | INPUT | BANK | BREAKS | BAD READS | NOTES` is one of
+    /// whose entries the statuses and notes are told.
     fn try_row(&mut self, pieces: &Pieces, cells: &[&str]) -> Result<u32, CaseFault> {
         match cells {
             [
@@ -185,16 +183,17 @@ impl Cases for Sessions {
                 writes,
                 after,
             ] => {
-                let wanted = self.wanted(pieces, [status, output, writes, after])?;
+                let before = runs_in(self.alloc, bank)?;
+                let wanted = self.wanted(pieces, [status, output, writes, after], &before)?;
                 let room = u32::try_from(wanted.output.len()).map_err(|_| CaseFault::Unreadable)?;
-                let bank = self.bank([bank, breaks, reads])?;
+                let bank = self.bank(&before, breaks, reads)?;
                 let room = room.saturating_add(MORE_OUTPUT);
-                let came = self.came(&pieces.bytes(input)?, bank, room)?;
+                let came = play(self.alloc, &pieces.bytes(input)?, bank, room)?;
                 compare(self.alloc, &came, &wanted)?;
                 Ok(1)
             }
             ["notes", _, input, bank, breaks, reads, notes] => {
-                let bank = self.bank([bank, breaks, reads])?;
+                let bank = self.bank(&runs_in(self.alloc, bank)?, breaks, reads)?;
                 let came = notes_of(self.alloc, &pieces.bytes(input)?, bank)?;
                 compare_notes(self.alloc, &came, notes)?;
                 Ok(1)
