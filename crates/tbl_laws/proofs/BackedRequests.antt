@@ -144,8 +144,8 @@ module _ (s : State) (backed : AreBacked s) (given : Given) where
   abbrev Backs : Effect → Type 0
   Backs e = AreBacked e.next
 
-  refused : (e : Effect) → e.next ≡ s → e.deeds ≡ [] → is_refusal e.status ≡ true → Backs e
-  refused e is no_deeds refuses = rw is backed
+  refused : (e : Effect) → e.next ≡ s → e.deeds ≡ [] → e.calls ≡ [] → is_refusal e.status ≡ true → Backs e
+  refused e is no_deeds no_calls refuses = rw is backed
 
   on : (next : State) → Descends s.tables next.tables → next.store ≡ s.store → AreBacked next
   on next descends store = descends_backed s next backed descends store
@@ -204,7 +204,7 @@ module _ (s : State) (backed : AreBacked s) (given : Given) where
   backs Ground request = tt
   backs (App app) (ask.Start name) = λ noted. by_start s Backs refused app name (same _ refl refl)
   backs (App app) (ask.Register short size flags validator) = λ noted.
-      by_new s (λ e. Ends given.note.outcome e.calls s.store given.note → AreBacked e.next) (λ e is no_deeds refuses ended. rw is backed) app short size flags validator given.note
+      by_new s (λ e. Ends given.note.outcome e.calls s.store given.note → AreBacked e.next) (λ e is no_deeds no_calls refuses ended. rw is backed) app short size flags validator given.note
       (λ name row handle plan new free_row free_handle. registers s backed given.note row free_row (new_table name app size flags validator handle) new) noted.ends
   backs (App app) (ask.Share name) = λ noted. by_share s Backs refused app name (λ row handle free. same _ refl refl)
   backs (App app) (ask.Unregister handle) = λ noted. by_unregister s Backs refused app handle (λ h place own. gives_up s handle backed)

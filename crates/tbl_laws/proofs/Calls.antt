@@ -69,14 +69,14 @@ module _ (tables : Tables) where
     calls_keep calls note store suit has = all_keep tables (λ blocks. HasBlock blocks t.name t.size) does_keep breaks_keep note calls store suit has
 
   -- and that no two are of one kind and name
-  does_single : (call : StoreCall) (store : Store) → Suits tables call store → AreSingle store → AreSingle (after call store)
+  pub does_single : (call : StoreCall) (store : Store) → Suits tables call store → AreSingle store → AreSingle (after call store)
   does_single (reserve kind name size) store suits single =
       made_single false kind name size (closed kind name store) (closed_none kind name store single suits) (remain_single store _ (freed_remain store (doubtful_of kind name store)) single)
   does_single (copy slot image) store suits single = remain_single store _ (change_remain store slot _ (λ b. refl)) single
   does_single (restore slot given) store suits single = remain_single store _ (change_remain store slot _ (λ b. refl)) single
   does_single (delete slot) store suits single = remain_single store _ (freed_remain store (Some slot)) single
 
-  breaks_single : (gate old : Bool) (call : StoreCall) (store : Store) → Suits tables call store → AreSingle store → AreSingle (broken gate old call store)
+  pub breaks_single : (gate old : Bool) (call : StoreCall) (store : Store) → Suits tables call store → AreSingle store → AreSingle (broken gate old call store)
   breaks_single false old (reserve kind name size) store suits single = remain_single store _ (freed_remain store (doubtful_of kind name store)) single
   breaks_single true false (reserve kind name size) store suits single =
       made_single true kind name size (closed kind name store) (closed_none kind name store single suits) (remain_single store _ (freed_remain store (doubtful_of kind name store)) single)

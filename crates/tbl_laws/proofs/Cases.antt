@@ -133,9 +133,9 @@ abbrev pub with_blocks : List StoreCall → Store → Effect → Effect
 with_blocks calls store e = record e { calls = calls; next = record e.next { store = store } }
 
 -- a property of effects that each refusal has, and what is done where nothing is refused, is one of the request's effect
-module _ (s : State) (P : Effect → Type 0) (refusal : (e : Effect) → e.next ≡ s → e.deeds ≡ [] → is_refusal e.status ≡ true → P e) where
+module _ (s : State) (P : Effect → Type 0) (refusal : (e : Effect) → e.next ≡ s → e.deeds ≡ [] → e.calls ≡ [] → is_refusal e.status ≡ true → P e) where
   no : (status : Status) (detail : ℕ) → is_refusal status ≡ true → P (answered s status detail)
-  no status detail is = refusal (answered s status detail) refl refl is
+  no status detail is = refusal (answered s status detail) refl refl refl is
 
   -- a test that refuses stands before the rest
   unless : (b : Bool) (status : Status) (detail : ℕ) (rest : Effect) → is_refusal status ≡ true → P rest → P (cond b (answered s status detail) rest)
@@ -154,7 +154,7 @@ module _ (s : State) (P : Effect → Type 0) (refusal : (e : Effect) → e.next 
 
   pub by_load_ladder : (r : Option Answer) (effect : Effect) → Refuses r → (r ≡ None → P effect) → P (by_refusal s r effect)
   by_load_ladder None effect refuses done = done refl
-  by_load_ladder (Some answer) effect refuses done = refusal _ refl refl refuses
+  by_load_ladder (Some answer) effect refuses done = refusal _ refl refl refl refuses
 
   -- ---- a running application, its handle and its table
 
@@ -541,7 +541,7 @@ module _ (s : State) (P : Effect → Type 0) (refusal : (e : Effect) → e.next 
             (λ only. ladder (dump_refusal s.tables t) refl row t there only) (λ _. image row t active) where
               ladder : (r : Option Answer) → dump_refusal s.tables t ≡ r → (row : ℕ) (u : Table) → table_at s.tables row ≡ Some t → is_dump_only t ≡ true → P (ask_dump_effect s file row t)
               ladder None is row u there only = asks row t there only is
-              ladder (Some answer) is row u there only = rw is (refusal _ refl refl (subst Refuses is (dump_refused s.tables t)))
+              ladder (Some answer) is row u there only = rw is (refusal _ refl refl refl (subst Refuses is (dump_refused s.tables t)))
 
       pub by_dump_registry : (file : List ℕ) → P (dump_registry_effect s file)
       unfolding dump_registry_effect
@@ -564,9 +564,9 @@ pub record Commands (s : State) (note : BankNote) (P : Effect → Type 0) : Type
   pub written : (row : Option ℕ) (file bytes : List ℕ) → is_full_for s.drawer file ≡ false → P (written_effect s row file bytes)
   pub dump_asked : (file : List ℕ) (row : ℕ) (t : Table) → table_at s.tables row ≡ Some t → is_dump_only t ≡ true → dump_refusal s.tables t ≡ None → P (ask_dump_effect s file row t)
 
-module _ (s : State) (note : BankNote) (P : Effect → Type 0) (refusal : (e : Effect) → e.next ≡ s → e.deeds ≡ [] → is_refusal e.status ≡ true → P e) (done : Commands s note P) where
+module _ (s : State) (note : BankNote) (P : Effect → Type 0) (refusal : (e : Effect) → e.next ≡ s → e.deeds ≡ [] → e.calls ≡ [] → is_refusal e.status ≡ true → P e) (done : Commands s note P) where
   by_asked : (asked : Result GroundCommand Answer) → CommandRefuses asked → P (effect_by s asked note)
-  by_asked (Err answer) refuses = refusal _ refl refl refuses
+  by_asked (Err answer) refuses = refusal _ refl refl refl refuses
   by_asked (Ok housekeeping) refuses = done.housekeeping
   by_asked (Ok noop) refuses = done.accepted
   by_asked (Ok reset_counters) refuses = done.accepted

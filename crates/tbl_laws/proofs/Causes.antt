@@ -86,8 +86,8 @@ module _ (s : State) (given : Given) where
   unfolding Caused
   of e none = harmless e.status given.note none
 
-  refused : (e : Effect) → e.next ≡ s → e.deeds ≡ [] → is_refusal e.status ≡ true → Caused e
-  refused e same no_deeds refuses = of e (or_parts (is_done e.status) (tells_trouble e.status) (not-true _ refuses)).1
+  refused : (e : Effect) → e.next ≡ s → e.deeds ≡ [] → e.calls ≡ [] → is_refusal e.status ≡ true → Caused e
+  refused e same no_deeds no_calls refuses = of e (or_parts (is_done e.status) (tells_trouble e.status) (not-true _ refuses)).1
 
   -- a stop has its cause in the note
   stop_caused : given.note.outcome ≡ Stopped → HasCause INFO_STOPPED given.note

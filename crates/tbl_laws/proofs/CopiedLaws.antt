@@ -110,8 +110,8 @@ module _ (s : State) (row : ℕ) (t : Table) (there : table_at s.tables row ≡ 
     last = refl;
   }
 
-  refused : (e : Effect) → e.next ≡ s → e.deeds ≡ [] → is_refusal e.status ≡ true → GoesActive s row e
-  refused e is no_deeds refuses = record { store = ap (λ (x : State). x.store) is; has = λ went. absurd (cc (rw no_deeds at went)) }
+  refused : (e : Effect) → e.next ≡ s → e.deeds ≡ [] → e.calls ≡ [] → is_refusal e.status ≡ true → GoesActive s row e
+  refused e is no_deeds no_calls refuses = record { store = ap (λ (x : State). x.store) is; has = λ went. absurd (cc (rw no_deeds at went)) }
 
   update_goes : GoesActive s row (by_answer s (update_refusal s.tables row t) (updated_effect s row t))
   update_goes = by_ladder s (GoesActive s row) refused (update_refusal s.tables row t) (updated_effect s row t) (update_refused s.tables row t) (λ none. record { store = refl; has = λ went. update_last s row t there })

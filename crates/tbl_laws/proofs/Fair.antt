@@ -122,8 +122,8 @@ module _ (s : State) (actor : Actor) (request : Request) where
   fair_plain plain effect keeps goes_on = fair_keeps effect keeps (λ n h p row t at pin of there on. plain_spares actor request effect.status h.app n (kept t) plain goes_on)
 
   -- a refusal leaves the tables as they are
-  pub fair_refused : is_reset request ≡ false → (effect : Effect) → effect.next ≡ s → effect.deeds ≡ [] → is_refusal effect.status ≡ true → Fair s actor request effect
-  fair_refused no_reset effect same no_deeds refuses = fair_keeps effect (rw same (stays_keeps s.tables)) (λ n h p row t at pin of there on. refused_spares actor request effect.status h.app n (kept t) no_reset refuses)
+  pub fair_refused : is_reset request ≡ false → (effect : Effect) → effect.next ≡ s → effect.deeds ≡ [] → effect.calls ≡ [] → is_refusal effect.status ≡ true → Fair s actor request effect
+  fair_refused no_reset effect same no_deeds no_calls refuses = fair_keeps effect (rw same (stays_keeps s.tables)) (λ n h p row t at pin of there on. refused_spares actor request effect.status h.app n (kept t) no_reset refuses)
 
   -- without tables nothing is pinned
   pub fair_anew : (effect : Effect) → effect.next.tables ≡ no_tables → Fair s actor request effect

@@ -207,7 +207,7 @@ module _ (s : State) (n : ℕ) (fit : AreFit n s) where
     keeps : (effect : Effect) → Keeps s.tables effect.next.tables → eqb effect.status.0 INFO_STOPPED.0 ≡ false → Fair s (App app) request effect
     keeps effect kept_all goes_on = fair_plain s (App app) request plain effect kept_all goes_on
 
-    refuses : (effect : Effect) → effect.next ≡ s → effect.deeds ≡ [] → is_refusal effect.status ≡ true → Fair s (App app) request effect
+    refuses : (effect : Effect) → effect.next ≡ s → effect.deeds ≡ [] → effect.calls ≡ [] → is_refusal effect.status ≡ true → Fair s (App app) request effect
     refuses = fair_refused s (App app) request plain.no_reset
 
     quiet_fair : (effect : Effect) → effect.next.tables ≡ s.tables → eqb effect.status.0 INFO_STOPPED.0 ≡ false → Fair s (App app) request effect
@@ -254,7 +254,7 @@ module _ (s : State) (n : ℕ) (fit : AreFit n s) where
   registered_fair : (app : ℕ) (short : List ℕ) (size flags : ℕ) (validator : Option ℕ) (request : Request) (note : BankNote) → IsPlain request → Goes (App app) request note (register_effect s app short size flags validator note)
   registered_fair app short size flags validator request note plain =
       let store_called = calls_store (App app) request note plain in
-      by_register s (Goes (App app) request note) (λ e same no_deeds is noted. refuses app request plain e same no_deeds is) app short size flags validator note (record {
+      by_register s (Goes (App app) request note) (λ e same no_deeds no_calls is noted. refuses app request plain e same no_deeds no_calls is) app short size flags validator note (record {
         answers = λ store e is no_deeds quiet noted. store_called.answers store e is no_deeds quiet;
         fails = λ store e failed is no_deeds status noted. store_called.fails store e failed is no_deeds status;
         restarts = λ store e stopped is no_deeds status noted. store_called.restarts store e stopped is no_deeds status;

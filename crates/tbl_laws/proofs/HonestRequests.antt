@@ -382,8 +382,8 @@ module _ (s : State) (n : ℕ) (fit : AreFit n s) where
   anew : (e : Effect) → e.deeds ≡ [] → e.next.tables ≡ no_tables → IsHonest s e
   anew e no_deeds none = plain e no_deeds (λ row u l there load checked. absurd (nothing_there 128 row u (rw none at there)))
 
-  refused : (e : Effect) → e.next ≡ s → e.deeds ≡ [] → is_refusal e.status ≡ true → IsHonest s e
-  refused e same no_deeds refuses = same_tables e no_deeds (ap (λ (x : State). x.tables) same)
+  refused : (e : Effect) → e.next ≡ s → e.deeds ≡ [] → e.calls ≡ [] → is_refusal e.status ≡ true → IsHonest s e
+  refused e same no_deeds no_calls refuses = same_tables e no_deeds (ap (λ (x : State). x.tables) same)
 
   -- a request that calls the store and does nothing else
   calls_store : (note : BankNote) → CallsStore s note (IsHonest s)

@@ -197,8 +197,8 @@ module _ (s : State) (given : Given) where
   nothing_told : AreAsked s given [] [] []
   nothing_told = none_told s given [] [] [] refl
 
-  refused : (e : Effect) → e.next ≡ s → e.deeds ≡ [] → is_refusal e.status ≡ true → IsKept s given e
-  refused e same no_deeds refuses = none_told s given e.deeds e.images e.asked no_deeds
+  refused : (e : Effect) → e.next ≡ s → e.deeds ≡ [] → e.calls ≡ [] → is_refusal e.status ≡ true → IsKept s given e
+  refused e same no_deeds no_calls refuses = none_told s given e.deeds e.images e.asked no_deeds
 
   no_questions : (t : Table) (image : List ℕ) → is_some t.validator ≡ false → questions t image ≡ []
   no_questions t image none = by t.validator none where

@@ -26,3 +26,8 @@ pub mod Backing
 pub mod BackedRequests
 pub mod BackedLaws
 pub mod CopiedLaws
+pub mod Crashes
+pub mod CompletedLaws
+pub mod SuitedRequests
+pub mod CrashedBlocks
+pub mod RecoveryLaws

@@ -121,8 +121,8 @@ module _ (s : State) (n : ℕ) (lives : s.ended ≡ false) (fit : AreFit n s) (g
   same : (e : Effect) → e.next ≡ s → IsOrdinary n given.note e
   same e is = rw is (record { fit = grown n s fit; live = live })
 
-  refused : (e : Effect) → e.next ≡ s → e.deeds ≡ [] → is_refusal e.status ≡ true → IsOrdinary n given.note e
-  refused e is no_deeds refuses = same e is
+  refused : (e : Effect) → e.next ≡ s → e.deeds ≡ [] → e.calls ≡ [] → is_refusal e.status ≡ true → IsOrdinary n given.note e
+  refused e is no_deeds no_calls refuses = same e is
 
   -- what changes neither tables nor what is pending, nor the kit
   elsewhere : (next : State) → next.tables ≡ s.tables → next.pending ≡ s.pending → next.kit ≡ s.kit → AreFit (suc n) next

@@ -163,7 +163,7 @@ module _ (opening : State) (entries : List Entry) (s : State) (holds : Holds ope
   whole_read : (app n offset len : ℕ) → (read_effect s app n offset len).status ≡ SUCCESS → IsWholeRead opening entries app n offset len (read_effect s app n offset len).bytes
   whole_read app n offset len =
       by_read s (λ effect. effect.status ≡ SUCCESS → IsWholeRead opening entries app n offset len effect.bytes)
-      (λ effect same no_deeds refuses ok. absurd (cc (rw ok at refuses))) app n offset len
+      (λ effect same no_deeds no_calls refuses ok. absurd (cc (rw ok at refuses))) app n offset len
       (λ a leads pinned inside _.
       let pin : (p : ℕ) × (a.handle.pin ≡ Some p) = some_there a.handle.pin pinned in
       let is : Pinned opening entries s.tables n a.handle pin.0 = holds.pinned n a.handle pin.0 leads.place pin.1 in

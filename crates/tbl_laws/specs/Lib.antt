@@ -1,2 +1,5 @@
 pub mod Fit
 pub mod Backed
+pub mod Crashes
+pub mod Completed
+pub mod Recovery
