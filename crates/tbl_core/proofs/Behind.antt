@@ -10,7 +10,7 @@ use Rattle.tbl_model.specs.BankCounts.{HasCause}
 use Rattle.tbl_model.specs.Counts.{is_reset}
 use Rattle.tbl_model.specs.Given.{Given}
 use Rattle.tbl_model.specs.Dispatch.{effect_of}
-use Rattle.tbl_model.specs.StoreNotes.{boot_in, Boots, IsNoteOf}
+use Rattle.tbl_model.specs.StoreNotes.{boot_in, Boots, Ends, IsNoteOf}
 use Rattle.tbl_model.specs.StoreUse.{left_by}
 use Rattle.tbl_model.proofs.NoteLaws.{may_be_untouched}
 use Rattle.tbl_laws.specs.Fit.{AreFit}
@@ -36,9 +36,14 @@ use Rattle.tbl_model.specs.AppBlocks.{delete_cds_effect}
 use Rattle.tbl_model.specs.Commands.{Asked, asked_in, effect_by}
 use Rattle.tbl_core.specs.Asked.{asks_store, activates, owners_handle, owned_deeds, most_deeds}
 use Rattle.validation.specs.Kits.{owners}
-use Rattle.tbl_core.specs.Called.{NoBoot, Follows, with_boot, boots_behind, boot_only, Troubled, RestoresHeld, IsCall, IsCalled, Calls}
+use Rattle.tbl_laws.specs.Crashes.{DuringCalls, writes}
+use Rattle.tbl_kinds.specs.StoreSteps.{Shows as ShowsBlocks}
+use Rattle.tbl_outside.proofs.Moments.{goes_on, leaves_among}
+use Rattle.tbl_laws.proofs.Crashes.{behind_calls}
+use Rattle.cds_layout.specs.Images.{store_of}
+use Rattle.tbl_core.specs.Called.{Leaving, NoBoot, Follows, with_boot, boots_behind, boot_only, Troubled, RestoresHeld, IsCall, IsCalled, Calls}
 use Rattle.tbl_core.specs.Effects.{IsEffect, given_of}
-use Rattle.tbl_core.specs.Service.{Held, Stands, HoldsAll, state_of, Leaves, Asks, Does, HasEffect, Has, Makes, Meets, IsMade, after_stop}
+use Rattle.tbl_core.specs.Service.{Held, Stands, HoldsAll, state_of, Leaves, Asks, Does, EndsIn, HasEffect, Has, Makes, Meets, IsMade, after_stop}
 use Rattle.tbl_core.specs.Verdicts.{Judged}
 use Rattle.tbl_core.specs.declared.effect.Effect.{Effect}
 use Rattle.tbl_core.proofs.Verdicts.{none_judged}
@@ -105,12 +110,13 @@ module _ {B C : Type 0} (tells : Type 0) (now : B → List ℕ) (faults stops : 
     cause = rw (← left.2.status) (subst (OfEffect (λ e. HasCause e.status done.note)) left.1 (caused (state_of old) (given_of done) actor request));
   }
 
-  pub table_meets : is_reset request ≡ false → Meets tells now verdict asked old new request (λ s given. effect_of s actor request given) done
-  table_meets plain told s holds note follows =
+  pub table_meets : (tells_moments : Type 0) (clock : B → ℕ) (left_since : B → ℕ → List ℕ → Type 0) → (tells → (blocks : Blocks) → HasBlocks tells now old.store blocks → Leaving tells_moments clock left_since old.store new.store (DuringCalls [] blocks))
+      → is_reset request ≡ false → Meets tells now tells_moments clock left_since verdict asked old new request (λ s given. effect_of s actor request given) done
+  table_meets tells_moments clock left_since moved plain told s holds note follows =
       let same : note ≡ done.note = follows.same (rw does.note (λ is. cc is)) in
       let found = effect_left s.store done new _ (does.effect s holds.parts) in
       let noted : untouched ≡ done.note = sym does.note in
-      let had : HasEffect tells now verdict asked old new request s done done.note found.0 = record {
+      let had : HasEffect tells now tells_moments clock left_since verdict asked old new request s done done.note found.0 = record {
         before = found.0.next;
         holds = record {
           parts = subst (λ (blocks : Blocks). Stands blocks new found.0.next) (sym found.3.store) found.3;
@@ -130,18 +136,22 @@ module _ {B C : Type 0} (tells : Type 0) (now : B → List ℕ) (faults stops : 
         };
         judged = asked_there verdict asked old.kit new.kit done.verdicts _ found.0 found.1 (does.asks s holds.parts);
         gave = subst (λ (calls : List StoreCall). RestoresHeld (now old.store.bank) calls s.store done.note) (sym found.2.calls) tt;
+        left = λ stop. absurd (cc (stop, does.note));
+        writing = λ stop. absurd (cc (stop, does.note));
+        moments = λ m. leaves_among (moved told s.store (holds.blocks live) m) (λ image during. inl (subst (λ (calls : List StoreCall). DuringCalls (writes calls) s.store (store_of image)) (sym found.2.calls) during));
         noted = λ _. subst (IsNoteOf request found.0.calls s.store) noted (subst (λ (calls : List StoreCall). IsNoteOf request calls s.store untouched) (sym found.2.calls) (may_be_untouched request s.store plain));
       } in
-      subst (λ (n : BankNote). Has tells now verdict asked old new request s done n (effect_of s actor request (record { note = n; verdicts = done.verdicts }))) (sym same)
-      (subst (Has tells now verdict asked old new request s done done.note) (sym found.1) had)
+      subst (λ (n : BankNote). Has tells now tells_moments clock left_since verdict asked old new request s done n (effect_of s actor request (record { note = n; verdicts = done.verdicts }))) (sym same)
+      (subst (Has tells now tells_moments clock left_since verdict asked old new request s done done.note) (sym found.1) had)
 
 -- ---- any request
 
-module _ {B C : Type 0} (tells : Type 0) (now : B → List ℕ) (faults stops : B → ℕ) (verdict : C → List ℕ → ℤ) (asked : C → ℕ) (most room : ℕ) (owes : Bool) (old mid new : Held B C) (request : Request) (means : State → Given → Option model.Effect)
-    (called : Effect) (note : BankNote) (makes : Makes asked verdict faults stops most room owes old mid called) (meets : Meets tells now verdict asked old mid request means called)
+module _ {B C : Type 0} (tells : Type 0) (now : B → List ℕ) (tells_moments : Type 0) (clock : B → ℕ) (left_since : B → ℕ → List ℕ → Type 0) (faults stops : B → ℕ) (verdict : C → List ℕ → ℤ) (asked : C → ℕ) (most room : ℕ) (owes : Bool) (old mid new : Held B C) (request : Request) (means : State → Given → Option model.Effect)
+    (called : Effect) (note : BankNote) (makes : Makes asked verdict faults stops most room owes old mid called) (meets : Meets tells now tells_moments clock left_since verdict asked old mid request means called)
     (follows : Follows called.note note) (held : new ≡ after_stop called.note.outcome note new.store mid)
     (boots : tells → (s : State) → HoldsAll tells now mid s → HoldsAll tells now new (boots_behind called.note.outcome note s))
-    (found : tells → (s : State) → HoldsAll tells now mid s → called.note.outcome ≡ Stopped → Boots (Some Processor) s.store note) where
+    (found : tells → (s : State) → HoldsAll tells now mid s → called.note.outcome ≡ Stopped → Boots (Some Processor) s.store note)
+    (boot_leaves : tells → (s : State) → HoldsAll tells now mid s → called.note.outcome ≡ Stopped → Leaving tells_moments clock left_since mid.store new.store (ShowsBlocks s.store)) where
   abbrev pub done : Effect
   done = record called { note = note }
 
@@ -180,15 +190,39 @@ module _ {B C : Type 0} (tells : Type 0) (now : B → List ℕ) (faults stops : 
     by Failed at is = rw is makes.booted
     by Stopped at is = boots_store at ∙ sym (ap not ended)
 
-  has_left : tells → (s : State) → HoldsAll tells now old s → (e : model.Effect) × (means s (given_of done) ≡ Some e) × HasEffect tells now verdict asked old mid request s called note e
+  has_left : tells → (s : State) → HoldsAll tells now old s → (e : model.Effect) × (means s (given_of done) ≡ Some e) × HasEffect tells now tells_moments clock left_since verdict asked old mid request s called note e
   has_left told s holds = by (means s (given_of done)) refl (meets told s holds note follows) where
-    by : (is : Option model.Effect) → means s (given_of done) ≡ is → Has tells now verdict asked old mid request s called note is
-        → (e : model.Effect) × (means s (given_of done) ≡ Some e) × HasEffect tells now verdict asked old mid request s called note e
+    by : (is : Option model.Effect) → means s (given_of done) ≡ is → Has tells now tells_moments clock left_since verdict asked old mid request s called note is
+        → (e : model.Effect) × (means s (given_of done) ≡ Some e) × HasEffect tells now tells_moments clock left_since verdict asked old mid request s called note e
     by None at has = absurd has
     by (Some e) at has = (e, at, has)
 
+  -- a reset inside the request leaves what its calls make of the blocks, also while the service boots behind one that was stopped
+  moments_behind : tells → (s : State) → HoldsAll tells now old s → (e : model.Effect) → HasEffect tells now tells_moments clock left_since verdict asked old mid request s called note e
+      → Leaving tells_moments clock left_since old.store new.store (EndsIn request e.calls s.store)
+  moments_behind told s holds e has = by called.note.outcome refl held where
+    outcome : note.outcome ≡ called.note.outcome
+    outcome = ap (λ (n : BankNote). n.outcome) follows.is
+
+    ends : Ends note.outcome e.calls s.store note
+    ends = (has.noted (λ stopped. found told has.before has.holds (sym outcome ∙ stopped))).ends
+
+    stays : new ≡ mid → Leaving tells_moments clock left_since old.store new.store (EndsIn request e.calls s.store)
+    stays is = subst (λ (h : Held B C). Leaving tells_moments clock left_since old.store h.store (EndsIn request e.calls s.store)) (sym is) has.moments
+
+    behind : called.note.outcome ≡ Stopped → (left : Blocks) → ShowsBlocks has.before.store left → EndsIn request e.calls s.store left
+    behind at left shows =
+        inl (subst (λ (calls : List StoreCall). DuringCalls calls s.store left) (sym (has.writing (outcome ∙ at)))
+        (behind_calls e.calls note s.store left ends (subst (λ (blocks : Blocks). ShowsBlocks blocks left) (has.left (outcome ∙ at)) shows)))
+
+    by : (outcome : Outcome) → called.note.outcome ≡ outcome → new ≡ after_stop outcome note new.store mid → Leaving tells_moments clock left_since old.store new.store (EndsIn request e.calls s.store)
+    by Untouched at is = stays is
+    by Done at is = stays is
+    by Failed at is = stays is
+    by Stopped at is = λ m. goes_on (has.moments m) (boot_leaves told has.before has.holds at m) (λ image shows. behind at (store_of image) shows)
+
   pub is_made : Troubled faults stops mid.store.bank new.store.bank (boot_only called.note.outcome note) → (called.note.outcome ≡ Stopped → new.store.booted ≡ not note.ended)
-      → IsMade tells now faults stops verdict asked old new request means done
+      → IsMade tells now tells_moments clock left_since faults stops verdict asked old new request means done
   is_made trouble boots_store = record {
     effect = λ told s holds.
         let e = has_left told s holds in
@@ -212,6 +246,7 @@ module _ {B C : Type 0} (tells : Type 0) (now : B → List ℕ) (faults stops : 
           subst (λ (kit : List (Option (KitEntry C))). Judged verdict asked old.kit kit e.0.asked called.verdicts) (sym same_kit) has.judged,
           has.noted (λ stopped. found told has.before has.holds (sym outcome ∙ stopped)),
           has.gave,
+          moments_behind told s holds e.0 has,
         );
     fit = λ n fits. fit_on (suc n) (makes.fit n fits);
     judged = (makes.judged.0, subst (λ (kit : List (Option (KitEntry C))). Judged verdict asked old.kit kit makes.judged.0 called.verdicts) (sym same_kit) makes.judged.1);
@@ -252,12 +287,12 @@ module _ (request : Request) (plain : is_reset request ≡ false) (called : Bank
     by Done at = kind_is Done None at (no_boot_at request plain).1 (none (λ stop. cc (at, stop)))
     by Failed at = kind_is Failed None at (no_boot_at request plain).2 (none (λ stop. cc (at, stop)))
 
-module _ {B C : Type 0} (tells : Type 0) (now : B → List ℕ) (faults stops : B → ℕ) (verdict : C → List ℕ → ℤ) (asked : C → ℕ) (old new : Held B C) (request : Request) (done : Effect) where
+module _ {B C : Type 0} (tells : Type 0) (now : B → List ℕ) (tells_moments : Type 0) (clock : B → ℕ) (left_since : B → ℕ → List ℕ → Type 0) (faults stops : B → ℕ) (verdict : C → List ℕ → ℤ) (asked : C → ℕ) (old new : Held B C) (request : Request) (done : Effect) where
   -- what it did to the state before its calls, and what it asked
   pub has_called : (plain : is_reset request ≡ false) (no_boot : NoBoot done.note) (s after : State) (questions : List Question) (e : model.Effect) (ended stopped : Bool) (found : List ℕ)
-      (same : done.note.outcome ≢ Stopped → with_boot ended stopped found done.note ≡ done.note) → IsCalled tells now new.store after questions done (with_boot ended stopped found done.note) e
+      (same : done.note.outcome ≢ Stopped → with_boot ended stopped found done.note ≡ done.note) → IsCalled tells now tells_moments clock left_since old.store new.store after questions done (with_boot ended stopped found done.note) e
       → after.store ≡ s.store → Stands after.store new after → Judged verdict asked old.kit new.kit questions done.verdicts → RestoresHeld (now old.store.bank) e.calls s.store (with_boot ended stopped found done.note)
-      → HasEffect tells now verdict asked old new request s done (with_boot ended stopped found done.note) e
+      → HasEffect tells now tells_moments clock left_since verdict asked old new request s done (with_boot ended stopped found done.note) e
   has_called plain no_boot s after questions e ended stopped found same c kept stands judged gave =
       let note = with_boot ended stopped found done.note in
       let left = left_by e.calls note after.store in record {
@@ -290,6 +325,9 @@ module _ {B C : Type 0} (tells : Type 0) (now : B → List ℕ) (faults stops : 
         };
         judged = subst (λ (questions : List Question). Judged verdict asked old.kit new.kit questions done.verdicts) (sym c.effect.asked) judged;
         gave = gave;
+        left = λ _. ap (λ (store : Blocks). left_by e.calls note store) kept;
+        writing = c.writing;
+        moments = λ m. leaves_among (c.moments m) (λ image during. inl (subst (λ (store : Blocks). DuringCalls (writes e.calls) store (store_of image)) kept during));
         noted = λ boots. subst (λ (store : Blocks). IsNoteOf request e.calls store note) kept
             (record { ends = c.ends; gave = c.gave; tells = c.says; boots = boots_at request plain done.note no_boot left ended stopped found same boots });
       }
@@ -315,11 +353,11 @@ module _ {B C : Type 0} (tells : Type 0) (now : B → List ℕ) (faults stops : 
         }
 
     -- where the model's effect is this
-    pub call_meets : (means : State → BankNote → model.Effect) (calls : tells → (s : State) → HoldsAll tells now old s → Calls tells now new.store (record s { tables = new.tables }) done (means s)) (plain : is_reset request ≡ false)
+    pub call_meets : (means : State → BankNote → model.Effect) (calls : tells → (s : State) → HoldsAll tells now old s → Calls tells now tells_moments clock left_since old.store new.store (record s { tables = new.tables }) done (means s)) (plain : is_reset request ≡ false)
         (gave : tells → (s : State) → HoldsAll tells now old s → (ended stopped : Bool) (found : List ℕ) → RestoresHeld (now old.store.bank) (means s (with_boot ended stopped found done.note)).calls s.store (with_boot ended stopped found done.note))
-        → Meets tells now verdict asked old new request (λ s given. Some (means s given.note)) done
+        → Meets tells now tells_moments clock left_since verdict asked old new request (λ s given. Some (means s given.note)) done
     call_meets means calls plain gave told s holds note follows =
-        subst (λ (n : BankNote). HasEffect tells now verdict asked old new request s done n (means s n)) (sym follows.is)
+        subst (λ (n : BankNote). HasEffect tells now tells_moments clock left_since verdict asked old new request s done n (means s n)) (sym follows.is)
         (has_called plain call.no_boot s (record s { tables = new.tables }) [] (means s (with_boot follows.ended follows.stopped follows.found done.note)) follows.ended follows.stopped follows.found (λ goes. sym follows.is ∙ follows.same goes)
         (calls told s holds follows.ended follows.stopped follows.found) refl (record {
           tables = refl;
@@ -341,11 +379,11 @@ module _ {B C : Type 0} (tells : Type 0) (now : B → List ℕ) (faults stops : 
     pub block_makes : Makes asked verdict faults stops 0 0 false old new done
     block_makes = call_makes same_tables live call (λ n fit. subst (λ (tables : Tables). AreFit (suc n) (record (state_of old) { tables = tables })) (sym (ap (λ (h : Held B C). h.tables) held)) (grown n (state_of old) fit))
 
-    pub block_meets : (means : State → BankNote → model.Effect) (calls : tells → (s : State) → HoldsAll tells now old s → Calls tells now new.store s done (means s)) (plain : is_reset request ≡ false)
+    pub block_meets : (means : State → BankNote → model.Effect) (calls : tells → (s : State) → HoldsAll tells now old s → Calls tells now tells_moments clock left_since old.store new.store s done (means s)) (plain : is_reset request ≡ false)
         (gave : tells → (s : State) → HoldsAll tells now old s → (ended stopped : Bool) (found : List ℕ) → RestoresHeld (now old.store.bank) (means s (with_boot ended stopped found done.note)).calls s.store (with_boot ended stopped found done.note))
-        → Meets tells now verdict asked old new request (λ s given. Some (means s given.note)) done
+        → Meets tells now tells_moments clock left_since verdict asked old new request (λ s given. Some (means s given.note)) done
     block_meets means calls = call_meets same_tables live call means
-        (λ told s holds. subst (λ (tables : Tables). Calls tells now new.store (record s { tables = tables }) done (means s)) (holds.parts.tables ∙ sym (ap (λ (h : Held B C). h.tables) held)) (calls told s holds))
+        (λ told s holds. subst (λ (tables : Tables). Calls tells now tells_moments clock left_since old.store new.store (record s { tables = tables }) done (means s)) (holds.parts.tables ∙ sym (ap (λ (h : Held B C). h.tables) held)) (calls told s holds))
 
 -- ---- how much may be told
 

@@ -112,8 +112,8 @@ module _ (s : State) (row : ℕ) (one other : BankNote) (verdicts : List (Option
 
 -- ---- the request
 
-module _ {B C : Type 0} (tells : Type 0) (now : B → List ℕ) (faults stops : B → ℕ) (verdict : C → List ℕ → ℤ) (asked : C → ℕ) (most room : ℕ) (owes : Bool) (old new : Held B C) (actor : Actor) (request : Request) (row : ℕ) (done : Effect)
-    (does : DoesAndCopies tells now faults stops verdict asked most room owes old new row (λ s given. owned_at (table_at s.tables row) s row request given) done)
+module _ {B C : Type 0} (tells : Type 0) (now : B → List ℕ) (tells_moments : Type 0) (clock : B → ℕ) (left_since : B → ℕ → List ℕ → Type 0) (faults stops : B → ℕ) (verdict : C → List ℕ → ℤ) (asked : C → ℕ) (most room : ℕ) (owes : Bool) (old new : Held B C) (actor : Actor) (request : Request) (row : ℕ) (done : Effect)
+    (does : DoesAndCopies tells now tells_moments clock left_since faults stops verdict asked most room owes old new row (λ s given. owned_at (table_at s.tables row) s row request given) done)
     (can : activates request ≡ true) (live : old.ended ≡ false) (so_many : ℕ) (fits : AreFit so_many (state_of old))
     (taken : (s : State) → Stands s.store old s → (given : Given) → effect_of s actor request given ≡ option_map (then_copy row given.note) (owned_at (table_at s.tables row) s row request given)) where
   mid : Held B C
@@ -168,7 +168,7 @@ module _ {B C : Type 0} (tells : Type 0) (now : B → List ℕ) (faults stops : 
     cause = cause;
   }
 
-  pub copies_meets : is_reset request ≡ false → Meets tells now verdict asked old new request (λ s given. effect_of s actor request given) done
+  pub copies_meets : is_reset request ≡ false → Meets tells now tells_moments clock left_since verdict asked old new request (λ s given. effect_of s actor request given) done
   copies_meets plain told s holds note follows =
       let found = effect_left s.store does.before (record new { store = old.store }) _ (does.does.effect s holds.parts) in
       let e = found.0 in
@@ -189,9 +189,9 @@ module _ {B C : Type 0} (tells : Type 0) (now : B → List ℕ) (faults stops : 
         ended = found.3.ended;
       } in
       let c = does.copied told e found.2 found.3.tables (subst (λ (blocks : Blocks). HasBlocks tells now old.store blocks) (sym found.3.store) (holds.blocks live)) follows.ended follows.stopped follows.found in
-      subst (Has tells now verdict asked old new request s done note) (sym means)
-      (subst (λ (n : BankNote). HasEffect tells now verdict asked old new request s done n (then_copy row n e)) (sym follows.is)
-      (has_called tells now faults stops verdict asked old new request done plain does.call.no_boot s e.next e.asked (then_copy row n e) follows.ended follows.stopped follows.found (λ goes. sym follows.is ∙ follows.same goes) c
+      subst (Has tells now tells_moments clock left_since verdict asked old new request s done note) (sym means)
+      (subst (λ (n : BankNote). HasEffect tells now tells_moments clock left_since verdict asked old new request s done n (then_copy row n e)) (sym follows.is)
+      (has_called tells now tells_moments clock left_since faults stops verdict asked old new request done plain does.call.no_boot s e.next e.asked (then_copy row n e) follows.ended follows.stopped follows.found (λ goes. sym follows.is ∙ follows.same goes) c
       found.3.store stands
       (subst (λ (verdicts : List (Option ℤ)). Judged verdict asked old.kit new.kit e.asked verdicts) (sym does.call.verdicts) (asked_there verdict asked old.kit new.kit does.before.verdicts _ e found.1 (does.does.asks s holds.parts)))
       (copies_hold (now old.store.bank) s.store row n e found.2.calls)))

@@ -28,6 +28,12 @@ use Rattle.cds_store.specs.declared.fault.BankFault.TheVariants.{Fault, Stopped 
 use Rattle.tbl_outside.specs.Counts.{Rose}
 use Rattle.std.proofs.lemmas.List.{length-append}
 use Rattle.tbl_core.specs.Called.{RoseBy, with_boot, done_note, broken_note, IsCalled, CallsBehind}
+use Rattle.tbl_laws.specs.Crashes.{DuringCalls, writes}
+use Rattle.tbl_outside.specs.Bank.{LeavesOnly}
+use Rattle.tbl_outside.proofs.Moments.{leaves_among}
+use Rattle.cds_layout.specs.Images.{store_of}
+use Rattle.cds_store.specs.Moments.{LeavesIn}
+use Rattle.tbl_core.proofs.Moments.{one_leaves}
 use Rattle.tbl_core.specs.Copying.{IsCopied, IsCopyCall}
 use Rattle.tbl_core.specs.Effects.{IsEffect}
 use Rattle.tbl_core.specs.declared.effect.Effect.{Effect}
@@ -48,19 +54,19 @@ open_of_size kind name slots n size b found is sized = open_in_slot kind name si
 
 -- ---- what the request did before
 
-module _ {B : Type 0} (tells : Type 0) (now : B → List ℕ) (kept : StoreParts B) (e : model.Effect) (before : Effect) (is : IsEffect before e.asked e.next e) where
+module _ {B : Type 0} (tells : Type 0) (now : B → List ℕ) (tells_moments : Type 0) (clock : B → ℕ) (left_since : B → ℕ → List ℕ → Type 0) (first kept : StoreParts B) (e : model.Effect) (before : Effect) (is : IsEffect before e.asked e.next e) where
   abbrev Behind : Effect → (BankNote → model.Effect) → Type 0
-  Behind done means = CallsBehind tells now kept e.next e.asked done means
+  Behind done means = CallsBehind tells now tells_moments clock left_since first kept e.next e.asked done means
 
   -- it is enough to know it of the note that is told
   by_told : (done : Effect) (means : BankNote → model.Effect) (note : BankNote) → done.note ≡ note
-      → ((ended stopped : Bool) (found : List ℕ) → IsCalled tells now kept e.next e.asked done (with_boot ended stopped found note) (means (with_boot ended stopped found note))) → Behind done means
+      → ((ended stopped : Bool) (found : List ℕ) → IsCalled tells now tells_moments clock left_since first kept e.next e.asked done (with_boot ended stopped found note) (means (with_boot ended stopped found note))) → Behind done means
   by_told done means note told all =
-      subst (λ (n : BankNote). (ended stopped : Bool) (found : List ℕ) → IsCalled tells now kept e.next e.asked done (with_boot ended stopped found n) (means (with_boot ended stopped found n))) (sym told) all
+      subst (λ (n : BankNote). (ended stopped : Bool) (found : List ℕ) → IsCalled tells now tells_moments clock left_since first kept e.next e.asked done (with_boot ended stopped found n) (means (with_boot ended stopped found n))) (sym told) all
 
   -- nothing is copied behind it
-  alone : before.note ≡ untouched → StandsFor tells now kept e.next.store → Behind before (λ n. e)
-  alone told stands = by_told before (λ n. e) untouched told (λ ended stopped found. record {
+  alone : (tells_moments → LeavesOnly clock left_since first.bank kept.bank (λ image. (calls : List StoreCall) → DuringCalls calls e.next.store (store_of image))) → before.note ≡ untouched → StandsFor tells now kept e.next.store → Behind before (λ n. e)
+  alone moments told stands = by_told before (λ n. e) untouched told (λ ended stopped found. record {
     blocks = subst (λ (calls : List StoreCall). StandsFor tells now kept (left_by calls (with_boot ended stopped found untouched) e.next.store)) (sym is.calls) stands;
     effect = record {
       status = is.status;
@@ -77,19 +83,21 @@ module _ {B : Type 0} (tells : Type 0) (now : B → List ℕ) (kept : StoreParts
     ends = (is.calls, refl, (refl, refl));
     gave = tt;
     says = (refl, refl);
+    writing = λ stop. absurd (cc stop);
+    moments = λ m. leaves_among (moments m) (λ image all. all (writes e.calls));
   })
 
-  pub stays : (means : BankNote → model.Effect) → ((n : BankNote) → means n ≡ e) → before.note ≡ untouched → StandsFor tells now kept e.next.store → Behind before means
-  stays means same told stands ended stopped found =
+  pub stays : (tells_moments → LeavesOnly clock left_since first.bank kept.bank (λ image. (calls : List StoreCall) → DuringCalls calls e.next.store (store_of image))) → (means : BankNote → model.Effect) → ((n : BankNote) → means n ≡ e) → before.note ≡ untouched → StandsFor tells now kept e.next.store → Behind before means
+  stays moments means same told stands ended stopped found =
       let n = with_boot ended stopped found before.note in
-      subst (IsCalled tells now kept e.next e.asked before n) (sym (same n)) (alone told stands ended stopped found)
+      subst (IsCalled tells now tells_moments clock left_since first kept e.next e.asked before n) (sym (same n)) (alone moments told stands ended stopped found)
 
   -- it is copied into this slot
-  pub copied_behind : (prior : StoreParts B) (row slot : ℕ) (image : List ℕ) (done : Effect) (ended : Result Unit BankFault) → StandsFor tells now prior e.next.store → IfErr ended (HasFlags false false)
+  pub copied_behind : (prior : StoreParts B) (row slot : ℕ) (image : List ℕ) (done : Effect) (ended : Result Unit BankFault) → (tells_moments → LeavesOnly clock left_since first.bank kept.bank (LeavesIn (copy slot image) e.next.store)) → StandsFor tells now prior e.next.store → IfErr ended (HasFlags false false)
       → OnOk ended ((blocks : Blocks) → StandsFor tells now prior blocks → StandsFor tells now kept (after (copy slot image) blocks))
       → IfErr ended (λ fault. (blocks : Blocks) → StandsFor tells now prior blocks → StandsFor tells now kept (broken (is_gate fault) (is_old fault) (copy slot image) blocks))
       → IsCopied row slot ended before done → Behind done (λ n. copied_to row n e (Some slot) (Some image))
-  copied_behind prior row slot image done (Ok x) stands flags ok err copied = by_told done (λ n. copied_to row n e (Some slot) (Some image)) (done_note untouched) copied.note (λ ended stopped found. record {
+  copied_behind prior row slot image done (Ok x) left stands flags ok err copied = by_told done (λ n. copied_to row n e (Some slot) (Some image)) (done_note untouched) copied.note (λ ended stopped found. record {
     blocks = ok e.next.store stands;
     effect = record {
       status = is.status ∙ ap (λ (a : Answer). a.status) (sym copied.answer);
@@ -106,8 +114,10 @@ module _ {B : Type 0} (tells : Type 0) (now : B → List ℕ) (kept : StoreParts
     ends = ((λ none. cc none), refl, (refl, refl));
     gave = (tt, tt);
     says = (refl, refl);
+    writing = λ stop. refl;
+    moments = one_leaves tells_moments clock left_since first kept (copy slot image) [] e.next.store left;
   })
-  copied_behind prior row slot image done (Err (Fault gate old)) stands flags ok err copied = by_told done (λ n. copied_to row n e (Some slot) (Some image)) (broken_note (Fault gate old) untouched) copied.note (λ ended stopped found. record {
+  copied_behind prior row slot image done (Err (Fault gate old)) left stands flags ok err copied = by_told done (λ n. copied_to row n e (Some slot) (Some image)) (broken_note (Fault gate old) untouched) copied.note (λ ended stopped found. record {
     blocks = err e.next.store stands;
     effect = record {
       status = is.status ∙ ap (λ (a : Answer). a.status) (sym copied.answer);
@@ -124,8 +134,10 @@ module _ {B : Type 0} (tells : Type 0) (now : B → List ℕ) (kept : StoreParts
     ends = record { call = copy slot image; next = refl; breaks = (flags.gate_is, flags.old_is) };
     gave = tt;
     says = (refl, refl);
+    writing = λ stop. refl;
+    moments = one_leaves tells_moments clock left_since first kept (copy slot image) [] e.next.store left;
   })
-  copied_behind prior row slot image done (Err (Cut gate old)) stands flags ok err copied = by_told done (λ n. copied_to row n e (Some slot) (Some image)) (broken_note (Cut gate old) untouched) copied.note (λ ended stopped found. record {
+  copied_behind prior row slot image done (Err (Cut gate old)) left stands flags ok err copied = by_told done (λ n. copied_to row n e (Some slot) (Some image)) (broken_note (Cut gate old) untouched) copied.note (λ ended stopped found. record {
     blocks = err e.next.store stands;
     effect = record {
       status = ap (λ (a : Answer). a.status) (sym copied.answer);
@@ -142,13 +154,15 @@ module _ {B : Type 0} (tells : Type 0) (now : B → List ℕ) (kept : StoreParts
     ends = (record { call = copy slot image; next = refl; breaks = (flags.gate_is, flags.old_is) }, refl);
     gave = tt;
     says = (refl, refl);
+    writing = λ stop. refl;
+    moments = one_leaves tells_moments clock left_since first kept (copy slot image) [] e.next.store left;
   })
 
   -- what means the same
   pub behind_same : (done : Effect) (one other : BankNote → model.Effect) → ((n : BankNote) → other n ≡ one n) → Behind done one → Behind done other
   behind_same done one other same all ended stopped found =
       let n = with_boot ended stopped found done.note in
-      subst (IsCalled tells now kept e.next e.asked done n) (sym (same n)) (all ended stopped found)
+      subst (IsCalled tells now tells_moments clock left_since first kept e.next e.asked done n) (sym (same n)) (all ended stopped found)
 
 -- ---- how much is told, and the counts of the bank
 

@@ -5,12 +5,14 @@ pub mod Calls
 pub mod CommandReadings
 pub mod CopiedBehind
 pub mod CopyEnds
+pub mod Crashing
 pub mod Doing
 pub mod Dumping
 pub mod Few
 pub mod Functions
 pub mod Keeping
 pub mod Managing
+pub mod Moments
 pub mod OwnBlocks
 pub mod Owned
 pub mod Owners

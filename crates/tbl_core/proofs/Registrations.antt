@@ -55,6 +55,11 @@ use Rattle.tbl_core.specs.Called.{NoBoot, Troubled, GaveHeld, RestoresHeld, with
 use Rattle.tbl_core.specs.Registering.{Enters, EntersBroken, EntersRestored, EntersReserved, AtMostOne, recovery, making}
 use Rattle.tbl_core.specs.declared.effect.Effect.{Effect}
 use Rattle.tbl_core.proofs.Calls.{told_so, by_note, calls_same, held_image, block_there, gives_image, gives_none}
+use Rattle.tbl_laws.specs.Crashes.{DuringCalls, writes}
+use Rattle.tbl_outside.specs.Bank.{LeavesOnly}
+use Rattle.cds_store.specs.Moments.{LeavesIn}
+use Rattle.tbl_core.specs.Called.{Leaving}
+use Rattle.tbl_core.proofs.Moments.{one_leaves}
 use Rattle.tbl_core.proofs.CopyEnds.{rose_one}
 use Rattle.tbl_core.proofs.Reserved.{not_lacking, lacking, chosen, refused}
 
@@ -118,7 +123,7 @@ entered s old new u done status note same handle enters left = record {
   next = ap (λ (tables : Tables). record s { tables = tables; store = left }) (ap (added (next_row old) u) same ∙ sym enters.tables);
 }
 
-module _ {B : Type 0} (tells : Type 0) (now : B → List ℕ) (kept : StoreParts B) (s : State) (done : Effect) (old new : Tables) (t : Table) (same : s.tables ≡ old) (handle : t.handle ≡ next_handle old) where
+module _ {B : Type 0} (tells : Type 0) (now : B → List ℕ) (tells_moments : Type 0) (clock : B → ℕ) (left_since : B → ℕ → List ℕ → Type 0) (first kept : StoreParts B) (s : State) (done : Effect) (old new : Tables) (t : Table) (same : s.tables ≡ old) (handle : t.handle ≡ next_handle old) where
   abbrev row : ℕ
   row = next_row old
 
@@ -126,53 +131,61 @@ module _ {B : Type 0} (tells : Type 0) (now : B → List ℕ) (kept : StoreParts
   behind = record s { tables = new }
 
   -- the store isn't called
-  pub enters_alone : (u : Table) (status : Status) → u.handle ≡ next_handle old → Enters old new u done status untouched → StandsFor tells now kept s.store → Calls tells now kept behind done (λ n. registered s row u status)
-  enters_alone u status at enters stands = by_note tells now kept behind done (λ n. registered s row u status) untouched enters.told.note_is (λ ended stopped found. record {
+  pub enters_alone : Leaving tells_moments clock left_since first kept (DuringCalls [] s.store) → (u : Table) (status : Status) → u.handle ≡ next_handle old → Enters old new u done status untouched → StandsFor tells now kept s.store → Calls tells now tells_moments clock left_since first kept behind done (λ n. registered s row u status)
+  enters_alone moments u status at enters stands = by_note tells now tells_moments clock left_since first kept behind done (λ n. registered s row u status) untouched enters.told.note_is (λ ended stopped found. record {
     blocks = stands;
     effect = entered s old new u done status untouched same at enters s.store;
     ends = (refl, refl, (refl, refl));
     gave = tt;
     says = (refl, refl);
+    writing = λ stop. refl;
+    moments = moments;
   })
 
   module _ (calls : List StoreCall) (u : Table) (status : Status) (note : BankNote) where
     -- all calls are done
-    pub enters_done : u.handle ≡ next_handle old → Enters old new u done status (done_note note) → StandsFor tells now kept (left_by calls (done_note note) s.store)
+    pub enters_done : Leaving tells_moments clock left_since first kept (DuringCalls (writes calls) s.store) → u.handle ≡ next_handle old → Enters old new u done status (done_note note) → StandsFor tells now kept (left_by calls (done_note note) s.store)
         → calls ≢ [] → note.done + 1 ≡ length calls → NoGate note
         → MayGoOn (take (note.done + 1) calls) s.store → ((n : BankNote) → n.restored ≡ note.restored → n.torn ≡ note.torn → Tells (take (note.done + 1) calls) n)
         → (ended stopped : Bool) (found : List ℕ)
-        → IsCalled tells now kept behind [] done (with_boot ended stopped found (done_note note)) (then_call calls (with_boot ended stopped found (done_note note)) (instead (not_kept s row t)) (registered s row u status))
-    enters_done at enters stands some many no_gate gave says ended stopped found = record {
+        → IsCalled tells now tells_moments clock left_since first kept behind [] done (with_boot ended stopped found (done_note note)) (then_call calls (with_boot ended stopped found (done_note note)) (instead (not_kept s row t)) (registered s row u status))
+    enters_done moments at enters stands some many no_gate gave says ended stopped found = record {
       blocks = stands;
       effect = entered s old new u done status (done_note note) same at enters (left_by calls (done_note note) s.store);
       ends = (some, many, no_gate);
       gave = gave;
       says = says (with_boot ended stopped found (done_note note)) refl refl;
+      writing = λ stop. absurd (cc stop);
+      moments = moments;
     }
 
     -- the next one broke off
-    pub enters_broke : (call : StoreCall) → slice_get calls note.done ≡ Some call → (fault : BankFault) → EntersBroken old new t done fault note
+    pub enters_broke : Leaving tells_moments clock left_since first kept (DuringCalls (writes calls) s.store) → (call : StoreCall) → slice_get calls note.done ≡ Some call → (fault : BankFault) → EntersBroken old new t done fault note
         → StandsFor tells now kept (broken (is_gate fault) (is_old fault) call (after_first note.done calls s.store))
-        → CanBreak (is_gate fault) (is_old fault) call (after_first note.done calls s.store) → ((broken_note fault note).outcome ≡ Stopped → is_restore call ≡ false)
+        → CanBreak (is_gate fault) (is_old fault) call (after_first note.done calls s.store) → ((broken_note fault note).outcome ≡ Stopped → (is_restore call ≡ false) × (writes calls ≡ calls))
         → MayGoOn (take note.done calls) s.store → ((n : BankNote) → n.restored ≡ note.restored → n.torn ≡ note.torn → Tells (take note.done calls) n)
         → (ended stopped : Bool) (found : List ℕ)
-        → IsCalled tells now kept behind [] done (with_boot ended stopped found (broken_note fault note)) (then_call calls (with_boot ended stopped found (broken_note fault note)) (instead (not_kept s row t)) (registered s row u status))
-    enters_broke call next (Fault gate prior) enters stands can writes gave says ended stopped found =
+        → IsCalled tells now tells_moments clock left_since first kept behind [] done (with_boot ended stopped found (broken_note fault note)) (then_call calls (with_boot ended stopped found (broken_note fault note)) (instead (not_kept s row t)) (registered s row u status))
+    enters_broke moments call next (Fault gate prior) enters stands can writes gave says ended stopped found =
         let n = broken_note (Fault gate prior) note in record {
           blocks = subst (λ o. StandsFor tells now kept (then_broken n o (after_first note.done calls s.store))) (sym next) stands;
           effect = entered s old new (uncritical t) done WARN_NOT_CRITICAL n same handle enters (left_by calls n s.store);
           ends = record { call = call; next = next; breaks = can };
           gave = gave;
           says = says (with_boot ended stopped found n) refl refl;
+          writing = λ stop. absurd (cc stop);
+          moments = moments;
         }
-    enters_broke call next (Cut gate prior) enters stands can writes gave says ended stopped found =
+    enters_broke moments call next (Cut gate prior) enters stands can stops gave says ended stopped found =
         let n = broken_note (Cut gate prior) note in
         let left = boot Processor (with_boot ended stopped found n) (record s { store = left_by calls n s.store }) in record {
           blocks = subst (λ o. StandsFor tells now kept (then_broken n o (after_first note.done calls s.store))) (sym next) stands;
           effect = told_so left left done INFO_STOPPED 0 [] n enters.0;
-          ends = (record { call = call; next = next; breaks = can }, writes refl);
+          ends = (record { call = call; next = next; breaks = can }, (stops refl).0);
           gave = gave;
           says = says (with_boot ended stopped found n) refl refl;
+          writing = λ stop. (stops refl).1;
+          moments = moments;
         }
 
   -- the note is this one, where the call broke off
@@ -182,33 +195,33 @@ module _ {B : Type 0} (tells : Type 0) (now : B → List ℕ) (kept : StoreParts
 
   -- ---- its block is restored
 
-  pub enters_restored : with_first None t ≡ t → tells → (before : StoreParts B) (slot : ℕ) (ended : Result Unit RestoreFault) (image : List ℕ) → StandsFor tells now before s.store → EntersRestored old new t done ended image
+  pub enters_restored : Leaving tells_moments clock left_since first kept (DuringCalls [] s.store) → with_first None t ≡ t → tells → (before : StoreParts B) (slot : ℕ) (ended : Result Unit RestoreFault) (image : List ℕ) → StandsFor tells now before s.store → EntersRestored old new t done ended image
       → OnOk ended (tells → held_at slot (store_of (now before.bank)) ≡ Some image)
       → OnOk ended ((blocks : Blocks) → StandsFor tells now before blocks → StandsFor tells now kept (after (restore slot (Some image)) blocks))
       → IfErr ended (λ fault. tells → ForSome (slot_at before.slots slot) (λ b. TellsTorn (now before.bank) b.block fault))
       → IfErr ended (λ fault. (blocks : Blocks) → StandsFor tells now before blocks → StandsFor tells now kept (after_fault fault slot blocks))
       → ForSome (stored_at s.store slot) (λ b. b.block.size ≡ length image)
-      → Calls tells now kept behind done (recovery s row t slot)
-  enters_restored fresh told before slot (Ok x) image stands enters held ok torn err sized = by done.note.restored enters.1 enters.0 where
-    by : (gave : Option Buffer) → option_map (λ (b : Buffer). b.list) gave ≡ Some image → Enters old new (with_first (Some image) t) done INFO_RECOVERED_TBL (record (done_note untouched) { restored = gave }) → Calls tells now kept behind done (recovery s row t slot)
+      → Calls tells now tells_moments clock left_since first kept behind done (recovery s row t slot)
+  enters_restored moments fresh told before slot (Ok x) image stands enters held ok torn err sized = by done.note.restored enters.1 enters.0 where
+    by : (gave : Option Buffer) → option_map (λ (b : Buffer). b.list) gave ≡ Some image → Enters old new (with_first (Some image) t) done INFO_RECOVERED_TBL (record (done_note untouched) { restored = gave }) → Calls tells now tells_moments clock left_since first kept behind done (recovery s row t slot)
     by None is enters = absurd (cc is)
     by (Some b) is enters =
         let whole : b.list ≡ image = same_Some b.list image is in
-        by_note tells now kept behind done (recovery s row t slot) (record (done_note untouched) { restored = Some b }) enters.told.note_is
-        (enters_done (restore slot (Some b.list) ∷ []) (with_first (Some b.list) t) INFO_RECOVERED_TBL (record untouched { restored = Some b }) handle
+        by_note tells now tells_moments clock left_since first kept behind done (recovery s row t slot) (record (done_note untouched) { restored = Some b }) enters.told.note_is
+        (enters_done (restore slot (Some b.list) ∷ []) (with_first (Some b.list) t) INFO_RECOVERED_TBL (record untouched { restored = Some b }) moments handle
         (subst (λ (i : List ℕ). Enters old new (with_first (Some i) t) done INFO_RECOVERED_TBL (record (done_note untouched) { restored = Some b })) (sym whole) enters)
         (subst (λ (i : List ℕ). StandsFor tells now kept (after (restore slot (Some i)) s.store)) (sym whole) (ok s.store stands)) (λ is. cc is) refl (refl, refl)
         (subst (λ (i : List ℕ). MayGo (restore slot (Some i)) s.store) (sym whole) (λ b there. (gives_image (now before.bank) s.store slot image (stands.shows told) (held told) b there, sym (sized b there))), tt)
         (λ n restored torn. (ap (option_map (λ (b : Buffer). b.list)) restored, λ given. torn)))
-  enters_restored fresh told before slot (Err (Torn size word found)) image stands enters held ok torn err sized =
+  enters_restored moments fresh told before slot (Err (Torn size word found)) image stands enters held ok torn err sized =
       let words = word * 65536 + found in
       let gives = gives_none (now before.bank) s.store slot before.slots stands.slots (stands.holds told) (λ b at. (torn told b at).no_image) in
-      by_note tells now kept behind done (recovery s row t slot) (record (done_note untouched) { torn = words }) enters.told.note_is
-      (enters_done (restore slot None ∷ []) (with_first None t) SUCCESS (record untouched { torn = words }) handle (subst (λ (u : Table). Enters old new u done SUCCESS (record (done_note untouched) { torn = words })) (sym fresh) enters) (err s.store stands) (λ is. cc is) refl (refl, refl) ((λ b there. (gives b there, tt)), tt)
+      by_note tells now tells_moments clock left_since first kept behind done (recovery s row t slot) (record (done_note untouched) { torn = words }) enters.told.note_is
+      (enters_done (restore slot None ∷ []) (with_first None t) SUCCESS (record untouched { torn = words }) moments handle (subst (λ (u : Table). Enters old new u done SUCCESS (record (done_note untouched) { torn = words })) (sym fresh) enters) (err s.store stands) (λ is. cc is) refl (refl, refl) ((λ b there. (gives b there, tt)), tt)
       (λ n restored torn. (ap (option_map (λ (b : Buffer). b.list)) restored, λ given. absurd (cc given))))
-  enters_restored fresh told before slot (Err Unread) image stands enters held ok torn err sized =
-      by_note tells now kept behind done (recovery s row t slot) (broken_note (Fault false false) untouched) (broken_is (Fault false false) untouched enters)
-      (enters_broke (restore slot None ∷ []) (with_first None t) SUCCESS untouched (restore slot None) refl (Fault false false) enters (err s.store stands) (refl, refl) (λ is. absurd (cc is)) tt (λ n restored torn. (restored, torn)))
+  enters_restored moments fresh told before slot (Err Unread) image stands enters held ok torn err sized =
+      by_note tells now tells_moments clock left_since first kept behind done (recovery s row t slot) (broken_note (Fault false false) untouched) (broken_is (Fault false false) untouched enters)
+      (enters_broke (restore slot None ∷ []) (with_first None t) SUCCESS untouched moments (restore slot None) refl (Fault false false) enters (err s.store stands) (refl, refl) (λ is. absurd (cc is)) tt (λ n restored torn. (restored, torn)))
 
   -- ---- its block is made
 
@@ -226,49 +239,49 @@ module _ {B : Type 0} (tells : Type 0) (now : B → List ℕ) (kept : StoreParts
     Breaks result = IfErr result (λ fault. IfBank fault (λ fault. (blocks : Blocks) → StandsFor tells now before blocks → CanBreak (is_gate fault) (is_old fault) (reserve of_table t.name t.size) blocks))
 
     -- where no open block of its name is there
-    pub new_reserved : (result : Result ℕ ReserveFault) → open_of of_table t.name s.store ≡ None → StandsFor tells now before s.store
+    pub new_reserved : (result : Result ℕ ReserveFault) → (tells_moments → LeavesOnly clock left_since first.bank kept.bank (LeavesIn (reserve of_table t.name t.size) s.store)) → (kept ≡ before → Leaving tells_moments clock left_since first kept (DuringCalls [] s.store)) → open_of of_table t.name s.store ≡ None → StandsFor tells now before s.store
         → Made result → Full result → (lacks_room result ≡ true → kept ≡ before) → Broke result → Breaks result → EntersReserved old new t done result untouched
-        → Calls tells now kept behind done (λ n. kept_effect s row t n None)
-    new_reserved (Ok slot) none stands ok full untouched' err breaks enters =
-        calls_same tells now kept behind done (making s row t None) (λ n. kept_effect s row t n None)
+        → Calls tells now tells_moments clock left_since first kept behind done (λ n. kept_effect s row t n None)
+    new_reserved (Ok slot) left still none stands ok full untouched' err breaks enters =
+        calls_same tells now tells_moments clock left_since first kept behind done (making s row t None) (λ n. kept_effect s row t n None)
         (λ n. kept_made s row t n None (doubtful_of of_table t.name s.store) (any_is s t None none) refl (not_lacking (has_room t.size (doubtful_of of_table t.name s.store) s.store) (full s.store stands)))
-        (by_note tells now kept behind done (making s row t None) (done_note untouched) enters.told.note_is
-        (enters_done (reserve of_table t.name t.size ∷ []) t SUCCESS untouched handle enters (ok s.store stands) (λ is. cc is) refl (refl, refl) (tt, tt) (λ n restored torn. (restored, torn))))
-    new_reserved (Err NoRoom) none stands ok full untouched' err breaks enters =
-        calls_same tells now kept behind done (λ n. not_kept s row t) (λ n. kept_effect s row t n None)
+        (by_note tells now tells_moments clock left_since first kept behind done (making s row t None) (done_note untouched) enters.told.note_is
+        (enters_done (reserve of_table t.name t.size ∷ []) t SUCCESS untouched (one_leaves tells_moments clock left_since first kept (reserve of_table t.name t.size) [] s.store left) handle enters (ok s.store stands) (λ is. cc is) refl (refl, refl) (tt, tt) (λ n restored torn. (restored, torn))))
+    new_reserved (Err NoRoom) left still none stands ok full untouched' err breaks enters =
+        calls_same tells now tells_moments clock left_since first kept behind done (λ n. not_kept s row t) (λ n. kept_effect s row t n None)
         (λ n. kept_full s row t n None (doubtful_of of_table t.name s.store) (any_is s t None none) refl (lacking (has_room t.size (doubtful_of of_table t.name s.store) s.store) (full s.store stands)))
-        (enters_alone (uncritical t) WARN_NOT_CRITICAL handle enters (subst (λ (parts : StoreParts B). StandsFor tells now parts s.store) (sym (untouched' refl)) stands))
-    new_reserved (Err (Bank fault)) none stands ok full untouched' err breaks enters =
-        calls_same tells now kept behind done (making s row t None) (λ n. kept_effect s row t n None)
+        (enters_alone (still (untouched' refl)) (uncritical t) WARN_NOT_CRITICAL handle enters (subst (λ (parts : StoreParts B). StandsFor tells now parts s.store) (sym (untouched' refl)) stands))
+    new_reserved (Err (Bank fault)) left still none stands ok full untouched' err breaks enters =
+        calls_same tells now tells_moments clock left_since first kept behind done (making s row t None) (λ n. kept_effect s row t n None)
         (λ n. kept_made s row t n None (doubtful_of of_table t.name s.store) (any_is s t None none) refl (not_lacking (has_room t.size (doubtful_of of_table t.name s.store) s.store) (full s.store stands)))
-        (by_note tells now kept behind done (making s row t None) (broken_note fault untouched) (broken_is fault untouched enters)
-        (enters_broke (reserve of_table t.name t.size ∷ []) t SUCCESS untouched (reserve of_table t.name t.size) refl fault enters (err s.store stands) (breaks s.store stands) (λ is. refl) tt (λ n restored torn. (restored, torn))))
+        (by_note tells now tells_moments clock left_since first kept behind done (making s row t None) (broken_note fault untouched) (broken_is fault untouched enters)
+        (enters_broke (reserve of_table t.name t.size ∷ []) t SUCCESS untouched (one_leaves tells_moments clock left_since first kept (reserve of_table t.name t.size) [] s.store left) (reserve of_table t.name t.size) refl fault enters (err s.store stands) (breaks s.store stands) (λ is. (refl, refl)) tt (λ n restored torn. (restored, torn))))
 
     -- behind the deletion of the one of another size
-    pub renewed : (result : Result ℕ ReserveFault) (slot : ℕ) → StandsFor tells now before (after (delete slot) s.store) → doubtful_slot of_table t.name before.slots ≡ None → has_room t.size (Some slot) s.store ≡ true
+    pub renewed : (result : Result ℕ ReserveFault) (slot : ℕ) → Leaving tells_moments clock left_since first kept (DuringCalls (delete slot ∷ reserve of_table t.name t.size ∷ []) s.store) → StandsFor tells now before (after (delete slot) s.store) → doubtful_slot of_table t.name before.slots ≡ None → has_room t.size (Some slot) s.store ≡ true
         → Made result → Full result → Broke result → Breaks result → EntersReserved old new t done result (done_note untouched)
-        → Calls tells now kept behind done (making s row t (Some slot))
-    renewed (Ok x) slot stands alone room ok full err breaks enters =
-        by_note tells now kept behind done (making s row t (Some slot)) (done_note (done_note untouched)) enters.told.note_is
-        (enters_done (delete slot ∷ reserve of_table t.name t.size ∷ []) t SUCCESS (done_note untouched) handle enters (ok (after (delete slot) s.store) stands) (λ is. cc is) refl (refl, refl) (tt, (tt, tt)) (λ n restored torn. (restored, torn)))
-    renewed (Err NoRoom) slot stands alone room ok full err breaks enters =
+        → Calls tells now tells_moments clock left_since first kept behind done (making s row t (Some slot))
+    renewed (Ok x) slot moments stands alone room ok full err breaks enters =
+        by_note tells now tells_moments clock left_since first kept behind done (making s row t (Some slot)) (done_note (done_note untouched)) enters.told.note_is
+        (enters_done (delete slot ∷ reserve of_table t.name t.size ∷ []) t SUCCESS (done_note untouched) moments handle enters (ok (after (delete slot) s.store) stands) (λ is. cc is) refl (refl, refl) (tt, (tt, tt)) (λ n restored torn. (restored, torn)))
+    renewed (Err NoRoom) slot moments stands alone room ok full err breaks enters =
         let left = after (delete slot) s.store in
         let none : doubtful_of of_table t.name left ≡ None = sym (doubtful_same of_table t.name before.slots left stands.slots) ∙ alone in
         absurd (cc (lacking (has_room t.size (doubtful_of of_table t.name left) left) (full left stands), none, room))
-    renewed (Err (Bank fault)) slot stands alone room ok full err breaks enters =
+    renewed (Err (Bank fault)) slot moments stands alone room ok full err breaks enters =
         let left = after (delete slot) s.store in
-        by_note tells now kept behind done (making s row t (Some slot)) (broken_note fault (done_note untouched)) (broken_is fault (done_note untouched) enters)
-        (enters_broke (delete slot ∷ reserve of_table t.name t.size ∷ []) t SUCCESS (done_note untouched) (reserve of_table t.name t.size) refl fault enters (err left stands) (breaks left stands) (λ is. refl) (tt, tt) (λ n restored torn. (restored, torn)))
+        by_note tells now tells_moments clock left_since first kept behind done (making s row t (Some slot)) (broken_note fault (done_note untouched)) (broken_is fault (done_note untouched) enters)
+        (enters_broke (delete slot ∷ reserve of_table t.name t.size ∷ []) t SUCCESS (done_note untouched) moments (reserve of_table t.name t.size) refl fault enters (err left stands) (breaks left stands) (λ is. (refl, refl)) (tt, tt) (λ n restored torn. (restored, torn)))
 
     -- that deletion broke off
-    pub delete_lost : (slot : ℕ) (fault : BankFault) → StandsFor tells now before s.store → HasFlags true false fault
+    pub delete_lost : (slot : ℕ) (fault : BankFault) → (tells_moments → LeavesOnly clock left_since first.bank kept.bank (LeavesIn (delete slot) s.store)) → StandsFor tells now before s.store → HasFlags true false fault
         → ((blocks : Blocks) → StandsFor tells now before blocks → StandsFor tells now kept (broken (is_gate fault) (is_old fault) (delete slot) blocks)) → EntersBroken old new t done fault untouched
-        → Calls tells now kept behind done (making s row t (Some slot))
-    delete_lost slot fault stands flags err enters =
-        by_note tells now kept behind done (making s row t (Some slot)) (broken_note fault untouched) (broken_is fault untouched enters)
-        (enters_broke (delete slot ∷ reserve of_table t.name t.size ∷ []) t SUCCESS untouched (delete slot) refl fault enters (err s.store stands)
+        → Calls tells now tells_moments clock left_since first kept behind done (making s row t (Some slot))
+    delete_lost slot fault left stands flags err enters =
+        by_note tells now tells_moments clock left_since first kept behind done (making s row t (Some slot)) (broken_note fault untouched) (broken_is fault untouched enters)
+        (enters_broke (delete slot ∷ reserve of_table t.name t.size ∷ []) t SUCCESS untouched (one_leaves tells_moments clock left_since first kept (delete slot) (reserve of_table t.name t.size ∷ []) s.store left) (delete slot) refl fault enters (err s.store stands)
         (subst (λ g. CanBreak g (is_old fault) (delete slot) s.store) (sym flags.gate_is) (subst (λ o. CanBreak true o (delete slot) s.store) (sym flags.old_is) (refl, refl)))
-        (λ is. refl) tt (λ n restored torn. (restored, torn)))
+        (λ is. (refl, refl)) tt (λ n restored torn. (restored, torn)))
 
 -- ---- in place
 
@@ -410,6 +423,9 @@ chosen_second true x y is = absurd (cc is)
 pub critical_new : (s : State) (row : ℕ) (t : Table) (n : BankNote) → is_critical t ≡ true → new_effect s row t n ≡ critical_effect s row t n
 critical_new s row t n is = chosen_first (is_critical t) (critical_effect s row t n) (registered s row (as_registered t) SUCCESS) is
 
+pub plain_new : (s : State) (row : ℕ) (t : Table) (n : BankNote) → is_critical t ≡ false → new_effect s row t n ≡ registered s row (as_registered t) SUCCESS
+plain_new s row t n is = chosen_second (is_critical t) (critical_effect s row t n) (registered s row (as_registered t) SUCCESS) is
+
 -- fewer are critical than can be
 pub critical_kept : (s : State) (row : ℕ) (t : Table) (n : BankNote) (count : ℕ) → critical_count s.tables ≡ count → count < 32 → critical_effect s row t n ≡ kept_effect s row t n (open_of of_table t.name s.store)
 critical_kept s row t n count same few =
@@ -417,6 +433,16 @@ critical_kept s row t n count same few =
   where
     more : (count : ℕ) → count < 32 → nat_le 32 count ≡ false
     more count few = grind (arith, nat_tests)
+
+-- as many are as can be
+pub critical_full : (s : State) (row : ℕ) (t : Table) (n : BankNote) (count : ℕ) → critical_count s.tables ≡ count → 32 ≤ count → critical_effect s row t n ≡ not_kept s row t
+critical_full s row t n count same many = full (nat_le critical_limit (critical_count s.tables)) (ap (nat_le critical_limit) same ∙ as_many count many) where
+  as_many : (count : ℕ) → 32 ≤ count → nat_le 32 count ≡ true
+  as_many count many = grind (arith, nat_tests)
+
+  full : (b : Bool) → b ≡ true → (if b then not_kept s row t else kept_effect s row t n (open_of of_table t.name s.store)) ≡ not_kept s row t
+  full true is = refl
+  full false is = absurd (cc is)
 
 -- what holds of tables still does
 some_is : (o : Option ℕ) → IsSome o → o ≡ Some (unwrap_or o 0)

@@ -27,7 +27,11 @@ use Rattle.cds_store.specs.Standing.{StoreParts, StandsFor}
 use Rattle.cds_store.proofs.Reservations.{doubtful_same}
 use Rattle.cds_store.specs.declared.fault.ReserveFault.{ReserveFault}
 use Rattle.cds_store.specs.declared.fault.ReserveFault.TheVariants.{NoRoom, Bank}
-use Rattle.tbl_core.specs.Called.{broken_note, done_note, reserve_note, reserve_status, reserve_detail, IsTold, Calls}
+use Rattle.tbl_laws.specs.Crashes.{DuringCalls}
+use Rattle.tbl_outside.specs.Bank.{LeavesOnly}
+use Rattle.cds_store.specs.Moments.{LeavesIn}
+use Rattle.tbl_core.proofs.Moments.{one_leaves}
+use Rattle.tbl_core.specs.Called.{Leaving, broken_note, done_note, reserve_note, reserve_status, reserve_detail, IsTold, Calls}
 use Rattle.tbl_core.proofs.Calls.{by_note, calls_none, calls_done, calls_broke, calls_same}
 use Rattle.tbl_core.specs.declared.effect.Effect.{Effect}
 
@@ -76,7 +80,7 @@ any_is s name old is = ap (λ o. option_or o (doubtful_of App name s.store)) is
 
 -- ---- the last call of the request
 
-module _ {B : Type 0} (tells : Type 0) (now : B → List ℕ) (before kept : StoreParts B) (s : State) (done : Effect) (name : List ℕ) (size : ℕ) where
+module _ {B : Type 0} (tells : Type 0) (now : B → List ℕ) (tells_moments : Type 0) (clock : B → ℕ) (left_since : B → ℕ → List ℕ → Type 0) (first before kept : StoreParts B) (s : State) (done : Effect) (name : List ℕ) (size : ℕ) where
   abbrev Made : Result ℕ ReserveFault → Type 0
   Made result = OnOk result ((blocks : Blocks) → StandsFor tells now before blocks → StandsFor tells now kept (after (reserve App name size) blocks))
 
@@ -93,47 +97,47 @@ module _ {B : Type 0} (tells : Type 0) (now : B → List ℕ) (before kept : Sto
   Breaks result = IfErr result (λ fault. IfBank fault (λ fault. (blocks : Blocks) → StandsFor tells now before blocks → CanBreak (is_gate fault) (is_old fault) (reserve App name size) blocks))
 
   -- of a name of which no open block is there
-  pub new_called : (result : Result ℕ ReserveFault) → open_of App name s.store ≡ None → StandsFor tells now before s.store
+  pub new_called : (result : Result ℕ ReserveFault) → (tells_moments → LeavesOnly clock left_since first.bank kept.bank (LeavesIn (reserve App name size) s.store)) → (kept ≡ before → Leaving tells_moments clock left_since first kept (DuringCalls [] s.store)) → open_of App name s.store ≡ None → StandsFor tells now before s.store
       → Made result → At result → Full result → (lacks_room result ≡ true → kept ≡ before) → Broke result → Breaks result
       → IsTold done (reserve_status result) (reserve_detail result) [] (reserve_note result untouched)
-      → Calls tells now kept s done (λ n. block_effect s name size n None)
-  new_called (Ok slot) none stands ok at full untouched' err breaks told =
-      calls_same tells now kept s done (λ n. then_call (reserve App name size ∷ []) n faulted (answered s SUCCESS slot)) (λ n. block_effect s name size n None)
+      → Calls tells now tells_moments clock left_since first kept s done (λ n. block_effect s name size n None)
+  new_called (Ok slot) left still none stands ok at full untouched' err breaks told =
+      calls_same tells now tells_moments clock left_since first kept s done (λ n. then_call (reserve App name size ∷ []) n faulted (answered s SUCCESS slot)) (λ n. block_effect s name size n None)
       (λ n. block_means s name size n None (doubtful_of App name s.store) (any_is s name None none) refl (not_lacking (has_room size (doubtful_of App name s.store) s.store) (full s.store stands))
       ∙ ap (λ k. then_call (reserve App name size ∷ []) n faulted (answered s SUCCESS (unwrap_or k 0))) (at s.store stands))
-      (by_note tells now kept s done (λ n. then_call (reserve App name size ∷ []) n faulted (answered s SUCCESS slot)) (done_note untouched) told.note_is
-      (calls_done tells now kept s done (reserve App name size ∷ []) SUCCESS slot [] untouched told (ok s.store stands) (λ is. cc is) refl (refl, refl) (tt, tt) (λ n restored torn. (restored, torn))))
-  new_called (Err NoRoom) none stands ok at full untouched' err breaks told =
-      calls_same tells now kept s done (λ n. answered s ERR_CDS_NO_ROOM 0) (λ n. block_effect s name size n None)
+      (by_note tells now tells_moments clock left_since first kept s done (λ n. then_call (reserve App name size ∷ []) n faulted (answered s SUCCESS slot)) (done_note untouched) told.note_is
+      (calls_done tells now tells_moments clock left_since first kept s done (reserve App name size ∷ []) SUCCESS slot [] untouched (one_leaves tells_moments clock left_since first kept (reserve App name size) [] s.store left) told (ok s.store stands) (λ is. cc is) refl (refl, refl) (tt, tt) (λ n restored torn. (restored, torn))))
+  new_called (Err NoRoom) left still none stands ok at full untouched' err breaks told =
+      calls_same tells now tells_moments clock left_since first kept s done (λ n. answered s ERR_CDS_NO_ROOM 0) (λ n. block_effect s name size n None)
       (λ n. no_room s name size n None (doubtful_of App name s.store) (any_is s name None none) refl (lacking (has_room size (doubtful_of App name s.store) s.store) (full s.store stands)))
-      (calls_none tells now kept s done ERR_CDS_NO_ROOM 0 told (subst (λ parts. StandsFor tells now parts s.store) (sym (untouched' refl)) stands))
-  new_called (Err (Bank fault)) none stands ok at full untouched' err breaks told =
+      (calls_none tells now tells_moments clock left_since first kept s done (still (untouched' refl)) ERR_CDS_NO_ROOM 0 told (subst (λ parts. StandsFor tells now parts s.store) (sym (untouched' refl)) stands))
+  new_called (Err (Bank fault)) left still none stands ok at full untouched' err breaks told =
       let slot = new_slot App name None s.store in
-      calls_same tells now kept s done (λ n. then_call (reserve App name size ∷ []) n faulted (answered s SUCCESS slot)) (λ n. block_effect s name size n None)
+      calls_same tells now tells_moments clock left_since first kept s done (λ n. then_call (reserve App name size ∷ []) n faulted (answered s SUCCESS slot)) (λ n. block_effect s name size n None)
       (λ n. block_means s name size n None (doubtful_of App name s.store) (any_is s name None none) refl (not_lacking (has_room size (doubtful_of App name s.store) s.store) (full s.store stands)))
-      (by_note tells now kept s done (λ n. then_call (reserve App name size ∷ []) n faulted (answered s SUCCESS slot)) (broken_note fault untouched) told.note_is
-      (calls_broke tells now kept s done (reserve App name size ∷ []) SUCCESS slot [] untouched (reserve App name size) refl fault told (err s.store stands) (breaks s.store stands) (λ is. refl) tt (λ n restored torn. (restored, torn))))
+      (by_note tells now tells_moments clock left_since first kept s done (λ n. then_call (reserve App name size ∷ []) n faulted (answered s SUCCESS slot)) (broken_note fault untouched) told.note_is
+      (calls_broke tells now tells_moments clock left_since first kept s done (reserve App name size ∷ []) SUCCESS slot [] untouched (one_leaves tells_moments clock left_since first kept (reserve App name size) [] s.store left) (reserve App name size) refl fault told (err s.store stands) (breaks s.store stands) (λ is. (refl, refl)) tt (λ n restored torn. (restored, torn))))
 
   -- behind the deletion of the one of another size
-  pub renewed : (result : Result ℕ ReserveFault) (old : ℕ) → StandsFor tells now before (after (delete old) s.store) → doubtful_slot App name before.slots ≡ None → has_room size (Some old) s.store ≡ true
+  pub renewed : (result : Result ℕ ReserveFault) (old : ℕ) → Leaving tells_moments clock left_since first kept (DuringCalls (delete old ∷ reserve App name size ∷ []) s.store) → StandsFor tells now before (after (delete old) s.store) → doubtful_slot App name before.slots ≡ None → has_room size (Some old) s.store ≡ true
       → Made result → At result → Full result → Broke result → Breaks result
       → IsTold done (reserve_status result) (reserve_detail result) [] (reserve_note result (done_note untouched))
-      → Calls tells now kept s done (λ n. then_call (renewal App name size (Some old)) n faulted (answered s SUCCESS (new_slot App name (Some old) s.store)))
-  renewed (Ok slot) old stands alone room ok at full err breaks told =
+      → Calls tells now tells_moments clock left_since first kept s done (λ n. then_call (renewal App name size (Some old)) n faulted (answered s SUCCESS (new_slot App name (Some old) s.store)))
+  renewed (Ok slot) old moments stands alone room ok at full err breaks told =
       let left = after (delete old) s.store in
-      calls_same tells now kept s done (λ n. then_call (delete old ∷ reserve App name size ∷ []) n faulted (answered s SUCCESS slot)) (λ n. then_call (renewal App name size (Some old)) n faulted (answered s SUCCESS (new_slot App name (Some old) s.store)))
+      calls_same tells now tells_moments clock left_since first kept s done (λ n. then_call (delete old ∷ reserve App name size ∷ []) n faulted (answered s SUCCESS slot)) (λ n. then_call (renewal App name size (Some old)) n faulted (answered s SUCCESS (new_slot App name (Some old) s.store)))
       (λ n. ap (λ k. then_call (delete old ∷ reserve App name size ∷ []) n faulted (answered s SUCCESS (unwrap_or k 0))) (at left stands))
-      (by_note tells now kept s done (λ n. then_call (delete old ∷ reserve App name size ∷ []) n faulted (answered s SUCCESS slot)) (done_note (done_note untouched)) told.note_is
-      (calls_done tells now kept s done (delete old ∷ reserve App name size ∷ []) SUCCESS slot [] (done_note untouched) told (ok left stands) (λ is. cc is) refl (refl, refl) (tt, (tt, tt)) (λ n restored torn. (restored, torn))))
-  renewed (Err NoRoom) old stands alone room ok at full err breaks told =
+      (by_note tells now tells_moments clock left_since first kept s done (λ n. then_call (delete old ∷ reserve App name size ∷ []) n faulted (answered s SUCCESS slot)) (done_note (done_note untouched)) told.note_is
+      (calls_done tells now tells_moments clock left_since first kept s done (delete old ∷ reserve App name size ∷ []) SUCCESS slot [] (done_note untouched) moments told (ok left stands) (λ is. cc is) refl (refl, refl) (tt, (tt, tt)) (λ n restored torn. (restored, torn))))
+  renewed (Err NoRoom) old moments stands alone room ok at full err breaks told =
       let left = after (delete old) s.store in
       let none : doubtful_of App name left ≡ None = sym (doubtful_same App name before.slots left stands.slots) ∙ alone in
       absurd (cc (lacking (has_room size (doubtful_of App name left) left) (full left stands), none, room))
-  renewed (Err (Bank fault)) old stands alone room ok at full err breaks told =
+  renewed (Err (Bank fault)) old moments stands alone room ok at full err breaks told =
       let left = after (delete old) s.store in
       let slot = new_slot App name (Some old) s.store in
-      by_note tells now kept s done (λ n. then_call (delete old ∷ reserve App name size ∷ []) n faulted (answered s SUCCESS slot)) (broken_note fault (done_note untouched)) told.note_is
-      (calls_broke tells now kept s done (delete old ∷ reserve App name size ∷ []) SUCCESS slot [] (done_note untouched) (reserve App name size) refl fault told (err left stands) (breaks left stands) (λ is. refl) (tt, tt) (λ n restored torn. (restored, torn)))
+      by_note tells now tells_moments clock left_since first kept s done (λ n. then_call (delete old ∷ reserve App name size ∷ []) n faulted (answered s SUCCESS slot)) (broken_note fault (done_note untouched)) told.note_is
+      (calls_broke tells now tells_moments clock left_since first kept s done (delete old ∷ reserve App name size ∷ []) SUCCESS slot [] (done_note untouched) moments (reserve App name size) refl fault told (err left stands) (breaks left stands) (λ is. (refl, refl)) (tt, tt) (λ n restored torn. (restored, torn)))
 
 -- ---- an application registers a block
 

@@ -19,10 +19,13 @@ use Rattle.tbl_kinds.specs.declared.request.ResetKind.TheVariants.{Processor, Po
 use Rattle.tbl_kinds.specs.declared.request.Actor.TheVariants.{Ground}
 use Rattle.tbl_kinds.specs.declared.request.Request.TheVariants as ask
 use Rattle.tbl_kinds.specs.declared.entry.Answer.{Answer}
-use Rattle.tbl_core.specs.Called.{with_boot, Troubled, IsSilent}
-use Rattle.tbl_core.specs.Service.{Held, state_of, Makes, Meets}
+use Rattle.tbl_outside.specs.Bank.{LeavesOnly}
+use Rattle.cds_store.specs.Moments.{BootLeaves}
+use Rattle.tbl_core.specs.Called.{Leaving, with_boot, Troubled, IsSilent}
+use Rattle.tbl_core.specs.Service.{Held, state_of, EndsIn, Makes, Meets}
 use Rattle.tbl_core.specs.Verdicts.{Judged}
 use Rattle.tbl_core.specs.declared.effect.Effect.{Effect}
+use Rattle.tbl_core.proofs.Moments.{reset_leaves}
 use Rattle.tbl_core.proofs.Verdicts.{none_judged}
 
 -- ---- doubtful blocks
@@ -87,11 +90,13 @@ module _ {B C : Type 0} (tells : Type 0) (now : B → List ℕ) (faults stops : 
     cause = rw (answer, note) (caused (first_state [] []) (record { note = with_boot ended stopped found untouched; verdicts = [] }) Ground (ask.Reset kind));
   }
 
-  pub reset_meets : (tells → (blocks : Blocks) → HasBlocks tells now old.store blocks → Boots (Some kind) blocks (with_boot ended stopped found untouched))
+  pub reset_meets : (tells_moments : Type 0) (clock : B → ℕ) (left_since : B → ℕ → List ℕ → Type 0)
+      → (tells_moments → (blocks : Blocks) → HasBlocks tells now old.store blocks → LeavesOnly clock left_since old.store.bank kept.bank (BootLeaves kind blocks))
+      → (tells → (blocks : Blocks) → HasBlocks tells now old.store blocks → Boots (Some kind) blocks (with_boot ended stopped found untouched))
       → (tells → (blocks : Blocks) → HasBlocks tells now old.store blocks → ended ≡ false → HasBlocks tells now kept (blocks_after kind (with_boot ended stopped found untouched) blocks))
       → old.ended ≡ false
-      → Meets tells now verdict asked old new (ask.Reset kind) (λ s given. Some (reset_effect s kind given.note)) done
-  reset_meets boots blocks live told s holds n follows =
+      → Meets tells now tells_moments clock left_since verdict asked old new (ask.Reset kind) (λ s given. Some (reset_effect s kind given.note)) done
+  reset_meets tells_moments clock left_since moments boots blocks live told s holds n follows =
       let same : n ≡ with_boot ended stopped found untouched = follows.same (rw note (λ is. cc is)) ∙ note in
       rw same (record {
         before = boot kind (with_boot ended stopped found untouched) s;
@@ -123,5 +128,10 @@ module _ {B C : Type 0} (tells : Type 0) (now : B → List ℕ) (faults stops : 
         };
         judged = judged;
         gave = tt;
+        left = λ stop. absurd (cc stop);
+        writing = λ stop. absurd (cc stop);
+        moments =
+            let leaves : Leaving tells_moments clock left_since old.store kept (EndsIn (ask.Reset kind) [] s.store) = reset_leaves tells_moments clock left_since old.store kept kind s.store (λ m. moments m s.store (holds.blocks live)) in
+            rw (ap (λ (h : Held B C). h.store) held) leaves;
         noted = λ _. record { ends = (refl, refl, (refl, refl)); gave = tt; tells = (refl, refl); boots = boots told s.store (holds.blocks live) };
       })

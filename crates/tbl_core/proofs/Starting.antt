@@ -1,11 +1,18 @@
 -- A service at its start.
-use Rattle.std.proofs.Common.{◌≡◌, ℕ, List, [], replicate, false, Option, None, Result, Err, refl, sym, ap, subst}
+use Rattle.std.proofs.Common.{◌≡◌, ⊎_elim, inr, ℕ, List, [], replicate, false, Option, None, Result, Err, refl, sym, ap, subst}
 use Rattle.tbl_kinds.specs.Blocks.{Store as Blocks}
 use Rattle.tbl_model.specs.State.{first_state, no_tables}
 use Rattle.tbl_model.specs.Counts.{counts_of, no_counts}
 use Rattle.validation.specs.Kits.{owners}
 use Rattle.cds_store.specs.Calls.{CallCounted}
-use Rattle.cds_store.specs.Standing.{StandsFor as HasBlocks}
+use Rattle.cds_layout.specs.Images.{store_of}
+use Rattle.cds_store.specs.Moments.{ShowsIn, BootLeaves}
+use Rattle.cds_store.specs.Boots.{BeginsAt}
+use Rattle.cds_store.specs.Standing.{StoreParts, StandsFor as HasBlocks}
+use Rattle.cds_store.proofs.Settled.{shows_itself}
+use Rattle.tbl_outside.specs.Bank.{LeavesOnly}
+use Rattle.tbl_outside.proofs.Moments.{started, leaves_among}
+use Rattle.tbl_kinds.specs.declared.request.ResetKind.TheVariants.{Processor}
 use Rattle.cds_store.specs.declared.fault.BankFault.{BankFault}
 use Rattle.cds_store.specs.declared.fault.BankFault.TheVariants.{Fault, Stopped}
 use Rattle.tbl_outside.specs.declared.validator.KitEntry.{KitEntry}
@@ -54,3 +61,20 @@ start_counted {A} faults stops old new result fault is counted = by fault (subst
   by : (fault : BankFault) → CallCounted {A = A} faults stops old new (Err fault) → StartCounted faults stops old new (start_fault fault)
   by (Fault gate old_gate) counted = counted
   by (Stopped gate old_gate) counted = counted
+
+-- ---- a reset at any moment in it
+
+-- of its boot
+pub start_leaves : {B : Type 0} (tells : Type 0) (now : B → List ℕ) (tells_moments : Type 0) (clock : B → ℕ) (left_since : B → ℕ → List ℕ → Type 0) (made booted : StoreParts B) (bank : B) → made.bank ≡ bank
+    → (tells_moments → (blocks : Blocks) → BeginsAt tells now made blocks → LeavesOnly clock left_since made.bank booted.bank (BootLeaves Processor blocks))
+    → (tells_moments → tells) → tells_moments → LeavesOnly clock left_since bank booted.bank (ShowsIn (store_of (now bank)))
+start_leaves {B} tells now tells_moments clock left_since made booted bank same moments tells_both told =
+    subst (λ (b : B). LeavesOnly clock left_since b booted.bank (ShowsIn (store_of (now b)))) same
+    (leaves_among (moments told (store_of (now made.bank)) (inr (tells_both told, refl))) (λ image left. ⊎_elim (λ shows. shows) (λ power_on. absurd (cc power_on.0)) left))
+
+-- and where nothing was done to the bank
+pub stays_shown : {B : Type 0} (now : B → List ℕ) (tells_moments : Type 0) (clock : B → ℕ) (left_since : B → ℕ → List ℕ → Type 0) (may_leave : B → List ℕ → Type 0)
+    (holds : (bank : B) (image : List ℕ) → tells_moments → may_leave bank image → image ≡ now bank) (only : (bank : B) (image : List ℕ) → tells_moments → left_since bank (clock bank) image → may_leave bank image)
+    (bank : B) → tells_moments → LeavesOnly clock left_since bank bank (ShowsIn (store_of (now bank)))
+stays_shown now tells_moments clock left_since may_leave holds only bank told =
+    started clock left_since bank _ (λ image left. subst (ShowsIn (store_of (now bank))) (sym (holds bank image told (only bank image told left))) (shows_itself (now bank)))

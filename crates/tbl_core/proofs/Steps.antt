@@ -12,10 +12,11 @@ use Rattle.tbl_model.specs.History.{Run, begins_at, onward, onward_by, run_from,
 use Rattle.tbl_model.proofs.CountsLaws.{counts_push}
 use Rattle.tbl_model.proofs.HistoryLaws.{run_push, answered_push}
 use Rattle.tbl_core.specs.Log.{Logged, entry_of}
-use Rattle.tbl_core.specs.Called.{OnPlayed, RestoresHeld, session_end}
+use Rattle.tbl_core.specs.Called.{OnPlayed, RestoresHeld, Leaving, session_end}
 use Rattle.tbl_core.specs.Effects.{IsEffect, uncalled, given_of, without_images, told_at}
-use Rattle.tbl_core.specs.Service.{CoreView, HoldsAll, Shows, StandsFor, Finishes, IsMade, Plays, IsReady}
-use Rattle.tbl_core.specs.Verdicts.{Judged, questions_in, calls_in}
+use Rattle.tbl_core.specs.Service.{CoreView, HoldsAll, Shows, StandsFor, Finishes, EndsIn, IsMade, Plays, IsReady}
+use Rattle.tbl_core.specs.Verdicts.{Judged, questions_in, all_calls_in}
+use Rattle.tbl_laws.specs.Crashes.{UnderWay}
 use Rattle.tbl_core.proofs.Verdicts.{answers_each, few_more}
 use Rattle.tbl_core.specs.declared.effect.Effect.{Effect}
 use Rattle.tbl_core.specs.declared.parts.Clock.{Clock}
@@ -54,13 +55,13 @@ module _ (done : Effect) (clock : Clock) (actor : Actor) (request : Request) (s 
 -- ---- one request
 
 -- what a request did
-pub record Did {B C : Type 0} (tells : Type 0) (now : B → List ℕ) (faults stops : B → ℕ) (verdict : C → List ℕ → ℤ) (asked : C → ℕ) (old new : CoreView B C) (actor : Actor) (request : Request) (clock : Clock) (done : Effect) : Type 0 where
+pub record Did {B C : Type 0} (tells : Type 0) (now : B → List ℕ) (tells_moments : Type 0) (bank_clock : B → ℕ) (left_since : B → ℕ → List ℕ → Type 0) (faults stops : B → ℕ) (verdict : C → List ℕ → ℤ) (asked : C → ℕ) (old new : CoreView B C) (actor : Actor) (request : Request) (clock : Clock) (done : Effect) : Type 0 where
   pub fits : Fits actor request
   pub live : old.state.ended ≡ false
   pub ready : IsReady asked old
   pub seconds : old.state.seconds ≡ clock.seconds
   pub sub : old.state.sub ≡ clock.sub
-  pub made : IsMade tells now faults stops verdict asked old.state new.state request (λ s given. effect_of s actor request given) done
+  pub made : IsMade tells now tells_moments bank_clock left_since faults stops verdict asked old.state new.state request (λ s given. effect_of s actor request given) done
   pub before : Logged
   pub after : Logged
   pub entries : before.entries ≡ old.entries
@@ -69,8 +70,8 @@ pub record Did {B C : Type 0} (tells : Type 0) (now : B → List ℕ) (faults st
   pub counted : new.counts ≡ after.counts
   pub finishes : Finishes before after clock new.state.tables actor request done
 
-module _ {B C : Type 0} (tells : Type 0) (now : B → List ℕ) (faults stops : B → ℕ) (verdict : C → List ℕ → ℤ) (asked : C → ℕ) (old new : CoreView B C) (actor : Actor) (request : Request) (clock : Clock) (done : Effect)
-    (did : Did tells now faults stops verdict asked old new actor request clock done) where
+module _ {B C : Type 0} (tells : Type 0) (now : B → List ℕ) (tells_moments : Type 0) (bank_clock : B → ℕ) (left_since : B → ℕ → List ℕ → Type 0) (faults stops : B → ℕ) (verdict : C → List ℕ → ℤ) (asked : C → ℕ) (old new : CoreView B C) (actor : Actor) (request : Request) (clock : Clock) (done : Effect)
+    (did : Did tells now tells_moments bank_clock left_since faults stops verdict asked old new actor request clock done) where
   entry : Entry
   entry = entry_of actor request did.finishes.reply (given_of done)
 
@@ -81,6 +82,7 @@ module _ {B C : Type 0} (tells : Type 0) (now : B → List ℕ) (faults stops : 
   -- its effect, whatever run the core stood for
   left : tells → (r : Run) → Shows tells now old r → (e : model.Effect) × (effect_of r.state actor request (given_of done) ≡ Some e) × IsEffect done e.asked e.next (uncalled e) × HoldsAll tells now new.state e.next
       × Judged verdict asked old.state.kit new.state.kit e.asked done.verdicts × IsNoteOf request e.calls r.state.store done.note × RestoresHeld (now old.state.store.bank) e.calls r.state.store done.note
+      × Leaving tells_moments bank_clock left_since old.state.store new.state.store (EndsIn request e.calls r.state.store)
   left told r shown = did.made.effect told r.state shown.state
 
   counted_on : (is_told : tells) (r : Run) (shown : Shows tells now old r) → counts_of (r.past ++ told r.state actor request (left is_told r shown).0 ∷ []) ≡ new.counts
@@ -123,9 +125,13 @@ module _ {B C : Type 0} (tells : Type 0) (now : B → List ℕ) (faults stops : 
   unfolding entry
   judged is_told r shown = rw (left is_told r shown).1 (left is_told r shown).4
 
-  gave : tells → (r : Run) → Shows tells now old r → RestoresHeld (now old.state.store.bank) (calls_in r entry) r.state.store entry.note
+  gave : tells → (r : Run) → Shows tells now old r → RestoresHeld (now old.state.store.bank) (all_calls_in r entry) r.state.store entry.note
   unfolding entry
   gave is_told r shown = rw (left is_told r shown).1 (left is_told r shown).6
+
+  moments : tells → (r : Run) → Shows tells now old r → Leaving tells_moments bank_clock left_since old.state.store new.state.store (UnderWay r entry)
+  unfolding entry
+  moments is_told r shown = rw (left is_told r shown).1 (left is_told r shown).7
 
   ready : IsReady asked new
   ready = record {
@@ -134,7 +140,7 @@ module _ {B C : Type 0} (tells : Type 0) (now : B → List ℕ) (faults stops : 
     kit = rw one_more (few_more verdict asked old.state.kit new.state.kit did.made.judged.0 done.verdicts (length old.entries) did.made.two did.made.judged.1 did.ready.kit);
   }
 
-  pub did_play : (result : Result Unit StepFault) → result ≡ session_end done.note → Plays tells now faults stops verdict asked old new actor request result
+  pub did_play : (result : Result Unit StepFault) → result ≡ session_end done.note → Plays tells now tells_moments bank_clock left_since faults stops verdict asked old new actor request result
   unfolding entry
   did_play result ends = record {
     entry = entry;
@@ -151,13 +157,14 @@ module _ {B C : Type 0} (tells : Type 0) (now : B → List ℕ) (faults stops : 
     gave = gave;
     trouble = did.made.trouble;
     cause = rw did.finishes.status did.made.cause;
+    moments = moments;
   }
 
 -- ---- the history
 
 -- a step that played a request leads from each opening that the core stood for to one that it stands for
-module _ {B C : Type 0} (tells : Type 0) (now : B → List ℕ) (faults stops : B → ℕ) (verdict : C → List ℕ → ℤ) (asked : C → ℕ) (old new : CoreView B C) (actor : Actor) (request : Request) (result : Result Unit StepFault)
-    (p : Plays tells now faults stops verdict asked old new actor request result) (opening : State) (stood : StandsFor tells now opening old) where
+module _ {B C : Type 0} (tells : Type 0) (now : B → List ℕ) (tells_moments : Type 0) (bank_clock : B → ℕ) (left_since : B → ℕ → List ℕ → Type 0) (faults stops : B → ℕ) (verdict : C → List ℕ → ℤ) (asked : C → ℕ) (old new : CoreView B C) (actor : Actor) (request : Request) (result : Result Unit StepFault)
+    (p : Plays tells now tells_moments bank_clock left_since faults stops verdict asked old new actor request result) (opening : State) (stood : StandsFor tells now opening old) where
   goes_on : tells → AreAnswered (begins_at opening) new.entries × Shows tells now new (run_from (begins_at opening) new.entries)
   goes_on told =
       let run = run_from (begins_at opening) old.entries in

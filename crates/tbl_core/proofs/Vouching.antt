@@ -55,10 +55,11 @@ module _ {C : Type 0} (verdict : C → List ℕ → ℤ) (asked : C → ℕ) whe
   of_before times None (Some old) (Some new) of stood = absurd of
   of_before times (Some first) (Some old) (Some new) of stood = λ image. stood.steady image ∙ of image
 
-  pub vouches_on : {B : Type 0} (tells : Type 0) (now : B → List ℕ) (faults stops : B → ℕ) (old new : CoreView B C) (actor : Actor) (request : Request) (result : Result Unit StepFault) → Plays tells now faults stops verdict asked old new actor request result
+  pub vouches_on : {B : Type 0} (tells : Type 0) (now : B → List ℕ) (tells_moments : Type 0) (clock : B → ℕ) (left_since : B → ℕ → List ℕ → Type 0) (faults stops : B → ℕ) (old new : CoreView B C) (actor : Actor) (request : Request) (result : Result Unit StepFault)
+      → Plays tells now tells_moments clock left_since faults stops verdict asked old new actor request result
       → (opening : State) (given : List (Option (KitEntry C))) → Vouches tells now verdict given opening old → Vouches tells now verdict given opening new
-  vouches_on tells now faults stops old new actor request result p opening given vouched = record {
-    stands = plays_on tells now faults stops verdict asked old new actor request result p opening vouched.stands;
+  vouches_on tells now tells_moments clock left_since faults stops old new actor request result p opening given vouched = record {
+    stands = plays_on tells now tells_moments clock left_since faults stops verdict asked old new actor request result p opening vouched.stands;
     verdicts = λ told.
         let judged = p.judged told (run_from (begins_at opening) old.entries) (vouched.stands.shows told) in
         subst (λ (es : List Entry). AreGiven verdict given (begins_at opening) es) (sym p.added)

@@ -18,8 +18,10 @@ use Rattle.tbl_kinds.specs.StoreSteps.{stored_at}
 use Rattle.tbl_kinds.specs.Notes.{untouched, restored_image}
 use Rattle.tbl_kinds.specs.declared.block.Block.{Block}
 use Rattle.tbl_kinds.specs.StoreCalls.{StoreCall, restore}
+use Rattle.tbl_laws.specs.Crashes.{DuringCalls, writes}
+use Rattle.tbl_outside.specs.Bank.{LeavesOnly}
 use Rattle.tbl_model.specs.Deeds.{Question}
-use Rattle.cds_layout.specs.Images.{data_in, kept_word, held_in}
+use Rattle.cds_layout.specs.Images.{data_in, kept_word, held_in, store_of}
 use Rattle.tbl_kinds.specs.declared.note.BankNote.{BankNote}
 use Rattle.tbl_kinds.specs.declared.note.Outcome.{Outcome}
 use Rattle.tbl_kinds.specs.declared.note.Outcome.TheVariants.{Untouched, Done, Failed, Stopped}
@@ -181,19 +183,27 @@ abbrev pub RestoresHeld : List ℕ → List StoreCall → Store → BankNote →
 RestoresHeld bytes [] blocks note = Unit {0}
 RestoresHeld bytes (call ∷ calls) blocks note = RestoreHeld bytes call blocks note
 
+-- what a reset may leave from the one moment to the other, where the bank tells its moments
+abbrev pub Leaving : {B : Type 0} → Type 0 → (B → ℕ) → (B → ℕ → List ℕ → Type 0) → StoreParts B → StoreParts B → (Store → Type 0) → Type 0
+Leaving tells_moments clock left_since old new IsLeft = tells_moments → LeavesOnly clock left_since old.bank new.bank (λ image. IsLeft (store_of image))
+
 -- a request that did this to the state and asked these questions before it called the store has this effect, where the service has
--- this note behind it; before a boot the store stands for the blocks that the calls leave, and the note is one that they may leave
-pub record IsCalled {B : Type 0} (tells : Type 0) (now : B → List ℕ) (kept : StoreParts B) (s : State) (questions : List Question) (done : Effect) (note : BankNote) (e : model.Effect) : Type 0 where
+-- this note behind it; before a boot the store stands for the blocks that the calls leave, and the note is one that they may leave. A
+-- reset in one of those that write leaves what those before it and this one made of the blocks, and a restore is never stopped
+pub record IsCalled {B : Type 0} (tells : Type 0) (now : B → List ℕ) (tells_moments : Type 0) (clock : B → ℕ) (left_since : B → ℕ → List ℕ → Type 0) (old kept : StoreParts B) (s : State) (questions : List Question) (done : Effect) (note : BankNote) (e : model.Effect) : Type 0 where
   pub blocks : StandsFor tells now kept (left_by e.calls note s.store)
   pub effect : IsEffect done questions (boots_behind note.outcome note (record s { store = left_by e.calls note s.store })) (uncalled e)
   pub ends : Ends note.outcome e.calls s.store note
   pub gave : MayGoOn (take note.done e.calls) s.store
   pub says : Tells (take note.done e.calls) note
+  pub writing : note.outcome ≡ Stopped → writes e.calls ≡ e.calls
+  pub moments : Leaving tells_moments clock left_since old kept (DuringCalls (writes e.calls) s.store)
 
 -- this holds whatever a boot behind the calls tells
-abbrev pub CallsBehind : {B : Type 0} → Type 0 → (B → List ℕ) → StoreParts B → State → List Question → Effect → (BankNote → model.Effect) → Type 0
-CallsBehind tells now kept s questions done means = (ended stopped : Bool) (found : List ℕ) → IsCalled tells now kept s questions done (with_boot ended stopped found done.note) (means (with_boot ended stopped found done.note))
+abbrev pub CallsBehind : {B : Type 0} → Type 0 → (B → List ℕ) → Type 0 → (B → ℕ) → (B → ℕ → List ℕ → Type 0) → StoreParts B → StoreParts B → State → List Question → Effect → (BankNote → model.Effect) → Type 0
+CallsBehind tells now tells_moments clock left_since old kept s questions done means = (ended stopped : Bool) (found : List ℕ)
+    → IsCalled tells now tells_moments clock left_since old kept s questions done (with_boot ended stopped found done.note) (means (with_boot ended stopped found done.note))
 
 -- no question is asked in it
-abbrev pub Calls : {B : Type 0} → Type 0 → (B → List ℕ) → StoreParts B → State → Effect → (BankNote → model.Effect) → Type 0
-Calls tells now kept s done means = CallsBehind tells now kept s [] done means
+abbrev pub Calls : {B : Type 0} → Type 0 → (B → List ℕ) → Type 0 → (B → ℕ) → (B → ℕ → List ℕ → Type 0) → StoreParts B → StoreParts B → State → Effect → (BankNote → model.Effect) → Type 0
+Calls tells now tells_moments clock left_since old kept s done means = CallsBehind tells now tells_moments clock left_since old kept s [] done means

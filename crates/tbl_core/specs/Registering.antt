@@ -2,6 +2,7 @@
 use Rattle.std.specs.Prelude.{◌≡◌, ◌⊎◌, ℕ, ◌+◌, ◌*◌, ◌≤◌, List, [], ◌∷◌, length, true, false, Option, Some, Result, Ok, Err, OnOk, IfErr}
 use Rattle.std.specs.Option.{ForSome}
 use Rattle.tbl_kinds.specs.Blocks.{Store as Blocks}
+use Rattle.tbl_outside.specs.Bank.{LeavesOnly}
 use Rattle.tbl_kinds.specs.Notes.{untouched}
 use Rattle.cds_layout.specs.Images.{store_of}
 use Rattle.cds_layout.specs.Restores.{TellsTorn, RestoreCounted}
@@ -74,7 +75,7 @@ making s row t old note = then_call (renewal kind.Table t.name t.size old) note 
 -- ---- a restore in place
 
 -- the block of this slot was restored into this image, of so many bytes
-pub record Restores {B : Type 0} (tells : Type 0) (now : B → List ℕ) (faults stops : B → ℕ) (old new : StoreParts B) (slot size : ℕ) (image : List ℕ) (ended : Result Unit RestoreFault) : Type 0 where
+pub record Restores {B : Type 0} (tells : Type 0) (now : B → List ℕ) (tells_moments : Type 0) (clock : B → ℕ) (left_since : B → ℕ → List ℕ → Type 0) (faults stops : B → ℕ) (old new : StoreParts B) (slot size : ℕ) (image : List ℕ) (ended : Result Unit RestoreFault) : Type 0 where
   pub sized : length image ≡ size
   pub booted : new.booted ≡ true
   pub held : OnOk ended (tells → held_at slot (store_of (now old.bank)) ≡ Some image)
@@ -84,3 +85,4 @@ pub record Restores {B : Type 0} (tells : Type 0) (now : B → List ℕ) (faults
   pub counted : RestoreCounted faults stops old.bank new.bank ended
   pub more_faults : faults old.bank ≤ faults new.bank
   pub more_stops : stops old.bank ≤ stops new.bank
+  pub moments : tells_moments → LeavesOnly clock left_since old.bank new.bank (λ image. image ≡ now old.bank)

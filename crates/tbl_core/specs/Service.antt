@@ -1,11 +1,14 @@
 -- What the core keeps, and which histories it stands for.
-use Rattle.std.specs.Prelude.{◌≡◌, ℕ, suc, ◌+◌, ◌-◌, ◌*◌, ◌^◌, ◌<◌, List, [], ◌∷◌, ◌++◌, length, Bool, true, false, not, Option, Some, None, IfSome, Result}
+use Rattle.std.specs.Prelude.{◌≡◌, ◌⊎◌, ℕ, suc, ◌+◌, ◌-◌, ◌*◌, ◌^◌, ◌<◌, List, [], ◌∷◌, ◌++◌, length, Bool, true, false, not, Option, Some, None, IfSome, Result}
 use Rattle.std.specs.Option.{ForSome}
 use Rattle.std.proofs.Common.{ℤ}
 use Rattle.tbl_model.specs.State.{State, Tables, no_tables}
 use Rattle.tbl_model.specs.Tables.{table_at}
 use Rattle.tbl_laws.specs.Fit.{HasCode, AreFit}
-use Rattle.tbl_kinds.specs.Blocks.{Store as Blocks}
+use Rattle.tbl_kinds.specs.Blocks.{Store as Blocks, empty_store}
+use Rattle.tbl_kinds.specs.StoreCalls.{StoreCall}
+use Rattle.tbl_kinds.specs.StoreSteps.{Shows as ShowsBlocks}
+use Rattle.tbl_laws.specs.Crashes.{DuringCalls, UnderWay, writes}
 use Rattle.tbl_kinds.specs.Drawer.{File}
 use Rattle.tbl_model.specs.Effects as model
 use Rattle.tbl_model.specs.Counts.{Counts, counts_of}
@@ -24,21 +27,23 @@ use Rattle.tbl_core.specs.Log.{Logged, entry_of}
 use Rattle.tbl_model.specs.Deeds.{Question}
 use Rattle.tbl_model.specs.BankCounts.{HasCause}
 use Rattle.tbl_model.specs.StoreNotes.{Boots, IsNoteOf}
+use Rattle.tbl_model.specs.StoreUse.{left_by}
 use Rattle.cds_store.specs.Standing.{StoreParts, StandsFor as HasBlocks}
 use Rattle.cds_store.specs.declared.fault.BankFault.{BankFault}
 use Rattle.cds_store.specs.declared.fault.BankFault.TheVariants.{Fault, Stopped as Cut}
 use Rattle.tbl_kinds.specs.declared.note.BankNote.{BankNote}
 use Rattle.tbl_kinds.specs.declared.note.Outcome.{Outcome}
 use Rattle.tbl_kinds.specs.declared.note.Outcome.TheVariants.{Untouched, Done, Failed, Stopped}
-use Rattle.tbl_kinds.specs.declared.request.ResetKind.TheVariants.{Processor}
+use Rattle.tbl_kinds.specs.declared.request.Request.TheVariants as ask
+use Rattle.tbl_kinds.specs.declared.request.ResetKind.TheVariants.{Processor, PowerOn}
 use Rattle.tbl_kinds.specs.declared.status.TheConstants.Status.{INFO_STOPPED}
 use Rattle.tbl_model.specs.Copies.{then_copy}
-use Rattle.tbl_core.specs.Called.{NoBoot, Follows, boots_behind, session_end, Troubled, RestoresHeld, CallsBehind}
+use Rattle.tbl_core.specs.Called.{NoBoot, Follows, boots_behind, session_end, Troubled, RestoresHeld, Leaving, CallsBehind}
 use Rattle.tbl_core.specs.Copying.{IsCopyCall}
 use Rattle.tbl_core.specs.Effects.{IsEffect, IsWithin, uncalled, given_of, told_at}
 use Rattle.tbl_kinds.specs.Notes.{untouched}
 use Rattle.tbl_model.specs.Given.{Given}
-use Rattle.tbl_core.specs.Verdicts.{Judged, questions_in, calls_in, AreGiven, AreOf}
+use Rattle.tbl_core.specs.Verdicts.{Judged, questions_in, all_calls_in, AreGiven, AreOf}
 use Rattle.tbl_core.specs.declared.effect.Effect.{Effect}
 use Rattle.tbl_core.specs.declared.parts.Clock.{Clock}
 use Rattle.tbl_core.specs.declared.parts.Parts.{Parts}
@@ -185,26 +190,33 @@ pub record Does {B C : Type 0} (verdict : C → List ℕ → ℤ) (asked : C →
   pub within : IsWithin most room owes done
 
 -- the request did this to the table in this row, and an image that went active by it was copied
-pub record DoesAndCopies {B C : Type 0} (tells : Type 0) (now : B → List ℕ) (faults stops : B → ℕ) (verdict : C → List ℕ → ℤ) (asked : C → ℕ) (most room : ℕ) (owes : Bool) (old new : Held B C) (row : ℕ) (means : State → Given → Option model.Effect) (done : Effect) : Type 0 where
+pub record DoesAndCopies {B C : Type 0} (tells : Type 0) (now : B → List ℕ) (tells_moments : Type 0) (clock : B → ℕ) (left_since : B → ℕ → List ℕ → Type 0) (faults stops : B → ℕ) (verdict : C → List ℕ → ℤ) (asked : C → ℕ) (most room : ℕ) (owes : Bool) (old new : Held B C) (row : ℕ) (means : State → Given → Option model.Effect) (done : Effect) : Type 0 where
   pub before : Effect
   pub does : Does verdict asked most room owes old (record new { store = old.store }) means before
-  pub copied : tells → (e : model.Effect) → IsEffect before e.asked e.next e → e.next.tables ≡ new.tables → HasBlocks tells now old.store e.next.store → CallsBehind tells now new.store e.next e.asked done (λ n. then_copy row n e)
+  pub copied : tells → (e : model.Effect) → IsEffect before e.asked e.next e → e.next.tables ≡ new.tables → HasBlocks tells now old.store e.next.store → CallsBehind tells now tells_moments clock left_since old.store new.store e.next e.asked done (λ n. then_copy row n e)
   pub call : IsCopyCall faults stops old.store new.store before done
 
 -- ---- any request, before the boot behind a stop of it
 
+-- its calls are under way; or it is a power-on, which empties the store
+abbrev pub EndsIn : Request → List StoreCall → Blocks → Blocks → Type 0
+EndsIn request calls store left = DuringCalls (writes calls) store left ⊎ ((request ≡ ask.Reset PowerOn) × ShowsBlocks empty_store left)
+
 -- in this state it has this effect, where the service has this note behind it
-pub record HasEffect {B C : Type 0} (tells : Type 0) (now : B → List ℕ) (verdict : C → List ℕ → ℤ) (asked : C → ℕ) (old new : Held B C) (request : Request) (s : State) (done : Effect) (note : BankNote) (e : model.Effect) : Type 0 where
+pub record HasEffect {B C : Type 0} (tells : Type 0) (now : B → List ℕ) (tells_moments : Type 0) (clock : B → ℕ) (left_since : B → ℕ → List ℕ → Type 0) (verdict : C → List ℕ → ℤ) (asked : C → ℕ) (old new : Held B C) (request : Request) (s : State) (done : Effect) (note : BankNote) (e : model.Effect) : Type 0 where
   pub before : State  -- the boot
   pub holds : HoldsAll tells now new before
   pub effect : IsEffect done e.asked (boots_behind note.outcome note before) (uncalled e)
   pub judged : Judged verdict asked old.kit new.kit e.asked done.verdicts
   pub gave : RestoresHeld (now old.store.bank) e.calls s.store note
+  pub left : note.outcome ≡ Stopped → before.store ≡ left_by e.calls note s.store
+  pub writing : note.outcome ≡ Stopped → writes e.calls ≡ e.calls
+  pub moments : Leaving tells_moments clock left_since old.store new.store (EndsIn request e.calls s.store)
   pub noted : (note.outcome ≡ Stopped → Boots (Some Processor) before.store note) → IsNoteOf request e.calls s.store note
 
-abbrev pub Has : {B C : Type 0} → Type 0 → (B → List ℕ) → (C → List ℕ → ℤ) → (C → ℕ) → Held B C → Held B C → Request → State → Effect → BankNote → Option model.Effect → Type 0
-Has tells now verdict asked old new request s done note None = ⊥
-Has tells now verdict asked old new request s done note (Some e) = HasEffect tells now verdict asked old new request s done note e
+abbrev pub Has : {B C : Type 0} → Type 0 → (B → List ℕ) → Type 0 → (B → ℕ) → (B → ℕ → List ℕ → Type 0) → (C → List ℕ → ℤ) → (C → ℕ) → Held B C → Held B C → Request → State → Effect → BankNote → Option model.Effect → Type 0
+Has tells now tells_moments clock left_since verdict asked old new request s done note None = ⊥
+Has tells now tells_moments clock left_since verdict asked old new request s done note (Some e) = HasEffect tells now tells_moments clock left_since verdict asked old new request s done note e
 
 -- the request was made. This holds over a bank that doesn't tell its bytes too
 pub record Makes {B C : Type 0} (asked : C → ℕ) (verdict : C → List ℕ → ℤ) (faults stops : B → ℕ) (most room : ℕ) (owes : Bool) (old new : Held B C) (done : Effect) : Type 0 where
@@ -219,9 +231,9 @@ pub record Makes {B C : Type 0} (asked : C → ℕ) (verdict : C → List ℕ �
   pub cause : HasCause done.answer.status done.note
 
 -- and this where it tells them: with any note that a boot may have told more, this was its effect
-abbrev pub Meets : {B C : Type 0} → Type 0 → (B → List ℕ) → (C → List ℕ → ℤ) → (C → ℕ) → Held B C → Held B C → Request → (State → Given → Option model.Effect) → Effect → Type 0
-Meets tells now verdict asked old new request means done = tells → (s : State) → HoldsAll tells now old s → (note : BankNote) → Follows done.note note
-    → Has tells now verdict asked old new request s done note (means s (record { note = note; verdicts = done.verdicts }))
+abbrev pub Meets : {B C : Type 0} → Type 0 → (B → List ℕ) → Type 0 → (B → ℕ) → (B → ℕ → List ℕ → Type 0) → (C → List ℕ → ℤ) → (C → ℕ) → Held B C → Held B C → Request → (State → Given → Option model.Effect) → Effect → Type 0
+Meets tells now tells_moments clock left_since verdict asked old new request means done = tells → (s : State) → HoldsAll tells now old s → (note : BankNote) → Follows done.note note
+    → Has tells now tells_moments clock left_since verdict asked old new request s done note (means s (record { note = note; verdicts = done.verdicts }))
 
 -- ---- the boot
 
@@ -233,9 +245,10 @@ after_stop Done note store held = held
 after_stop Failed note store held = held
 
 -- the request was made, and the service booted behind it where it was stopped
-pub record IsMade {B C : Type 0} (tells : Type 0) (now : B → List ℕ) (faults stops : B → ℕ) (verdict : C → List ℕ → ℤ) (asked : C → ℕ) (old new : Held B C) (request : Request) (means : State → Given → Option model.Effect) (done : Effect) : Type 0 where
+pub record IsMade {B C : Type 0} (tells : Type 0) (now : B → List ℕ) (tells_moments : Type 0) (clock : B → ℕ) (left_since : B → ℕ → List ℕ → Type 0) (faults stops : B → ℕ) (verdict : C → List ℕ → ℤ) (asked : C → ℕ) (old new : Held B C) (request : Request) (means : State → Given → Option model.Effect) (done : Effect) : Type 0 where
   pub effect : tells → (s : State) → HoldsAll tells now old s → (e : model.Effect) × (means s (given_of done) ≡ Some e) × IsEffect done e.asked e.next (uncalled e) × HoldsAll tells now new e.next
       × Judged verdict asked old.kit new.kit e.asked done.verdicts × IsNoteOf request e.calls s.store done.note × RestoresHeld (now old.store.bank) e.calls s.store done.note
+      × Leaving tells_moments clock left_since old.store new.store (EndsIn request e.calls s.store)
   pub fit : (n : ℕ) → AreFit n (state_of old) → AreFit (suc n) (state_of new)
   pub judged : (questions : List Question) × Judged verdict asked old.kit new.kit questions done.verdicts
   pub two : length done.verdicts ≡ 2
@@ -257,7 +270,7 @@ pub record Finishes (old new : Logged) (clock : Clock) (tables : Tables) (actor 
   pub entries : new.entries ≡ old.entries ++ entry_of actor request reply (given_of done) ∷ []
 
 -- one request was played: one entry more, answered rightly whatever run the core stood for
-pub record Plays {B C : Type 0} (tells : Type 0) (now : B → List ℕ) (faults stops : B → ℕ) (verdict : C → List ℕ → ℤ) (asked : C → ℕ) (old new : CoreView B C) (actor : Actor) (request : Request) (result : Result Unit StepFault) : Type 0 where
+pub record Plays {B C : Type 0} (tells : Type 0) (now : B → List ℕ) (tells_moments : Type 0) (clock : B → ℕ) (left_since : B → ℕ → List ℕ → Type 0) (faults stops : B → ℕ) (verdict : C → List ℕ → ℤ) (asked : C → ℕ) (old new : CoreView B C) (actor : Actor) (request : Request) (result : Result Unit StepFault) : Type 0 where
   pub entry : Entry
   pub actor_is : entry.actor ≡ actor
   pub request_is : entry.request ≡ request
@@ -269,9 +282,10 @@ pub record Plays {B C : Type 0} (tells : Type 0) (now : B → List ℕ) (faults 
   pub ready : IsReady asked new
   pub judged : tells → (r : Run) → Shows tells now old r → Judged verdict asked old.state.kit new.state.kit (questions_in r entry) entry.verdicts
   pub kit : (questions : List Question) × Judged verdict asked old.state.kit new.state.kit questions entry.verdicts
-  pub gave : tells → (r : Run) → Shows tells now old r → RestoresHeld (now old.state.store.bank) (calls_in r entry) r.state.store entry.note
+  pub gave : tells → (r : Run) → Shows tells now old r → RestoresHeld (now old.state.store.bank) (all_calls_in r entry) r.state.store entry.note
   pub trouble : Troubled faults stops old.state.store.bank new.state.store.bank entry.note
   pub cause : HasCause entry.reply.status entry.note
+  pub moments : tells → (r : Run) → Shows tells now old r → Leaving tells_moments clock left_since old.state.store new.state.store (UnderWay r entry)
 
 -- ---- the core
 

@@ -36,8 +36,8 @@ abbrev pub questions_in : Run → Entry → List Question
 questions_in r e = option_map_or (λ (effect : model.Effect). effect.asked) (effect_in r e) []
 
 -- the calls of the store that it makes
-abbrev pub calls_in : Run → Entry → List StoreCall
-calls_in r e = option_map_or (λ (effect : model.Effect). effect.calls) (effect_in r e) []
+abbrev pub all_calls_in : Run → Entry → List StoreCall
+all_calls_in r e = option_map_or (λ (effect : model.Effect). effect.calls) (effect_in r e) []
 
 -- ---- over a history
 

@@ -80,7 +80,7 @@ fn renew<B: Bank>(
     requires empty { empty.list ≡ [] }
     requires untouched { note.value ≡ untouched }
     ensures effect { B.tells → (s : State) → StandsFor B.tells B.now store.old s.store
-        → Calls B.tells B.now store.new s result (λ n. then_call (renewal kind.App name.now size (Some old)) n faulted (answered s Status.SUCCESS (new_slot kind.App name.now (Some old) s.store))) }
+        → Calls B.tells B.now B.tells_moments B.clock B.left_since store.old store.new s result (λ n. then_call (renewal kind.App name.now size (Some old)) n faulted (answered s Status.SUCCESS (new_slot kind.App name.now (Some old) s.store))) }
     ensures call { IsCall B.faults B.stops store.old store.new result }
 {
     match store.delete_block(old) {
@@ -117,7 +117,7 @@ fn register_block<B: Bank>(
     requires within { size ≤ 16384 }
     requires empty { empty.list ≡ [] }
     ensures effect { IfOk result (λ done. B.tells → (s : State) → StandsFor B.tells B.now store.old s.store
-        → Calls B.tells B.now store.new s done (λ n. block_effect s name.now size n (open_of kind.App name.now s.store))) }
+        → Calls B.tells B.now B.tells_moments B.clock B.left_since store.old store.new s done (λ n. block_effect s name.now size n (open_of kind.App name.now s.store))) }
     ensures call { IfOk result (IsCall B.faults B.stops store.old store.new) }
     ensures err { OnErr result (store.new ≡ store.old) }
 {
@@ -144,7 +144,7 @@ fn register_again<B: Bank>(
     requires slot { slot < 128 }
     requires empty { empty.list ≡ [] }
     ensures effect { IfOk result (λ done. B.tells → (s : State) → StandsFor B.tells B.now store.old s.store
-        → Calls B.tells B.now store.new s done (λ n. block_effect s name.now size n (Some slot))) }
+        → Calls B.tells B.now B.tells_moments B.clock B.left_since store.old store.new s done (λ n. block_effect s name.now size n (Some slot))) }
     ensures call { IfOk result (IsCall B.faults B.stops store.old store.new) }
     ensures err { OnErr result (store.new ≡ store.old) }
 {
@@ -173,7 +173,7 @@ fn register_new<B: Bank>(
     requires none_open { open_slot kind.App name.now store.old.slots ≡ None }
     requires empty { empty.list ≡ [] }
     ensures effect { IfOk result (λ done. B.tells → (s : State) → StandsFor B.tells B.now store.old s.store
-        → Calls B.tells B.now store.new s done (λ n. block_effect s name.now size n None)) }
+        → Calls B.tells B.now B.tells_moments B.clock B.left_since store.old store.new s done (λ n. block_effect s name.now size n None)) }
     ensures call { IfOk result (IsCall B.faults B.stops store.old store.new) }
     ensures err { OnErr result (store.new ≡ store.old) }
 {
@@ -195,7 +195,7 @@ pub(crate) fn cds_register<B: Bank>(
     requires booted { store.old.booted ≡ true }
     requires empty { empty.list ≡ [] }
     ensures effect { IfOk result (λ done. B.tells → (s : State) → s.apps ≡ apps.now → StandsFor B.tells B.now store.old s.store
-        → Calls B.tells B.now store.new s done (cds_register_effect s app short.now size)) }
+        → Calls B.tells B.now B.tells_moments B.clock B.left_since store.old store.new s done (cds_register_effect s app short.now size)) }
     ensures call { IfOk result (IsCall B.faults B.stops store.old store.new) }
     ensures err { OnErr result (store.new ≡ store.old) }
 {
@@ -285,7 +285,7 @@ fn copy_into<B: Bank>(
     requires own { IsOpenOf own.size (slot_at store.old.slots own.slot) }
     requires empty { empty.list ≡ [] }
     ensures effect { IfOk result (λ done. B.tells → (s : State) → StandsFor B.tells B.now store.old s.store
-        → Calls B.tells B.now store.new s done (λ n. if length image.now == own.size then then_call (copied own.slot image.now ∷ []) n faulted (answered s Status.SUCCESS 0) else answered s Status.ERR_IMAGE_SIZE 0)) }
+        → Calls B.tells B.now B.tells_moments B.clock B.left_since store.old store.new s done (λ n. if length image.now == own.size then then_call (copied own.slot image.now ∷ []) n faulted (answered s Status.SUCCESS 0) else answered s Status.ERR_IMAGE_SIZE 0)) }
     ensures call { IfOk result (IsCall B.faults B.stops store.old store.new) }
     ensures err { OnErr result (store.new ≡ store.old) }
 {
@@ -310,7 +310,7 @@ pub(crate) fn cds_copy<B: Bank>(
     requires booted { store.old.booted ≡ true }
     requires empty { empty.list ≡ [] }
     ensures effect { IfOk result (λ done. B.tells → (s : State) → s.apps ≡ apps.now → StandsFor B.tells B.now store.old s.store
-        → Calls B.tells B.now store.new s done (cds_copy_effect s app slot image.now)) }
+        → Calls B.tells B.now B.tells_moments B.clock B.left_since store.old store.new s done (cds_copy_effect s app slot image.now)) }
     ensures call { IfOk result (IsCall B.faults B.stops store.old store.new) }
     ensures err { OnErr result (store.new ≡ store.old) }
 {
@@ -370,7 +370,7 @@ fn restore_into<B: Bank>(
     requires empty { empty.list ≡ [] }
     requires untouched { note.value ≡ untouched }
     ensures effect { B.tells → (s : State) → StandsFor B.tells B.now store.old s.store
-        → Calls B.tells B.now store.new s result (λ n. then_call (restored slot (restored_image n) ∷ []) n faulted (restore_answer s n.torn (restored_image n))) }
+        → Calls B.tells B.now B.tells_moments B.clock B.left_since store.old store.new s result (λ n. then_call (restored slot (restored_image n) ∷ []) n faulted (restore_answer s n.torn (restored_image n))) }
     ensures call { IsCall B.faults B.stops store.old store.new result }
     ensures gave { B.tells → (blocks : Blocks) → StandsFor B.tells B.now store.old blocks → result.note.outcome ≡ went.Done
         → ForSome (stored_at blocks slot) (λ b. GaveHeld (B.now store.old.bank) b.block result.note) }
@@ -400,7 +400,7 @@ fn restore_from<B: Bank>(
     requires within { own.size ≤ 16384 }
     requires empty { empty.list ≡ [] }
     ensures effect { IfOk result (λ done. B.tells → (s : State) → StandsFor B.tells B.now store.old s.store
-        → Calls B.tells B.now store.new s done (λ n. then_call (restored own.slot (restored_image n) ∷ []) n faulted (restore_answer s n.torn (restored_image n)))) }
+        → Calls B.tells B.now B.tells_moments B.clock B.left_since store.old store.new s done (λ n. then_call (restored own.slot (restored_image n) ∷ []) n faulted (restore_answer s n.torn (restored_image n)))) }
     ensures call { IfOk result (IsCall B.faults B.stops store.old store.new) }
     ensures gave { IfOk result (λ done. B.tells → (blocks : Blocks) → StandsFor B.tells B.now store.old blocks → done.note.outcome ≡ went.Done
         → ForSome (stored_at blocks own.slot) (λ b. GaveHeld (B.now store.old.bank) b.block done.note)) }
@@ -426,7 +426,7 @@ pub(crate) fn cds_restore<B: Bank>(
     requires booted { store.old.booted ≡ true }
     requires empty { empty.list ≡ [] }
     ensures effect { IfOk result (λ done. B.tells → (s : State) → s.apps ≡ apps.now → StandsFor B.tells B.now store.old s.store
-        → Calls B.tells B.now store.new s done (cds_restore_effect s app slot)) }
+        → Calls B.tells B.now B.tells_moments B.clock B.left_since store.old store.new s done (cds_restore_effect s app slot)) }
     ensures call { IfOk result (IsCall B.faults B.stops store.old store.new) }
     // What it gave is what the block held in the bank as the call began.
     ensures gave { IfOk result (λ done. B.tells → (blocks : Blocks) → StandsFor B.tells B.now store.old blocks → done.note.outcome ≡ went.Done
@@ -450,7 +450,7 @@ fn delete<B: Bank>(
     requires taken { IsSome (slot_at store.old.slots slot) }
     requires empty { empty.list ≡ [] }
     ensures effect { IfOk result (λ done. B.tells → (s : State) → StandsFor B.tells B.now store.old s.store
-        → Calls B.tells B.now store.new s done (λ n. then_call (deleted slot ∷ []) n faulted (answered s Status.SUCCESS 0))) }
+        → Calls B.tells B.now B.tells_moments B.clock B.left_since store.old store.new s done (λ n. then_call (deleted slot ∷ []) n faulted (answered s Status.SUCCESS 0))) }
     ensures call { IfOk result (IsCall B.faults B.stops store.old store.new) }
     ensures err { OnErr result (store.new ≡ store.old) }
 {
@@ -471,7 +471,7 @@ pub(crate) fn cds_delete<B: Bank>(
     requires booted { store.old.booted ≡ true }
     requires empty { empty.list ≡ [] }
     ensures effect { IfOk result (λ done. B.tells → (s : State) → s.apps ≡ apps.now → StandsFor B.tells B.now store.old s.store
-        → Calls B.tells B.now store.new s done (cds_delete_effect s app slot)) }
+        → Calls B.tells B.now B.tells_moments B.clock B.left_since store.old store.new s done (cds_delete_effect s app slot)) }
     ensures call { IfOk result (IsCall B.faults B.stops store.old store.new) }
     ensures err { OnErr result (store.new ≡ store.old) }
 {
@@ -519,7 +519,7 @@ fn delete_table_block<B: Bank>(
     requires booted { store.old.booted ≡ true }
     requires empty { empty.list ≡ [] }
     ensures effect { IfOk result (λ done. B.tells → (s : State) (row : Option ℕ) → is_some row ≡ is_registered → StandsFor B.tells B.now store.old s.store
-        → Calls B.tells B.now store.new s done (λ n. delete_table_block s n (any_of kind.Table name.now s.store) row)) }
+        → Calls B.tells B.now B.tells_moments B.clock B.left_since store.old store.new s done (λ n. delete_table_block s n (any_of kind.Table name.now s.store) row)) }
     ensures call { IfOk result (IsCall B.faults B.stops store.old store.new) }
     ensures err { OnErr result (store.new ≡ store.old) }
 {
@@ -542,7 +542,7 @@ pub(crate) fn delete_cds<B: Bank>(
     requires booted { store.old.booted ≡ true }
     requires empty { empty.list ≡ [] }
     ensures effect { IfOk result (λ done. B.tells → (s : State) → s.tables ≡ tables.now → StandsFor B.tells B.now store.old s.store
-        → Calls B.tells B.now store.new s done (delete_cds_effect s name.now)) }
+        → Calls B.tells B.now B.tells_moments B.clock B.left_since store.old store.new s done (delete_cds_effect s name.now)) }
     ensures call { IfOk result (IsCall B.faults B.stops store.old store.new) }
     ensures err { OnErr result (store.new ≡ store.old) }
 {

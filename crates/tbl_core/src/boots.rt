@@ -9,8 +9,11 @@ ghost use Rattle.tbl_kinds.specs.declared.request.Request.TheVariants as ask;
 ghost use Rattle.tbl_model.specs.State.{State, no_tables};
 ghost use Rattle.tbl_model.specs.Boots.{if_processor, blocks_after, reset_status, reset_effect};
 ghost use Rattle.tbl_model.specs.StoreNotes.{Boots};
+ghost use Rattle.cds_store.specs.Moments.{BootLeaves};
 ghost use Rattle.cds_store.specs.Standing.{StandsFor as HasBlocks};
-ghost use Rattle.tbl_core.specs.Called.{Follows, NoBoot, boots_behind, with_boot, boot_only, session_end, Troubled};
+ghost use Rattle.tbl_kinds.specs.StoreSteps.{Shows as ShowsBlocks};
+ghost use Rattle.tbl_outside.specs.Bank.{LeavesOnly};
+ghost use Rattle.tbl_core.specs.Called.{Follows, NoBoot, Leaving, boots_behind, with_boot, boot_only, session_end, Troubled};
 ghost use Rattle.tbl_core.specs.Service.{HoldsAll, Makes, Meets, held_of, after_stop};
 
 use crate::effect::Effect;
@@ -32,6 +35,8 @@ fn boot_store<B: Bank>(store: &mut Store<B>, kind: ResetKind, note: &mut BankNot
         → HasBlocks B.tells B.now store.new (blocks_after kind note.exit.now blocks) }
     ensures found { B.tells → (blocks : Blocks) → HasBlocks B.tells B.now store.old blocks → Boots (Some kind) blocks note.exit.now }
     ensures trouble { Troubled B.faults B.stops store.old.bank store.new.bank (with_boot note.exit.now.ended note.exit.now.stopped [] untouched) }
+    ensures moments { B.tells_moments → (blocks : Blocks) → HasBlocks B.tells B.now store.old blocks
+        → LeavesOnly B.clock B.left_since store.old.bank store.new.bank (BootLeaves kind blocks) }
 {
     match store.boot(kind) {
         Ok(found) => note.found = found,
@@ -78,6 +83,8 @@ impl<B: Bank, C: Validator> Parts<B, C> {
             → HasBlocks B.tells B.now self.new.store (blocks_after kind note.exit.now blocks) }
         ensures found { B.tells → (blocks : Blocks) → HasBlocks B.tells B.now self.old.store blocks → Boots (Some kind) blocks note.exit.now }
         ensures trouble { Troubled B.faults B.stops self.old.store.bank self.new.store.bank (with_boot note.exit.now.ended note.exit.now.stopped [] untouched) }
+        ensures moments { B.tells_moments → (blocks : Blocks) → HasBlocks B.tells B.now self.old.store blocks
+            → LeavesOnly B.clock B.left_since self.old.store.bank self.new.store.bank (BootLeaves kind blocks) }
         ensures log { self.new.log ≡ self.old.log }
     {
         boot_store(&mut self.store, kind, note);
@@ -105,7 +112,7 @@ impl<B: Bank, C: Validator> Parts<B, C> {
         requires empty { empty.list ≡ [] }
         requires live { self.old.ended ≡ false }
         ensures makes { IfOk result (Makes C.asked C.verdict B.faults B.stops 0 0 false (held_of self.old) (held_of self.new)) }
-        ensures meets { IfOk result (Meets B.tells B.now C.verdict C.asked (held_of self.old) (held_of self.new) (ask.Reset kind) (λ s given. Some (reset_effect s kind given.note))) }
+        ensures meets { IfOk result (Meets B.tells B.now B.tells_moments B.clock B.left_since C.verdict C.asked (held_of self.old) (held_of self.new) (ask.Reset kind) (λ s given. Some (reset_effect s kind given.note))) }
         ensures log { self.new.log ≡ self.old.log }
         ensures err { OnErr result (held_of self.new ≡ held_of self.old) }
     {
@@ -130,6 +137,8 @@ impl<B: Bank, C: Validator> Parts<B, C> {
         ensures found { B.tells → (s : State) → HoldsAll B.tells B.now (held_of self.old) s → effect.note.outcome ≡ Stopped
             → Boots (Some Processor) s.store result.note }
         ensures trouble { Troubled B.faults B.stops self.old.store.bank self.new.store.bank (boot_only effect.note.outcome result.note) }
+        ensures moments { B.tells → (s : State) → HoldsAll B.tells B.now (held_of self.old) s → effect.note.outcome ≡ Stopped
+            → Leaving B.tells_moments B.clock B.left_since self.old.store self.new.store (ShowsBlocks s.store) }
         ensures log { self.new.log ≡ self.old.log }
     {
         if effect.note.outcome() != Outcome::Stopped {

@@ -138,7 +138,7 @@ fn copy_image<B: Bank>(
     requires few { length effect.deeds.items ≤ 3 }
     requires untouched { effect.note ≡ untouched }
     ensures behind { B.tells → (e : Model) (t : Table) → IsEffect effect e.asked e.next e → t.name ≡ name.now → t.size ≡ length image.now → StandsFor B.tells B.now store.old e.next.store
-        → CallsBehind B.tells B.now store.new e.next e.asked result (λ n. copied_to row n e (block_of t e.next.store) (Some image.now)) }
+        → CallsBehind B.tells B.now B.tells_moments B.clock B.left_since store.old store.new e.next e.asked result (λ n. copied_to row n e (block_of t e.next.store) (Some image.now)) }
     ensures call { IsCopyCall B.faults B.stops store.old store.new effect result }
 {
     let Some(slot) = sized_block(store, name, image.len()) else {
@@ -163,7 +163,7 @@ pub(crate) fn then_copy<B: Bank>(
     requires few { length effect.deeds.items ≤ 3 }
     requires untouched { effect.note ≡ untouched }
     ensures behind { B.tells → (e : Model) → IsEffect effect e.asked e.next e → e.next.tables ≡ tables.now → StandsFor B.tells B.now store.old e.next.store
-        → CallsBehind B.tells B.now store.new e.next e.asked result (λ n. then_copy row n e) }
+        → CallsBehind B.tells B.now B.tells_moments B.clock B.left_since store.old store.new e.next e.asked result (λ n. then_copy row n e) }
     ensures call { IsCopyCall B.faults B.stops store.old store.new effect result }
 {
     let Some(room) = room else {

@@ -149,7 +149,7 @@ impl<B: Bank, C: Validator> Parts<B, C> {
         requires no_deeds { deeds.items ≡ [] }
         requires room { vec_capacity deeds ≡ most_deeds request.now None }
         requires empty { empty.list ≡ [] }
-        ensures does { IfOk result (DoesAndCopies B.tells B.now B.faults B.stops C.verdict C.asked (owned_deeds request.now) 0 false (held_of self.old) (held_of self.new) row (λ s given. owned_at (table_at s.tables row) s row request.now given)) }
+        ensures does { IfOk result (DoesAndCopies B.tells B.now B.tells_moments B.clock B.left_since B.faults B.stops C.verdict C.asked (owned_deeds request.now) 0 false (held_of self.old) (held_of self.new) row (λ s given. owned_at (table_at s.tables row) s row request.now given)) }
         ensures log { self.new.log ≡ self.old.log }
         ensures err { OnErr result (held_of self.new ≡ held_of self.old) }
     {
@@ -175,7 +175,7 @@ impl<B: Bank, C: Validator> Parts<B, C> {
         requires room { vec_capacity deeds ≡ most_deeds request.now None }
         requires empty { empty.list ≡ [] }
         ensures makes { IfOk result (Makes C.asked C.verdict B.faults B.stops (most_deeds request.now None) 0 false (held_of self.old) (held_of self.new)) }
-        ensures meets { IfOk result (Meets B.tells B.now C.verdict C.asked (held_of self.old) (held_of self.new) request.now (λ s given. app_effect s app request.now given)) }
+        ensures meets { IfOk result (Meets B.tells B.now B.tells_moments B.clock B.left_since C.verdict C.asked (held_of self.old) (held_of self.new) request.now (λ s given. app_effect s app request.now given)) }
         ensures log { self.new.log ≡ self.old.log }
         ensures err { OnErr result (held_of self.new ≡ held_of self.old) }
     {
@@ -231,6 +231,57 @@ impl<B: Bank, C: Validator> Parts<B, C> {
         }
     }
 
+    /// Does what an application asks that calls the Critical Data Store.
+    fn app_store_request(
+        &mut self,
+        app: u8,
+        request: &Request,
+        empty: Bytes,
+    ) -> Result<Effect, Memory>
+        requires fits { Fits (by.App app) request.now }
+        requires calls { asks_store request.now None ≡ true }
+        requires booted { self.old.store.booted ≡ true }
+        requires live { self.old.ended ≡ false }
+        requires empty { empty.list ≡ [] }
+        ensures makes { IfOk result (Makes C.asked C.verdict B.faults B.stops 0 0 false (held_of self.old) (held_of self.new)) }
+        ensures meets { IfOk result (Meets B.tells B.now B.tells_moments B.clock B.left_since C.verdict C.asked (held_of self.old) (held_of self.new) request.now (λ s given. app_effect s app request.now given)) }
+        ensures log { self.new.log ≡ self.old.log }
+        ensures err { OnErr result (held_of self.new ≡ held_of self.old) }
+    {
+        let alloc = self.alloc;
+        let store = &mut self.store;
+        let apps = &self.apps;
+        match request {
+            Request::Register {
+                name,
+                size,
+                flags,
+                validator,
+            } => register(
+                alloc,
+                &mut self.tables,
+                store,
+                &self.kit,
+                apps,
+                app,
+                name,
+                *size,
+                *flags,
+                *validator,
+                empty,
+            ),
+            Request::CdsRegister { name, size } => {
+                cds_register(alloc, store, apps, app, name, *size, empty)
+            }
+            Request::CdsCopy { slot, image } => {
+                cds_copy(alloc, store, apps, app, *slot, image.bytes(), empty)
+            }
+            Request::CdsRestore { slot } => cds_restore(alloc, store, apps, app, *slot, empty),
+            Request::CdsDelete { slot } => cds_delete(alloc, store, apps, app, *slot, empty),
+            _ => unreachable!(),
+        }
+    }
+
     /// Does what boots the Critical Data Store, or calls it.
     fn store_request(
         &mut self,
@@ -246,58 +297,21 @@ impl<B: Bank, C: Validator> Parts<B, C> {
         requires live { self.old.ended ≡ false }
         requires empty { empty.list ≡ [] }
         ensures makes { IfOk result (Makes C.asked C.verdict B.faults B.stops 0 0 false (held_of self.old) (held_of self.new)) }
-        ensures meets { IfOk result (Meets B.tells B.now C.verdict C.asked (held_of self.old) (held_of self.new) request.now (λ s given. effect_of s actor request.now given)) }
+        ensures meets { IfOk result (Meets B.tells B.now B.tells_moments B.clock B.left_since C.verdict C.asked (held_of self.old) (held_of self.new) request.now (λ s given. effect_of s actor request.now given)) }
         ensures log { self.new.log ≡ self.old.log }
         ensures err { OnErr result (held_of self.new ≡ held_of self.old) }
     {
-        let alloc = self.alloc;
-        let store = &mut self.store;
         match actor {
+            Actor::App(app) => self.app_store_request(app, request, empty),
             Actor::Ground => match request {
                 Request::Reset { kind } => self.reset(*kind, empty),
                 _ => match asked {
                     Some(Ok(Ground::DeleteCds { table })) => {
-                        delete_cds(alloc, &self.tables, store, table, empty)
+                        delete_cds(self.alloc, &self.tables, &mut self.store, table, empty)
                     }
                     _ => unreachable!(),
                 },
             },
-            Actor::App(app) => {
-                let apps = &self.apps;
-                match request {
-                    Request::Register {
-                        name,
-                        size,
-                        flags,
-                        validator,
-                    } => register(
-                        alloc,
-                        &mut self.tables,
-                        store,
-                        &self.kit,
-                        apps,
-                        app,
-                        name,
-                        *size,
-                        *flags,
-                        *validator,
-                        empty,
-                    ),
-                    Request::CdsRegister { name, size } => {
-                        cds_register(alloc, store, apps, app, name, *size, empty)
-                    }
-                    Request::CdsCopy { slot, image } => {
-                        cds_copy(alloc, store, apps, app, *slot, image.bytes(), empty)
-                    }
-                    Request::CdsRestore { slot } => {
-                        cds_restore(alloc, store, apps, app, *slot, empty)
-                    }
-                    Request::CdsDelete { slot } => {
-                        cds_delete(alloc, store, apps, app, *slot, empty)
-                    }
-                    _ => unreachable!(),
-                }
-            }
         }
     }
 
@@ -315,7 +329,7 @@ impl<B: Bank, C: Validator> Parts<B, C> {
         requires fit { AreFit (length self.old.log.entries) (state_of (held_of self.old)) }
         requires live { self.old.ended ≡ false }
         ensures makes { IfOk result (Makes C.asked C.verdict B.faults B.stops (most_deeds request.now (asked_of asked.now)) (shown_room (asked_of asked.now)) (asks_notice (asked_of asked.now)) (held_of self.old) (held_of self.new)) }
-        ensures meets { IfOk result (Meets B.tells B.now C.verdict C.asked (held_of self.old) (held_of self.new) request.now (λ s given. effect_of s actor request.now given)) }
+        ensures meets { IfOk result (Meets B.tells B.now B.tells_moments B.clock B.left_since C.verdict C.asked (held_of self.old) (held_of self.new) request.now (λ s given. effect_of s actor request.now given)) }
         ensures log { self.new.log ≡ self.old.log }
         ensures err { OnErr result (held_of self.new ≡ held_of self.old) }
     {

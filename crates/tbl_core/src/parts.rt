@@ -136,7 +136,7 @@ impl<B: Bank, C: Validator> Parts<B, C> {
         requires ready { IsReady C.asked (view_of self.old) }
         requires live { self.old.ended ≡ false }
         ensures makes { IfOk result (λ made. Makes C.asked C.verdict B.faults B.stops (most_deeds request.now (asked_of asked.now)) (shown_room (asked_of asked.now)) (asks_notice (asked_of asked.now)) (held_of self.old) (held_of self.new) made.effect) }
-        ensures meets { IfOk result (λ made. Meets B.tells B.now C.verdict C.asked (held_of self.old) (held_of self.new) request.now (λ s given. effect_of s actor request.now given) made.effect) }
+        ensures meets { IfOk result (λ made. Meets B.tells B.now B.tells_moments B.clock B.left_since C.verdict C.asked (held_of self.old) (held_of self.new) request.now (λ s given. effect_of s actor request.now given) made.effect) }
         ensures no_packets { IfOk result (λ made. made.packets.list ≡ []) }
         ensures packets { IfOk result (λ made. packets_room request.now (asked_of asked.now) ≤ made.packets.spare) }
         ensures spare { OnOk result (0 < self.new.log.spare) }
@@ -158,7 +158,7 @@ impl<B: Bank, C: Validator> Parts<B, C> {
         requires room { length self.old.log.entries < record_limit }
         requires ready { IsReady C.asked (view_of self.old) }
         requires live { self.old.ended ≡ false }
-        ensures plays { OnPlayed result (Plays B.tells B.now B.faults B.stops C.verdict C.asked (view_of self.old) (view_of self.new) actor request result) }
+        ensures plays { OnPlayed result (Plays B.tells B.now B.tells_moments B.clock B.left_since B.faults B.stops C.verdict C.asked (view_of self.old) (view_of self.new) actor request result) }
         ensures err { result ≡ Err StepFault.Memory → view_of self.new ≡ view_of self.old }
     {
         let asked = asked_in(&request);

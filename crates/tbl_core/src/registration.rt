@@ -163,7 +163,7 @@ fn restore_into<B: Bank>(
 ) -> Option<Result<(), RestoreFault>>
     requires booted { store.old.booted ≡ true }
     requires can { IsOpenOf (length (arc_value room.old).items) (slot_at store.old.slots slot) }
-    ensures restores { IfSome result (Restores B.tells B.now B.faults B.stops store.old store.new slot (length (arc_value room.old).items) (arc_value room.new).items) }
+    ensures restores { IfSome result (Restores B.tells B.now B.tells_moments B.clock B.left_since B.faults B.stops store.old store.new slot (length (arc_value room.old).items) (arc_value room.new).items) }
     ensures none { IfNone result (store.new ≡ store.old) }
 {
     let bytes = Arc::get_mut(room)?;
@@ -187,7 +187,7 @@ fn recover<B: Bank>(
     requires open_block { IsOpenOf plan.size (slot_at store.old.slots slot) }
     requires empty { empty.list ≡ [] }
     ensures effect { IfOk result (λ done. B.tells → (s : State) → s.tables ≡ tables.old → StandsFor B.tells B.now store.old s.store
-        → Calls B.tells B.now store.new (record s { tables = tables.new }) done (recovery s (next_row tables.old) (planned tables.old app plan) slot)) }
+        → Calls B.tells B.now B.tells_moments B.clock B.left_since store.old store.new (record s { tables = tables.new }) done (recovery s (next_row tables.old) (planned tables.old app plan) slot)) }
     ensures call { IfOk result (IsCall B.faults B.stops store.old store.new) }
     // What it gave is what the block held in the bank as the call began.
     ensures gave { IfOk result (λ done. B.tells → (blocks : Blocks) → StandsFor B.tells B.now store.old blocks → done.note.outcome ≡ went.Done
@@ -253,7 +253,7 @@ fn renew<B: Bank>(
     requires empty { empty.list ≡ [] }
     requires untouched { note.value ≡ untouched }
     ensures effect { B.tells → (s : State) → s.tables ≡ tables.old → StandsFor B.tells B.now store.old s.store
-        → Calls B.tells B.now store.new (record s { tables = tables.new }) result (making s (next_row tables.old) (planned tables.old app plan) (Some old)) }
+        → Calls B.tells B.now B.tells_moments B.clock B.left_since store.old store.new (record s { tables = tables.new }) result (making s (next_row tables.old) (planned tables.old app plan) (Some old)) }
     ensures call { IsCall B.faults B.stops store.old store.new result }
     ensures one { AtMostOne tables.old tables.new app plan }
 {
@@ -285,7 +285,7 @@ fn keep_again<B: Bank>(
     requires other { (blocks : Blocks) → StandsFor B.tells B.now store.old blocks → block_of (planned tables.old app plan) blocks ≡ None }
     requires empty { empty.list ≡ [] }
     ensures effect { IfOk result (λ done. B.tells → (s : State) → s.tables ≡ tables.old → StandsFor B.tells B.now store.old s.store
-        → Calls B.tells B.now store.new (record s { tables = tables.new }) done (λ n. kept_effect s (next_row tables.old) (planned tables.old app plan) n (open_of kind.Table plan.name s.store))) }
+        → Calls B.tells B.now B.tells_moments B.clock B.left_since store.old store.new (record s { tables = tables.new }) done (λ n. kept_effect s (next_row tables.old) (planned tables.old app plan) n (open_of kind.Table plan.name s.store))) }
     ensures call { IfOk result (IsCall B.faults B.stops store.old store.new) }
     ensures one { IfOk result (λ done. AtMostOne tables.old tables.new app plan) }
     ensures err_tables { OnErr result (tables.new ≡ tables.old) }
@@ -313,7 +313,7 @@ fn keep_new<B: Bank>(
     requires none_open { open_slot kind.Table plan.name store.old.slots ≡ None }
     requires empty { empty.list ≡ [] }
     ensures effect { IfOk result (λ done. B.tells → (s : State) → s.tables ≡ tables.old → StandsFor B.tells B.now store.old s.store
-        → Calls B.tells B.now store.new (record s { tables = tables.new }) done (λ n. kept_effect s (next_row tables.old) (planned tables.old app plan) n (open_of kind.Table plan.name s.store))) }
+        → Calls B.tells B.now B.tells_moments B.clock B.left_since store.old store.new (record s { tables = tables.new }) done (λ n. kept_effect s (next_row tables.old) (planned tables.old app plan) n (open_of kind.Table plan.name s.store))) }
     ensures call { IfOk result (IsCall B.faults B.stops store.old store.new) }
     ensures one { IfOk result (λ done. AtMostOne tables.old tables.new app plan) }
     ensures err_tables { OnErr result (tables.new ≡ tables.old) }
@@ -338,7 +338,7 @@ fn keep<B: Bank>(
     requires begins { plan.first ≡ None }
     requires empty { empty.list ≡ [] }
     ensures effect { IfOk result (λ done. B.tells → (s : State) → s.tables ≡ tables.old → StandsFor B.tells B.now store.old s.store
-        → Calls B.tells B.now store.new (record s { tables = tables.new }) done (λ n. kept_effect s (next_row tables.old) (planned tables.old app plan) n (open_of kind.Table plan.name s.store))) }
+        → Calls B.tells B.now B.tells_moments B.clock B.left_since store.old store.new (record s { tables = tables.new }) done (λ n. kept_effect s (next_row tables.old) (planned tables.old app plan) n (open_of kind.Table plan.name s.store))) }
     ensures call { IfOk result (IsCall B.faults B.stops store.old store.new) }
     ensures gave { IfOk result (λ done. B.tells → (s : State) → StandsFor B.tells B.now store.old s.store → (ended stopped : Bool) (found : List ℕ)
         → RestoresHeld (B.now store.old.bank) (kept_effect s (next_row tables.old) (planned tables.old app plan) (with_boot ended stopped found done.note) (open_of kind.Table plan.name s.store)).calls s.store (with_boot ended stopped found done.note)) }
@@ -371,7 +371,7 @@ fn register_critical<B: Bank>(
     requires begins { plan.first ≡ None }
     requires empty { empty.list ≡ [] }
     ensures effect { IfOk result (λ done. B.tells → (s : State) → s.tables ≡ tables.old → StandsFor B.tells B.now store.old s.store
-        → Calls B.tells B.now store.new (record s { tables = tables.new }) done (critical_effect s (next_row tables.old) (planned tables.old app plan))) }
+        → Calls B.tells B.now B.tells_moments B.clock B.left_since store.old store.new (record s { tables = tables.new }) done (critical_effect s (next_row tables.old) (planned tables.old app plan))) }
     ensures call { IfOk result (IsCall B.faults B.stops store.old store.new) }
     ensures gave { IfOk result (λ done. B.tells → (s : State) → s.tables ≡ tables.old → StandsFor B.tells B.now store.old s.store → (ended stopped : Bool) (found : List ℕ)
         → RestoresHeld (B.now store.old.bank) (critical_effect s (next_row tables.old) (planned tables.old app plan) (with_boot ended stopped found done.note)).calls s.store (with_boot ended stopped found done.note)) }
@@ -403,7 +403,7 @@ pub(crate) fn register<B: Bank, C: Validator>(
     requires booted { store.old.booted ≡ true }
     requires empty { empty.list ≡ [] }
     ensures effect { IfOk result (λ done. B.tells → (s : State) → s.tables ≡ tables.old → s.kit ≡ owners kit.now → s.apps ≡ apps.now → StandsFor B.tells B.now store.old s.store
-        → Calls B.tells B.now store.new (record s { tables = tables.new }) done (register_effect s app short.now size flags validator)) }
+        → Calls B.tells B.now B.tells_moments B.clock B.left_since store.old store.new (record s { tables = tables.new }) done (register_effect s app short.now size flags validator)) }
     ensures call { IfOk result (IsCall B.faults B.stops store.old store.new) }
     ensures gave { IfOk result (λ done. B.tells → (s : State) → s.tables ≡ tables.old → s.kit ≡ owners kit.now → s.apps ≡ apps.now → StandsFor B.tells B.now store.old s.store → (ended stopped : Bool) (found : List ℕ)
         → RestoresHeld (B.now store.old.bank) (register_effect s app short.now size flags validator (with_boot ended stopped found done.note)).calls s.store (with_boot ended stopped found done.note)) }

@@ -1,9 +1,16 @@
 //! The core, and one step of it.
 
-ghost use Rattle.std.specs.Prelude.{◌≡◌, false, ◌+◌, ◌^◌, ◌<◌, ◌≤◌, ◌↔◌, Option, List, [], ◌∷◌, ◌++◌, length, Err, IsTrue, OnOk, All, IfOk, IfErr};
+ghost use Rattle.std.specs.Prelude.{◌≡◌, ◌≢◌, ℕ, false, ◌+◌, ◌^◌, ◌<◌, ◌≤◌, ◌↔◌, Option, List, [], ◌∷◌, ◌++◌, length, Err, IsTrue, OnOk, All, IfOk, IfErr};
 ghost use Rattle.tbl_model.specs.State.{State, first_state, no_tables};
 ghost use Rattle.tbl_model.specs.Vouched.{IsVouched};
 ghost use Rattle.tbl_model.specs.Whole.{IsWhole};
+ghost use Rattle.tbl_laws.specs.Crashes.{AfterCrash, calls_in};
+ghost use Rattle.tbl_laws.specs.Completed.{Holds, LeaveAlone};
+ghost use Rattle.cds_store.specs.Moments.{ShowsIn};
+ghost use Rattle.tbl_kinds.specs.declared.block.Block.{Block};
+ghost use Rattle.tbl_kinds.specs.declared.request.Request.TheVariants as ask;
+ghost use Rattle.tbl_kinds.specs.declared.request.ResetKind.TheVariants.{PowerOn};
+ghost use Rattle.tbl_outside.specs.Bank.{LeavesOnly};
 ghost use Rattle.tbl_laws.specs.Backed.{AreSingle, AreBacked};
 ghost use Rattle.tbl_kinds.specs.Requests.{Fits};
 ghost use Rattle.tbl_kinds.specs.Records.{record_limit};
@@ -16,7 +23,7 @@ ghost use Rattle.validation.specs.Kits.{owners};
 ghost use Rattle.tbl_outside.specs.Counts.{Still};
 ghost use Rattle.tbl_outside.specs.declared.validator.KitEntry.{KitEntry as Function};
 ghost use Rattle.tbl_core.specs.Service.{StandsFor, Vouches, AskedBelow, AddsOne, start_fault, StartCounted};
-ghost use Rattle.tbl_core.specs.Verdicts.{Judged, questions_in, calls_in, KeepsToFunctions};
+ghost use Rattle.tbl_core.specs.Verdicts.{Judged, questions_in, all_calls_in, KeepsToFunctions};
 ghost use Rattle.tbl_kinds.specs.declared.entry.Entry.{Entry};
 
 use crate::parts::Parts;
@@ -98,6 +105,9 @@ impl<B: Bank, C: Validator> Core<B, C> {
         ensures empty { IfOk result (λ core. core.entries ≡ []) }
         ensures live { IfOk result (λ core. core.state.ended ≡ false) }
         ensures counts { IfOk result (λ core. Still B.faults B.stops bank core.state.store.bank) }
+        // A reset at any moment in it leaves the blocks that the bank showed, also where there is no service then.
+        ensures crash { IfOk result (λ core. B.tells_moments → LeavesOnly B.clock B.left_since bank core.state.store.bank (ShowsIn (store_of (B.now bank)))) }
+        ensures crash_err { IfErr result (λ back. B.tells_moments → LeavesOnly B.clock B.left_since bank back.bank (ShowsIn (store_of (B.now bank)))) }
         ensures cause { IfErr result (λ back. StartCounted B.faults B.stops bank back.bank back.cause) }
     {
         let mut parts = match Parts::make(alloc, bank, kit) {
@@ -164,7 +174,19 @@ impl<B: Bank, C: Validator> Core<B, C> {
         ensures kept { OnPlayed result (B.tells → (opening : State) (given : List (Option (Function C))) → Vouches B.tells B.now C.verdict given opening self.old → KeepsToFunctions C.verdict given opening self.new.entries) }
         // What a restore gave is what its block held in the bank as the step began.
         ensures gave { OnPlayed result ((e : Entry) × (self.new.entries ≡ self.old.entries ++ e ∷ []) × (B.tells → (opening : State) → StandsFor B.tells B.now opening self.old
-            → RestoresHeld (B.now self.old.state.store.bank) (calls_in (run_from (begins_at opening) self.old.entries) e) (run_from (begins_at opening) self.old.entries).state.store e.note)) }
+            → RestoresHeld (B.now self.old.state.store.bank) (all_calls_in (run_from (begins_at opening) self.old.entries) e) (run_from (begins_at opening) self.old.entries).state.store e.note)) }
+        // A reset at any moment in it leaves the store as it was behind the entries before, or what this request made of it so far.
+        ensures crash { OnPlayed result (B.tells_moments → (opening : State) → StandsFor B.tells B.now opening self.old
+            → LeavesOnly B.clock B.left_since self.old.state.store.bank self.new.state.store.bank (λ image. AfterCrash opening self.new.entries (length self.old.entries) (store_of image))) }
+        // A completed copy of an image stays, each moment, through a request that neither copies into its block nor deletes it and
+        // is no power-on.
+        ensures completed { OnPlayed result ((e : Entry) × (self.new.entries ≡ self.old.entries ++ e ∷ []) × (B.tells_moments → (opening : State) → StandsFor B.tells B.now opening self.old
+            → (slot : ℕ) (block : Block) (copied : List ℕ) → Holds (run_from (begins_at opening) self.old.entries).state.store slot block copied
+            → LeaveAlone slot (calls_in (run_from (begins_at opening) self.old.entries) e) → request ≢ ask.Reset PowerOn
+            → LeavesOnly B.clock B.left_since self.old.state.store.bank self.new.state.store.bank (λ image. Holds (store_of image) slot block copied))) }
+        // The bytes that it began with, and that a restore in it read, are some that a reset may have left.
+        ensures left { OnPlayed result (B.tells_moments → (opening : State) → StandsFor B.tells B.now opening self.old
+            → B.left_since self.new.state.store.bank (B.clock self.old.state.store.bank) (B.now self.old.state.store.bank)) }
         ensures live { OnOk result (self.new.state.ended ≡ false) }
         ensures err { result ≡ Err StepFault.Memory → self.new ≡ self.old }
     {

@@ -7,6 +7,6 @@ pub returns-clause-effect : goal.returns-clause-effect
 returns-clause-effect g c = λ tells s stands.
     let b = g.B.Bank in
     let call = c.delete_block-ended.ensures in
-    delete_called b.tells b.now c.args.store.now c.delete_block-ended.new.self s c.called.result c.args.slot c.delete_block-ended.result stands
+    delete_called b.tells b.now b.tells_moments b.clock b.left_since c.args.store.now c.args.store.now c.delete_block-ended.new.self s c.called.result c.args.slot c.delete_block-ended.result stands
     (told_with c.requires.empty (ap (call_note c.delete_block-ended.result) c.in_ok-note.ensures) c.called.ensures)
-    call.flags call.ok call.err
+    (λ m. call.moments m s.store stands) call.flags call.ok call.err

@@ -15,5 +15,5 @@ returns-in-Some-2-clause-effect g c = one c.delete.result _ _ c.delete.ensures.e
     let b = g.B.Bank in
     let any = any_of Table c.args.name.now s.store in
     let slot = c.in-Some.field-0 in
-    calls_same b.tells b.now c.delete.new.store s done (λ n. then_call (delete slot ∷ []) n faulted (answered s SUCCESS 0)) (λ n. delete_table_block s n any row)
+    calls_same b.tells b.now b.tells_moments b.clock b.left_since c.args.store.now c.delete.new.store s done (λ n. then_call (delete slot ∷ []) n faulted (answered s SUCCESS 0)) (λ n. delete_table_block s n any row)
     (λ n. table_means s n any row slot (sym (c.table_block.ensures.block s.store stands) ∙ c.in-Some.is) (registered ∙ c.if-is_registered.false)) (is tells s stands))

@@ -8,6 +8,8 @@ use Rattle.cds_store.specs.Standing.{slot_of}
 use Rattle.cds_store.specs.Sound.{IsOpenOf}
 use Rattle.tbl_core.specs.Called.{done_note, broken_note}
 use Rattle.tbl_core.proofs.Calls.{block_there, held_image, told_with, given_called, gives_image, torn_called, torn_told, unread_called}
+use Rattle.std.specs.Prelude.{[]}
+use Rattle.tbl_core.proofs.Moments.{read_leaves}
 use Rattle.tbl_core.proofs.blocks.restore_into.Goals as goal
 
 pub returns-in-Ok-clause-effect : goal.returns-in-Ok-clause-effect
@@ -15,7 +17,7 @@ returns-in-Ok-clause-effect g c = λ tells s stands.
     let b = g.B.Bank in
     let image = c.restore.new.into in
     let kept = c.given.result.note.restored in
-    given_called b.tells b.now c.args.store.now c.restore.new.self s c.given.result c.args.slot stands image kept
+    given_called b.tells b.now b.tells_moments b.clock b.left_since c.args.store.now c.args.store.now c.restore.new.self s c.given.result c.args.slot stands (read_leaves b.tells_moments b.clock b.left_since b.now c.args.store.now c.restore.new.self [] s.store c.restore.ensures.moments (stands.shows tells)) image kept
     c.given.ensures.restored
     (gives_image (b.now c.args.store.now.bank) s.store c.args.slot image (stands.shows tells) (c.in-Ok.ensures.image tells))
     (λ x there. let same : length image ≡ length c.args.image.now = search rules in same ∙ sym (subst (IsOpenOf (length c.args.image.now)) (block_there c.args.store.now.slots s.store c.args.slot x stands.slots there) c.requires.own).1)
@@ -27,13 +29,13 @@ returns-in-Err-Torn-clause-effect g c = λ tells s stands.
     let b = g.B.Bank in
     let arm = c.in-Err-Torn in
     let is : arm.field-0 ≡ Torn arm.field-0-0 arm.kept arm.found = search rules in
-    torn_called b.tells b.now c.args.store.now c.restore.new.self s c.torn.result c.args.slot stands tells arm.field-0 arm.field-0-0 arm.kept arm.found _ is arm.ensures.torn arm.ensures.err
+    torn_called b.tells b.now b.tells_moments b.clock b.left_since c.args.store.now c.args.store.now c.restore.new.self s c.torn.result c.args.slot stands (read_leaves b.tells_moments b.clock b.left_since b.now c.args.store.now c.restore.new.self [] s.store c.restore.ensures.moments (stands.shows tells)) tells arm.field-0 arm.field-0-0 arm.kept arm.found _ is arm.ensures.torn arm.ensures.err
     (torn_told c.requires.untouched c.requires.empty c.torn.ensures)
 
 pub returns-clause-effect : goal.returns-clause-effect
 returns-clause-effect g c = λ tells s stands.
     let b = g.B.Bank in
-    unread_called b.tells b.now c.args.store.now c.restore.new.self s c.broken.result c.args.slot stands c.in-Err-Fault.field-0 c.in-Err-Fault.field-0-is c.in-Err-Fault.ensures.err
+    unread_called b.tells b.now b.tells_moments b.clock b.left_since c.args.store.now c.args.store.now c.restore.new.self s c.broken.result c.args.slot stands (read_leaves b.tells_moments b.clock b.left_since b.now c.args.store.now c.restore.new.self [] s.store c.restore.ensures.moments (stands.shows tells)) c.in-Err-Fault.field-0 c.in-Err-Fault.field-0-is c.in-Err-Fault.ensures.err
     (told_with c.requires.empty (ap (broken_note (Fault false false)) c.requires.untouched) c.broken.ensures)
 
 pub returns-in-Ok-clause-gave : goal.returns-in-Ok-clause-gave

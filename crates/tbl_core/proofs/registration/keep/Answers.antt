@@ -19,7 +19,7 @@ returns-in-Some-clause-effect g c = one c.recover.result _ _ c.recover.ensures.e
     let slot = c.in-Some.slot in
     let t = planned old c.args.app c.args.plan in
     let there : block_of t s.store ≡ Some slot = sym (c.sized_block.ensures.block t s.store refl refl stands) ∙ (search rules) in
-    calls_same b.tells b.now c.recover.new.store (record s { tables = c.recover.new.tables }) done (recovery s (next_row old) t slot) (λ n. kept_effect s (next_row old) t n (open_of Table c.args.plan.name s.store))
+    calls_same b.tells b.now b.tells_moments b.clock b.left_since c.args.store.now c.recover.new.store (record s { tables = c.recover.new.tables }) done (recovery s (next_row old) t slot) (λ n. kept_effect s (next_row old) t n (open_of Table c.args.plan.name s.store))
     (λ n. kept_found s (next_row old) t n slot there) (is tells s same stands))
 
 pub returns-in-Some-clause-gave : goal.returns-in-Some-clause-gave

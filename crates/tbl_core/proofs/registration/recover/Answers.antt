@@ -5,6 +5,8 @@ use Rattle.cds_store.specs.Sound.{IsOpenOf}
 use Rattle.tbl_core.specs.Registering.{EntersRestored}
 use Rattle.tbl_core.proofs.Calls.{block_there}
 use Rattle.tbl_core.proofs.Registrations.{enters_restored, restored_call, restored_gave}
+use Rattle.std.specs.Prelude.{[]}
+use Rattle.tbl_core.proofs.Moments.{read_leaves}
 use Rattle.tbl_core.proofs.registration.recover.Goals as goal
 
 pub returns-clause-effect : goal.returns-clause-effect
@@ -15,7 +17,7 @@ returns-clause-effect g c = λ tells s same stands.
     let r = c.in-Some.ensures.restores in
     let image = c.from_shared-image.result in
     let is : EntersRestored old c.restored.new.tables t c.restored.result c.in-Some.ended (arc_value c.restore_into.new.room).items = subst (λ (image : List ℕ). EntersRestored old c.restored.new.tables t c.restored.result c.in-Some.ended image) c.from_shared-image.ensures c.restored.ensures.enters in
-    enters_restored b.tells b.now c.restore_into.new.store s c.restored.result old c.restored.new.tables t same refl refl tells c.args.store.now c.args.slot c.in-Some.ended (arc_value c.restore_into.new.room).items stands is r.held r.ok r.torn r.err
+    enters_restored b.tells b.now b.tells_moments b.clock b.left_since c.args.store.now c.restore_into.new.store s c.restored.result old c.restored.new.tables t same refl (read_leaves b.tells_moments b.clock b.left_since b.now c.args.store.now c.restore_into.new.store [] s.store r.moments (stands.shows tells)) refl tells c.args.store.now c.args.slot c.in-Some.ended (arc_value c.restore_into.new.room).items stands is r.held r.ok r.torn r.err
     (λ x there. (subst (IsOpenOf c.args.plan.size) (block_there c.args.store.now.slots s.store c.args.slot x stands.slots there) c.requires.open_block).1 ∙ sym (r.sized ∙ c.in_ok-room.ensures))
 
 pub returns-clause-call : goal.returns-clause-call

@@ -2,6 +2,7 @@ use Rattle.std.proofs.Common.{None, arith, rules}
 use Rattle.std.proofs.lemmas.Result.{IfOk-weaker}
 use Rattle.tbl_core.specs.Asked.{asked_of, most_deeds}
 use Rattle.tbl_kinds.specs.declared.request.Actor.TheVariants.{Ground, App}
+use Rattle.tbl_core.proofs.Moments.{uncalled_leaves}
 use Rattle.tbl_core.proofs.Behind.{table_makes, table_meets, wider, owners_deeds, no_reset}
 use Rattle.tbl_core.proofs.parts.Parts.effect.Goals as goal
 
@@ -19,7 +20,7 @@ pub returns-in-Ground-clause-meets : goal.returns-in-Ground-clause-meets
 returns-in-Ground-clause-meets g c =
     let b = g.B.Bank in
     rw c.in-Ground.is
-    (IfOk-weaker c.ground.result _ _ (λ done does. table_meets b.tells b.now b.faults b.stops g.C.Validator.verdict g.C.Validator.asked _ _ _ _ _ Ground c.args.request.now done does c.requires.live _ c.requires.fit (no_reset c.args.request.now (asked_of c.args.asked.now) (search rules))) c.ground.ensures.does)
+    (IfOk-weaker c.ground.result _ _ (λ done does. table_meets b.tells b.now b.faults b.stops g.C.Validator.verdict g.C.Validator.asked _ _ _ _ _ Ground c.args.request.now done does c.requires.live _ c.requires.fit b.tells_moments b.clock b.left_since (λ told blocks stands. uncalled_leaves b.tells_moments b.clock b.left_since b.now b.may_leave g.met.B.Bank.leaves_only_now g.met.B.Bank.only_now c.args.self.now.store _ blocks does.store (stands.shows told)) (no_reset c.args.request.now (asked_of c.args.asked.now) (search rules))) c.ground.ensures.does)
 
 pub returns-in-Some-clause-makes : goal.returns-in-Some-clause-makes
 returns-in-Some-clause-makes g c =
@@ -39,4 +40,4 @@ pub returns-in-None-clause-meets : goal.returns-in-None-clause-meets
 returns-in-None-clause-meets g c =
     let b = g.B.Bank in
     rw c.in-App.is
-    (IfOk-weaker c.user.result _ _ (λ done does. table_meets b.tells b.now b.faults b.stops g.C.Validator.verdict g.C.Validator.asked _ _ _ _ _ (App c.in-App.app) c.args.request.now done does c.requires.live _ c.requires.fit (no_reset c.args.request.now (asked_of c.args.asked.now) (search rules))) c.user.ensures.does)
+    (IfOk-weaker c.user.result _ _ (λ done does. table_meets b.tells b.now b.faults b.stops g.C.Validator.verdict g.C.Validator.asked _ _ _ _ _ (App c.in-App.app) c.args.request.now done does c.requires.live _ c.requires.fit b.tells_moments b.clock b.left_since (λ told blocks stands. uncalled_leaves b.tells_moments b.clock b.left_since b.now b.may_leave g.met.B.Bank.leaves_only_now g.met.B.Bank.only_now c.args.self.now.store _ blocks does.store (stands.shows told)) (no_reset c.args.request.now (asked_of c.args.asked.now) (search rules))) c.user.ensures.does)

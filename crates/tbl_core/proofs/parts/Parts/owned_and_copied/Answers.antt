@@ -1,6 +1,8 @@
-use Rattle.std.proofs.Common.{◌∙◌, length, sym, ap, subst, false, is_some, rules}
+use Rattle.std.proofs.Common.{◌∙◌, length, ap, subst, false, is_some, rules}
 use Rattle.tbl_model.specs.Tables.{table_at}
 use Rattle.cds_store.specs.Standing.{StoreParts, StandsFor}
+use Rattle.tbl_model.specs.Copies.{then_copy}
+use Rattle.tbl_core.specs.Called.{CallsBehind}
 use Rattle.tbl_core.specs.Copying.{IsCopyCall}
 use Rattle.tbl_core.specs.Asked.{owned_deeds}
 use Rattle.tbl_core.specs.Owned.{owned_at}
@@ -30,6 +32,8 @@ returns-clause-does g c =
       before = c.in_ok-effect.effect;
       does = subst (λ (store : StoreParts g.row.B.Denot). Does g.C.Validator.verdict g.C.Validator.asked (owned_deeds c.args.request.now) 0 false (held_of c.args.self.now) (record (held_of c.owned.new.self) { store = store })
           (λ s given. owned_at (table_at s.tables c.args.row) s c.args.row c.args.request.now given) c.in_ok-effect.effect) does.store does;
-      copied = λ tells e is tables stands. c.then_copy.ensures.behind tells e is tables (subst (λ (store : StoreParts g.row.B.Denot). StandsFor b.tells b.now store e.next.store) (sym does.store) stands);
+      copied = λ tells e is tables.
+          subst (λ (store : StoreParts g.row.B.Denot). StandsFor b.tells b.now store e.next.store → CallsBehind b.tells b.now b.tells_moments b.clock b.left_since store c.then_copy.new.store e.next e.asked c.then_copy.result (λ n. then_copy c.args.row n e)) does.store
+          (c.then_copy.ensures.behind tells e is tables);
       call = subst (λ (store : StoreParts g.row.B.Denot). IsCopyCall b.faults b.stops store c.then_copy.new.store c.in_ok-effect.effect c.then_copy.result) does.store c.then_copy.ensures.call;
     }

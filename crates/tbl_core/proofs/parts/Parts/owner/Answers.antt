@@ -8,6 +8,7 @@ use Rattle.tbl_core.specs.Asked.{activates, owned_deeds, most_deeds}
 use Rattle.tbl_core.specs.Effects.{given_of}
 use Rattle.tbl_core.specs.Owned.{owned_at}
 use Rattle.tbl_core.specs.Service.{Does, held_of}
+use Rattle.tbl_core.proofs.Moments.{uncalled_leaves}
 use Rattle.tbl_core.proofs.Behind.{table_makes, table_meets, wider, owner_resets, owned_fewer, copied_fewer}
 use Rattle.tbl_core.proofs.CopiedBehind.{copies_makes, copies_meets}
 use Rattle.tbl_core.proofs.Places.{some_is}
@@ -24,7 +25,7 @@ returns-in-Ok-clause-makes g c =
     let t = some_is (table_at c.args.self.now.tables row) c.in-Ok.ensures.table in
     let can : activates r ≡ true = search rules in
     IfOk-weaker c.owned_and_copied.result _ _ (λ done does. wider g.C.Validator.asked g.C.Validator.verdict b.faults b.stops (suc (owned_deeds r)) (most_deeds r None) 0 false _ _ done (copied_fewer r can)
-    (copies_makes b.tells b.now b.faults b.stops g.C.Validator.verdict g.C.Validator.asked (owned_deeds r) 0 false _ _ (App c.args.app) r row done does can c.requires.live _ c.requires.fit
+    (copies_makes b.tells b.now b.tells_moments b.clock b.left_since b.faults b.stops g.C.Validator.verdict g.C.Validator.asked (owned_deeds r) 0 false _ _ (App c.args.app) r row done does can c.requires.live _ c.requires.fit
     (λ s stands given. taken s c.args.app c.args.handle given row t.0 (λ effect. c.in-Ok.ensures.ok s effect stands.tables stands.apps) (ap (λ (tables : Tables). table_at tables row) stands.tables ∙ t.1) r c.requires.owners
     ∙ is_copied r row given.note (owned_at (table_at s.tables row) s row r given) can))) c.owned_and_copied.ensures.does
 
@@ -36,7 +37,7 @@ returns-in-Ok-clause-meets g c =
     let t = some_is (table_at c.args.self.now.tables row) c.in-Ok.ensures.table in
     let can : activates r ≡ true = search rules in
     IfOk-weaker c.owned_and_copied.result _ _ (λ done does.
-    copies_meets b.tells b.now b.faults b.stops g.C.Validator.verdict g.C.Validator.asked (owned_deeds r) 0 false _ _ (App c.args.app) r row done does can c.requires.live _ c.requires.fit
+    copies_meets b.tells b.now b.tells_moments b.clock b.left_since b.faults b.stops g.C.Validator.verdict g.C.Validator.asked (owned_deeds r) 0 false _ _ (App c.args.app) r row done does can c.requires.live _ c.requires.fit
     (λ s stands given. taken s c.args.app c.args.handle given row t.0 (λ effect. c.in-Ok.ensures.ok s effect stands.tables stands.apps) (ap (λ (tables : Tables). table_at tables row) stands.tables ∙ t.1) r c.requires.owners
     ∙ is_copied r row given.note (owned_at (table_at s.tables row) s row r given) can) (owner_resets r c.args.handle c.requires.owners)) c.owned_and_copied.ensures.does
 
@@ -63,7 +64,7 @@ returns-in-Ok-2-clause-meets g c =
     IfOk-weaker c.owned.result _ _ (λ done does.
     table_meets b.tells b.now b.faults b.stops g.C.Validator.verdict g.C.Validator.asked (owned_deeds r) 0 false _ _ (App c.args.app) r done (does_plainly g.C.Validator.verdict g.C.Validator.asked (owned_deeds r) 0 false _ _ c.args.app row r done
     (λ s stands given. taken s c.args.app c.args.handle given row t.0 (λ effect. c.in-Ok.ensures.ok s effect stands.tables stands.apps) (ap (λ (tables : Tables). table_at tables row) stands.tables ∙ t.1) r c.requires.owners) plain does)
-    c.requires.live _ c.requires.fit (owner_resets r c.args.handle c.requires.owners)) c.owned.ensures.does
+    c.requires.live _ c.requires.fit b.tells_moments b.clock b.left_since (λ told blocks stands. uncalled_leaves b.tells_moments b.clock b.left_since b.now b.may_leave g.met.B.Bank.leaves_only_now g.met.B.Bank.only_now c.args.self.now.store _ blocks does.store (stands.shows told)) (owner_resets r c.args.handle c.requires.owners)) c.owned.ensures.does
 
 -- the handle may not be used so
 pub returns-in-Err : goal.returns-in-Err
@@ -81,7 +82,7 @@ returns-in-Err g c =
     } in record {
       makes = wider g.C.Validator.asked g.C.Validator.verdict b.faults b.stops 0 (most_deeds r None) 0 false _ _ c.of.result (omega arith)
           (table_makes b.tells b.now b.faults b.stops g.C.Validator.verdict g.C.Validator.asked 0 0 false _ _ (App c.args.app) r c.of.result does c.requires.live _ c.requires.fit c.requires.ready.booted);
-      meets = table_meets b.tells b.now b.faults b.stops g.C.Validator.verdict g.C.Validator.asked 0 0 false _ _ (App c.args.app) r c.of.result does c.requires.live _ c.requires.fit (owner_resets r c.args.handle c.requires.owners);
+      meets = table_meets b.tells b.now b.faults b.stops g.C.Validator.verdict g.C.Validator.asked 0 0 false _ _ (App c.args.app) r c.of.result does c.requires.live _ c.requires.fit b.tells_moments b.clock b.left_since (λ told blocks stands. uncalled_leaves b.tells_moments b.clock b.left_since b.now b.may_leave g.met.B.Bank.leaves_only_now g.met.B.Bank.only_now c.args.self.now.store _ blocks does.store (stands.shows told)) (owner_resets r c.args.handle c.requires.owners);
       log = refl;
       err = tt;
     }

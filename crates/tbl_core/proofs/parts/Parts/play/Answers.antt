@@ -17,12 +17,12 @@ returns-clause-plays g c =
     let after = c.finish.new.self.log in
     let clock = c.args.self.now.clock in
     let old = held_of c.args.self.now in
-    let left = is_made b.tells b.now b.faults b.stops v.verdict v.asked _ _ _ old (held_of c.carry_out.new.self) (held_of boot.new.self) c.args.request (λ s given. effect_of s c.args.actor c.args.request given) c.in-Ok.field-0.effect done.note
-    c.in-Ok.ensures.makes c.in-Ok.ensures.meets boot.ensures.note boot.ensures.held boot.ensures.boots boot.ensures.found boot.ensures.trouble boot.ensures.booted in
-    let told = subst (λ (e : Effect). IsMade b.tells b.now b.faults b.stops v.verdict v.asked old (held_of boot.new.self) c.args.request (λ s given. effect_of s c.args.actor c.args.request given) e) (sym boot.ensures.effect) left in
-    let made = subst (λ (h : Held _ _). IsMade b.tells b.now b.faults b.stops v.verdict v.asked old h c.args.request (λ s given. effect_of s c.args.actor c.args.request given) done) (sym c.finish.ensures.stays) told in
+    let left = is_made b.tells b.now b.tells_moments b.clock b.left_since b.faults b.stops v.verdict v.asked _ _ _ old (held_of c.carry_out.new.self) (held_of boot.new.self) c.args.request (λ s given. effect_of s c.args.actor c.args.request given) c.in-Ok.field-0.effect done.note
+    c.in-Ok.ensures.makes c.in-Ok.ensures.meets boot.ensures.note boot.ensures.held boot.ensures.boots boot.ensures.found boot.ensures.moments boot.ensures.trouble boot.ensures.booted in
+    let told = subst (λ (e : Effect). IsMade b.tells b.now b.tells_moments b.clock b.left_since b.faults b.stops v.verdict v.asked old (held_of boot.new.self) c.args.request (λ s given. effect_of s c.args.actor c.args.request given) e) (sym boot.ensures.effect) left in
+    let made = subst (λ (h : Held _ _). IsMade b.tells b.now b.tells_moments b.clock b.left_since b.faults b.stops v.verdict v.asked old h c.args.request (λ s given. effect_of s c.args.actor c.args.request given) done) (sym c.finish.ensures.stays) told in
     played c.session_end-end.result
-    (did_play b.tells b.now b.faults b.stops v.verdict v.asked _ _ c.args.actor c.args.request clock done
+    (did_play b.tells b.now b.tells_moments b.clock b.left_since b.faults b.stops v.verdict v.asked _ _ c.args.actor c.args.request clock done
     (record {
       fits = c.requires.fits;
       live = c.requires.live;

@@ -1,95 +1,27 @@
-use Rattle.std.proofs.Common.{refl, subst, rules}
+use Rattle.std.proofs.Common.{refl, rules}
 use Rattle.std.proofs.lemmas.Result.{IfOk-weaker}
-use Rattle.tbl_model.specs.Registration.{register_effect}
-use Rattle.tbl_model.specs.AppBlocks.{cds_register_effect, cds_copy_effect, cds_restore_effect, cds_delete_effect, delete_cds_effect}
-use Rattle.tbl_core.specs.Called.{with_boot, Calls}
-use Rattle.tbl_core.proofs.Behind.{call_makes, call_meets, block_makes, block_meets, deletes}
-use Rattle.tbl_core.proofs.Restoring.{register_holds, copy_holds, restore_holds, delete_holds, delete_cds_holds}
-use Rattle.tbl_core.specs.Service.{held_of, state_of}
-use Rattle.tbl_core.proofs.Both.{both, three}
+use Rattle.tbl_model.specs.AppBlocks.{delete_cds_effect}
+use Rattle.tbl_core.specs.Called.{with_boot}
+use Rattle.tbl_core.proofs.Behind.{block_makes, block_meets, deletes}
+use Rattle.tbl_core.proofs.Restoring.{delete_cds_holds}
+use Rattle.tbl_core.proofs.Both.{both}
 use Rattle.tbl_core.proofs.parts.Parts.store_request.Goals as goal
 
 pub returns-in-Reset-clause-meets : goal.returns-in-Reset-clause-meets
 returns-in-Reset-clause-meets g c = rw (c.in-Ground.is, c.in-Reset.is) c.reset.ensures.meets
 
-pub returns-in-CdsRegister-clause-makes : goal.returns-in-CdsRegister-clause-makes
-returns-in-CdsRegister-clause-makes g c =
-    let b = g.B.Bank in
-    IfOk-weaker c.cds_register.result _ _ (λ done call. block_makes b.tells b.now b.faults b.stops g.C.Validator.verdict g.C.Validator.asked _ _ c.args.request.now done refl c.requires.live call) c.cds_register.ensures.call
-
-pub returns-in-CdsRegister-clause-meets : goal.returns-in-CdsRegister-clause-meets
-returns-in-CdsRegister-clause-meets g c =
-    let b = g.B.Bank in
-    let app = c.in-App.app in
-    rw (c.in-App.is, c.in-CdsRegister.is) (both c.cds_register.result _ _ _ c.cds_register.ensures.effect c.cds_register.ensures.call (λ done effect call.
-    block_meets b.tells b.now b.faults b.stops g.C.Validator.verdict g.C.Validator.asked _ _ _ done refl c.requires.live call (λ s n. cds_register_effect s app c.in-CdsRegister.name c.in-CdsRegister.size n)
-    (λ told s holds. effect told s holds.parts.apps (holds.blocks c.requires.live)) refl (λ told s holds ended stopped found. register_holds (b.now c.args.self.now.store.bank) s (with_boot ended stopped found done.note) app c.in-CdsRegister.name c.in-CdsRegister.size)))
-
-pub returns-in-CdsCopy-clause-makes : goal.returns-in-CdsCopy-clause-makes
-returns-in-CdsCopy-clause-makes g c =
-    let b = g.B.Bank in
-    IfOk-weaker c.cds_copy.result _ _ (λ done call. block_makes b.tells b.now b.faults b.stops g.C.Validator.verdict g.C.Validator.asked _ _ c.args.request.now done refl c.requires.live call) c.cds_copy.ensures.call
-
-pub returns-in-CdsCopy-clause-meets : goal.returns-in-CdsCopy-clause-meets
-returns-in-CdsCopy-clause-meets g c =
-    let b = g.B.Bank in
-    let app = c.in-App.app in
-    rw (c.in-App.is, c.in-CdsCopy.is) (both c.cds_copy.result _ _ _ c.cds_copy.ensures.effect c.cds_copy.ensures.call (λ done effect call.
-    block_meets b.tells b.now b.faults b.stops g.C.Validator.verdict g.C.Validator.asked _ _ _ done refl c.requires.live call (λ s n. cds_copy_effect s app c.in-CdsCopy.slot c.in-CdsCopy.image.list n)
-    (λ told s holds. subst (λ image. Calls b.tells b.now c.cds_copy.new.store s done (cds_copy_effect s app c.in-CdsCopy.slot image)) c.bytes.ensures (effect told s holds.parts.apps (holds.blocks c.requires.live))) refl (λ told s holds ended stopped found. copy_holds (b.now c.args.self.now.store.bank) s (with_boot ended stopped found done.note) app c.in-CdsCopy.slot c.in-CdsCopy.image.list)))
-
-pub returns-in-CdsRestore-clause-makes : goal.returns-in-CdsRestore-clause-makes
-returns-in-CdsRestore-clause-makes g c =
-    let b = g.B.Bank in
-    IfOk-weaker c.cds_restore.result _ _ (λ done call. block_makes b.tells b.now b.faults b.stops g.C.Validator.verdict g.C.Validator.asked _ _ c.args.request.now done refl c.requires.live call) c.cds_restore.ensures.call
-
-pub returns-in-CdsRestore-clause-meets : goal.returns-in-CdsRestore-clause-meets
-returns-in-CdsRestore-clause-meets g c =
-    let b = g.B.Bank in
-    let app = c.in-App.app in
-    rw (c.in-App.is, c.in-CdsRestore.is) (three c.cds_restore.result _ _ _ _ c.cds_restore.ensures.effect c.cds_restore.ensures.call c.cds_restore.ensures.gave (λ done effect call gave.
-    block_meets b.tells b.now b.faults b.stops g.C.Validator.verdict g.C.Validator.asked _ _ _ done refl c.requires.live call (λ s n. cds_restore_effect s app c.in-CdsRestore.slot n)
-    (λ told s holds. effect told s holds.parts.apps (holds.blocks c.requires.live)) refl (λ told s holds ended stopped found. restore_holds (b.now c.args.self.now.store.bank) s (with_boot ended stopped found done.note) app c.in-CdsRestore.slot
-    (λ went x there. let held = gave told s.store (holds.blocks c.requires.live) went x there in record { image = held.image; words = held.words }))))
-
-pub returns-in-CdsDelete-clause-makes : goal.returns-in-CdsDelete-clause-makes
-returns-in-CdsDelete-clause-makes g c =
-    let b = g.B.Bank in
-    IfOk-weaker c.cds_delete.result _ _ (λ done call. block_makes b.tells b.now b.faults b.stops g.C.Validator.verdict g.C.Validator.asked _ _ c.args.request.now done refl c.requires.live call) c.cds_delete.ensures.call
-
-pub returns-in-CdsDelete-clause-meets : goal.returns-in-CdsDelete-clause-meets
-returns-in-CdsDelete-clause-meets g c =
-    let b = g.B.Bank in
-    let app = c.in-App.app in
-    rw (c.in-App.is, c.in-CdsDelete.is) (both c.cds_delete.result _ _ _ c.cds_delete.ensures.effect c.cds_delete.ensures.call (λ done effect call.
-    block_meets b.tells b.now b.faults b.stops g.C.Validator.verdict g.C.Validator.asked _ _ _ done refl c.requires.live call (λ s n. cds_delete_effect s app c.in-CdsDelete.slot n)
-    (λ told s holds. effect told s holds.parts.apps (holds.blocks c.requires.live)) refl (λ told s holds ended stopped found. delete_holds (b.now c.args.self.now.store.bank) s (with_boot ended stopped found done.note) app c.in-CdsDelete.slot)))
+pub returns-in-App-clause-meets : goal.returns-in-App-clause-meets
+returns-in-App-clause-meets g c = rw c.in-App.is c.app_store_request.ensures.meets
 
 pub returns-in-Some-Ok-DeleteCds : goal.returns-in-Some-Ok-DeleteCds
 returns-in-Some-Ok-DeleteCds g c =
     let b = g.B.Bank in
     let means = deletes c.args.request.now c.in-Some-Ok-DeleteCds.table (search rules) in record {
-      makes = IfOk-weaker c.delete_cds.result _ _ (λ done call. block_makes b.tells b.now b.faults b.stops g.C.Validator.verdict g.C.Validator.asked _ _ c.args.request.now done refl c.requires.live call) c.delete_cds.ensures.call;
+      makes = IfOk-weaker c.delete_cds.result _ _ (λ done call. block_makes b.tells b.now b.tells_moments b.clock b.left_since b.faults b.stops g.C.Validator.verdict g.C.Validator.asked _ _ c.args.request.now done refl c.requires.live call) c.delete_cds.ensures.call;
       meets = rw c.in-Ground.is (both c.delete_cds.result _ _ _ c.delete_cds.ensures.effect c.delete_cds.ensures.call (λ done effect call told s holds note follows.
           rw (means.1 s (record { note = note; verdicts = done.verdicts }))
-          (block_meets b.tells b.now b.faults b.stops g.C.Validator.verdict g.C.Validator.asked _ _ c.args.request.now done refl c.requires.live call (λ s n. delete_cds_effect s c.in-Some-Ok-DeleteCds.table n)
+          (block_meets b.tells b.now b.tells_moments b.clock b.left_since b.faults b.stops g.C.Validator.verdict g.C.Validator.asked _ _ c.args.request.now done refl c.requires.live call (λ s n. delete_cds_effect s c.in-Some-Ok-DeleteCds.table n)
           (λ told s holds. effect told s holds.parts.tables (holds.blocks c.requires.live)) means.0 (λ told s holds ended stopped found. delete_cds_holds (b.now c.args.self.now.store.bank) s (with_boot ended stopped found done.note) c.in-Some-Ok-DeleteCds.table) told s holds note follows)));
       log = refl;
       err = search rules;
     }
-
-pub returns-in-Register-clause-makes : goal.returns-in-Register-clause-makes
-returns-in-Register-clause-makes g c =
-    let b = g.B.Bank in
-    both c.register.result _ _ _ c.register.ensures.call c.register.ensures.fit (λ done call fit. call_makes b.tells b.now b.faults b.stops g.C.Validator.verdict g.C.Validator.asked _ _ c.args.request.now done refl c.requires.live call
-    (λ n was. fit (state_of (held_of c.args.self.now)) n refl refl was))
-
-pub returns-in-Register-clause-meets : goal.returns-in-Register-clause-meets
-returns-in-Register-clause-meets g c =
-    let b = g.B.Bank in
-    let app = c.in-App.app in
-    let r = c.in-Register in
-    rw (c.in-App.is, c.in-Register.is) (three c.register.result _ _ _ _ c.register.ensures.effect c.register.ensures.call c.register.ensures.gave (λ done effect call gave.
-    call_meets b.tells b.now b.faults b.stops g.C.Validator.verdict g.C.Validator.asked _ _ _ done refl c.requires.live call (λ s n. register_effect s app r.name r.size r.flags r.validator n)
-    (λ told s holds. effect told s holds.parts.tables holds.parts.kit holds.parts.apps (holds.blocks c.requires.live)) refl
-    (λ told s holds. gave told s holds.parts.tables holds.parts.kit holds.parts.apps (holds.blocks c.requires.live))))

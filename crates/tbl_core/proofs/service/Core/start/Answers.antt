@@ -5,7 +5,7 @@ use Rattle.cds_store.specs.Standing.{StandsFor as HasBlocks}
 use Rattle.cds_store.proofs.Recovered.{booted_alike}
 use Rattle.tbl_core.specs.Service.{held_of, state_of, StartCounted}
 use Rattle.tbl_laws.proofs.Ordinary.{fit_at_first}
-use Rattle.tbl_core.proofs.Starting.{stands_first, start_counted}
+use Rattle.tbl_core.proofs.Starting.{stands_first, start_counted, start_leaves, stays_shown}
 use Rattle.tbl_core.proofs.service.Core.start.Goals as goal
 
 pub invariant_of-result : goal.invariant_of-result
@@ -41,3 +41,20 @@ returns-in-Err-boot-clause-cause g c =
     let b = g.B.Bank in
     subst (λ bank. StartCounted b.faults b.stops bank c.end.result c.from.result) c.in-Ok.ensures.bank
     (rw (c.end.ensures, c.from.ensures) (start_counted b.faults b.stops c.in-Ok.parts.store.bank c.boot.new.self.bank c.boot.result c.in-Err-boot.fault c.in-Err-boot.is c.boot.ensures.counted))
+
+pub returns-in-Ok-boot-clause-crash : goal.returns-in-Ok-boot-clause-crash
+returns-in-Ok-boot-clause-crash g c told =
+    let b = g.B.Bank in
+    start_leaves b.tells b.now b.tells_moments b.clock b.left_since c.in-Ok.parts.store c.boot.new.self c.args.bank c.in-Ok.ensures.bank c.boot.ensures.moments g.met.B.Bank.tells_both told
+
+pub returns-in-Err-boot-clause-crash_err : goal.returns-in-Err-boot-clause-crash_err
+returns-in-Err-boot-clause-crash_err g c told =
+    let b = g.B.Bank in
+    rw c.end.ensures
+    (start_leaves b.tells b.now b.tells_moments b.clock b.left_since c.in-Ok.parts.store c.boot.new.self c.args.bank c.in-Ok.ensures.bank c.boot.ensures.moments g.met.B.Bank.tells_both told)
+
+pub returns-in-Err-clause-crash_err : goal.returns-in-Err-clause-crash_err
+returns-in-Err-clause-crash_err g c told =
+    let b = g.B.Bank in
+    rw c.in-Err.ensures.err
+    (stays_shown b.now b.tells_moments b.clock b.left_since b.may_leave g.met.B.Bank.leaves_only_now g.met.B.Bank.only_now c.args.bank told)
