@@ -39,7 +39,8 @@ use Rattle.tbl_core.specs.Service.{Held, Stands, state_of, DoesAndCopies, Has, H
 use Rattle.tbl_core.specs.Verdicts.{Judged}
 use Rattle.cds_store.specs.Standing.{StandsFor as HasBlocks}
 use Rattle.tbl_core.specs.declared.effect.Effect.{Effect}
-use Rattle.tbl_core.proofs.Behind.{stands_in, state_is, effect_left, asked_there, fit_without, has_called}
+use Rattle.tbl_core.proofs.StoreRequests.{has_called}
+use Rattle.tbl_core.proofs.TableRequests.{stands_in, state_is, effect_left, asked_there, fit_without}
 
 -- ---- the model
 

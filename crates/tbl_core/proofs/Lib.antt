@@ -6,6 +6,7 @@ pub mod CommandReadings
 pub mod CopiedBehind
 pub mod CopyEnds
 pub mod Crashing
+pub mod CriticalTables
 pub mod Doing
 pub mod Dumping
 pub mod Few
@@ -24,6 +25,9 @@ pub mod Resets
 pub mod Restoring
 pub mod Starting
 pub mod Steps
+pub mod StoreRequests
+pub mod TableRequests
+pub mod Telling
 pub mod Trouble
 pub mod Uplinked
 pub mod Verdicts

@@ -9,7 +9,6 @@ use Rattle.tbl_outside.proofs.Moments.{started, goes_on, leaves_among}
 use Rattle.cds_layout.specs.Images.{store_of}
 use Rattle.cds_store.specs.Moments.{LeavesIn, BootLeaves}
 use Rattle.tbl_kinds.specs.declared.request.ResetKind.{ResetKind}
-use Rattle.tbl_kinds.specs.declared.request.ResetKind.TheVariants.{Processor}
 use Rattle.tbl_kinds.specs.declared.request.Request.TheVariants as ask
 use Rattle.tbl_core.specs.Service.{EndsIn}
 use Rattle.cds_store.specs.Standing.{StoreParts}
@@ -33,11 +32,7 @@ module _ {B : Type 0} (tells_moments : Type 0) (clock : B → ℕ) (left_since :
   read_leaves now old new calls blocks moments shows told =
       leaves_among (moments told) (λ image same. before_calls calls blocks (store_of image) (subst (λ (bytes : List ℕ). Shows blocks (store_of bytes)) (sym same) shows))
 
-  -- a boot behind a stopped request leaves the blocks
-  pub boot_leaves : (old new : StoreParts B) (blocks : Blocks) → Only old new (BootLeaves Processor blocks) → Leaving tells_moments clock left_since old new (Shows blocks)
-  boot_leaves old new blocks moments told = leaves_among (moments told) (λ image left. ⊎_elim (λ shows. shows) (λ power_on. absurd (cc power_on.0)) left)
-
-  -- and that of a Reset those, or none
+  -- the boot of a Reset leaves the blocks, or none
   pub reset_leaves : (old new : StoreParts B) (kind : ResetKind) (blocks : Blocks) → Only old new (BootLeaves kind blocks) → Leaving tells_moments clock left_since old new (EndsIn (ask.Reset kind) [] blocks)
   reset_leaves old new kind blocks moments told =
       leaves_among (moments told) (λ image left. ⊎_elim (λ shows. inl (before_calls [] blocks (store_of image) shows)) (λ power_on. inr (ap ask.Reset power_on.0, power_on.1)) left)

@@ -14,7 +14,7 @@ use Rattle.tbl_core.specs.Effects.{given_of}
 use Rattle.tbl_core.specs.Owned.{owned_effect, owned_at}
 use Rattle.tbl_core.specs.Service.{Held, state_of, Does}
 use Rattle.tbl_core.specs.declared.effect.Effect.{Effect}
-use Rattle.tbl_core.proofs.Behind.{stands_in, effect_left}
+use Rattle.tbl_core.proofs.TableRequests.{stands_in, effect_left}
 
 abbrev Stay : ℕ → Table → model.Effect → Type 0
 Stay row t e = IfSome (table_at e.next.tables row) (λ (u : Table). u.options ≡ t.options)

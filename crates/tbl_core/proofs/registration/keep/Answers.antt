@@ -9,7 +9,8 @@ use Rattle.tbl_core.specs.Called.{with_boot, RestoresHeld}
 use Rattle.tbl_core.specs.Registering.{recovery}
 use Rattle.tbl_core.proofs.Both.{one}
 use Rattle.tbl_core.proofs.Calls.{calls_same}
-use Rattle.tbl_core.proofs.Registrations.{kept_found, recovery_holds, making_holds}
+use Rattle.tbl_core.proofs.CriticalTables.{kept_found}
+use Rattle.tbl_core.proofs.Registrations.{recovery_holds, making_holds}
 use Rattle.tbl_core.proofs.registration.keep.Goals as goal
 
 pub returns-in-Some-clause-effect : goal.returns-in-Some-clause-effect

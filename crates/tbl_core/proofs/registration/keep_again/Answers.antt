@@ -10,7 +10,8 @@ use Rattle.cds_store.proofs.Reservations.{open_same}
 use Rattle.tbl_core.specs.Registering.{making}
 use Rattle.tbl_core.proofs.Calls.{calls_same}
 use Rattle.tbl_core.proofs.OwnBlocks.{found_there}
-use Rattle.tbl_core.proofs.Registrations.{any_is, kept_made, kept_full, other_size, enters_alone}
+use Rattle.tbl_core.proofs.CriticalTables.{any_is, kept_made, kept_full, other_size}
+use Rattle.tbl_core.proofs.Registrations.{enters_alone}
 use Rattle.tbl_core.proofs.Moments.{uncalled_leaves}
 use Rattle.tbl_core.proofs.registration.keep_again.Goals as goal
 

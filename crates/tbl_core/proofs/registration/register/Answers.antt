@@ -16,7 +16,8 @@ use Rattle.tbl_model.specs.Effects.{answered}
 use Rattle.tbl_model.specs.TableSteps.{as_registered}
 use Rattle.tbl_model.specs.CriticalTables.{registered}
 use Rattle.tbl_core.proofs.Moments.{uncalled_leaves}
-use Rattle.tbl_core.proofs.Registrations.{critical_new, plain_new, enters_alone, fits_one}
+use Rattle.tbl_core.proofs.CriticalTables.{critical_new, plain_new, fits_one}
+use Rattle.tbl_core.proofs.Registrations.{enters_alone}
 use Rattle.tbl_core.proofs.registration.register.Goals as goal
 
 pub returns-then-contains-clause-effect : goal.returns-then-contains-clause-effect

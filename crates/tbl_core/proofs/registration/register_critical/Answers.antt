@@ -12,7 +12,8 @@ use Rattle.tbl_core.specs.Called.{with_boot, RestoresHeld}
 use Rattle.tbl_core.proofs.Both.{one}
 use Rattle.tbl_core.proofs.Calls.{calls_same}
 use Rattle.tbl_core.proofs.Moments.{uncalled_leaves}
-use Rattle.tbl_core.proofs.Registrations.{critical_kept, critical_full, enters_alone}
+use Rattle.tbl_core.proofs.CriticalTables.{critical_kept, critical_full}
+use Rattle.tbl_core.proofs.Registrations.{enters_alone}
 use Rattle.tbl_core.proofs.registration.register_critical.Goals as goal
 
 -- as many are critical as can be

@@ -9,7 +9,8 @@ use Rattle.tbl_core.specs.Effects.{given_of}
 use Rattle.tbl_core.specs.Owned.{owned_at}
 use Rattle.tbl_core.specs.Service.{Does, held_of}
 use Rattle.tbl_core.proofs.Moments.{uncalled_leaves}
-use Rattle.tbl_core.proofs.Behind.{table_makes, table_meets, wider, owner_resets, owned_fewer, copied_fewer}
+use Rattle.tbl_core.proofs.TableRequests.{table_makes, table_meets}
+use Rattle.tbl_core.proofs.Telling.{wider, owner_resets, owned_fewer, copied_fewer}
 use Rattle.tbl_core.proofs.CopiedBehind.{copies_makes, copies_meets}
 use Rattle.tbl_core.proofs.Places.{some_is}
 use Rattle.tbl_core.proofs.Owners.{refused, taken, is_copied, does_plainly}

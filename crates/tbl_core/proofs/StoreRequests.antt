@@ -1,0 +1,171 @@
+-- A request that calls the store was made: what it did, with any note that a boot behind it may leave.
+use Rattle.std.proofs.Common.{◌≡◌, ◌≢◌, ◌∙◌, ℕ, suc, List, [], ◌∷◌, Bool, false, not, Option, Some, None, Result, Ok, ℤ, refl, sym, ap, subst, inl}
+use Rattle.tbl_kinds.specs.Notes.{untouched}
+use Rattle.tbl_kinds.specs.Blocks.{Store as Blocks}
+use Rattle.tbl_model.specs.State.{State, Tables}
+use Rattle.tbl_model.specs.Effects as model
+use Rattle.tbl_model.specs.Deeds.{Question}
+use Rattle.tbl_model.specs.Counts.{is_reset}
+use Rattle.tbl_model.specs.Given.{Given}
+use Rattle.tbl_model.specs.Dispatch.{effect_of}
+use Rattle.tbl_model.specs.StoreNotes.{boot_in, Boots, IsNoteOf}
+use Rattle.tbl_model.specs.StoreUse.{left_by}
+use Rattle.tbl_laws.specs.Fit.{AreFit}
+use Rattle.tbl_laws.proofs.Changes.{grown}
+use Rattle.tbl_kinds.specs.declared.note.BankNote.{BankNote}
+use Rattle.tbl_kinds.specs.declared.note.Outcome.{Outcome}
+use Rattle.tbl_kinds.specs.declared.note.Outcome.TheVariants.{Untouched, Done, Failed, Stopped}
+use Rattle.tbl_kinds.specs.declared.request.Request.{Request}
+use Rattle.tbl_kinds.specs.declared.request.ResetKind.{ResetKind}
+use Rattle.tbl_kinds.specs.declared.request.ResetKind.TheVariants.{Processor}
+use Rattle.tbl_kinds.specs.declared.request.Request.TheVariants as ask
+use Rattle.std.proofs.lemmas.Option.{same_Some}
+use Rattle.tbl_kinds.specs.GroundCommands.{GroundCommand, delete_cds, command_in}
+use Rattle.tbl_kinds.specs.declared.entry.Answer.{Answer}
+use Rattle.tbl_kinds.specs.declared.request.Actor.TheVariants.{Ground}
+use Rattle.tbl_model.specs.AppBlocks.{delete_cds_effect}
+use Rattle.tbl_model.specs.Commands.{asked_in, effect_by}
+use Rattle.validation.specs.Kits.{owners}
+use Rattle.tbl_laws.specs.Crashes.{DuringCalls, writes}
+use Rattle.tbl_outside.proofs.Moments.{leaves_among}
+use Rattle.cds_layout.specs.Images.{store_of}
+use Rattle.tbl_core.specs.Called.{NoBoot, with_boot, RestoresHeld, IsCall, IsCalled, Calls}
+use Rattle.tbl_core.specs.Service.{Held, Stands, HoldsAll, state_of, HasEffect, Makes, Meets}
+use Rattle.tbl_core.specs.Verdicts.{Judged}
+use Rattle.tbl_core.specs.declared.effect.Effect.{Effect}
+use Rattle.tbl_core.proofs.Verdicts.{none_judged}
+
+-- which boot stands behind a request that isn't a Reset
+boot_at : (request : Request) → is_reset request ≡ false → boot_in request Stopped ≡ Some Processor
+boot_at (ask.Reset kind) plain = absurd (cc plain)
+boot_at request plain = refl
+
+no_boot_at : (request : Request) → is_reset request ≡ false → (boot_in request Untouched ≡ None) × (boot_in request Done ≡ None) × (boot_in request Failed ≡ None)
+no_boot_at (ask.Reset kind) plain = absurd (cc plain)
+no_boot_at request plain = (refl, refl, refl)
+
+-- with what a boot behind it told, where it was stopped
+module _ (request : Request) (plain : is_reset request ≡ false) (called : BankNote) (no_boot : NoBoot called) (left : Blocks) (ended stopped : Bool) (found : List ℕ) (same : called.outcome ≢ Stopped → with_boot ended stopped found called ≡ called) where
+  abbrev told_note : BankNote
+  told_note = with_boot ended stopped found called
+
+  kind_is : (outcome : Outcome) (kind : Option ResetKind) → called.outcome ≡ outcome → boot_in request outcome ≡ kind → Boots kind left told_note → Boots (boot_in request called.outcome) left told_note
+  kind_is outcome kind at is boots = subst (λ (b : Option ResetKind). Boots b left told_note) (sym (ap (boot_in request) at ∙ is)) boots
+
+  none : called.outcome ≢ Stopped → Boots None left told_note
+  none goes = subst (λ (n : BankNote). Boots None left n) (sym (same goes)) (no_boot.found, no_boot.ended, no_boot.stopped)
+
+  boots_at : (called.outcome ≡ Stopped → Boots (Some Processor) left told_note) → Boots (boot_in request called.outcome) left told_note
+  boots_at boots = by called.outcome refl where
+    by : (outcome : Outcome) → called.outcome ≡ outcome → Boots (boot_in request called.outcome) left told_note
+    by Stopped at = kind_is Stopped (Some Processor) at (boot_at request plain) (boots at)
+    by Untouched at = kind_is Untouched None at (no_boot_at request plain).0 (none (λ stop. cc (at, stop)))
+    by Done at = kind_is Done None at (no_boot_at request plain).1 (none (λ stop. cc (at, stop)))
+    by Failed at = kind_is Failed None at (no_boot_at request plain).2 (none (λ stop. cc (at, stop)))
+
+module _ {B C : Type 0} (tells : Type 0) (now : B → List ℕ) (tells_moments : Type 0) (clock : B → ℕ) (left_since : B → ℕ → List ℕ → Type 0) (faults stops : B → ℕ) (verdict : C → List ℕ → ℤ) (asked : C → ℕ) (old new : Held B C) (request : Request) (done : Effect) where
+  -- what it did to the state before its calls, and what it asked
+  pub has_called : (plain : is_reset request ≡ false) (no_boot : NoBoot done.note) (s after : State) (questions : List Question) (e : model.Effect) (ended stopped : Bool) (found : List ℕ)
+      (same : done.note.outcome ≢ Stopped → with_boot ended stopped found done.note ≡ done.note) → IsCalled tells now tells_moments clock left_since old.store new.store after questions done (with_boot ended stopped found done.note) e
+      → after.store ≡ s.store → Stands after.store new after → Judged verdict asked old.kit new.kit questions done.verdicts → RestoresHeld (now old.store.bank) e.calls s.store (with_boot ended stopped found done.note)
+      → HasEffect tells now tells_moments clock left_since verdict asked old new request s done (with_boot ended stopped found done.note) e
+  has_called plain no_boot s after questions e ended stopped found same c kept stands judged gave =
+      let note = with_boot ended stopped found done.note in
+      let left = left_by e.calls note after.store in record {
+        before = record after { store = left };
+        holds = record {
+          parts = record {
+            tables = stands.tables;
+            pending = stands.pending;
+            store = refl;
+            drawer = stands.drawer;
+            apps = stands.apps;
+            kit = stands.kit;
+            seconds = stands.seconds;
+            sub = stands.sub;
+            ended = stands.ended;
+          };
+          blocks = λ _. c.blocks;
+        };
+        effect = record {
+          status = c.effect.status;
+          detail = c.effect.detail;
+          bytes = c.effect.bytes;
+          table = c.effect.table;
+          deeds = c.effect.deeds;
+          shown = c.effect.shown;
+          asked = refl;
+          calls = refl;
+          notice = c.effect.notice;
+          next = c.effect.next;
+        };
+        judged = subst (λ (questions : List Question). Judged verdict asked old.kit new.kit questions done.verdicts) (sym c.effect.asked) judged;
+        gave = gave;
+        left = λ _. ap (λ (store : Blocks). left_by e.calls note store) kept;
+        writing = c.writing;
+        moments = λ m. leaves_among (c.moments m) (λ image during. inl (subst (λ (store : Blocks). DuringCalls (writes e.calls) store (store_of image)) kept during));
+        noted = λ boots. subst (λ (store : Blocks). IsNoteOf request e.calls store note) kept
+            (record { ends = c.ends; gave = c.gave; tells = c.says; boots = boots_at request plain done.note no_boot left ended stopped found same boots });
+      }
+
+  module _ (held : new ≡ record old { store = new.store; tables = new.tables }) (live : old.ended ≡ false) (call : IsCall faults stops old.store new.store done) where
+    unasked : (questions : List Question) → questions ≡ [] → Judged verdict asked old.kit new.kit questions done.verdicts
+    unasked questions none =
+        let same : new.kit ≡ old.kit = ap (λ (h : Held B C). h.kit) held in
+        rw (same, call.verdicts) (none_judged verdict asked old.kit questions untouched (None ∷ None ∷ []) none refl)
+
+    pub call_makes : ((n : ℕ) → AreFit n (state_of old) → AreFit (suc n) (record (state_of old) { tables = new.tables })) → Makes asked verdict faults stops 0 0 false old new done
+    call_makes fit =
+        let goes : new.ended ≡ false = ap (λ (h : Held B C). h.ended) held ∙ live in record {
+          fit = λ n was. subst (AreFit (suc n)) (ap state_of (sym held)) (fit n was);
+          judged = ([], unasked [] refl);
+          two = rw call.verdicts refl;
+          within = call.within;
+          booted = call.booted ∙ sym (ap not goes);
+          ended = goes ∙ sym call.no_boot.ended;
+          stopped = λ is. (call.stopped is, call.no_boot);
+          trouble = call.trouble;
+          cause = call.cause;
+        }
+
+    -- where the model's effect is this
+    pub call_meets : (means : State → BankNote → model.Effect) (calls : tells → (s : State) → HoldsAll tells now old s → Calls tells now tells_moments clock left_since old.store new.store (record s { tables = new.tables }) done (means s)) (plain : is_reset request ≡ false)
+        (gave : tells → (s : State) → HoldsAll tells now old s → (ended stopped : Bool) (found : List ℕ) → RestoresHeld (now old.store.bank) (means s (with_boot ended stopped found done.note)).calls s.store (with_boot ended stopped found done.note))
+        → Meets tells now tells_moments clock left_since verdict asked old new request (λ s given. Some (means s given.note)) done
+    call_meets means calls plain gave told s holds note follows =
+        subst (λ (n : BankNote). HasEffect tells now tells_moments clock left_since verdict asked old new request s done n (means s n)) (sym follows.is)
+        (has_called plain call.no_boot s (record s { tables = new.tables }) [] (means s (with_boot follows.ended follows.stopped follows.found done.note)) follows.ended follows.stopped follows.found (λ goes. sym follows.is ∙ follows.same goes)
+        (calls told s holds follows.ended follows.stopped follows.found) refl (record {
+          tables = refl;
+          pending = holds.parts.pending ∙ sym (ap (λ (h : Held B C). h.pending) held);
+          store = refl;
+          drawer = holds.parts.drawer ∙ sym (ap (λ (h : Held B C). h.drawer) held);
+          apps = holds.parts.apps ∙ sym (ap (λ (h : Held B C). h.apps) held);
+          kit = holds.parts.kit ∙ sym (ap (λ (h : Held B C). owners h.kit) held);
+          seconds = holds.parts.seconds ∙ sym (ap (λ (h : Held B C). h.seconds) held);
+          sub = holds.parts.sub ∙ sym (ap (λ (h : Held B C). h.sub) held);
+          ended = holds.parts.ended ∙ sym (ap (λ (h : Held B C). h.ended) held);
+        }) (unasked [] refl) (gave told s holds follows.ended follows.stopped follows.found))
+
+  -- tables stay
+  module _ (held : new ≡ record old { store = new.store }) (live : old.ended ≡ false) (call : IsCall faults stops old.store new.store done) where
+    same_tables : new ≡ record old { store = new.store; tables = new.tables }
+    same_tables = held ∙ ap (λ (tables : Tables). record old { store = new.store; tables = tables }) (sym (ap (λ (h : Held B C). h.tables) held))
+
+    pub block_makes : Makes asked verdict faults stops 0 0 false old new done
+    block_makes = call_makes same_tables live call (λ n fit. subst (λ (tables : Tables). AreFit (suc n) (record (state_of old) { tables = tables })) (sym (ap (λ (h : Held B C). h.tables) held)) (grown n (state_of old) fit))
+
+    pub block_meets : (means : State → BankNote → model.Effect) (calls : tells → (s : State) → HoldsAll tells now old s → Calls tells now tells_moments clock left_since old.store new.store s done (means s)) (plain : is_reset request ≡ false)
+        (gave : tells → (s : State) → HoldsAll tells now old s → (ended stopped : Bool) (found : List ℕ) → RestoresHeld (now old.store.bank) (means s (with_boot ended stopped found done.note)).calls s.store (with_boot ended stopped found done.note))
+        → Meets tells now tells_moments clock left_since verdict asked old new request (λ s given. Some (means s given.note)) done
+    block_meets means calls = call_meets same_tables live call means
+        (λ told s holds. subst (λ (tables : Tables). Calls tells now tells_moments clock left_since old.store new.store (record s { tables = tables }) done (means s)) (holds.parts.tables ∙ sym (ap (λ (h : Held B C). h.tables) held)) (calls told s holds))
+
+-- ---- the command that deletes a block
+
+pub deletes : (request : Request) (name : List ℕ) → asked_in request ≡ Some (Ok (delete_cds name)) → (is_reset request ≡ false) × ((s : State) (given : Given) → effect_of s Ground request given ≡ Some (delete_cds_effect s name given.note))
+deletes (ask.Command bytes) name is = (
+  refl,
+  λ s given. ap (λ (r : Result GroundCommand Answer). Some (effect_by s r given.note)) (same_Some (command_in bytes.list) (Ok (delete_cds name)) is),
+)
+deletes request name is = absurd (cc is)

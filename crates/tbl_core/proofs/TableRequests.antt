@@ -1,0 +1,124 @@
+-- A request about tables was made: the parts stand for the state that it leaves, over the same blocks.
+use Rattle.std.proofs.Common.{◌≡◌, ◌∙◌, ℕ, suc, List, [], Bool, true, false, Option, Some, None, ℤ, refl, sym, ap, subst, inl, arith}
+use Rattle.tbl_kinds.specs.Notes.{untouched}
+use Rattle.tbl_kinds.specs.Blocks.{Store as Blocks}
+use Rattle.tbl_kinds.specs.StoreCalls.{StoreCall}
+use Rattle.tbl_model.specs.State.{State}
+use Rattle.tbl_model.specs.Effects as model
+use Rattle.tbl_model.specs.BankCounts.{HasCause}
+use Rattle.tbl_model.specs.Counts.{is_reset}
+use Rattle.tbl_model.specs.Dispatch.{effect_of}
+use Rattle.tbl_model.specs.StoreNotes.{IsNoteOf}
+use Rattle.tbl_model.proofs.NoteLaws.{may_be_untouched}
+use Rattle.tbl_laws.specs.Fit.{AreFit}
+use Rattle.tbl_laws.proofs.Cases.{OfEffect}
+use Rattle.tbl_laws.proofs.Causes.{caused}
+use Rattle.tbl_laws.proofs.Ordinary.{IsOrdinary, ordinary}
+use Rattle.cds_store.specs.Standing.{StoreParts, StandsFor as HasBlocks}
+use Rattle.tbl_kinds.specs.declared.note.BankNote.{BankNote}
+use Rattle.tbl_kinds.specs.declared.request.Actor.{Actor}
+use Rattle.tbl_kinds.specs.declared.request.Request.{Request}
+use Rattle.tbl_outside.specs.declared.validator.KitEntry.{KitEntry}
+use Rattle.tbl_laws.specs.Crashes.{DuringCalls, writes}
+use Rattle.tbl_outside.proofs.Moments.{leaves_among}
+use Rattle.cds_layout.specs.Images.{store_of}
+use Rattle.tbl_core.specs.Called.{Leaving, boots_behind, RestoresHeld}
+use Rattle.tbl_core.specs.Effects.{IsEffect, given_of}
+use Rattle.tbl_core.specs.Service.{Held, Stands, state_of, Leaves, Asks, Does, HasEffect, Has, Makes, Meets}
+use Rattle.tbl_core.specs.Verdicts.{Judged}
+use Rattle.tbl_core.specs.declared.effect.Effect.{Effect}
+
+-- ---- what the parts stand for
+
+-- over these blocks they stand for such a state
+pub stands_in : {B C : Type 0} (held : Held B C) → Stands [] held (state_of held)
+stands_in held = record { tables = refl; pending = refl; store = refl; drawer = refl; apps = refl; kit = refl; seconds = refl; sub = refl; ended = refl }
+
+-- and for no other
+pub state_is : {B C : Type 0} (held : Held B C) (blocks : Blocks) (s : State) → Stands blocks held s → s ≡ record (state_of held) { store = blocks }
+state_is held blocks s stands = λ i. record {
+  tables = stands.tables i;
+  pending = stands.pending i;
+  store = stands.store i;
+  drawer = stands.drawer i;
+  apps = stands.apps i;
+  kit = stands.kit i;
+  seconds = stands.seconds i;
+  sub = stands.sub i;
+  ended = stands.ended i;
+}
+
+-- no blocks count for what is fit
+pub fit_without : (n : ℕ) (blocks : Blocks) (s : State) → AreFit n (record s { store = blocks }) → AreFit n s
+fit_without n blocks s fit = record { each = fit.each; few_pending = fit.few_pending }
+
+-- ---- requests about tables
+
+-- the effect that the parts stand behind
+pub effect_left : {B C : Type 0} (blocks : Blocks) (done : Effect) (held : Held B C) (found : Option model.Effect) → Leaves blocks done held found → (e : model.Effect) × (found ≡ Some e) × (IsEffect done e.asked e.next e) × (Stands blocks held e.next)
+effect_left blocks done held None leaves = absurd leaves
+effect_left blocks done held (Some e) leaves = (e, refl, leaves.0, leaves.1)
+
+-- what its effect asks
+pub asked_there : {C : Type 0} (verdict : C → List ℕ → ℤ) (asked : C → ℕ) (old new : List (Option (KitEntry C))) (verdicts : List (Option ℤ)) (found : Option model.Effect) (e : model.Effect)
+    → found ≡ Some e → Asks verdict asked old new verdicts found → Judged verdict asked old new e.asked verdicts
+asked_there verdict asked old new verdicts found e is asks = subst (Asks verdict asked old new verdicts) is asks
+
+module _ {B C : Type 0} (tells : Type 0) (now : B → List ℕ) (faults stops : B → ℕ) (verdict : C → List ℕ → ℤ) (asked : C → ℕ) (most room : ℕ) (owes : Bool) (old new : Held B C) (actor : Actor) (request : Request) (done : Effect)
+    (does : Does verdict asked most room owes old new (λ s given. effect_of s actor request given) done) (live : old.ended ≡ false) (so_many : ℕ) (fits : AreFit so_many (state_of old)) where
+  -- without blocks
+  left : (e : model.Effect) × (effect_of (state_of old) actor request (given_of done) ≡ Some e) × (IsEffect done e.asked e.next e) × (Stands [] new e.next)
+  left = effect_left [] done new _ (does.effect (state_of old) (stands_in old))
+
+  ordinary_left : (n : ℕ) → AreFit n (state_of old) → IsOrdinary n done.note left.0
+  ordinary_left n fit = subst (OfEffect (IsOrdinary n done.note)) left.1 (ordinary (state_of old) n live fit actor request (given_of done))
+
+  goes : new.ended ≡ false
+  goes = sym left.3.ended ∙ (ordinary_left so_many fits).live (rw does.note refl)
+
+  pub table_makes : old.store.booted ≡ true → Makes asked verdict faults stops most room owes old new done
+  table_makes booted = record {
+    fit = λ n fit. fit_without (suc n) [] (state_of new) (subst (AreFit (suc n)) (state_is new [] left.0.next left.3) (ordinary_left n fit).fit);
+    judged = (left.0.asked, asked_there verdict asked old.kit new.kit done.verdicts _ left.0 left.1 (does.asks (state_of old) (stands_in old)));
+    two = does.two;
+    within = does.within;
+    booted = rw (does.store, booted, goes) refl;
+    ended = rw (goes, does.note) refl;
+    stopped = rw does.note (λ is. absurd (cc is));
+    trouble = rw (does.store, does.note) (record { fault_count = omega arith; stop_count = omega arith; fault = inl (omega arith); stop = inl (omega arith) });
+    cause = rw (← left.2.status) (subst (OfEffect (λ e. HasCause e.status done.note)) left.1 (caused (state_of old) (given_of done) actor request));
+  }
+
+  pub table_meets : (tells_moments : Type 0) (clock : B → ℕ) (left_since : B → ℕ → List ℕ → Type 0) → (tells → (blocks : Blocks) → HasBlocks tells now old.store blocks → Leaving tells_moments clock left_since old.store new.store (DuringCalls [] blocks))
+      → is_reset request ≡ false → Meets tells now tells_moments clock left_since verdict asked old new request (λ s given. effect_of s actor request given) done
+  table_meets tells_moments clock left_since moved plain told s holds note follows =
+      let same : note ≡ done.note = follows.same (rw does.note (λ is. cc is)) in
+      let found = effect_left s.store done new _ (does.effect s holds.parts) in
+      let noted : untouched ≡ done.note = sym does.note in
+      let had : HasEffect tells now tells_moments clock left_since verdict asked old new request s done done.note found.0 = record {
+        before = found.0.next;
+        holds = record {
+          parts = subst (λ (blocks : Blocks). Stands blocks new found.0.next) (sym found.3.store) found.3;
+          blocks = λ is. subst (λ (kept : StoreParts B). HasBlocks tells now kept found.0.next.store) (sym does.store) (subst (λ (blocks : Blocks). HasBlocks tells now old.store blocks) (sym found.3.store) (holds.blocks live));
+        };
+        effect = record {
+          status = found.2.status;
+          detail = found.2.detail;
+          bytes = found.2.bytes;
+          table = found.2.table;
+          deeds = found.2.deeds;
+          shown = found.2.shown;
+          asked = refl;
+          calls = refl;
+          notice = found.2.notice;
+          next = ap (λ (n : BankNote). boots_behind n.outcome n found.0.next) noted;
+        };
+        judged = asked_there verdict asked old.kit new.kit done.verdicts _ found.0 found.1 (does.asks s holds.parts);
+        gave = subst (λ (calls : List StoreCall). RestoresHeld (now old.store.bank) calls s.store done.note) (sym found.2.calls) tt;
+        left = λ stop. absurd (cc (stop, does.note));
+        writing = λ stop. absurd (cc (stop, does.note));
+        moments = λ m. leaves_among (moved told s.store (holds.blocks live) m) (λ image during. inl (subst (λ (calls : List StoreCall). DuringCalls (writes calls) s.store (store_of image)) (sym found.2.calls) during));
+        noted = λ _. subst (IsNoteOf request found.0.calls s.store) noted (subst (λ (calls : List StoreCall). IsNoteOf request calls s.store untouched) (sym found.2.calls) (may_be_untouched request s.store plain));
+      } in
+      subst (λ (n : BankNote). Has tells now tells_moments clock left_since verdict asked old new request s done n (effect_of s actor request (record { note = n; verdicts = done.verdicts }))) (sym same)
+      (subst (Has tells now tells_moments clock left_since verdict asked old new request s done done.note) (sym found.1) had)
