@@ -11,9 +11,9 @@ ghost use Rattle.tbl_core.specs.Called.{CallsBehind};
 ghost use Rattle.tbl_core.specs.Copying.{IsFresh, IsCopied, IsCopyCall};
 ghost use Rattle.tbl_core.specs.Effects.{IsEffect};
 
-use crate::blocks::sized_block;
 use crate::effect::Effect;
 use crate::notes::{note_broken, note_done, note_room};
+use crate::table_blocks::sized_block;
 use bitflags::Flags;
 use cds_store::{BankFault, Store};
 use std::alloc::Global;

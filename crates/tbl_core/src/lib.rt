@@ -23,12 +23,14 @@ mod loads;
 mod log;
 mod management;
 mod notes;
+mod own_blocks;
 mod packets;
 mod parts;
 mod registration;
 mod registry;
 mod service;
 mod subjects;
+mod table_blocks;
 mod tally;
 mod validations;
 

@@ -23,9 +23,9 @@ ghost use Rattle.sharing.specs.Registering.{next_row, planned, CanRegister};
 ghost use Rattle.tbl_core.specs.Called.{GaveHeld, RestoresHeld, Calls, IsCall, done_note, with_boot};
 ghost use Rattle.tbl_core.specs.Registering.{Enters, EntersBroken, EntersRestored, EntersReserved, Restores, AtMostOne, recovery, making};
 
-use crate::blocks::sized_block;
 use crate::effect::Effect;
 use crate::notes::{note_broken, note_done, note_room, noted};
+use crate::table_blocks::sized_block;
 use bitflags::Flags;
 use buffer_pairs::Image;
 use cds_store::{BankFault, ReserveFault, RestoreFault, Store};

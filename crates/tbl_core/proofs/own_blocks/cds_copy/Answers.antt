@@ -9,7 +9,7 @@ use Rattle.tbl_core.proofs.Both.{one}
 use Rattle.tbl_core.proofs.Calls.{told_with, calls_none, calls_same}
 use Rattle.tbl_core.proofs.OwnBlocks.{copy_means, no_copy}
 use Rattle.tbl_core.proofs.Moments.{uncalled_leaves}
-use Rattle.tbl_core.proofs.blocks.cds_copy.Goals as goal
+use Rattle.tbl_core.proofs.own_blocks.cds_copy.Goals as goal
 
 pub returns-in-Ok-clause-effect : goal.returns-in-Ok-clause-effect
 returns-in-Ok-clause-effect g c = one c.copy_into.result _ _ c.copy_into.ensures.effect (λ done is tells s apps stands.

@@ -8,7 +8,7 @@ use Rattle.tbl_core.proofs.Both.{one}
 use Rattle.tbl_core.proofs.Calls.{told_with, calls_none, calls_same}
 use Rattle.tbl_core.proofs.OwnBlocks.{delete_means, no_delete}
 use Rattle.tbl_core.proofs.Moments.{uncalled_leaves}
-use Rattle.tbl_core.proofs.blocks.cds_delete.Goals as goal
+use Rattle.tbl_core.proofs.own_blocks.cds_delete.Goals as goal
 
 pub returns-in-Ok-clause-effect : goal.returns-in-Ok-clause-effect
 returns-in-Ok-clause-effect g c = one c.delete.result _ _ c.delete.ensures.effect (λ done is tells s apps stands.

@@ -1,7 +1,7 @@
 use Rattle.std.proofs.Common.{ap}
 use Rattle.tbl_core.specs.Called.{call_note}
 use Rattle.tbl_core.proofs.Calls.{told_with, copy_called}
-use Rattle.tbl_core.proofs.blocks.copy_into.Goals as goal
+use Rattle.tbl_core.proofs.own_blocks.copy_into.Goals as goal
 
 pub returns-clause-effect : goal.returns-clause-effect
 returns-clause-effect g c = λ tells s stands.

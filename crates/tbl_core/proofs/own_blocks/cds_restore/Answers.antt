@@ -15,7 +15,7 @@ use Rattle.tbl_kinds.specs.declared.note.Outcome.TheVariants.{Done}
 use Rattle.cds_store.specs.Standing.{StandsFor}
 use Rattle.tbl_core.specs.Called.{GaveHeld}
 use Rattle.tbl_core.proofs.Moments.{uncalled_leaves}
-use Rattle.tbl_core.proofs.blocks.cds_restore.Goals as goal
+use Rattle.tbl_core.proofs.own_blocks.cds_restore.Goals as goal
 
 pub returns-in-Ok-clause-effect : goal.returns-in-Ok-clause-effect
 returns-in-Ok-clause-effect g c = one c.restore_from.result _ _ c.restore_from.ensures.effect (λ done is tells s apps stands.

@@ -5,7 +5,7 @@ use Rattle.tbl_model.specs.Effects.{named}
 use Rattle.tbl_model.specs.AppBlocks.{any_of, delete_table_block, delete_cds_effect}
 use Rattle.tbl_core.proofs.Calls.{calls_about}
 use Rattle.tbl_core.proofs.OwnBlocks.{subject_is, some_named}
-use Rattle.tbl_core.proofs.blocks.delete_cds.Goals as goal
+use Rattle.tbl_core.proofs.table_blocks.delete_cds.Goals as goal
 
 pub returns-clause-effect : goal.returns-clause-effect
 unfolding delete_cds_effect

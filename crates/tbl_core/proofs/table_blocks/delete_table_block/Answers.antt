@@ -8,7 +8,7 @@ use Rattle.tbl_model.specs.AppBlocks.{faulted, any_of, delete_table_block}
 use Rattle.tbl_core.proofs.Both.{one}
 use Rattle.tbl_core.proofs.Calls.{calls_same}
 use Rattle.tbl_core.proofs.OwnBlocks.{table_means}
-use Rattle.tbl_core.proofs.blocks.delete_table_block.Goals as goal
+use Rattle.tbl_core.proofs.table_blocks.delete_table_block.Goals as goal
 
 pub returns-in-Some-2-clause-effect : goal.returns-in-Some-2-clause-effect
 returns-in-Some-2-clause-effect g c = one c.delete.result _ _ c.delete.ensures.effect (λ done is tells s row registered stands.

@@ -1,7 +1,7 @@
 use Rattle.std.proofs.Common.{rules}
 use Rattle.tbl_kinds.specs.declared.block.BlockKind.TheVariants.{Table}
 use Rattle.tbl_core.proofs.CopyEnds.{open_of_size}
-use Rattle.tbl_core.proofs.blocks.sized_block.Goals as goal
+use Rattle.tbl_core.proofs.table_blocks.sized_block.Goals as goal
 
 pub returns-then-block-size-clause-sized : goal.returns-then-block-size-clause-sized
 returns-then-block-size-clause-sized g c =

@@ -2,7 +2,7 @@ use Rattle.std.proofs.Common.{◌≡◌, ◌∙◌, ap, sym, ℕ, length, true, 
 use Rattle.std.specs.Prelude.{◌==◌, ◌&&◌, slice_get}
 use Rattle.std.specs.List.{starts_with}
 use Rattle.tbl_core.proofs.OwnBlocks.{is_dot, got, named_by}
-use Rattle.tbl_core.proofs.blocks.is_named_by.Goals as goal
+use Rattle.tbl_core.proofs.own_blocks.is_named_by.Goals as goal
 
 pub returns-then-not-starts_with : goal.returns-then-not-starts_with
 returns-then-not-starts_with c =

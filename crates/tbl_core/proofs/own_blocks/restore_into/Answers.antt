@@ -10,7 +10,7 @@ use Rattle.tbl_core.specs.Called.{done_note, broken_note}
 use Rattle.tbl_core.proofs.Calls.{block_there, held_image, told_with, given_called, gives_image, torn_called, torn_told, unread_called}
 use Rattle.std.specs.Prelude.{[]}
 use Rattle.tbl_core.proofs.Moments.{read_leaves}
-use Rattle.tbl_core.proofs.blocks.restore_into.Goals as goal
+use Rattle.tbl_core.proofs.own_blocks.restore_into.Goals as goal
 
 pub returns-in-Ok-clause-effect : goal.returns-in-Ok-clause-effect
 returns-in-Ok-clause-effect g c = λ tells s stands.

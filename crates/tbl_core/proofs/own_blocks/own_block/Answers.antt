@@ -1,7 +1,7 @@
 use Rattle.std.proofs.Common.{◌∙◌, ap, sym}
 use Rattle.sharing.specs.Apps.{app_name}
 use Rattle.tbl_core.proofs.OwnBlocks.{own_found}
-use Rattle.tbl_core.proofs.blocks.own_block.Goals as goal
+use Rattle.tbl_core.proofs.own_blocks.own_block.Goals as goal
 
 pub returns-in-Some-find_own-clause-ok : goal.returns-in-Some-find_own-clause-ok
 returns-in-Some-find_own-clause-ok g c = λ s effect apps stands.
