@@ -21,8 +21,8 @@ pub bad_is_some : (rest : List ℕ) → IsBad rest → rest ≡ [] → ⊥
 unfolding is_bad
 bad_is_some rest bad none = let h : IsBad [] = subst IsBad none bad in cc
 
-module _ {B C : Type 0} (tells : Type 0) (faults stops : B → ℕ) (verdict : C → List ℕ → ℤ) (given : List (Option (KitEntry C))) (opening : State) (bank bank_then : B) (read input left : List ℕ) (at_end read_failed : Type 0) (result : ℕ) (before after : Option (List ℕ))
-    (s : Session tells faults stops verdict given opening bank bank_then read at_end read_failed result before after) (parts : input ≡ read ++ left) (whole : IsWellFormed input) where
+module _ {B C : Type 0} (tells tells_moments : Type 0) (faults stops : B → ℕ) (may_leave : B → List ℕ → Type 0) (clock : B → ℕ) (left_since : B → ℕ → List ℕ → Type 0) (verdict : C → List ℕ → ℤ) (given : List (Option (KitEntry C))) (opening : State) (bank bank_then : B) (read input left : List ℕ) (at_end read_failed : Type 0) (result : ℕ) (before after : Option (List ℕ))
+    (s : Session tells tells_moments faults stops may_leave clock left_since verdict given opening bank bank_then read at_end read_failed result before after) (parts : input ≡ read ++ left) (whole : IsWellFormed input) where
   -- where no record can follow, nothing is left at all
   nothing_left : EndsBefore (pairs_of s.entries) (s.rest ++ left) → s.rest ++ left ≡ []
   nothing_left ends = no_rest (pairs_of s.entries) whole.pairs (s.rest ++ left) s.each whole.each whole.few ends
@@ -49,19 +49,19 @@ rest_of_input : (left_new : Option (List ℕ)) (read input : List ℕ) → Some 
 rest_of_input None read input e = absurd cc
 rest_of_input (Some xs) read input e = (xs, refl, cc)
 
-module _ {B C : Type 0} (tells : Type 0) (faults stops : B → ℕ) (verdict : C → List ℕ → ℤ) (given : List (Option (KitEntry C))) (opening : State) (bank bank_then : B) (read : List ℕ) (left_new : Option (List ℕ)) (read_failed : Type 0) (result : ℕ) (before after : Option (List ℕ)) (a b c d : ℕ)
-    (s : Session tells faults stops verdict given opening bank bank_then read (IsAtEnd left_new) read_failed result before after) (source : result ≡ 3 → Rose a b) (sink : result ≡ 4 → Rose c d)
+module _ {B C : Type 0} (tells tells_moments : Type 0) (faults stops : B → ℕ) (may_leave : B → List ℕ → Type 0) (clock : B → ℕ) (left_since : B → ℕ → List ℕ → Type 0) (verdict : C → List ℕ → ℤ) (given : List (Option (KitEntry C))) (opening : State) (bank bank_then : B) (read : List ℕ) (left_new : Option (List ℕ)) (read_failed : Type 0) (result : ℕ) (before after : Option (List ℕ)) (a b c d : ℕ)
+    (s : Session tells tells_moments faults stops may_leave clock left_since verdict given opening bank bank_then read (IsAtEnd left_new) read_failed result before after) (source : result ≡ 3 → Rose a b) (sink : result ≡ 4 → Rose c d)
     (fault : result ≡ 7 → RoseBy 1 (faults bank) (faults bank_then)) (stop : result ≡ 8 → RoseBy 1 (stops bank) (stops bank_then)) where
   by_status : (input left : List ℕ) → left_new ≡ Some left → input ≡ read ++ left → IsWellFormed input → ¬ Rose a b → ¬ Rose c d → IsStatus result → PlaysThrough faults stops bank bank_then result left_new
   by_status input left is parts whole calm_source calm_sink (inl (inl zero)) = inl (zero, is ∙ ap Some (at_end_is left_new left is (s.ends.done zero).1))
   by_status input left is parts whole calm_source calm_sink (inl (inr (inl three))) = absurd (calm_source (source three))
   by_status input left is parts whole calm_source calm_sink (inl (inr (inr (inl five)))) =
       absurd (elim (s.ends.bad five).1 [
-        | inl bad ↦ not_bad tells faults stops verdict given opening bank bank_then read input left (IsAtEnd left_new) read_failed result before after s parts whole bad
-        | inr short ↦ not_short tells faults stops verdict given opening bank bank_then read input left (IsAtEnd left_new) read_failed result before after s parts whole (at_end_is left_new left is short.1) short.0
+        | inl bad ↦ not_bad tells tells_moments faults stops may_leave clock left_since verdict given opening bank bank_then read input left (IsAtEnd left_new) read_failed result before after s parts whole bad
+        | inr short ↦ not_short tells tells_moments faults stops may_leave clock left_since verdict given opening bank bank_then read input left (IsAtEnd left_new) read_failed result before after s parts whole (at_end_is left_new left is short.1) short.0
       ])
   by_status input left is parts whole calm_source calm_sink (inl (inr (inr (inr six)))) =
-      absurd (not_full tells faults stops verdict given opening bank bank_then read input left (IsAtEnd left_new) read_failed result before after s parts whole (s.ends.full six).0 (s.ends.full six).1)
+      absurd (not_full tells tells_moments faults stops may_leave clock left_since verdict given opening bank bank_then read input left (IsAtEnd left_new) read_failed result before after s parts whole (s.ends.full six).0 (s.ends.full six).1)
   by_status input left is parts whole calm_source calm_sink (inr (inl (inl seven))) = inr (inr (inl (seven, fault seven)))
   by_status input left is parts whole calm_source calm_sink (inr (inl (inr eight))) = inr (inr (inr (eight, stop eight)))
   by_status input left is parts whole calm_source calm_sink (inr (inr (inl one))) = inr (inl one)

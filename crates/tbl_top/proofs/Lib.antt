@@ -1,7 +1,10 @@
 pub mod WritingLemmas
 pub mod TroubleLemmas
+pub mod CrashesOnward
+pub mod CrashLemmas
 pub mod PlayingLemmas
 pub mod FeedingLemmas
 pub mod ReadingLemmas
 pub mod SessionLemmas
 pub mod CompletenessLemmas
+pub mod RecoveredLaws

@@ -1,11 +1,13 @@
 -- From the end of the reading to the session that was told.
-use Rattle.std.proofs.Common.{◌≡◌, ◌≢◌, ℕ, eqb, Bool, true, false, List, [], length, Option, refl, sym, ap, subst, ◌∙◌, arith, ◌⊎◌, inl, inr, ℤ}
+use Rattle.std.proofs.Common.{◌≡◌, ◌≢◌, ◌≤◌, ℕ, eqb, Bool, true, false, List, [], length, Option, refl, sym, ap, subst, ◌∙◌, arith, ◌⊎◌, inl, inr, ℤ}
 use Rattle.std.specs.Prelude.{if◌then◌else◌}
 use Rattle.std.specs.Io.KnownBytes.{append_known}
 use Rattle.std.proofs.lemmas.Bool.{eqb-true}
 use Rattle.std.proofs.lemmas.List.{nil_from_length, length-map}
 use Rattle.tbl_model.specs.State.{State, no_tables}
 use Rattle.std.proofs.lemmas.Bool.Decides.{nat_tests}
+use Rattle.tbl_kinds.specs.StoreSteps.{Shows}
+use Rattle.cds_layout.specs.Images.{store_of}
 use Rattle.tbl_kinds.specs.Heads.{IsShort, IsBad, is_short, is_bad, EndsBefore}
 use Rattle.tbl_kinds.proofs.RecordLaws.{are_records}
 use Rattle.tbl_kinds.specs.Transcript.{pair_of, pairs_of, entries_bytes, end_bytes, offset_of, transcript}
@@ -15,6 +17,8 @@ use Rattle.tbl_core.specs.Service.{CoreView, Vouches, StartCounted}
 use Rattle.tbl_core.specs.declared.service.StartFault.{StartFault}
 use Rattle.tbl_core.specs.declared.service.StartFault.TheVariants.{Memory as NoMemory, BootFault as FirstFault, BootStopped as FirstStopped}
 use Rattle.tbl_core.proofs.Keeping.{keeps}
+use Rattle.tbl_laws.specs.Backed.{AreSingle}
+use Rattle.tbl_laws.proofs.BackedLaws.{backed}
 use Rattle.tbl_laws.proofs.VouchedLaws as laws
 use Rattle.tbl_laws.proofs.WholeLaws.{whole}
 use Rattle.tbl_outside.specs.Streams.{TakesFront}
@@ -22,6 +26,9 @@ use Rattle.tbl_outside.proofs.Streams.{append_known-nil, written_more, front_of_
 use Rattle.tbl_top.specs.Playing.{Playing, IsBeginning, IsSession, IsWritten}
 use Rattle.tbl_top.specs.Standing.{Leaves, TellsWritten, TellsBoot}
 use Rattle.tbl_top.specs.Trouble.{Rises, IsCaused}
+use Rattle.tbl_top.specs.Crashes.{Survives}
+use Rattle.tbl_top.proofs.CrashLemmas.{no_moments, no_exit}
+use Rattle.tbl_outside.specs.Bank.{LeavesOnly}
 use Rattle.tbl_outside.specs.Counts.{Rose}
 use Rattle.tbl_core.specs.Called.{RoseBy}
 use Rattle.tbl_top.proofs.TroubleLemmas.{still_lives, one_boot, no_last, rose_once, rose_never, rose_by_fault, rose_by_stop}
@@ -264,8 +271,8 @@ not_sink Unwritten failed whole is = λ e. omega (arith, e)
 
 -- ---- the session
 
-module _ {B C : Type 0} (tells : Type 0) (now : B → List ℕ) (faults stops : B → ℕ) (verdict : C → List ℕ → ℤ) (given : List (Option (KitEntry C))) (opening : State) (bank : B) (p : Playing B C) (read : List ℕ) (failed : Bool) (at_end read_failed : Type 0) (result : ℕ) (before mid after : Option (List ℕ)) (sink_faults sink_then : ℕ)
-    (at_first : opening.tables ≡ no_tables) (unasked : opening.pending ≡ []) (vouched : Vouches tells now verdict given opening p.core) (caused : IsCaused faults stops bank p.core) (session : IsSession p.core) (ends : EndsReading p read failed at_end) (cause : failed ≡ true → read_failed) (boot : TellsBoot p.standing p.core) where
+module _ {B C : Type 0} (tells tells_moments : Type 0) (now : B → List ℕ) (faults stops : B → ℕ) (may_leave : B → List ℕ → Type 0) (clock : B → ℕ) (left_since : B → ℕ → List ℕ → Type 0) (verdict : C → List ℕ → ℤ) (given : List (Option (KitEntry C))) (opening : State) (bank : B) (p : Playing B C) (read : List ℕ) (failed : Bool) (at_end read_failed : Type 0) (result : ℕ) (before mid after : Option (List ℕ)) (sink_faults sink_then : ℕ)
+    (at_first : opening.tables ≡ no_tables) (unasked : opening.pending ≡ []) (single : AreSingle opening.store) (vouched : Vouches tells now verdict given opening p.core) (caused : IsCaused faults stops bank p.core) (survives : Survives tells tells_moments now may_leave clock left_since opening bank p.core) (session : IsSession p.core) (ends : EndsReading p read failed at_end) (cause : failed ≡ true → read_failed) (boot : TellsBoot p.standing p.core) where
   abbrev Ends : ℕ → Type 0
   Ends n = EndsAs n (length p.core.entries) ends.feeds.behind at_end read_failed
 
@@ -273,7 +280,7 @@ module _ {B C : Type 0} (tells : Type 0) (now : B → List ℕ) (faults stops : 
   Boots n = BootsAs n p.core.entries read (Rose (faults bank) (faults p.core.state.store.bank)) (Rose (stops bank) (stops p.core.state.store.bank))
 
   abbrev Is : Type 0
-  Is = Session tells faults stops verdict given opening bank p.core.state.store.bank read at_end read_failed result before after
+  Is = Session tells tells_moments faults stops may_leave clock left_since verdict given opening bank p.core.state.store.bank read at_end read_failed result before after
 
   made : IsStatus result → Ends result → Boots result → Tells result p.core.entries (λ other. WouldEnd other Ends Boots) before after → Is
   made known ends_as_is boots told = record {
@@ -286,6 +293,10 @@ module _ {B C : Type 0} (tells : Type 0) (now : B → List ℕ) (faults stops : 
     vouched = λ told. laws.vouched opening p.core.entries _ at_first unasked (vouched.stands.legal told);
     verdicts = vouched.verdicts;
     kept = λ told. keeps verdict _ opening p.core.entries (vouched.verdicts told);
+    moments = survives.moments;
+    exit = survives.exit;
+    restored = survives.restored;
+    backed = λ told. backed opening p.core.entries _ at_first single (vouched.stands.legal told);
     causes = caused.causes;
     trouble = caused.trouble;
     each = session.each;
@@ -341,7 +352,7 @@ module _ {B C : Type 0} (tells : Type 0) (now : B → List ℕ) (faults stops : 
 
   pub session_of : TellsWritten p.standing before p.core.entries mid
       → Finishes p.standing (status_of p.standing failed (eqb (length p.rest) 0)) result p.core.entries mid after sink_faults sink_then
-      → Session tells faults stops verdict given opening bank p.core.state.store.bank read at_end read_failed result before after
+      → Session tells tells_moments faults stops may_leave clock left_since verdict given opening bank p.core.state.store.bank read at_end read_failed result before after
   session_of told w = by_standing p.standing refl told w
 
 -- at first nothing is written
@@ -365,7 +376,8 @@ no_reading = record {
 
 -- ---- where the service didn't begin
 
-module _ {B C : Type 0} (tells : Type 0) (faults stops : B → ℕ) (verdict : C → List ℕ → ℤ) (given : List (Option (KitEntry C))) (opening : State) (at_first : opening.tables ≡ no_tables) (unasked : opening.pending ≡ []) (bank bank_then : B)
+module _ {B C : Type 0} (tells tells_moments : Type 0) (faults stops : B → ℕ) (may_leave : B → List ℕ → Type 0) (clock : B → ℕ) (left_since : B → ℕ → List ℕ → Type 0) (verdict : C → List ℕ → ℤ) (given : List (Option (KitEntry C))) (opening : State) (at_first : opening.tables ≡ no_tables) (unasked : opening.pending ≡ []) (single : AreSingle opening.store) (bank bank_then : B)
+    (counts_now : (bank : B) (t : ℕ) (image : List ℕ) → tells_moments → t ≤ clock bank → may_leave bank image → left_since bank t image) (crash : tells_moments → LeavesOnly clock left_since bank bank_then (λ image. Shows opening.store (store_of image)))
     (at_end read_failed : Type 0) (result : ℕ) (before after : Option (List ℕ)) (sink_faults sink_then : ℕ) where
   abbrev Empty : ℕ → Type 0
   Empty n = EndsAs n 0 [] at_end read_failed
@@ -374,7 +386,7 @@ module _ {B C : Type 0} (tells : Type 0) (faults stops : B → ℕ) (verdict : C
   First n = BootsAs n [] [] (Rose (faults bank) (faults bank_then)) (Rose (stops bank) (stops bank_then))
 
   empty : Rises faults stops bank bank_then [] → IsStatus result → (IsEnded result → ⊥) → First result → Tells result [] (λ other. WouldEnd other Empty First) before after
-      → Session tells faults stops verdict given opening bank bank_then [] at_end read_failed result before after
+      → Session tells tells_moments faults stops may_leave clock left_since verdict given opening bank bank_then [] at_end read_failed result before after
   empty rises known never boots told = record {
     entries = [];
     state = opening;
@@ -384,6 +396,10 @@ module _ {B C : Type 0} (tells : Type 0) (faults stops : B → ℕ) (verdict : C
     vouched = λ _. laws.vouched opening [] opening at_first unasked (record { answered = tt; leads = refl });
     verdicts = λ _. tt;
     kept = λ _. keeps verdict given opening [] tt;
+    moments = no_moments tells_moments may_leave clock left_since counts_now opening bank bank_then crash;
+    exit = no_exit tells_moments may_leave clock left_since counts_now opening bank bank_then crash;
+    restored = λ told place e at. absurd (cc at);
+    backed = λ _. backed opening [] opening at_first single (record { answered = tt; leads = refl });
     causes = tt;
     trouble = rises;
     each = tt;
@@ -400,13 +416,13 @@ module _ {B C : Type 0} (tells : Type 0) (faults stops : B → ℕ) (verdict : C
   }
 
   -- memory ran out
-  starved : Rises faults stops bank bank_then [] → (result ≡ 1) × (after ≡ before) → Session tells faults stops verdict given opening bank bank_then [] at_end read_failed result before after
+  starved : Rises faults stops bank bank_then [] → (result ≡ 1) × (after ≡ before) → Session tells tells_moments faults stops may_leave clock left_since verdict given opening bank bank_then [] at_end read_failed result before after
   starved rises w = empty rises (inr (inr (inl w.0))) (not_ended result (inl w.0)) (no_boot result [] [] _ _ (inl w.0))
       (tells_starved 1 result [] (λ other. WouldEnd other Empty First) before before after sink_faults sink_then w (front_of_nothing before (entries_bytes 0 [])))
 
   -- or the first boot didn't come to its end
   unbooted : (status : ℕ) → Rises faults stops bank bank_then [] → IsBooted status → (status ≢ 4) → First status → WritesEndAlone status result before after sink_faults sink_then
-      → Session tells faults stops verdict given opening bank bank_then [] at_end read_failed result before after
+      → Session tells tells_moments faults stops may_leave clock left_since verdict given opening bank bank_then [] at_end read_failed result before after
   unbooted status rises booted not_four boots (inl (inl wrote)) =
       let is : IsBooted result = subst IsBooted (sym wrote.0) booted in
       empty rises (inr (inl is)) (booted_not_ended result is) (subst First (sym wrote.0) boots)
@@ -417,7 +433,7 @@ module _ {B C : Type 0} (tells : Type 0) (faults stops : B → ℕ) (verdict : C
   unbooted status rises booted not_four boots (inr w) = starved rises w
 
   pub unbegun : (fault : StartFault) → StartCounted faults stops bank bank_then fault → FinishesUnbegun fault result before after sink_faults sink_then
-      → Session tells faults stops verdict given opening bank bank_then [] at_end read_failed result before after
+      → Session tells tells_moments faults stops may_leave clock left_since verdict given opening bank bank_then [] at_end read_failed result before after
   unbegun NoMemory counted w = starved (record { fault = inl (omega (arith, counted.0)); stop = inl (omega (arith, counted.1)) }) w
   unbegun FirstFault counted w =
       unbooted 7 (record { fault = rose_never (faults bank) (faults bank_then) counted.0; stop = inl (omega (arith, counted.1)) }) (inl refl) (λ e. omega (arith, e))
@@ -454,8 +470,8 @@ unbegun_source FirstStopped result before after sink_faults sink_then w = alone_
 
 -- ---- the causes of 7 and 8
 
-module _ {B C : Type 0} (tells : Type 0) (faults stops : B → ℕ) (verdict : C → List ℕ → ℤ) (given : List (Option (KitEntry C))) (opening : State) (bank bank_then : B) (read : List ℕ) (at_end read_failed : Type 0) (result : ℕ) (before after : Option (List ℕ))
-    (s : Session tells faults stops verdict given opening bank bank_then read at_end read_failed result before after) where
+module _ {B C : Type 0} (tells tells_moments : Type 0) (faults stops : B → ℕ) (may_leave : B → List ℕ → Type 0) (clock : B → ℕ) (left_since : B → ℕ → List ℕ → Type 0) (verdict : C → List ℕ → ℤ) (given : List (Option (KitEntry C))) (opening : State) (bank bank_then : B) (read : List ℕ) (at_end read_failed : Type 0) (result : ℕ) (before after : Option (List ℕ))
+    (s : Session tells tells_moments faults stops may_leave clock left_since verdict given opening bank bank_then read at_end read_failed result before after) where
   pub rose_at_fault : result ≡ 7 → RoseBy 1 (faults bank) (faults bank_then)
   rose_at_fault seven = elim (s.boots.fault seven) [ inl boot ↦ rose_by_fault faults stops bank bank_then s.entries s.trouble boot | inr first ↦ rose_once (faults bank) (faults bank_then) first.2 ]
 

@@ -1,7 +1,9 @@
 pub mod Playing
 pub mod Standing
 pub mod Trouble
+pub mod Crashes
 pub mod Feeding
 pub mod Finishing
 pub mod Reading
 pub mod Session
+pub mod Recovered

@@ -12,7 +12,9 @@ use Rattle.tbl_kinds.specs.Transcript.{pairs_of, entries_bytes, transcript}
 use Rattle.tbl_model.specs.History.{IsLegal, begins_at}
 use Rattle.tbl_model.specs.Vouched.{IsVouched}
 use Rattle.tbl_model.specs.Whole.{IsWhole as HasWholeReads}
+use Rattle.tbl_laws.specs.Backed.{AreBacked}
 use Rattle.cds_layout.specs.Images.{store_of}
+use Rattle.tbl_outside.specs.Bank.{LeavesOnly}
 use Rattle.tbl_outside.specs.Counts.{Rose}
 use Rattle.tbl_outside.specs.Streams.{TakesFront}
 use Rattle.tbl_core.specs.Called.{RoseBy}
@@ -22,6 +24,7 @@ use Rattle.tbl_top.specs.Playing.{IsBeginning}
 use Rattle.tbl_top.specs.Reading.{StopsReading}
 use Rattle.tbl_top.specs.Standing.{EndsInBoot}
 use Rattle.tbl_top.specs.Trouble.{Rises, HaveCauses}
+use Rattle.tbl_top.specs.Crashes.{AtSomePlace, AtExit, AllGaveLeft}
 use Rattle.tbl_kinds.specs.declared.entry.Entry.{Entry}
 
 -- the words are `play` alone
@@ -92,11 +95,18 @@ pub record Tells (status : ℕ) (entries : List Entry) (would_end : ℕ → Type
   -- 1: a front of the transcript
   pub starved : status ≡ 1 → TakesFront before after (transcript entries 1)
 
--- One history, whose requests are the records of what was read, was told. After 1, 4, 7 and 8 they are the first of them. Each answer
--- that tells of trouble has its cause in its note, and the counts of the bank rose by what the notes tell at least. Where the
--- bank tells its bytes, the history is legal, each read of a pinned image in it is whole, no image goes active that its table's
--- function didn't answer for, and each verdict, also as a deed tells it, is that of the function which was given under its number.
-pub record Session {B C : Type 0} (tells : Type 0) (failed stopped : B → ℕ) (verdict : C → List ℕ → ℤ) (given : List (Option (KitEntry C))) (opening : State) (bank bank_then : B) (read : List ℕ) (at_end read_failed : Type 0) (status : ℕ) (before after : Option (List ℕ)) : Type 0 where
+-- Every session writes the transcript of one history whose every status and telemetry byte is the sequential service's, in which each
+-- pinned read is of one whole activated image, and from which a reset at any moment recovers each critical table's last completed
+-- image, one whose copy broke off since, or none.
+--
+-- Its requests are the records of what was read; after 1, 4, 7 and 8 the first of them. Each answer that tells of trouble has its
+-- cause in its note, and the counts of the bank rose by what the notes tell at least. Where the bank tells its bytes, the history is
+-- legal, no image goes active that its table's function didn't answer for, each verdict, also as a deed tells it, is that of the
+-- function which was given under its number, and each critical table has its block behind the session. Where the bank tells its
+-- moments, each image that a reset may have left since the session began is one of a place of this history (`moments`), at the exit
+-- of its last one (`exit`), and what a restore gave stood in one of them (`restored`). What a registration over such an image has of
+-- its table is the law `recovered` (`Recovered.antt`).
+pub record Session {B C : Type 0} (tells tells_moments : Type 0) (failed stopped : B → ℕ) (may_leave : B → List ℕ → Type 0) (clock : B → ℕ) (left_since : B → ℕ → List ℕ → Type 0) (verdict : C → List ℕ → ℤ) (given : List (Option (KitEntry C))) (opening : State) (bank bank_then : B) (read : List ℕ) (at_end read_failed : Type 0) (status : ℕ) (before after : Option (List ℕ)) : Type 0 where
   pub entries : List Entry
   pub state : State
   pub rest : List ℕ
@@ -105,6 +115,10 @@ pub record Session {B C : Type 0} (tells : Type 0) (failed stopped : B → ℕ) 
   pub vouched : tells → IsVouched opening entries
   pub verdicts : tells → AreGiven verdict given (begins_at opening) entries
   pub kept : tells → KeepsToFunctions verdict given opening entries
+  pub moments : tells_moments → LeavesOnly clock left_since bank bank_then (AtSomePlace opening entries)
+  pub exit : tells_moments → (image : List ℕ) → may_leave bank_then image → AtExit opening entries image
+  pub restored : tells_moments → AllGaveLeft (left_since bank_then (clock bank)) opening entries
+  pub backed : tells → AreBacked state
   pub causes : HaveCauses entries
   pub trouble : Rises failed stopped bank bank_then entries
   pub each : AllByRecursion IsRecord (pairs_of entries)

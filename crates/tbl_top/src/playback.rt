@@ -13,6 +13,7 @@ ghost use Rattle.tbl_outside.specs.Streams.{TakesFront};
 ghost use Rattle.tbl_top.specs.Playing.{played_before, IsSession, IsWritten};
 ghost use Rattle.tbl_top.specs.Standing.{Leaves, TellsWritten, TellsCause, TellsBoot, TellsService, TellsLast};
 ghost use Rattle.tbl_top.specs.Trouble.{IsCaused};
+ghost use Rattle.tbl_top.specs.Crashes.{Survives};
 
 use crate::playing::play;
 use session_records::{Next, next_record};
@@ -124,6 +125,7 @@ impl<B: Bank, C: Validator> Playback<B, C> {
         ensures stands { (opening : State) → StandsFor B.tells B.now opening self.old → StandsFor B.tells B.now opening self.new }
         ensures vouched { (opening : State) (given : List (Option (Function C))) → Vouches B.tells B.now C.verdict given opening self.old → Vouches B.tells B.now C.verdict given opening self.new }
         ensures trouble { (bank : B) → IsCaused B.faults B.stops bank self.old → IsCaused B.faults B.stops bank self.new }
+        ensures survives { (opening : State) (bank : B) → Survives B.tells B.tells_moments B.now B.may_leave B.clock B.left_since opening bank self.old → Survives B.tells B.tells_moments B.now B.may_leave B.clock B.left_since opening bank self.new }
         ensures boot { IfOk result (λ stop. TellsService stop self.new) }
         ensures written { (first : Option (List ℕ)) → IsWritten first self.old.entries (K.taken sink.old)
             → IfOk result (λ stop. MatchOption stop (IsWritten first self.new.entries (K.taken sink.new)) (λ standing. TellsWritten standing first self.new.entries (K.taken sink.new))) }
@@ -154,6 +156,7 @@ impl<B: Bank, C: Validator> Playback<B, C> {
         ensures stands { (opening : State) → StandsFor B.tells B.now opening self.old → StandsFor B.tells B.now opening self.new }
         ensures vouched { (opening : State) (given : List (Option (Function C))) → Vouches B.tells B.now C.verdict given opening self.old → Vouches B.tells B.now C.verdict given opening self.new }
         ensures trouble { (bank : B) → IsCaused B.faults B.stops bank self.old → IsCaused B.faults B.stops bank self.new }
+        ensures survives { (opening : State) (bank : B) → Survives B.tells B.tells_moments B.now B.may_leave B.clock B.left_since opening bank self.old → Survives B.tells B.tells_moments B.now B.may_leave B.clock B.left_since opening bank self.new }
         ensures boot { TellsService result self.new }
         ensures written { (first : Option (List ℕ)) → IsWritten first self.old.entries (K.taken sink.old)
             → MatchOption result (IsWritten first self.new.entries (K.taken sink.new)) (λ standing. TellsWritten standing first self.new.entries (K.taken sink.new)) }
@@ -207,6 +210,7 @@ impl<B: Bank, C: Validator> Playback<B, C> {
         ensures stands { (opening : State) → StandsFor B.tells B.now opening self.old → StandsFor B.tells B.now opening self.new }
         ensures vouched { (opening : State) (given : List (Option (Function C))) → Vouches B.tells B.now C.verdict given opening self.old → Vouches B.tells B.now C.verdict given opening self.new }
         ensures trouble { (bank : B) → IsCaused B.faults B.stops bank self.old → IsCaused B.faults B.stops bank self.new }
+        ensures survives { (opening : State) (bank : B) → Survives B.tells B.tells_moments B.now B.may_leave B.clock B.left_since opening bank self.old → Survives B.tells B.tells_moments B.now B.may_leave B.clock B.left_since opening bank self.new }
         ensures boot { TellsBoot result self.new }
         ensures written { (first : Option (List ℕ)) → IsWritten first self.old.entries (K.taken sink.old) → TellsWritten result first self.new.entries (K.taken sink.new) }
         ensures cause { TellsCause result (K.faults sink.old) (K.faults sink.new) }

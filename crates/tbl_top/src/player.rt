@@ -2,16 +2,19 @@
 
 ghost use Rattle.std.specs.Prelude.{◌≡◌, ◌≢◌, ℕ, ◌+◌, ◌-◌, ◌<◌, ◌≤◌, ◌==◌, Option, List, [], ◌++◌, length, drop, vec_len, false, IfOk, IfErr};
 ghost use Rattle.tbl_model.specs.State.{State, no_tables};
+ghost use Rattle.tbl_model.specs.History.{begins_at, run_from};
 ghost use Rattle.tbl_model.specs.Vouched.{IsVouched};
 ghost use Rattle.tbl_model.specs.Whole.{IsWhole as HasWholeReads};
 ghost use Rattle.tbl_kinds.specs.Records.{AreRecords, BeginsWith};
 ghost use Rattle.tbl_kinds.specs.Heads.{IsShort};
 ghost use Rattle.tbl_kinds.specs.Transcript.{pairs_of};
+ghost use Rattle.tbl_laws.specs.Backed.{AreSingle, AreBacked};
 ghost use Rattle.tbl_core.specs.Service.{StandsFor, Vouches};
 ghost use Rattle.tbl_outside.specs.declared.validator.KitEntry.{KitEntry as Function};
 ghost use Rattle.tbl_top.specs.Playing.{played_before, bytes_fed, IsBeginning, IsSession, IsWritten};
 ghost use Rattle.tbl_top.specs.Standing.{Leaves, HasPlayedAll, TellsWritten, TellsCause, TellsBoot};
 ghost use Rattle.tbl_top.specs.Trouble.{IsCaused};
+ghost use Rattle.tbl_top.specs.Crashes.{Survives};
 ghost use Rattle.tbl_top.specs.Feeding.{answer_of, Feeds};
 ghost use Rattle.tbl_top.specs.Finishing.{Finishes, status_of};
 ghost use Rattle.tbl_top.specs.declared.playback.Standing.TheVariants.{Open};
@@ -93,17 +96,22 @@ impl<B: Bank, C: Validator> Player<B, C> {
         ensures begins { BeginsWith (bytes_fed self.old ++ piece.now) (pairs_of self.new.core.entries) }
         ensures records { HasPlayedAll self.new.standing → AreRecords (bytes_fed self.old ++ piece.now) (pairs_of self.new.core.entries) }
 
-        // Where the bank tells its bytes, the history stays legal, each read of it is whole, no image goes active unjudged, and
-        // the verdicts are the functions'.
+        // Where the bank tells its bytes, the history stays legal, each read of it is whole, no image goes active unjudged, the
+        // verdicts are the functions', and each critical table has its block.
         ensures stands { (opening : State) → StandsFor B.tells B.now opening self.old.core → StandsFor B.tells B.now opening self.new.core }
         ensures verdicts { (opening : State) (given : List (Option (Function C))) → Vouches B.tells B.now C.verdict given opening self.old.core → Vouches B.tells B.now C.verdict given opening self.new.core }
         ensures vouched { B.tells → (opening : State) → opening.tables ≡ no_tables → opening.pending ≡ [] → StandsFor B.tells B.now opening self.old.core → IsVouched opening self.new.core.entries }
         ensures whole { B.tells → (opening : State) → opening.tables ≡ no_tables → opening.pending ≡ [] → StandsFor B.tells B.now opening self.old.core → HasWholeReads opening self.new.core.entries }
+        ensures backed { B.tells → (opening : State) → opening.tables ≡ no_tables → AreSingle opening.store → StandsFor B.tells B.now opening self.old.core → AreBacked (run_from (begins_at opening) self.new.core.entries).state }
         ensures session { IsSession self.new.core }
 
         // The counts of the bank rise by what the entries tell at least, and a boot that ended the service is told by the last one.
         ensures trouble { (bank : B) → IsCaused B.faults B.stops bank self.old.core → IsCaused B.faults B.stops bank self.new.core }
         ensures boot { TellsBoot self.new.standing self.new.core }
+
+        // Where the bank tells its moments, a reset at any of them leaves the blocks of a place of the history, or what the entry under
+        // way there made of them, and what a restore gave stood in one of these images.
+        ensures survives { (opening : State) (bank : B) → Survives B.tells B.tells_moments B.now B.may_leave B.clock B.left_since opening bank self.old.core → Survives B.tells B.tells_moments B.now B.may_leave B.clock B.left_since opening bank self.new.core }
 
         // The sink took the entries' spellings; where it failed or memory ran out for a spelling, a front of them.
         ensures written { (first : Option (List ℕ)) → IsWritten first self.old.core.entries (K.taken sink.old) → TellsWritten self.new.standing first self.new.core.entries (K.taken sink.new) }
@@ -174,6 +182,7 @@ fn feed_fields<B: Bank, C: Validator, K: Sink>(
     ensures stands { (opening : State) → StandsFor B.tells B.now opening playback.old → StandsFor B.tells B.now opening playback.new }
     ensures vouched { (opening : State) (given : List (Option (Function C))) → Vouches B.tells B.now C.verdict given opening playback.old → Vouches B.tells B.now C.verdict given opening playback.new }
     ensures trouble { (bank : B) → IsCaused B.faults B.stops bank playback.old → IsCaused B.faults B.stops bank playback.new }
+    ensures survives { (opening : State) (bank : B) → Survives B.tells B.tells_moments B.now B.may_leave B.clock B.left_since opening bank playback.old → Survives B.tells B.tells_moments B.now B.may_leave B.clock B.left_since opening bank playback.new }
     ensures boot { TellsBoot standing.new playback.new }
     ensures session { IsSession playback.new }
     ensures written { (first : Option (List ℕ)) → IsWritten first playback.old.entries (K.taken sink.old) → TellsWritten standing.new first playback.new.entries (K.taken sink.new) }
@@ -198,6 +207,7 @@ fn play_piece<B: Bank, C: Validator, K: Sink>(
     ensures stands { (opening : State) → StandsFor B.tells B.now opening playback.old → StandsFor B.tells B.now opening playback.new }
     ensures vouched { (opening : State) (given : List (Option (Function C))) → Vouches B.tells B.now C.verdict given opening playback.old → Vouches B.tells B.now C.verdict given opening playback.new }
     ensures trouble { (bank : B) → IsCaused B.faults B.stops bank playback.old → IsCaused B.faults B.stops bank playback.new }
+    ensures survives { (opening : State) (bank : B) → Survives B.tells B.tells_moments B.now B.may_leave B.clock B.left_since opening bank playback.old → Survives B.tells B.tells_moments B.now B.may_leave B.clock B.left_since opening bank playback.new }
     ensures boot { TellsBoot result playback.new }
     ensures session { IsSession playback.new }
     ensures written { (first : Option (List ℕ)) → IsWritten first playback.old.entries (K.taken sink.old) → TellsWritten result first playback.new.entries (K.taken sink.new) }
@@ -238,6 +248,7 @@ fn complete<B: Bank, C: Validator, K: Sink>(
     ensures stands { (opening : State) → StandsFor B.tells B.now opening playback.old → StandsFor B.tells B.now opening playback.new }
     ensures vouched { (opening : State) (given : List (Option (Function C))) → Vouches B.tells B.now C.verdict given opening playback.old → Vouches B.tells B.now C.verdict given opening playback.new }
     ensures trouble { (bank : B) → IsCaused B.faults B.stops bank playback.old → IsCaused B.faults B.stops bank playback.new }
+    ensures survives { (opening : State) (bank : B) → Survives B.tells B.tells_moments B.now B.may_leave B.clock B.left_since opening bank playback.old → Survives B.tells B.tells_moments B.now B.may_leave B.clock B.left_since opening bank playback.new }
     ensures boot { TellsBoot result playback.new }
     ensures session { IsSession playback.new }
     ensures written { (first : Option (List ℕ)) → IsWritten first playback.old.entries (K.taken sink.old) → TellsWritten result first playback.new.entries (K.taken sink.new) }
@@ -269,6 +280,7 @@ fn play_kept<B: Bank, C: Validator, K: Sink>(
     ensures stands { (opening : State) → StandsFor B.tells B.now opening playback.old → StandsFor B.tells B.now opening playback.new }
     ensures vouched { (opening : State) (given : List (Option (Function C))) → Vouches B.tells B.now C.verdict given opening playback.old → Vouches B.tells B.now C.verdict given opening playback.new }
     ensures trouble { (bank : B) → IsCaused B.faults B.stops bank playback.old → IsCaused B.faults B.stops bank playback.new }
+    ensures survives { (opening : State) (bank : B) → Survives B.tells B.tells_moments B.now B.may_leave B.clock B.left_since opening bank playback.old → Survives B.tells B.tells_moments B.now B.may_leave B.clock B.left_since opening bank playback.new }
     ensures boot { TellsBoot result playback.new }
     ensures session { IsSession playback.new }
     ensures written { (first : Option (List ℕ)) → IsWritten first playback.old.entries (K.taken sink.old) → TellsWritten result first playback.new.entries (K.taken sink.new) }
@@ -296,6 +308,7 @@ fn play_rest<B: Bank, C: Validator, K: Sink>(
     ensures stands { (opening : State) → StandsFor B.tells B.now opening playback.old → StandsFor B.tells B.now opening playback.new }
     ensures vouched { (opening : State) (given : List (Option (Function C))) → Vouches B.tells B.now C.verdict given opening playback.old → Vouches B.tells B.now C.verdict given opening playback.new }
     ensures trouble { (bank : B) → IsCaused B.faults B.stops bank playback.old → IsCaused B.faults B.stops bank playback.new }
+    ensures survives { (opening : State) (bank : B) → Survives B.tells B.tells_moments B.now B.may_leave B.clock B.left_since opening bank playback.old → Survives B.tells B.tells_moments B.now B.may_leave B.clock B.left_since opening bank playback.new }
     ensures boot { TellsBoot result playback.new }
     ensures session { IsSession playback.new }
     ensures written { (first : Option (List ℕ)) → IsWritten first playback.old.entries (K.taken sink.old) → TellsWritten result first playback.new.entries (K.taken sink.new) }

@@ -9,6 +9,7 @@ ghost use Rattle.tbl_outside.specs.declared.validator.KitEntry.{KitEntry as Func
 ghost use Rattle.tbl_top.specs.Playing.{IsWritten};
 ghost use Rattle.tbl_top.specs.Standing.{IsEnding, TellsWritten, TellsService, TellsLast};
 ghost use Rattle.tbl_top.specs.Trouble.{IsCaused};
+ghost use Rattle.tbl_top.specs.Crashes.{Survives};
 ghost use Rattle.tbl_kinds.specs.declared.entry.Entry.{Entry};
 
 use crate::playback::Standing;
@@ -57,6 +58,7 @@ pub(crate) fn play<B: Bank, C: Validator, K: Sink>(
     ensures stands { OnOk result ((opening : State) → StandsFor B.tells B.now opening core.old → StandsFor B.tells B.now opening core.new) }
     ensures vouched { OnOk result ((opening : State) (given : List (Option (Function C))) → Vouches B.tells B.now C.verdict given opening core.old → Vouches B.tells B.now C.verdict given opening core.new) }
     ensures trouble { OnOk result ((bank : B) → IsCaused B.faults B.stops bank core.old → IsCaused B.faults B.stops bank core.new) }
+    ensures survives { OnOk result ((opening : State) (bank : B) → Survives B.tells B.tells_moments B.now B.may_leave B.clock B.left_since opening bank core.old → Survives B.tells B.tells_moments B.now B.may_leave B.clock B.left_since opening bank core.new) }
     ensures boot { IfOk result (λ stop. TellsService stop core.new) }
     ensures written { (first : Option (List ℕ)) → IsWritten first core.old.entries (K.taken sink.old)
         → IfOk result (λ stop. MatchOption stop (IsWritten first core.new.entries (K.taken sink.new)) (λ standing. TellsWritten standing first core.new.entries (K.taken sink.new))) }

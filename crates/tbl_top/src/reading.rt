@@ -9,6 +9,7 @@ ghost use Rattle.tbl_outside.specs.Counts.{Rose};
 ghost use Rattle.tbl_top.specs.Playing.{bytes_fed, IsBeginning, IsSession, IsWritten};
 ghost use Rattle.tbl_top.specs.Standing.{TellsWritten, TellsCause, TellsBoot};
 ghost use Rattle.tbl_top.specs.Trouble.{IsCaused};
+ghost use Rattle.tbl_top.specs.Crashes.{Survives};
 ghost use Rattle.tbl_top.specs.Reading.{ReadsOn, EndsReading, piece_limit};
 ghost use Rattle.tbl_top.specs.declared.playback.Standing.TheVariants.{Open};
 
@@ -39,6 +40,7 @@ fn read_piece<B: Bank, C: Validator, S: Source, K: Sink>(
     ensures stands { (opening : State) → StandsFor B.tells B.now opening player.old.core → StandsFor B.tells B.now opening player.new.core }
     ensures vouched { (opening : State) (given : List (Option (Function C))) → Vouches B.tells B.now C.verdict given opening player.old.core → Vouches B.tells B.now C.verdict given opening player.new.core }
     ensures trouble { (bank : B) → IsCaused B.faults B.stops bank player.old.core → IsCaused B.faults B.stops bank player.new.core }
+    ensures survives { (opening : State) (bank : B) → Survives B.tells B.tells_moments B.now B.may_leave B.clock B.left_since opening bank player.old.core → Survives B.tells B.tells_moments B.now B.may_leave B.clock B.left_since opening bank player.new.core }
     ensures boot { TellsBoot player.new.standing player.new.core }
     ensures written { (first : Option (List ℕ)) → IsWritten first player.old.core.entries (K.taken sink.old) → TellsWritten player.new.standing first player.new.core.entries (K.taken sink.new) }
     ensures source_failed { result ≡ Some true → Rose (S.faults source.old) (S.faults source.new) }
@@ -75,6 +77,7 @@ pub(crate) fn read_all<B: Bank, C: Validator, S: Source, K: Sink>(
     ensures stands { (opening : State) → StandsFor B.tells B.now opening player.old.core → StandsFor B.tells B.now opening player.new.core }
     ensures vouched { (opening : State) (given : List (Option (Function C))) → Vouches B.tells B.now C.verdict given opening player.old.core → Vouches B.tells B.now C.verdict given opening player.new.core }
     ensures trouble { (bank : B) → IsCaused B.faults B.stops bank player.old.core → IsCaused B.faults B.stops bank player.new.core }
+    ensures survives { (opening : State) (bank : B) → Survives B.tells B.tells_moments B.now B.may_leave B.clock B.left_since opening bank player.old.core → Survives B.tells B.tells_moments B.now B.may_leave B.clock B.left_since opening bank player.new.core }
     ensures boot { TellsBoot player.new.standing player.new.core }
     ensures written { (first : Option (List ℕ)) → IsWritten first player.old.core.entries (K.taken sink.old) → TellsWritten player.new.standing first player.new.core.entries (K.taken sink.new) }
     ensures source_failed { result ≡ true → Rose (S.faults source.old) (S.faults source.new) }

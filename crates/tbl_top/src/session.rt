@@ -4,13 +4,18 @@ ghost use Rattle.std.specs.Prelude.{◌≡◌, ◌≢◌, ◌↔◌, ◌≤◌, 
 ghost use Rattle.std.specs.Io.KnownBytes.{prepend_known, IsAtEnd};
 ghost use Rattle.tbl_model.specs.State.{State, no_tables};
 ghost use Rattle.tbl_kinds.specs.Places.{bank_size};
+ghost use Rattle.tbl_kinds.specs.StoreSteps.{Shows};
+ghost use Rattle.cds_layout.specs.Images.{store_of};
+ghost use Rattle.tbl_laws.specs.Backed.{AreSingle};
 ghost use Rattle.tbl_core.specs.Called.{RoseBy};
 ghost use Rattle.tbl_core.specs.Service.{Vouches, StartCounted};
+ghost use Rattle.tbl_outside.specs.Bank.{LeavesOnly};
 ghost use Rattle.tbl_outside.specs.Counts.{Rose};
 ghost use Rattle.tbl_outside.specs.declared.validator.KitEntry.{KitEntry as Entry};
 ghost use Rattle.tbl_top.specs.Playing.{bytes_fed, IsSession};
 ghost use Rattle.tbl_top.specs.Session.{IsPlay, IsWellFormed, PlaysThrough, Session, given_of, opening_of};
 ghost use Rattle.tbl_top.specs.Trouble.{IsCaused};
+ghost use Rattle.tbl_top.specs.Crashes.{Survives};
 ghost use Rattle.tbl_top.specs.declared.playback.Standing.TheVariants.{Open};
 
 use crate::finishing::finish_unbegun;
@@ -44,6 +49,8 @@ fn begin<B: Bank, C: Validator>(
     ensures live { IfOk result (λ player. player.core.state.ended ≡ false) }
     ensures vouched { IfOk result (λ player. Vouches B.tells B.now C.verdict (given_of kit.items) (opening_of (B.now bank) kit.items) player.core) }
     ensures trouble { IfOk result (λ player. IsCaused B.faults B.stops bank player.core) }
+    ensures survives { IfOk result (λ player. Survives B.tells B.tells_moments B.now B.may_leave B.clock B.left_since (opening_of (B.now bank) kit.items) bank player.core) }
+    ensures crash_err { IfErr result (λ back. B.tells_moments → LeavesOnly B.clock B.left_since bank back.bank (λ image. Shows (store_of (B.now bank)) (store_of image))) }
     ensures cause { IfErr result (λ back. StartCounted B.faults B.stops bank back.bank back.cause) }
 {
     let Ok(kit) = Kit::make(alloc, kit) else {
@@ -72,10 +79,10 @@ fn play<B: Bank, C: Validator, S: Source, K: Sink>(
     requires empty { player.old.core.entries ≡ [] }
     requires session { IsSession player.old.core }
     requires live { player.old.core.state.ended ≡ false }
-    ensures session { (given : List (Option (Entry C))) (opening : State) (bank : B) → opening.tables ≡ no_tables → opening.pending ≡ [] → Vouches B.tells B.now C.verdict given opening player.old.core
-        → IsCaused B.faults B.stops bank player.old.core
+    ensures session { (given : List (Option (Entry C))) (opening : State) (bank : B) → opening.tables ≡ no_tables → opening.pending ≡ [] → AreSingle opening.store → Vouches B.tells B.now C.verdict given opening player.old.core
+        → IsCaused B.faults B.stops bank player.old.core → Survives B.tells B.tells_moments B.now B.may_leave B.clock B.left_since opening bank player.old.core
         → (read : List ℕ) × (S.left source.old ≡ prepend_known read (S.left source.new))
-        × Session B.tells B.faults B.stops C.verdict given opening bank player.new.core.state.store.bank read (IsAtEnd (S.left source.new)) (Rose (S.faults source.old) (S.faults source.new)) result (K.taken sink.old) (K.taken sink.new) }
+        × Session B.tells B.tells_moments B.faults B.stops B.may_leave B.clock B.left_since C.verdict given opening bank player.new.core.state.store.bank read (IsAtEnd (S.left source.new)) (Rose (S.faults source.old) (S.faults source.new)) result (K.taken sink.old) (K.taken sink.new) }
     ensures source_failed { result ≡ 3 → Rose (S.faults source.old) (S.faults source.new) }
     ensures sink_failed { result ≡ 4 → Rose (K.faults sink.old) (K.faults sink.new) }
     ensures not_usage { result ≢ 2 }
@@ -98,7 +105,7 @@ pub fn run_with<B: Bank, C: Validator, S: Source, K: Sink>(
     ensures usage { (result.0 ≡ 2) ↔ (¬ IsPlay words.now) }
     ensures untouched { (¬ IsPlay words.now) → (source.new ≡ source.old) × (sink.new ≡ sink.old) × (result.1 ≡ bank) }
     ensures session { IsPlay words.now → (read : List ℕ) × (S.left source.old ≡ prepend_known read (S.left source.new))
-        × Session B.tells B.faults B.stops C.verdict (given_of kit.items) (opening_of (B.now bank) kit.items) bank result.1 read (IsAtEnd (S.left source.new)) (Rose (S.faults source.old) (S.faults source.new)) result.0 (K.taken sink.old) (K.taken sink.new) }
+        × Session B.tells B.tells_moments B.faults B.stops B.may_leave B.clock B.left_since C.verdict (given_of kit.items) (opening_of (B.now bank) kit.items) bank result.1 read (IsAtEnd (S.left source.new)) (Rose (S.faults source.old) (S.faults source.new)) result.0 (K.taken sink.old) (K.taken sink.new) }
     ensures complete { IsPlay words.now → IfSome (S.left source.old) (λ input. IsWellFormed input
         → ¬ Rose (S.faults source.old) (S.faults source.new) → ¬ Rose (K.faults sink.old) (K.faults sink.new)
         → PlaysThrough B.faults B.stops bank result.1 result.0 (S.left source.new)) }
@@ -140,9 +147,10 @@ pub fn run<S: Source, K: Sink, B: Bank>(
 
     // Where the bank tells its bytes, the history that is told is legal and whole from the blocks on that they show, and each verdict
     // in it is the one that the function gives which stood under the number in the kit, also where it was dropped since. Each
-    // answer that tells of trouble with the bank has its cause in the bank's counts.
+    // answer that tells of trouble with the bank has its cause in the bank's counts. Where the bank tells its moments, a reset at
+    // any moment since leaves the blocks of a place of this history, or what the entry under way there made of them.
     ensures session { IsPlay words.now → (read : List ℕ) × (S.left source.old ≡ prepend_known read (S.left source.new))
-        × Session B.tells B.faults B.stops (⟦<Function as Validator>⟧.verdict) (given_of kit.items) (opening_of (B.now bank) kit.items) bank result.1 read (IsAtEnd (S.left source.new)) (Rose (S.faults source.old) (S.faults source.new)) result.0 (K.taken sink.old) (K.taken sink.new) }
+        × Session B.tells B.tells_moments B.faults B.stops B.may_leave B.clock B.left_since (⟦<Function as Validator>⟧.verdict) (given_of kit.items) (opening_of (B.now bank) kit.items) bank result.1 read (IsAtEnd (S.left source.new)) (Rose (S.faults source.old) (S.faults source.new)) result.0 (K.taken sink.old) (K.taken sink.new) }
 
     // A session's records and nothing else are played to their end, unless something failed, a boot was stopped or memory ran out.
     ensures complete { IsPlay words.now → IfSome (S.left source.old) (λ input. IsWellFormed input

@@ -19,6 +19,7 @@ completes-preserved g c = record {
   stands = search rules;
   vouched = λ opening given vouched. c.in-Open.ensures.vouched opening given (c.completes.invariant.vouched opening given vouched);
   trouble = search rules;
+  survives = λ opening bank survives. c.in-Open.ensures.survives opening bank (c.completes.invariant.survives opening bank survives);
   live = search rules;
   written = search rules;
   count = search rules;
@@ -29,3 +30,9 @@ returns-in_default-clause-vouched g c = λ opening given vouched. c.complete.ens
 
 pub returns-clause-vouched : goal.returns-clause-vouched
 returns-clause-vouched g c = λ opening given vouched. c.play_rest.ensures.vouched opening given (c.completes.invariant.vouched opening given vouched)
+
+pub returns-in_default-clause-survives : goal.returns-in_default-clause-survives
+returns-in_default-clause-survives g c = λ opening bank survives. c.complete.ensures.survives opening bank (c.completes.invariant.survives opening bank survives)
+
+pub returns-clause-survives : goal.returns-clause-survives
+returns-clause-survives g c = λ opening bank survives. c.play_rest.ensures.survives opening bank (c.completes.invariant.survives opening bank survives)

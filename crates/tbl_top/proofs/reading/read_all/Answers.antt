@@ -17,6 +17,7 @@ reads-init g c = record {
   stands = λ opening stood. stood;
   vouched = λ opening given vouched. vouched;
   trouble = λ bank caused. caused;
+  survives = λ opening bank survives. survives;
   live = c.requires.live;
   written = λ first written. written;
   source_count = omega arith;
@@ -36,6 +37,9 @@ unreachable-requires g c = omega (arith, session_bound c.reads.player c.reads.in
 
 pub returns-in-Some-clause-vouched : goal.returns-in-Some-clause-vouched
 returns-in-Some-clause-vouched g c = λ opening given vouched. c.in-Some.ensures.vouched opening given (c.reads.invariant.vouched opening given vouched)
+
+pub returns-in-Some-clause-survives : goal.returns-in-Some-clause-survives
+returns-in-Some-clause-survives g c = λ opening bank survives. c.in-Some.ensures.survives opening bank (c.reads.invariant.survives opening bank survives)
 
 pub reads-preserved : goal.reads-preserved
 reads-preserved g c = record {
@@ -57,6 +61,7 @@ reads-preserved g c = record {
   stands = search rules;
   vouched = λ opening given vouched. c.in_default.ensures.vouched opening given (c.reads.invariant.vouched opening given vouched);
   trouble = search rules;
+  survives = λ opening bank survives. c.in_default.ensures.survives opening bank (c.reads.invariant.survives opening bank survives);
   live = search rules;
   written = search rules;
   source_count = search rules;

@@ -16,3 +16,6 @@ overflow_add-self g c =
 
 pub returns-in-Ok-clause-vouched : goal.returns-in-Ok-clause-vouched
 returns-in-Ok-clause-vouched g c = rw (← c.self.view_is) c.in-Ok.ensures.vouched
+
+pub returns-in-Ok-clause-survives : goal.returns-in-Ok-clause-survives
+returns-in-Ok-clause-survives g c = rw (← c.self.view_is) c.in-Ok.ensures.survives

@@ -2,6 +2,7 @@ use Rattle.std.proofs.Common.{List, ℕ, ◌+◌, ◌++◌, length, sym, subst, 
 use Rattle.tbl_kinds.specs.Records.{joined, AreRecords}
 use Rattle.tbl_kinds.specs.Transcript.{pairs_of}
 use Rattle.tbl_core.specs.Service.{StandsFor}
+use Rattle.tbl_laws.proofs.BackedLaws.{backed}
 use Rattle.tbl_laws.proofs.VouchedLaws.{vouched}
 use Rattle.tbl_laws.proofs.WholeLaws.{whole}
 use Rattle.tbl_top.specs.Playing.{Playing, played_before}
@@ -34,3 +35,11 @@ returns-clause-whole g c = λ told opening at_first unasked stood.
 
 pub returns-clause-verdicts : goal.returns-clause-verdicts
 returns-clause-verdicts g c = rw (← c.self.view_is) c.feed_fields.ensures.vouched
+
+pub returns-clause-backed : goal.returns-clause-backed
+returns-clause-backed g c = λ told opening at_first single stood.
+    let f = c.feed_fields in
+    backed opening f.new.playback.entries _ at_first single ((f.ensures.stands opening (subst (λ (p : Playing g.row.B.Denot g.row.C.Denot). StandsFor g.B.Bank.tells g.B.Bank.now opening p.core) (sym c.self.view_is) stood)).legal told)
+
+pub returns-clause-survives : goal.returns-clause-survives
+returns-clause-survives g c = rw (← c.self.view_is) c.feed_fields.ensures.survives

@@ -1,0 +1,165 @@
+-- Recovery over two sessions: from the moments of the first one, and the history of the second.
+use Rattle.std.proofs.Common.{◌≡◌, ℕ, zero, suc, List, [], ◌∷◌, take, Bool, true, false, not, ◌||◌, Option, Some, refl, sym, ap, ◌∙◌, subst, inl, inr, ℤ, arith}
+use Rattle.std.specs.Prelude.{◌-◌, if◌then◌else◌, is_some, slice_get, slice_set}
+use Rattle.std.proofs.lemmas.Option.{same_Some}
+use Rattle.tbl_kinds.specs.Blocks.{Store}
+use Rattle.tbl_kinds.specs.Names.{is_name}
+use Rattle.tbl_kinds.specs.Requests.{Fits}
+use Rattle.tbl_model.specs.State.{State, first_state}
+use Rattle.tbl_model.specs.Tables.{table_at}
+use Rattle.tbl_model.specs.Applications.{full_name, has_dot, start_effect}
+use Rattle.tbl_model.specs.Subjects.{name_of}
+use Rattle.tbl_model.specs.Effects.{Effect, answered}
+use Rattle.tbl_model.specs.Dispatch.{effect_of}
+use Rattle.tbl_model.specs.StoreNotes.{IsNoteOf}
+use Rattle.tbl_model.specs.History.{Run, begins_at, given_in, effect_in, onward, onward_by, run_from, IsAnswered, AreAnswered}
+use Rattle.tbl_laws.specs.Recovery.{IsHistory, Registration, registering, request_of, Registers, Begins, ComesBack, started}
+use Rattle.tbl_laws.proofs.RecoveryLaws.{recovers, recovers_or_begins, recovers_copied, registers_at_start}
+use Rattle.cds_layout.specs.Images.{store_of}
+use Rattle.cds_layout.proofs.SingleBlocks.{store-single}
+use Rattle.validation.specs.Kits.{owners}
+use Rattle.tbl_outside.specs.declared.validator.KitEntry.{KitEntry}
+use Rattle.tbl_kinds.specs.declared.entry.Entry.{Entry}
+use Rattle.tbl_kinds.specs.declared.note.BankNote.{BankNote}
+use Rattle.tbl_kinds.specs.declared.request.Actor.{Actor}
+use Rattle.tbl_kinds.specs.declared.request.Actor.TheVariants.{App}
+use Rattle.tbl_kinds.specs.declared.request.Request.{Request}
+use Rattle.tbl_kinds.specs.declared.request.Request.TheVariants as ask
+use Rattle.tbl_kinds.specs.declared.status.Status.{Status}
+use Rattle.tbl_kinds.specs.declared.status.TheConstants.Status.{SUCCESS, ERR_APP_RUNNING, ERR_INVALID_NAME}
+use Rattle.tbl_top.specs.Crashes.{run_at, AtSomePlace}
+use Rattle.tbl_top.specs.Recovered.{Asks, RegistersAt, RegistersFirst, TableBegins, IsRecoveredOrEmpty, RecoversFrom}
+use Rattle.tbl_top.specs.Session.{Session, given_of, opening_of}
+
+-- ---- an entry of an answered history
+
+answered_at : (r : Run) (entries : List Entry) (place : ℕ) (e : Entry) → AreAnswered r entries → slice_get entries place ≡ Some e → IsAnswered (run_from r (take place entries)) e
+answered_at r [] place e are at = absurd (cc at)
+answered_at r (first ∷ entries) zero e are at = subst (IsAnswered r) (same_Some first e at) are.0
+answered_at r (first ∷ entries) (suc place) e are at = answered_at (onward r first) entries place e are.1 at
+
+-- one that asks for a registration has its effect
+module _ (run : Run) (e : Entry) (r : Registration) (asks : Asks e r) (is : IsAnswered run e) where
+  effect_is : effect_in run e ≡ Some (registering run.state r)
+  effect_is =
+      ap (λ (actor : Actor). effect_of run.state actor e.request (given_in e)) asks.actor
+      ∙ ap (λ (request : Request). effect_of run.state (App r.app) request (given_in e)) asks.request
+      ∙ ap (λ (note : BankNote). effect_of run.state (App r.app) (request_of r) (record { note = note; verdicts = e.verdicts })) asks.note
+
+  same : is.effect ≡ registering run.state r
+  same = same_Some is.effect (registering run.state r) (sym is.effect_is ∙ effect_is)
+
+  -- and what that effect leaves
+  begins : (left : Store) (name : List ℕ) (status : Status) (first : Option (List ℕ)) → (registering run.state r).status ≡ status → Begins left (registering run.state r) name first → TableBegins run e name status first
+  begins left name status first told b = record {
+    answered = is.status ∙ ap (λ (x : Effect). x.status) same ∙ told;
+    row = b.row;
+    table = b.table;
+    there = ap (λ (found : Option Effect). table_at (onward_by run e found).state.tables b.row) effect_is ∙ b.there;
+    named = b.named;
+    critical = b.critical;
+    image = b.image;
+  }
+
+  comes_back : (IsSuch : List ℕ → Type 0) (left : Store) (name : List ℕ) → ComesBack IsSuch left (registering run.state r) name → IsRecoveredOrEmpty IsSuch run e name
+  comes_back IsSuch left name (inl with_image) = inl (with_image.0, with_image.1, begins left name _ _ with_image.2.status with_image.2.begins)
+  comes_back IsSuch left name (inr empty) = inr (begins left name _ _ empty.status empty.begins)
+
+  -- what calls of the store it may have noted
+  noted : IsNoteOf (request_of r) (registering run.state r).calls run.state.store r.note
+  noted =
+      subst (λ (note : BankNote). IsNoteOf (request_of r) (registering run.state r).calls run.state.store note) asks.note
+      (subst (λ (request : Request). IsNoteOf request (registering run.state r).calls run.state.store e.note) asks.request
+      (subst (λ (x : Effect). IsNoteOf e.request x.calls run.state.store e.note) same is.given.note))
+
+-- ---- over an image that a reset left at a place of a history
+
+recovers_from : (opening : State) (entries : List Entry) (image : List ℕ) → IsHistory opening entries → AtSomePlace opening entries image
+    → (next_opening : State) (next : List Entry) → AreAnswered (begins_at next_opening) next
+    → (place : ℕ) (e : Entry) (name : List ℕ) (r : Registration) → RegistersAt (store_of image) next_opening next place e name r
+    → RecoversFrom opening entries image (run_at next_opening next place) e name r.size
+recovers_from opening entries image history at next_opening next answered place e name r registers =
+    let left = store_of image in
+    let run = run_at next_opening next place in
+    let is = answered_at (begins_at next_opening) next place e answered registers.at in
+    record {
+      place = at.0;
+      within = at.1;
+      crash = at.2;
+      completed = λ slot block copied of holds.
+          let recovered = recovers opening entries at.0 left at.2 history run.state name r registers.over slot block copied of holds in
+          begins run e r registers.asks is left name _ _ recovered.status recovered.begins;
+      broken = λ slot b of doubt. comes_back run e r registers.asks is _ left name (recovers_or_begins opening entries at.0 left at.2 history run.state name r registers.over slot b of doubt);
+      copied = λ slot b of doubt not_by_chance. comes_back run e r registers.asks is _ left name (recovers_copied opening entries at.0 left at.2 history run.state name r registers.over slot b of doubt not_by_chance);
+    }
+
+-- ---- behind the start of one application
+
+-- it runs, and nothing else has changed
+start_next : (s next : State) (running bad : Bool)
+    → (if running then answered s ERR_APP_RUNNING 0 else (if bad then answered s ERR_INVALID_NAME 0 else record (answered s SUCCESS 0) { next = next })).status ≡ SUCCESS
+    → (if running then answered s ERR_APP_RUNNING 0 else (if bad then answered s ERR_INVALID_NAME 0 else record (answered s SUCCESS 0) { next = next })).next ≡ next
+start_next s next true bad is = let other : 79 ≡ 0 = ap (λ (x : Status). x.0) is in absurd (omega (arith, other))
+start_next s next false true is = let other : ERR_INVALID_NAME.0 ≡ 0 = ap (λ (x : Status). x.0) is in absurd (omega (arith, other))
+start_next s next false false is = refl
+
+module _ (opening : State) (first : Entry) (app : ℕ) (app_name : List ℕ) (actor : first.actor ≡ App app) (starts : first.request ≡ ask.Start app_name) (is : IsAnswered (begins_at opening) first) (runs : first.reply.status ≡ SUCCESS) where
+  started_effect : effect_in (begins_at opening) first ≡ Some (start_effect opening app app_name)
+  started_effect = ap (λ (actor : Actor). effect_of opening actor first.request (given_in first)) actor ∙ ap (λ (request : Request). effect_of opening (App app) request (given_in first)) starts
+
+  started_state : (onward (begins_at opening) first).state ≡ record opening { apps = slice_set opening.apps (app - 1) (Some app_name) }
+  started_state =
+      let same : is.effect ≡ start_effect opening app app_name = same_Some is.effect (start_effect opening app app_name) (sym is.effect_is ∙ started_effect) in
+      ap (λ (found : Option Effect). (onward_by (begins_at opening) first found).state) started_effect
+      ∙ start_next opening (record opening { apps = slice_set opening.apps (app - 1) (Some app_name) }) (is_some (name_of opening app)) (not (is_name app_name) || has_dot app_name) (sym (ap (λ (x : Effect). x.status) same) ∙ sym is.status ∙ runs)
+
+-- so its registration is one that finds what the reset left
+registers_first : (left : Store) (kit : List (Option ℕ)) (entries : List Entry) → AreAnswered (begins_at (first_state left kit)) entries → (first e : Entry) (app_name : List ℕ) (r : Registration) → RegistersFirst kit entries first e app_name r
+    → RegistersAt left (first_state left kit) entries 1 e (full_name app_name r.short) r
+registers_first left kit entries are first e app_name r begun =
+    let opening = first_state left kit in
+    let at_first : slice_get entries 0 ≡ Some first = ap (λ (es : List Entry). slice_get es 0) begun.parts in
+    let at : slice_get entries 1 ≡ Some e = ap (λ (es : List Entry). slice_get es 1) begun.parts in
+    let first_is : IsAnswered (begins_at opening) first = answered_at (begins_at opening) entries 0 first are at_first in
+    let is = answered_at (begins_at opening) entries 1 e are at in
+    let state : (run_at opening entries 1).state ≡ started left kit r.app app_name =
+    ap (λ (es : List Entry). (run_at opening es 1).state) begun.parts ∙ started_state opening first r.app app_name begun.actor begun.starts first_is begun.runs in
+    let sent = subst (λ (actor : Actor). Fits actor first.request) begun.actor first_is.fits in
+    record {
+      at = at;
+      asks = begun.asks;
+      over = subst (λ (s : State). Registers left s (full_name app_name r.short) r) (sym state)
+          (registers_at_start left kit app_name r sent.0 sent.1 begun.taken begun.critical
+          (subst (λ (s : State). IsNoteOf (request_of r) (registering s r).calls s.store r.note) state (noted (run_at opening entries 1) e r begun.asks is)) begun.done);
+    }
+
+-- ---- two sessions
+
+-- the first, over a bank that tells its moments
+module _ {B C : Type 0} (tells tells_moments : Type 0) (now : B → List ℕ) (faults stops : B → ℕ) (may_leave : B → List ℕ → Type 0) (clock : B → ℕ) (left_since : B → ℕ → List ℕ → Type 0) (verdict : C → List ℕ → ℤ) (kit : List (KitEntry C)) (bank bank_then : B) (read : List ℕ) (at_end read_failed : Type 0) (status : ℕ) (before after : Option (List ℕ))
+    (tells_both : tells_moments → tells) (told : tells_moments)
+    (s : Session tells tells_moments faults stops may_leave clock left_since verdict (given_of kit) (opening_of (now bank) kit) bank bank_then read at_end read_failed status before after) where
+  abbrev First : State
+  First = opening_of (now bank) kit
+
+  is_history : IsHistory First s.entries
+  is_history = record { tables = refl; single = store-single (now bank); answered = (s.legal (tells_both told)).answered }
+
+  -- and the second, over a bank of which the bytes are an image that a reset in the first one, or behind it, may have left
+  module _ {B' C' : Type 0} (tells' tells_moments' : Type 0) (now' : B' → List ℕ) (faults' stops' : B' → ℕ) (may_leave' : B' → List ℕ → Type 0) (clock' : B' → ℕ) (left_since' : B' → ℕ → List ℕ → Type 0) (verdict' : C' → List ℕ → ℤ) (kit' : List (KitEntry C')) (bank' bank_then' : B') (read' : List ℕ) (at_end' read_failed' : Type 0) (status' : ℕ) (before' after' : Option (List ℕ))
+      (told' : tells') (over : left_since bank_then (clock bank) (now' bank'))
+      (s' : Session tells' tells_moments' faults' stops' may_leave' clock' left_since' verdict' (given_of kit') (opening_of (now' bank') kit') bank' bank_then' read' at_end' read_failed' status' before' after') where
+    abbrev Second : State
+    Second = opening_of (now' bank') kit'
+
+    -- a critical table is registered at a place of it
+    pub recovered : (place : ℕ) (e : Entry) (name : List ℕ) (r : Registration) → RegistersAt (store_of (now' bank')) Second s'.entries place e name r
+        → RecoversFrom First s.entries (now' bank') (run_at Second s'.entries place) e name r.size
+    recovered place e name r registers =
+        recovers_from First s.entries (now' bank') is_history ((s.moments told).each (now' bank') over) Second s'.entries (s'.legal told').answered place e name r registers
+
+    -- as the first thing behind the start of its application
+    pub recovered_first : (first e : Entry) (app_name : List ℕ) (r : Registration) → RegistersFirst (owners (given_of kit')) s'.entries first e app_name r
+        → RecoversFrom First s.entries (now' bank') (run_at Second s'.entries 1) e (full_name app_name r.short) r.size
+    recovered_first first e app_name r begun =
+        recovered 1 e (full_name app_name r.short) r (registers_first (store_of (now' bank')) (owners (given_of kit')) s'.entries (s'.legal told').answered first e app_name r begun)
