@@ -1,0 +1,209 @@
+// One session over banks in memory: whole, up to a record, or up to the write in which the processor is reset.
+ghost use Rattle.std.specs.Prelude.{◌≡◌, ◌≤◌, ◌<◌, ◌^◌, length, IfOk};
+ghost use Rattle.tbl_kinds.specs.Places.{bank_size};
+ghost use Rattle.tbl_kinds.specs.Requests.{Fits};
+ghost use Rattle.tbl_core.specs.Service.{AskedBelow};
+ghost use Rattle.shipped_kit.specs.Verdicts.{asked_of};
+
+use session_records::{Next, next_record};
+use shipped_kit::{FUNCTIONS, Shipped, shipped_entry};
+use std::alloc::{AllocError, AllocFailed, Global};
+use tbl_core::{Core, StartFault, StepFault};
+use tbl_fakes::{Break, MemBank};
+use tbl_kinds::{Actor, Bytes, Entry, Memory, Request, Status, fits};
+use tbl_outside::Back;
+use validation::Kit;
+
+/// How many bytes a bank has.
+const BANK_SIZE: usize = 131_072;
+
+/// A bank that nothing was written to.
+static ZEROS: [u8; BANK_SIZE] = [0; BANK_SIZE];
+
+/// The most entries of a history.
+const MOST_ENTRIES: usize = 32_768;
+
+/// The service over a bank in memory, with the validation functions of the shipped program.
+pub(crate) type Service = Core<MemBank, Shipped>;
+
+/// Why something wasn't tried to its end.
+#[derive(Clone, Copy, Debug, PartialEq, Eq)]
+pub(crate) enum Fault {
+    /// Memory ran out.
+    Memory,
+    /// The service takes no further request.
+    Full,
+}
+
+impl From<Memory> for Fault {
+    fn from(_memory: Memory) -> Fault {
+        Fault::Memory
+    }
+}
+
+impl From<AllocError> for Fault {
+    fn from(_error: AllocError) -> Fault {
+        Fault::Memory
+    }
+}
+
+impl<T: Drop> From<AllocFailed<T>> for Fault {
+    fn from(_error: AllocFailed<T>) -> Fault {
+        Fault::Memory
+    }
+}
+
+/// For how many writes, and for how many bytes of them, a bank has room in its record.
+#[derive(Clone, Copy, Debug)]
+pub(crate) struct Room {
+    pub(crate) writes: u32,
+    pub(crate) bytes: u32,
+}
+
+/// Whether the service goes on behind a request.
+#[derive(Clone, Copy, Debug, PartialEq, Eq)]
+pub(crate) enum Progress {
+    Played,
+    /// The processor was reset in it.
+    Stopped,
+}
+
+/// The validation functions of the shipped program.
+fn shipped(alloc: Global) -> Result<Kit<Shipped>, Memory>
+    ensures { IfOk result (AskedBelow asked_of 1) }
+{
+    let mut entries = Vec::with_capacity(alloc, usize::from(FUNCTIONS))?;
+    'functions: for number in 0..FUNCTIONS {
+        entries.push(shipped_entry(number))?;
+    }
+    Kit::make(alloc, entries)
+}
+
+/// A bank of these bytes.
+fn bank_of(alloc: Global, image: &[u8], breaks: &[Break], room: Room) -> Result<MemBank, Memory>
+    requires { length image.now ≡ 131072 }
+    ensures { IfOk result (λ bank. bank_size ≤ length bank.bytes) }
+{
+    let mut bytes = Bytes::make(alloc, image.len())?;
+    bytes.append(image);
+    MemBank::make(alloc, bytes, breaks, &[], room.writes, room.bytes)
+}
+
+/// The service that starts over a bank, or that bank where it was stopped in the boot.
+pub(crate) enum Started {
+    Runs(Service),
+    Stopped(MemBank),
+}
+
+/// Starts the service over a bank of these bytes, whose writes break off where the list says so.
+fn start(alloc: Global, image: &[u8], breaks: &[Break], room: Room) -> Result<Started, Fault>
+    requires { length image.now ≡ 131072 }
+{
+    let bank = bank_of(alloc, image, breaks, room)?;
+    match Core::start(alloc, bank, shipped(alloc)?) {
+        Ok(core) => Ok(Started::Runs(core)),
+        Err(Back { cause: StartFault::Memory, .. }) => Err(Fault::Memory),
+        Err(Back { bank, .. }) => Ok(Started::Stopped(bank)),
+    }
+}
+
+/// The entry of the request that was played last.
+pub(crate) fn last_entry(core: &Service) -> Result<&Entry, Fault> {
+    core.history().last().ok_or(Fault::Full)
+}
+
+/// Plays a request.
+fn step(core: &mut Service, actor: Actor, request: Request) -> Result<Progress, Fault>
+    requires fits { Fits actor request }
+{
+    if !core.is_live() || core.history().len() >= MOST_ENTRIES {
+        return Err(Fault::Full);
+    }
+    match core.step(actor, request) {
+        Ok(()) if last_entry(core)?.reply.status == Status::INFO_STOPPED => Ok(Progress::Stopped),
+        Ok(()) => Ok(Progress::Played),
+        Err(StepFault::BootFault | StepFault::BootStopped) => Ok(Progress::Stopped),
+        Err(StepFault::Memory) => Err(Fault::Memory),
+    }
+}
+
+/// Makes a request that isn't in the session, and gives its entry.
+pub(crate) fn ask(core: &mut Service, actor: Actor, request: Request) -> Result<&Entry, Fault> {
+    if !fits(actor, &request) {
+        return Err(Fault::Full);
+    }
+    step(core, actor, request)?;
+    last_entry(core)
+}
+
+/// Plays the record at the front of some bytes, and gives its length, 0 where there is none, and whether the service goes on.
+fn step_front(alloc: Global, core: &mut Service, records: &[u8]) -> Result<(usize, Progress), Fault> {
+    match next_record(alloc, records)? {
+        Next::Item { actor, request, used } => Ok((used, step(core, actor, request)?)),
+        _ => Ok((0, Progress::Played)),
+    }
+}
+
+/// Plays so many records, or those up to the one in which the processor is reset.
+fn step_all(alloc: Global, core: &mut Service, records: &[u8], most: usize) -> Result<Progress, Fault> {
+    let mut rest = records;
+    for _ in 0..most {
+        let (used, how) = step_front(alloc, core, rest)?;
+        if used == 0 || how == Progress::Stopped {
+            return Ok(how);
+        }
+        rest = rest.get(used..).ok_or(Fault::Full)?;
+    }
+    Ok(Progress::Played)
+}
+
+/// The service behind the first so many records of a session, over a bank that nothing was written to.
+pub(crate) fn behind(alloc: Global, records: &[u8], most: usize, room: Room) -> Result<Service, Fault> {
+    match start(alloc, &ZEROS, &[], room)? {
+        Started::Runs(mut core) => {
+            step_all(alloc, &mut core, records, most)?;
+            Ok(core)
+        }
+        Started::Stopped(_) => Err(Fault::Full),
+    }
+}
+
+/// What a stop left: the bank, and how many requests were answered, that in which it came with them; none where it came in
+/// the boot at the start.
+#[derive(Drop)]
+pub(crate) struct Left {
+    pub(crate) played: usize,
+    pub(crate) bank: MemBank,
+}
+
+/// Plays a session up to a write, in which the processor is reset after so many bytes. The boot behind the reset is stopped
+/// before its first write, so that the bank has what the reset left.
+pub(crate) fn with_stop(alloc: Global, records: &[u8], write: u32, after: u32, room: Room) -> Result<Left, Fault> {
+    let boot = write.saturating_add(1);
+    let breaks = [
+        Break { write, after, stop: true },
+        Break { write: boot, after: 0, stop: true },
+    ];
+    match start(alloc, &ZEROS, &breaks, room)? {
+        Started::Runs(mut core) => {
+            step_all(alloc, &mut core, records, MOST_ENTRIES)?;
+            let played = core.history().len();
+            Ok(Left { played, bank: core.end() })
+        }
+        Started::Stopped(bank) => Ok(Left { played: 0, bank }),
+    }
+}
+
+/// For a few writes, as a boot and the registration of some tables make them.
+const FEW_WRITES: Room = Room { writes: 512, bytes: 32_768 };
+
+/// The service that starts anew over what a reset left.
+pub(crate) fn anew(alloc: Global, image: &[u8]) -> Result<Service, Fault> {
+    if image.len() != BANK_SIZE {
+        return Err(Fault::Full);
+    }
+    match start(alloc, image, &[], FEW_WRITES)? {
+        Started::Runs(core) => Ok(core),
+        Started::Stopped(_) => Err(Fault::Full),
+    }
+}

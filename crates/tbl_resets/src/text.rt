@@ -1,0 +1,264 @@
+// The table as text.
+use crate::plan::Plan;
+use crate::tables::{Back, Change, Table};
+use crate::tries::{Counts, Run, SHORT_WRITE, Tried};
+use std::alloc::{AllocError, Global};
+use std::fmt::{self, Write};
+use tbl_fakes::Span;
+use tbl_kinds::{Actor, Entry, Request};
+
+/// Where the columns behind the first begin.
+const BYTES_AT: usize = 7;
+
+const REQUEST_AT: usize = 14;
+
+const WRITES_AT: usize = 38;
+
+const AFTER_AT: usize = 68;
+
+const TABLE_AT: usize = 82;
+
+/// Appends blanks up to a column, one at least, of the line that begins at this place of the text.
+fn blanks_to(text: &mut String, line: usize, column: usize) -> fmt::Result {
+    text.write_str(" ")?;
+    for _ in text.len().saturating_sub(line)..column {
+        text.write_str(" ")?;
+    }
+    Ok(())
+}
+
+/// The request's name in docs/FORMATS.md. The one command that writes to the bank is DELETE_CDS.
+fn request_name(request: &Request) -> &'static str {
+    match request {
+        Request::Command { .. } => "DELETE_CDS",
+        Request::Reset { .. } => "Reset",
+        Request::Register { .. } => "Register",
+        Request::LoadImage { .. } => "LoadImage",
+        Request::LoadFile { .. } => "LoadFile",
+        Request::Update { .. } => "Update",
+        Request::Manage { .. } => "Manage",
+        Request::CdsRegister { .. } => "CdsRegister",
+        Request::CdsCopy { .. } => "CdsCopy",
+        Request::CdsDelete { .. } => "CdsDelete",
+        _ => "request",
+    }
+}
+
+/// Writes a request: its place, who makes it, and its name.
+fn tell_request(text: &mut String, place: usize, entry: &Entry) -> fmt::Result {
+    let name = request_name(&entry.request);
+    match entry.actor {
+        Actor::Ground => write!(text, "{place} ground {name}")?,
+        Actor::App(number) => write!(text, "{place} app {number} {name}")?,
+    }
+    Ok(())
+}
+
+/// Writes the request in which a write is made.
+fn tell_maker(text: &mut String, plan: &Plan, played: usize) -> fmt::Result {
+    let Some(place) = played.checked_sub(1) else {
+        return text.write_str("boot at the start");
+    };
+    match plan.core.history().get(place) {
+        Some(entry) => tell_request(text, place, entry),
+        None => Ok(()),
+    }
+}
+
+/// Writes the image that a request copies.
+fn tell_copied(text: &mut String, plan: &Plan, played: usize) -> fmt::Result {
+    for table in &plan.tables {
+        if let Some(image) = table.under_way(played) {
+            let number = image.number;
+            let name = table.name.as_str();
+            write!(text, "image {number} of {name}")?;
+            return Ok(());
+        }
+    }
+    text.write_str("image of an application block")
+}
+
+/// Whether a request copies an image into a block.
+fn is_copy(plan: &Plan, played: usize) -> bool {
+    let Some(place) = played.checked_sub(1) else {
+        return false;
+    };
+    match plan.core.history().get(place) {
+        Some(entry) => matches!(
+            &entry.request,
+            Request::LoadImage { .. }
+                | Request::LoadFile { .. }
+                | Request::Update { .. }
+                | Request::Manage { .. }
+                | Request::CdsCopy { .. }
+        ),
+        None => false,
+    }
+}
+
+/// Where the directory begins, and the bytes of an entry.
+const DIRECTORY_AT: u32 = 16;
+
+const ENTRY_LEN: u32 = 64;
+
+/// Where the blocks begin.
+const BLOCKS_AT: u32 = 8_208;
+
+/// Writes what a write has, by its place in the bank (docs/STORE.md). A copy writes its image first, and then the head.
+fn tell_piece(text: &mut String, plan: &Plan, played: usize, span: Span, is_first: bool) -> fmt::Result {
+    let at = span.at;
+    if at >= BLOCKS_AT {
+        if is_first && is_copy(plan, played) {
+            return tell_copied(text, plan, played);
+        }
+        write!(text, "head of the block at {at}")?;
+        return Ok(());
+    }
+    let Some(place) = at.checked_sub(DIRECTORY_AT) else {
+        return text.write_str(if at == 0 { "live byte" } else { "letters" });
+    };
+    let slot = place / ENTRY_LEN;
+    if span.length > ENTRY_LEN {
+        return text.write_str("directory");
+    }
+    let part = if place % ENTRY_LEN == 0 { "gate" } else { "entry" };
+    write!(text, "{part} of slot {slot}")?;
+    Ok(())
+}
+
+/// Writes what came back.
+fn tell_back(text: &mut String, back: Back) -> fmt::Result {
+    match back {
+        Back::None => text.write_str("none")?,
+        Back::Refused { status } => write!(text, "none (Register was answered with {status})")?,
+        Back::Completed { number, crc } => {
+            write!(text, "recovered: image {number} (crc 0x{crc:04X}), the last that was copied")?;
+        }
+        Back::Broken { number, crc } => {
+            write!(text, "recovered: image {number} (crc 0x{crc:04X}), whose copy broke off")?;
+        }
+        Back::Mixed { crc } => write!(text, "A MIX: other bytes than of any image (crc 0x{crc:04X})")?,
+    }
+    Ok(())
+}
+
+/// Writes the lines of a write: one for each range of numbers of bytes and each table.
+pub(crate) fn tell_write(
+    text: &mut String,
+    plan: &Plan,
+    number: u32,
+    span: Span,
+    tried: &Tried,
+    is_first: bool,
+) -> fmt::Result {
+    let length = span.length;
+    let mut line = text.len();
+    write!(text, "{number}")?;
+    blanks_to(text, line, BYTES_AT)?;
+    write!(text, "{length}")?;
+    blanks_to(text, line, REQUEST_AT)?;
+    tell_maker(text, plan, tried.played)?;
+    blanks_to(text, line, WRITES_AT)?;
+    tell_piece(text, plan, tried.played, span, is_first)?;
+    for (at, table) in plan.tables.iter().enumerate() {
+        for run in &tried.runs {
+            if run.table == at {
+                tell_run(text, line, table, *run)?;
+                line = text.len();
+            }
+        }
+    }
+    if line != text.len() {
+        text.write_str("\n")?;
+    }
+    Ok(())
+}
+
+/// Writes a range, the table and what came back, behind what stands in the line.
+fn tell_run(text: &mut String, line: usize, table: &Table, run: Run) -> fmt::Result {
+    let (from, to) = (run.from, run.to);
+    let name = table.name.as_str();
+    blanks_to(text, line, AFTER_AT)?;
+    if from == to {
+        write!(text, "{from}")?;
+    } else {
+        write!(text, "{from}-{to}")?;
+    }
+    blanks_to(text, line, TABLE_AT)?;
+    write!(text, "{name}: ")?;
+    tell_back(text, run.back)?;
+    text.write_str("\n")
+}
+
+/// Writes a table's registrations and images.
+fn tell_table(text: &mut String, table: &Table) -> fmt::Result {
+    let name = table.name.as_str();
+    writeln!(text, "{name}")?;
+    for event in &table.events {
+        let place = event.place;
+        match &event.change {
+            Change::Registered(registration) => {
+                let size = registration.size;
+                let app = registration.actor.number();
+                writeln!(text, "  request {place}: app {app} registers it, {size} bytes")?;
+            }
+            Change::Copied(image) => {
+                let number = image.number;
+                let crc = image.crc;
+                writeln!(text, "  request {place}: image {number} (crc 0x{crc:04X}) is copied")?;
+            }
+            Change::Emptied => (),
+        }
+    }
+    Ok(())
+}
+
+/// Writes the lines before the table.
+fn tell_head(text: &mut String, plan: &Plan, every: u32, counts: &Counts) -> fmt::Result {
+    let writes = plan.writes.len();
+    let stops = counts.stops;
+    if every == 1 {
+        writeln!(text, "{writes} writes and {stops} resets were tried: after each number of bytes of each write, 0 and all of them too.")?;
+    } else {
+        writeln!(text, "{writes} writes and {stops} resets were tried: after each number of bytes of each write of up to {SHORT_WRITE} bytes;")?;
+        writeln!(text, "inside longer ones after each number that {every} divides alone, and after all bytes (--every {every}).")?;
+    }
+    writeln!(text, "The number of a request is its place in the session, from 0.\n")?;
+    for table in &plan.tables {
+        tell_table(text, table)?;
+    }
+    let line = text.len();
+    text.write_str("\nwrite")?;
+    blanks_to(text, line, BYTES_AT)?;
+    text.write_str("bytes")?;
+    blanks_to(text, line, REQUEST_AT)?;
+    text.write_str("in request")?;
+    blanks_to(text, line, WRITES_AT)?;
+    text.write_str("what is written")?;
+    blanks_to(text, line, AFTER_AT)?;
+    text.write_str("reset after")?;
+    blanks_to(text, line, TABLE_AT)?;
+    text.write_str("what comes back\n")
+}
+
+/// Writes the last line.
+fn tell_end(text: &mut String, counts: &Counts) -> fmt::Result {
+    let (completed, broken, none, mixed) = (counts.completed, counts.broken, counts.none, counts.mixed);
+    writeln!(text, "\nWhat came back: the last image that was copied {completed} times, one whose copy broke off {broken} times, none {none} times, a mix {mixed} times.")?;
+    Ok(())
+}
+
+/// The whole text, of which the lines of the writes are made already.
+pub(crate) fn whole_text(
+    alloc: Global,
+    plan: &Plan,
+    every: u32,
+    lines: &str,
+    counts: &Counts,
+) -> Result<String, AllocError> {
+    let mut text = String::new(alloc);
+    tell_head(&mut text, plan, every, counts).map_err(|_| AllocError)?;
+    text.push_str(lines)?;
+    tell_end(&mut text, counts).map_err(|_| AllocError)?;
+    Ok(text)
+}

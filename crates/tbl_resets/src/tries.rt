@@ -1,0 +1,175 @@
+// The resets at one write of the bank, after each number of its bytes.
+use crate::play::{Fault, Left, with_stop};
+use crate::plan::Plan;
+use crate::recovery::come_back;
+use crate::tables::Back;
+use std::alloc::Global;
+use tbl_fakes::Span;
+use tbl_kinds::Bytes;
+
+/// In writes of so many bytes or fewer each number of bytes is tried, whatever `--every` says.
+pub(crate) const SHORT_WRITE: u32 = 64;
+
+/// Between two lines that tell how far the work is.
+const STARTS_TOLD: u64 = 1_024;
+
+/// That the same came back in a table after these numbers of bytes.
+#[derive(Clone, Copy, Debug)]
+pub(crate) struct Run {
+    /// The place of the table among those of the session.
+    pub(crate) table: usize,
+    pub(crate) from: u32,
+    pub(crate) to: u32,
+    pub(crate) back: Back,
+}
+
+/// How many resets were tried, over how many banks that differ, and what came back, for each table once a reset.
+#[derive(Clone, Copy, Debug)]
+pub(crate) struct Counts {
+    pub(crate) stops: u64,
+    pub(crate) starts: u64,
+    pub(crate) completed: u64,
+    pub(crate) broken: u64,
+    pub(crate) none: u64,
+    pub(crate) mixed: u64,
+}
+
+impl Counts {
+    pub(crate) fn zero() -> Counts {
+        Counts { stops: 0, starts: 0, completed: 0, broken: 0, none: 0, mixed: 0 }
+    }
+
+    /// Counts a reset and what came back behind it.
+    fn add(&mut self, backs: &[Back]) {
+        self.stops = self.stops.saturating_add(1);
+        for back in backs {
+            let counter = match back {
+                Back::Completed { .. } => &mut self.completed,
+                Back::Broken { .. } => &mut self.broken,
+                Back::None | Back::Refused { .. } => &mut self.none,
+                Back::Mixed { .. } => &mut self.mixed,
+            };
+            *counter = counter.saturating_add(1);
+        }
+    }
+}
+
+/// What came back after the numbers of bytes so far: the ranges that ended, and for each table the one that goes on.
+#[derive(Drop)]
+struct Ranges {
+    ended: Vec<Run>,
+    open: Vec<Run>,
+}
+
+impl Ranges {
+    /// The first number of bytes, 0.
+    fn make(alloc: Global, backs: &[Back]) -> Result<Ranges, Fault> {
+        let mut open = Vec::new(alloc);
+        for (table, back) in backs.iter().enumerate() {
+            open.push(Run { table, from: 0, to: 0, back: *back })?;
+        }
+        Ok(Ranges { ended: Vec::new(alloc), open })
+    }
+
+    /// A further number of bytes.
+    fn extend(&mut self, after: u32, backs: &[Back]) -> Result<(), Fault> {
+        for (run, back) in self.open.iter_mut().zip(backs) {
+            if run.back != *back {
+                self.ended.push(*run)?;
+                run.from = after;
+                run.back = *back;
+            }
+            run.to = after;
+        }
+        Ok(())
+    }
+
+    /// All ranges.
+    fn all(mut self) -> Result<Vec<Run>, Fault> {
+        self.ended.extend_from_slice(&self.open)?;
+        Ok(self.ended)
+    }
+}
+
+/// Whether a number of bytes of a write is tried.
+fn is_tried(after: u32, length: u32, every: u32) -> bool {
+    length <= SHORT_WRITE || after == length || after.checked_rem(every) == Some(0)
+}
+
+/// Puts a byte at a place. The answer is whether another one stood there.
+fn put(image: &mut Bytes, at: usize, byte: u8) -> bool {
+    if image.bytes().get(at).is_none_or(|old| *old == byte) {
+        return false;
+    }
+    image.write_over(at, &[byte]);
+    true
+}
+
+/// The bytes of a bank, to be changed.
+fn copy_of(alloc: Global, left: &Left) -> Result<Bytes, Fault> {
+    let bytes = left.bank.bytes();
+    let mut image = Bytes::make(alloc, bytes.len())?;
+    image.append(bytes);
+    Ok(image)
+}
+
+/// What is the same for all writes of a session.
+#[derive(Drop)]
+pub(crate) struct Trial<'a> {
+    pub(crate) alloc: Global,
+    pub(crate) records: &'a [u8],
+    pub(crate) plan: &'a Plan,
+    pub(crate) every: u32,
+}
+
+/// The resets at a write: how many requests had been made by then, and what came back.
+#[derive(Drop)]
+pub(crate) struct Tried {
+    pub(crate) played: usize,
+    pub(crate) runs: Vec<Run>,
+}
+
+/// Tries a reset after each number of bytes of a write, which has this number, from 1. What is left after no byte and after
+/// all of them comes from the session played up to there. Between these two the bank has a front of the write: it is
+/// made from both. Where a byte of the write changes nothing, what the reset leaves is the same as one byte before, and
+/// what comes back isn't asked once more.
+pub(crate) fn try_write<R: Eprint>(
+    rt: &R,
+    trial: &Trial<'_>,
+    number: u32,
+    span: Span,
+    counts: &mut Counts,
+) -> Result<Tried, Fault> {
+    let (alloc, plan) = (trial.alloc, trial.plan);
+    let before = with_stop(alloc, trial.records, number, 0, plan.room)?;
+    let behind = with_stop(alloc, trial.records, number, span.length, plan.room)?;
+    let mut image = copy_of(alloc, &before)?;
+    let mut backs = come_back(alloc, image.bytes(), &plan.tables, before.played)?;
+    let mut ranges = Ranges::make(alloc, &backs)?;
+    counts.starts = counts.starts.saturating_add(1);
+    counts.add(&backs);
+    let mut is_changed = false;
+    for after in 1..=span.length {
+        let at = span.at.saturating_add(after - 1) as usize;
+        let byte = behind.bank.bytes().get(at).copied().ok_or(Fault::Full)?;
+        is_changed |= put(&mut image, at, byte);
+        if is_tried(after, span.length, trial.every) {
+            if is_changed {
+                backs = come_back(alloc, image.bytes(), &plan.tables, before.played)?;
+                is_changed = false;
+                counts.starts = counts.starts.saturating_add(1);
+                tell_progress(rt, counts.starts, number, plan.writes.len(), after, span.length);
+            }
+            ranges.extend(after, &backs)?;
+            counts.add(&backs);
+        }
+    }
+    Ok(Tried { played: before.played, runs: ranges.all()? })
+}
+
+/// Says now and then on standard error how far the work is. Where that can't be written, it goes on.
+fn tell_progress<R: Eprint>(rt: &R, starts: u64, number: u32, writes: usize, after: u32, length: u32) {
+    if starts % STARTS_TOLD == 0 {
+        let _ = eprintln!(rt; "resets: at write {number} of {writes}, after {after} of {length} bytes");
+    }
+}
