@@ -78,13 +78,21 @@ impl Reading {
             End::BadRecord if self.count >= MOST_RECORDS => End::TooLong,
             _ => end,
         };
-        Session { bytes: self.bytes, count: self.count, end }
+        Session {
+            bytes: self.bytes,
+            count: self.count,
+            end,
+        }
     }
 }
 
 /// Reads a session to its end.
 pub(crate) fn read_session<S: Source>(alloc: Global, source: &mut S) -> Result<Session, Memory> {
-    let mut reading = Reading { bytes: Vec::new(alloc), whole: 0, count: 0 };
+    let mut reading = Reading {
+        bytes: Vec::new(alloc),
+        whole: 0,
+        count: 0,
+    };
     let mut piece = [0; PIECE];
     for _ in 0..u64::MAX {
         match source.read(&mut piece) {

@@ -39,11 +39,20 @@ It ends with one of these statuses:
 ";
 
 /// The text for a session, and whether a mix came back.
-fn tried<R: Eprint + AllocGlobal>(rt: &R, session: &Session, every: u32) -> Result<(String, bool), Fault> {
+fn tried<R: Eprint + AllocGlobal>(
+    rt: &R,
+    session: &Session,
+    every: u32,
+) -> Result<(String, bool), Fault> {
     let alloc = rt.alloc();
     let records = session.bytes.as_slice();
     let plan = plan_of(alloc, records, session.count as usize)?;
-    let trial = Trial { alloc, records, plan: &plan, every };
+    let trial = Trial {
+        alloc,
+        records,
+        plan: &plan,
+        every,
+    };
     let mut counts = Counts::zero();
     let mut lines = String::new(alloc);
     let mut maker = None;
@@ -69,7 +78,12 @@ fn status_of(end: End) -> u8 {
 }
 
 /// Tries a session, and gives the status for that.
-fn try_session<R: Eprint + AllocGlobal>(rt: &R, session: &Session, every: u32, sink: &mut StandardOutput) -> u8 {
+fn try_session<R: Eprint + AllocGlobal>(
+    rt: &R,
+    session: &Session,
+    every: u32,
+    sink: &mut StandardOutput,
+) -> u8 {
     match tried(rt, session, every) {
         Err(Fault::Memory) => 1,
         Err(Fault::Full) => 6,

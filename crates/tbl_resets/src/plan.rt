@@ -7,7 +7,9 @@ use check_word::check16;
 use std::alloc::Global;
 use std::collections::BTreeMap;
 use tbl_fakes::{MemBank, Span};
-use tbl_kinds::{Actor, Entry, Name16, Name20, Name40, Options, Outcome, Request, ResetKind, Status};
+use tbl_kinds::{
+    Actor, Entry, Name16, Name20, Name40, Options, Outcome, Request, ResetKind, Status,
+};
 
 /// What is known of a session before a reset is tried.
 #[derive(Drop)]
@@ -53,7 +55,9 @@ fn is_critical(flags: u16) -> bool {
 impl Finder<'_> {
     /// The place of a table among those that are known.
     fn place_of(&self, name: &[u8]) -> Option<usize> {
-        self.tables.iter().position(|table| table.name.as_bytes() == name)
+        self.tables
+            .iter()
+            .position(|table| table.name.as_bytes() == name)
     }
 
     /// Adds a change of a table.
@@ -68,7 +72,10 @@ impl Finder<'_> {
     fn empty(&mut self, place: usize, name: Option<&[u8]>) -> Result<(), Fault> {
         for table in &mut self.tables {
             if name.is_none_or(|name| table.name.as_bytes() == name) {
-                table.events.push(Event { place, change: Change::Emptied })?;
+                table.events.push(Event {
+                    place,
+                    change: Change::Emptied,
+                })?;
             }
         }
         Ok(())
@@ -88,7 +95,13 @@ impl Finder<'_> {
     }
 
     /// A table was registered as a critical one.
-    fn register(&mut self, place: usize, name: String, registration: Registration, status: Status) -> Result<(), Fault> {
+    fn register(
+        &mut self,
+        place: usize,
+        name: String,
+        registration: Registration,
+        status: Status,
+    ) -> Result<(), Fault> {
         let table = match self.place_of(name.as_bytes()) {
             Some(table) => table,
             None => {
@@ -104,7 +117,13 @@ impl Finder<'_> {
 
     /// A table was registered, critical or not.
     fn see_register(&mut self, place: usize, entry: &Entry) -> Result<(), Fault> {
-        let Request::Register { name, size, flags, validator } = &entry.request else {
+        let Request::Register {
+            name,
+            size,
+            flags,
+            validator,
+        } = &entry.request
+        else {
             return Ok(());
         };
         let status = entry.reply.status;
@@ -113,7 +132,9 @@ impl Finder<'_> {
         };
         let app = app.copy();
         let full = full_name(self.alloc, &app, name)?;
-        if is_critical(*flags) && (status == Status::SUCCESS || status == Status::INFO_RECOVERED_TBL) {
+        if is_critical(*flags)
+            && (status == Status::SUCCESS || status == Status::INFO_RECOVERED_TBL)
+        {
             let registration = Registration {
                 actor: entry.actor,
                 app,
@@ -177,7 +198,9 @@ impl Finder<'_> {
             Request::Share { name } if entry.reply.status == Status::SUCCESS => {
                 self.give(entry.reply.detail, name.bytes())
             }
-            Request::Reset { kind: ResetKind::PowerOn } => self.empty(place, None),
+            Request::Reset {
+                kind: ResetKind::PowerOn,
+            } => self.empty(place, None),
             _ if entry.note.outcome() == Outcome::Done => self.see_call(place, entry),
             _ => Ok(()),
         }
@@ -185,7 +208,12 @@ impl Finder<'_> {
 }
 
 /// The critical tables of a session that was played.
-fn tables_of(alloc: Global, records: &[u8], room: Room, core: &Service) -> Result<Vec<Table>, Fault> {
+fn tables_of(
+    alloc: Global,
+    records: &[u8],
+    room: Room,
+    core: &Service,
+) -> Result<Vec<Table>, Fault> {
     let mut finder = Finder {
         alloc,
         records,
@@ -201,7 +229,10 @@ fn tables_of(alloc: Global, records: &[u8], room: Room, core: &Service) -> Resul
 }
 
 /// The first room that is tried.
-const FIRST_ROOM: Room = Room { writes: 1_024, bytes: 1_048_576 };
+const FIRST_ROOM: Room = Room {
+    writes: 1_024,
+    bytes: 1_048_576,
+};
 
 /// How often the room is doubled before it is given up.
 const DOUBLINGS: u32 = 11;
@@ -214,7 +245,10 @@ fn writes_of(alloc: Global, records: &[u8], count: usize) -> Result<(Room, Vec<S
         if bank.faults() == 0 {
             return Ok((room, bank.spans().to_vec(alloc)?));
         }
-        room = Room { writes: room.writes.saturating_mul(2), bytes: room.bytes.saturating_mul(2) };
+        room = Room {
+            writes: room.writes.saturating_mul(2),
+            bytes: room.bytes.saturating_mul(2),
+        };
     }
     Err(Fault::Memory)
 }
@@ -224,5 +258,10 @@ pub(crate) fn plan_of(alloc: Global, records: &[u8], count: usize) -> Result<Pla
     let (room, writes) = writes_of(alloc, records, count)?;
     let core = behind(alloc, records, count, room)?;
     let tables = tables_of(alloc, records, room, &core)?;
-    Ok(Plan { core, writes, tables, room })
+    Ok(Plan {
+        core,
+        writes,
+        tables,
+        room,
+    })
 }

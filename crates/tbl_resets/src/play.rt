@@ -102,7 +102,12 @@ fn start(alloc: Global, image: &[u8], breaks: &[Break], room: Room) -> Result<St
     let bank = bank_of(alloc, image, breaks, room)?;
     match Core::start(alloc, bank, shipped(alloc)?) {
         Ok(core) => Ok(Started::Runs(core)),
-        Err(Back { cause: StartFault::Memory, .. }) => Err(Fault::Memory),
+        Err(
+            Back {
+                cause: StartFault::Memory,
+                ..
+            },
+        ) => Err(Fault::Memory),
         Err(Back { bank, .. }) => Ok(Started::Stopped(bank)),
     }
 }
@@ -137,15 +142,28 @@ pub(crate) fn ask(core: &mut Service, actor: Actor, request: Request) -> Result<
 }
 
 /// Plays the record at the front of some bytes, and gives its length, 0 where there is none, and whether the service goes on.
-fn step_front(alloc: Global, core: &mut Service, records: &[u8]) -> Result<(usize, Progress), Fault> {
+fn step_front(
+    alloc: Global,
+    core: &mut Service,
+    records: &[u8],
+) -> Result<(usize, Progress), Fault> {
     match next_record(alloc, records)? {
-        Next::Item { actor, request, used } => Ok((used, step(core, actor, request)?)),
+        Next::Item {
+            actor,
+            request,
+            used,
+        } => Ok((used, step(core, actor, request)?)),
         _ => Ok((0, Progress::Played)),
     }
 }
 
 /// Plays so many records, or those up to the one in which the processor is reset.
-fn step_all(alloc: Global, core: &mut Service, records: &[u8], most: usize) -> Result<Progress, Fault> {
+fn step_all(
+    alloc: Global,
+    core: &mut Service,
+    records: &[u8],
+    most: usize,
+) -> Result<Progress, Fault> {
     let mut rest = records;
     for _ in 0..most {
         let (used, how) = step_front(alloc, core, rest)?;
@@ -158,7 +176,12 @@ fn step_all(alloc: Global, core: &mut Service, records: &[u8], most: usize) -> R
 }
 
 /// The service behind the first so many records of a session, over a bank that nothing was written to.
-pub(crate) fn behind(alloc: Global, records: &[u8], most: usize, room: Room) -> Result<Service, Fault> {
+pub(crate) fn behind(
+    alloc: Global,
+    records: &[u8],
+    most: usize,
+    room: Room,
+) -> Result<Service, Fault> {
     match start(alloc, &ZEROS, &[], room)? {
         Started::Runs(mut core) => {
             step_all(alloc, &mut core, records, most)?;
@@ -178,24 +201,44 @@ pub(crate) struct Left {
 
 /// Plays a session up to a write, in which the processor is reset after so many bytes. The boot behind the reset is stopped
 /// before its first write, so that the bank has what the reset left.
-pub(crate) fn with_stop(alloc: Global, records: &[u8], write: u32, after: u32, room: Room) -> Result<Left, Fault> {
+pub(crate) fn with_stop(
+    alloc: Global,
+    records: &[u8],
+    write: u32,
+    after: u32,
+    room: Room,
+) -> Result<Left, Fault> {
     let boot = write.saturating_add(1);
     let breaks = [
-        Break { write, after, stop: true },
-        Break { write: boot, after: 0, stop: true },
+        Break {
+            write,
+            after,
+            stop: true,
+        },
+        Break {
+            write: boot,
+            after: 0,
+            stop: true,
+        },
     ];
     match start(alloc, &ZEROS, &breaks, room)? {
         Started::Runs(mut core) => {
             step_all(alloc, &mut core, records, MOST_ENTRIES)?;
             let played = core.history().len();
-            Ok(Left { played, bank: core.end() })
+            Ok(Left {
+                played,
+                bank: core.end(),
+            })
         }
         Started::Stopped(bank) => Ok(Left { played: 0, bank }),
     }
 }
 
 /// For a few writes, as a boot and the registration of some tables make them.
-const FEW_WRITES: Room = Room { writes: 512, bytes: 32_768 };
+const FEW_WRITES: Room = Room {
+    writes: 512,
+    bytes: 32_768,
+};
 
 /// The service that starts anew over what a reset left.
 pub(crate) fn anew(alloc: Global, image: &[u8]) -> Result<Service, Fault> {

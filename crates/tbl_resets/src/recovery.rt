@@ -6,13 +6,26 @@ use std::alloc::Global;
 use tbl_kinds::{Actor, Bytes, Request, Status};
 
 /// The last image of a table, read by its owner through its handle; none where it has none.
-pub(crate) fn read_image(core: &mut Service, actor: Actor, handle: u16, size: u32) -> Result<Option<Bytes>, Fault> {
+pub(crate) fn read_image(
+    core: &mut Service,
+    actor: Actor,
+    handle: u16,
+    size: u32,
+) -> Result<Option<Bytes>, Fault> {
     ask(core, actor, Request::Release { handle })?;
     let got = ask(core, actor, Request::Get { handle })?.reply.status;
     if got != Status::SUCCESS && got != Status::INFO_UPDATED {
         return Ok(None);
     }
-    let entry = ask(core, actor, Request::Read { handle, offset: 0, len: size })?;
+    let entry = ask(
+        core,
+        actor,
+        Request::Read {
+            handle,
+            offset: 0,
+            len: size,
+        },
+    )?;
     if entry.reply.status != Status::SUCCESS {
         return Ok(None);
     }
@@ -20,14 +33,24 @@ pub(crate) fn read_image(core: &mut Service, actor: Actor, handle: u16, size: u3
 }
 
 /// Lets the application of a table run under its name. Another table of the same application may have been registered before.
-fn start_app(core: &mut Service, wanted: &Registration, before: Option<&Registration>) -> Result<(), Fault> {
+fn start_app(
+    core: &mut Service,
+    wanted: &Registration,
+    before: Option<&Registration>,
+) -> Result<(), Fault> {
     if let Some(before) = before {
         if before.app == wanted.app {
             return Ok(());
         }
         ask(core, wanted.actor, Request::Exit)?;
     }
-    ask(core, wanted.actor, Request::Start { name: wanted.app.copy() })?;
+    ask(
+        core,
+        wanted.actor,
+        Request::Start {
+            name: wanted.app.copy(),
+        },
+    )?;
     Ok(())
 }
 
@@ -45,7 +68,12 @@ fn last_of<'a>(tables: &'a [Table], actor: Actor, played: usize) -> Option<&'a R
 }
 
 /// Registers a table anew, and says what came back.
-fn register(core: &mut Service, table: &Table, wanted: &Registration, played: usize) -> Result<Back, Fault> {
+fn register(
+    core: &mut Service,
+    table: &Table,
+    wanted: &Registration,
+    played: usize,
+) -> Result<Back, Fault> {
     let request = Request::Register {
         name: wanted.name.copy(),
         size: wanted.size,
@@ -65,7 +93,12 @@ fn register(core: &mut Service, table: &Table, wanted: &Registration, played: us
 }
 
 /// What comes back in each table behind a reset that left these bytes in the bank, in the last of so many requests.
-pub(crate) fn come_back(alloc: Global, image: &[u8], tables: &[Table], played: usize) -> Result<Vec<Back>, Fault> {
+pub(crate) fn come_back(
+    alloc: Global,
+    image: &[u8],
+    tables: &[Table],
+    played: usize,
+) -> Result<Vec<Back>, Fault> {
     let mut core = anew(alloc, image)?;
     let mut backs = Vec::new(alloc);
     for (at, table) in tables.iter().enumerate() {

@@ -63,7 +63,10 @@ pub(crate) enum Back {
 
 impl Table {
     pub(crate) fn make(alloc: Global, name: String) -> Table {
-        Table { name, events: Vec::new(alloc) }
+        Table {
+            name,
+            events: Vec::new(alloc),
+        }
     }
 
     /// How many images of it were copied.
@@ -121,12 +124,18 @@ impl Table {
     pub(crate) fn judge(&self, played: usize, bytes: &[u8], crc: u16) -> Back {
         if let Some(image) = self.completed(played) {
             if image.bytes.bytes() == bytes {
-                return Back::Completed { number: image.number, crc };
+                return Back::Completed {
+                    number: image.number,
+                    crc,
+                };
             }
         }
         if let Some(image) = self.under_way(played) {
             if image.bytes.bytes() == bytes {
-                return Back::Broken { number: image.number, crc };
+                return Back::Broken {
+                    number: image.number,
+                    crc,
+                };
             }
         }
         Back::Mixed { crc }

@@ -14,9 +14,22 @@ const REQUEST_AT: usize = 14;
 
 const WRITES_AT: usize = 38;
 
-const AFTER_AT: usize = 68;
+/// How wide the column of what is written is beside the name of a table, and the one of the bytes behind it.
+const COPY_LEN: usize = 14;
 
-const TABLE_AT: usize = 82;
+const RANGE_LEN: usize = 14;
+
+/// What is written is at least as wide as this.
+const LEAST_NAME: usize = 16;
+
+/// Where the column begins that says after which bytes the reset came: behind the longest name of a table.
+fn after_at(plan: &Plan) -> usize {
+    let mut widest = LEAST_NAME;
+    for table in &plan.tables {
+        widest = widest.max(table.name.len());
+    }
+    widest.saturating_add(WRITES_AT + COPY_LEN)
+}
 
 /// Appends blanks up to a column, one at least, of the line that begins at this place of the text.
 fn blanks_to(text: &mut String, line: usize, column: usize) -> fmt::Result {
@@ -105,7 +118,13 @@ const ENTRY_LEN: u32 = 64;
 const BLOCKS_AT: u32 = 8_208;
 
 /// Writes what a write has, by its place in the bank (docs/STORE.md). A copy writes its image first, and then the head.
-fn tell_piece(text: &mut String, plan: &Plan, played: usize, span: Span, is_first: bool) -> fmt::Result {
+fn tell_piece(
+    text: &mut String,
+    plan: &Plan,
+    played: usize,
+    span: Span,
+    is_first: bool,
+) -> fmt::Result {
     let at = span.at;
     if at >= BLOCKS_AT {
         if is_first && is_copy(plan, played) {
@@ -121,7 +140,11 @@ fn tell_piece(text: &mut String, plan: &Plan, played: usize, span: Span, is_firs
     if span.length > ENTRY_LEN {
         return text.write_str("directory");
     }
-    let part = if place % ENTRY_LEN == 0 { "gate" } else { "entry" };
+    let part = if place % ENTRY_LEN == 0 {
+        "gate"
+    } else {
+        "entry"
+    };
     write!(text, "{part} of slot {slot}")?;
     Ok(())
 }
@@ -132,12 +155,21 @@ fn tell_back(text: &mut String, back: Back) -> fmt::Result {
         Back::None => text.write_str("none")?,
         Back::Refused { status } => write!(text, "none (Register was answered with {status})")?,
         Back::Completed { number, crc } => {
-            write!(text, "recovered: image {number} (crc 0x{crc:04X}), the last that was copied")?;
+            write!(
+                text,
+                "recovered: image {number} (crc 0x{crc:04X}), the last that was copied"
+            )?;
         }
         Back::Broken { number, crc } => {
-            write!(text, "recovered: image {number} (crc 0x{crc:04X}), whose copy broke off")?;
+            write!(
+                text,
+                "recovered: image {number} (crc 0x{crc:04X}), whose copy broke off"
+            )?;
         }
-        Back::Mixed { crc } => write!(text, "A MIX: other bytes than of any image (crc 0x{crc:04X})")?,
+        Back::Mixed { crc } => write!(
+            text,
+            "A MIX: other bytes than of any image (crc 0x{crc:04X})"
+        )?,
     }
     Ok(())
 }
@@ -152,6 +184,7 @@ pub(crate) fn tell_write(
     is_first: bool,
 ) -> fmt::Result {
     let length = span.length;
+    let after = after_at(plan);
     let mut line = text.len();
     write!(text, "{number}")?;
     blanks_to(text, line, BYTES_AT)?;
@@ -163,7 +196,7 @@ pub(crate) fn tell_write(
     for (at, table) in plan.tables.iter().enumerate() {
         for run in &tried.runs {
             if run.table == at {
-                tell_run(text, line, table, *run)?;
+                tell_run(text, line, after, table, *run)?;
                 line = text.len();
             }
         }
@@ -175,16 +208,16 @@ pub(crate) fn tell_write(
 }
 
 /// Writes a range, the table and what came back, behind what stands in the line.
-fn tell_run(text: &mut String, line: usize, table: &Table, run: Run) -> fmt::Result {
+fn tell_run(text: &mut String, line: usize, after: usize, table: &Table, run: Run) -> fmt::Result {
     let (from, to) = (run.from, run.to);
     let name = table.name.as_str();
-    blanks_to(text, line, AFTER_AT)?;
+    blanks_to(text, line, after)?;
     if from == to {
         write!(text, "{from}")?;
     } else {
         write!(text, "{from}-{to}")?;
     }
-    blanks_to(text, line, TABLE_AT)?;
+    blanks_to(text, line, after.saturating_add(RANGE_LEN))?;
     write!(text, "{name}: ")?;
     tell_back(text, run.back)?;
     text.write_str("\n")
@@ -200,12 +233,18 @@ fn tell_table(text: &mut String, table: &Table) -> fmt::Result {
             Change::Registered(registration) => {
                 let size = registration.size;
                 let app = registration.actor.number();
-                writeln!(text, "  request {place}: app {app} registers it, {size} bytes")?;
+                writeln!(
+                    text,
+                    "  request {place}: app {app} registers it, {size} bytes"
+                )?;
             }
             Change::Copied(image) => {
                 let number = image.number;
                 let crc = image.crc;
-                writeln!(text, "  request {place}: image {number} (crc 0x{crc:04X}) is copied")?;
+                writeln!(
+                    text,
+                    "  request {place}: image {number} (crc 0x{crc:04X}) is copied"
+                )?;
             }
             Change::Emptied => (),
         }
@@ -213,38 +252,67 @@ fn tell_table(text: &mut String, table: &Table) -> fmt::Result {
     Ok(())
 }
 
-/// Writes the lines before the table.
-fn tell_head(text: &mut String, plan: &Plan, every: u32, counts: &Counts) -> fmt::Result {
+/// Writes how many resets were tried, and which.
+fn tell_count(text: &mut String, plan: &Plan, every: u32, counts: &Counts) -> fmt::Result {
     let writes = plan.writes.len();
-    let stops = counts.stops;
-    if every == 1 {
-        writeln!(text, "{writes} writes and {stops} resets were tried: after each number of bytes of each write, 0 and all of them too.")?;
-    } else {
-        writeln!(text, "{writes} writes and {stops} resets were tried: after each number of bytes of each write of up to {SHORT_WRITE} bytes;")?;
-        writeln!(text, "inside longer ones after each number that {every} divides alone, and after all bytes (--every {every}).")?;
+    let (stops, starts) = (counts.stops, counts.starts);
+    write!(
+        text,
+        "{writes} writes and {stops} resets were tried: after each number of bytes of each write, 0 and all of them too"
+    )?;
+    if every > 1 {
+        write!(
+            text,
+            ";\ninside writes of more than {SHORT_WRITE} bytes only after numbers of bytes that are multiples of {every} (--every {every})"
+        )?;
     }
-    writeln!(text, "The number of a request is its place in the session, from 0.\n")?;
+    writeln!(
+        text,
+        ".\nThe service was started anew {starts} times: not once more where a byte of a write changes nothing in the bank."
+    )?;
+    Ok(())
+}
+
+/// Writes the critical tables, and the heads of the columns.
+fn tell_tables(text: &mut String, plan: &Plan) -> fmt::Result {
+    writeln!(
+        text,
+        "The number of a request is its place in the session, from 0.\n"
+    )?;
+    if plan.tables.is_empty() {
+        writeln!(text, "The session registers no critical table.")?;
+    }
     for table in &plan.tables {
         tell_table(text, table)?;
     }
+    let after = after_at(plan);
+    text.write_str("\n")?;
     let line = text.len();
-    text.write_str("\nwrite")?;
+    text.write_str("write")?;
     blanks_to(text, line, BYTES_AT)?;
     text.write_str("bytes")?;
     blanks_to(text, line, REQUEST_AT)?;
     text.write_str("in request")?;
     blanks_to(text, line, WRITES_AT)?;
     text.write_str("what is written")?;
-    blanks_to(text, line, AFTER_AT)?;
+    blanks_to(text, line, after)?;
     text.write_str("reset after")?;
-    blanks_to(text, line, TABLE_AT)?;
+    blanks_to(text, line, after.saturating_add(RANGE_LEN))?;
     text.write_str("what comes back\n")
 }
 
 /// Writes the last line.
 fn tell_end(text: &mut String, counts: &Counts) -> fmt::Result {
-    let (completed, broken, none, mixed) = (counts.completed, counts.broken, counts.none, counts.mixed);
-    writeln!(text, "\nWhat came back: the last image that was copied {completed} times, one whose copy broke off {broken} times, none {none} times, a mix {mixed} times.")?;
+    let (completed, broken, none, mixed) = (
+        counts.completed,
+        counts.broken,
+        counts.none,
+        counts.mixed,
+    );
+    writeln!(
+        text,
+        "\nCame back: the last image that was copied: {completed}; one whose copy broke off: {broken}; none: {none}; a mix: {mixed}."
+    )?;
     Ok(())
 }
 
@@ -257,7 +325,8 @@ pub(crate) fn whole_text(
     counts: &Counts,
 ) -> Result<String, AllocError> {
     let mut text = String::new(alloc);
-    tell_head(&mut text, plan, every, counts).map_err(|_| AllocError)?;
+    tell_count(&mut text, plan, every, counts).map_err(|_| AllocError)?;
+    tell_tables(&mut text, plan).map_err(|_| AllocError)?;
     text.push_str(lines)?;
     tell_end(&mut text, counts).map_err(|_| AllocError)?;
     Ok(text)

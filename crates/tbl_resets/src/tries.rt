@@ -1,6 +1,6 @@
 // The resets at one write of the bank, after each number of its bytes.
-use crate::play::{Fault, Left, with_stop};
 use crate::plan::Plan;
+use crate::play::{Fault, Left, with_stop};
 use crate::recovery::come_back;
 use crate::tables::Back;
 use std::alloc::Global;
@@ -36,7 +36,14 @@ pub(crate) struct Counts {
 
 impl Counts {
     pub(crate) fn zero() -> Counts {
-        Counts { stops: 0, starts: 0, completed: 0, broken: 0, none: 0, mixed: 0 }
+        Counts {
+            stops: 0,
+            starts: 0,
+            completed: 0,
+            broken: 0,
+            none: 0,
+            mixed: 0,
+        }
     }
 
     /// Counts a reset and what came back behind it.
@@ -66,9 +73,17 @@ impl Ranges {
     fn make(alloc: Global, backs: &[Back]) -> Result<Ranges, Fault> {
         let mut open = Vec::new(alloc);
         for (table, back) in backs.iter().enumerate() {
-            open.push(Run { table, from: 0, to: 0, back: *back })?;
+            open.push(Run {
+                table,
+                from: 0,
+                to: 0,
+                back: *back,
+            })?;
         }
-        Ok(Ranges { ended: Vec::new(alloc), open })
+        Ok(Ranges {
+            ended: Vec::new(alloc),
+            open,
+        })
     }
 
     /// A further number of bytes.
@@ -158,18 +173,37 @@ pub(crate) fn try_write<R: Eprint>(
                 backs = come_back(alloc, image.bytes(), &plan.tables, before.played)?;
                 is_changed = false;
                 counts.starts = counts.starts.saturating_add(1);
-                tell_progress(rt, counts.starts, number, plan.writes.len(), after, span.length);
+                tell_progress(
+                    rt,
+                    counts.starts,
+                    number,
+                    plan.writes.len(),
+                    after,
+                    span.length,
+                );
             }
             ranges.extend(after, &backs)?;
             counts.add(&backs);
         }
     }
-    Ok(Tried { played: before.played, runs: ranges.all()? })
+    Ok(Tried {
+        played: before.played,
+        runs: ranges.all()?,
+    })
 }
 
 /// Says now and then on standard error how far the work is. Where that can't be written, it goes on.
-fn tell_progress<R: Eprint>(rt: &R, starts: u64, number: u32, writes: usize, after: u32, length: u32) {
+fn tell_progress<R: Eprint>(
+    rt: &R,
+    starts: u64,
+    number: u32,
+    writes: usize,
+    after: u32,
+    length: u32,
+) {
     if starts % STARTS_TOLD == 0 {
-        let _ = eprintln!(rt; "resets: at write {number} of {writes}, after {after} of {length} bytes");
+        let _ = eprintln!(rt;
+            "resets: at write {number} of {writes}, after {after} of {length} bytes"
+        );
     }
 }

@@ -34,7 +34,9 @@ pub(crate) fn given_words<R: Env + AllocGlobal>(rt: &R) -> Words {
     match (words.next(), words.next(), words.next()) {
         (None, _, _) => Words::Try { every: 1 },
         (Some(word), None, _) if word.as_str() == "--help" => Words::Help,
-        (Some(word), Some(number), None) if word.as_str() == "--every" => try_every(number.as_str()),
+        (Some(word), Some(number), None) if word.as_str() == "--every" => try_every(
+            number.as_str(),
+        ),
         _ => Words::Unknown,
     }
 }
