@@ -1,5 +1,5 @@
 // One session over banks in memory: whole, up to a record, or up to the write in which the processor is reset.
-ghost use Rattle.std.specs.Prelude.{◌≡◌, ◌≤◌, ◌<◌, ◌^◌, length, IfOk};
+ghost use Rattle.std.specs.Prelude.{◌≡◌, ◌≤◌, ◌+◌, length, IfOk};
 ghost use Rattle.tbl_kinds.specs.Places.{bank_size};
 ghost use Rattle.tbl_kinds.specs.Requests.{Fits};
 ghost use Rattle.tbl_core.specs.Service.{AskedBelow};
@@ -120,6 +120,7 @@ pub(crate) fn last_entry(core: &Service) -> Result<&Entry, Fault> {
 /// Plays a request.
 fn step(core: &mut Service, actor: Actor, request: Request) -> Result<Progress, Fault>
     requires fits { Fits actor request }
+    ensures added { IfOk result (λ _. length core.new.entries ≡ length core.old.entries + 1) }
 {
     if !core.is_live() || core.history().len() >= MOST_ENTRIES {
         return Err(Fault::Full);

@@ -1,4 +1,6 @@
 // The resets at one write of the bank, after each number of its bytes.
+ghost use Rattle.std.specs.Prelude.{◌≡◌, false, length, IsTrue, IfOk};
+
 use crate::plan::Plan;
 use crate::play::{Fault, Left, with_stop};
 use crate::recovery::come_back;
@@ -107,12 +109,18 @@ impl Ranges {
 }
 
 /// Whether a number of bytes of a write is tried.
-fn is_tried(after: u32, length: u32, every: u32) -> bool {
+fn is_tried(after: u32, length: u32, every: u32) -> bool
+    ensures each { every ≡ 1 → IsTrue result }
+    ensures whole { after ≡ length → IsTrue result }
+{
     length <= SHORT_WRITE || after == length || after.checked_rem(every) == Some(0)
 }
 
 /// Puts a byte at a place. The answer is whether another one stood there.
-fn put(image: &mut Bytes, at: usize, byte: u8) -> bool {
+fn put(image: &mut Bytes, at: usize, byte: u8) -> bool
+    ensures length { length image.new.list ≡ length image.old.list }
+    ensures same { result ≡ false → image.new ≡ image.old }
+{
     if image.bytes().get(at).is_none_or(|old| *old == byte) {
         return false;
     }
@@ -121,7 +129,9 @@ fn put(image: &mut Bytes, at: usize, byte: u8) -> bool {
 }
 
 /// The bytes of a bank, to be changed.
-fn copy_of(alloc: Global, left: &Left) -> Result<Bytes, Fault> {
+fn copy_of(alloc: Global, left: &Left) -> Result<Bytes, Fault>
+    ensures { IfOk result (λ image. image.list ≡ left.now.bank.bytes) }
+{
     let bytes = left.bank.bytes();
     let mut image = Bytes::make(alloc, bytes.len())?;
     image.append(bytes);
