@@ -23,6 +23,15 @@ fn try_every(word: &str) -> Words {
     }
 }
 
+/// What a word asks for, with those behind it.
+fn asked(word: &str, second: Option<String>, third: Option<String>) -> Words {
+    match second {
+        None if word == "--help" => Words::Help,
+        Some(number) if word == "--every" && third.is_none() => try_every(number.as_str()),
+        _ => Words::Unknown,
+    }
+}
+
 /// What the words after the program's name ask for.
 pub(crate) fn given_words<R: Env + AllocGlobal>(rt: &R) -> Words {
     let given = match env::args(rt) {
@@ -31,12 +40,8 @@ pub(crate) fn given_words<R: Env + AllocGlobal>(rt: &R) -> Words {
         Err(_) => return Words::Unknown,
     };
     let mut words = given.skip(1);
-    match (words.next(), words.next(), words.next()) {
-        (None, _, _) => Words::Try { every: 1 },
-        (Some(word), None, _) if word.as_str() == "--help" => Words::Help,
-        (Some(word), Some(number), None) if word.as_str() == "--every" => try_every(
-            number.as_str(),
-        ),
-        _ => Words::Unknown,
+    match words.next() {
+        None => Words::Try { every: 1 },
+        Some(word) => asked(word.as_str(), words.next(), words.next()),
     }
 }
