@@ -54,7 +54,7 @@ impl<T: Drop> From<AllocFailed<T>> for Fault {
 }
 
 /// For how many writes, and for how many bytes of them, a bank has room in its record.
-#[derive(Clone, Copy, Debug)]
+#[derive(Clone, Copy)]
 pub(crate) struct Room {
     pub(crate) writes: u32,
     pub(crate) bytes: u32,

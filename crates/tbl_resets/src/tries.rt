@@ -16,7 +16,7 @@ pub(crate) const SHORT_WRITE: u32 = 64;
 const STARTS_TOLD: u64 = 1_024;
 
 /// That the same came back in a table after these numbers of bytes.
-#[derive(Clone, Copy, Debug)]
+#[derive(Clone, Copy)]
 pub(crate) struct Run {
     /// The place of the table among those of the session.
     pub(crate) table: usize,
@@ -26,7 +26,7 @@ pub(crate) struct Run {
 }
 
 /// How many resets were tried, over how many banks that differ, and what came back, for each table once a reset.
-#[derive(Clone, Copy, Debug)]
+#[derive(Clone, Copy)]
 pub(crate) struct Counts {
     pub(crate) stops: u64,
     pub(crate) starts: u64,
@@ -154,6 +154,103 @@ pub(crate) struct Tried {
     pub(crate) runs: Vec<Run>,
 }
 
+/// The bank after some number of bytes of a write, and what came back by then.
+#[derive(Drop)]
+struct Sweep {
+    image: Bytes,
+    /// How many requests had been made.
+    played: usize,
+    backs: Vec<Back>,
+    ranges: Ranges,
+    /// Whether a byte changed the bank since what comes back was asked.
+    is_changed: bool,
+}
+
+impl Sweep {
+    /// After no byte.
+    fn begin(
+        alloc: Global,
+        plan: &Plan,
+        before: &Left,
+        counts: &mut Counts,
+    ) -> Result<Sweep, Fault> {
+        let image = copy_of(alloc, before)?;
+        let backs = come_back(alloc, image.bytes(), &plan.tables, before.played)?;
+        let ranges = Ranges::make(alloc, &backs)?;
+        counts.starts = counts.starts.saturating_add(1);
+        counts.add(&backs);
+        Ok(Sweep {
+            image,
+            played: before.played,
+            backs,
+            ranges,
+            is_changed: false,
+        })
+    }
+
+    /// One byte more is written.
+    fn write(&mut self, at: usize, byte: u8) {
+        if put(&mut self.image, at, byte) {
+            self.is_changed = true;
+        }
+    }
+
+    /// A reset after so many bytes. The answer is whether the service was started anew: where the bank is still the one that
+    /// was asked about before, the same comes back.
+    fn reset(
+        &mut self,
+        alloc: Global,
+        plan: &Plan,
+        after: u32,
+        counts: &mut Counts,
+    ) -> Result<bool, Fault> {
+        let starts = self.is_changed;
+        if starts {
+            self.backs = come_back(alloc, self.image.bytes(), &plan.tables, self.played)?;
+            self.is_changed = false;
+            counts.starts = counts.starts.saturating_add(1);
+        }
+        self.ranges.extend(after, &self.backs)?;
+        counts.add(&self.backs);
+        Ok(starts)
+    }
+
+    /// What came back after all numbers of bytes.
+    fn end(self) -> Result<Tried, Fault> {
+        Ok(Tried {
+            played: self.played,
+            runs: self.ranges.all()?,
+        })
+    }
+}
+
+/// Writes the byte of a write at this place, from 0, and tries a reset behind it. `bytes` are those of the bank once the whole
+/// write is there.
+fn try_byte<R: Eprint>(
+    rt: &R,
+    trial: &Trial<'_>,
+    number: u32,
+    span: Span,
+    place: u32,
+    bytes: &[u8],
+    sweep: &mut Sweep,
+    counts: &mut Counts,
+) -> Result<(), Fault> {
+    let after = place.saturating_add(1);
+    let at = span.at.saturating_add(place) as usize;
+    let Some(byte) = bytes.get(at) else {
+        return Err(Fault::Full);
+    };
+    sweep.write(at, *byte);
+    if is_tried(after, span.length, trial.every)
+        && sweep.reset(trial.alloc, trial.plan, after, counts)?
+    {
+        let writes = trial.plan.writes.len();
+        tell_progress(rt, counts.starts, number, writes, after, span.length);
+    }
+    Ok(())
+}
+
 /// Tries a reset after each number of bytes of a write, which has this number, from 1. What is left after no byte and after
 /// all of them comes from the session played up to there. Between these two the bank has a front of the write: it is
 /// made from both. Where a byte of the write changes nothing, what the reset leaves is the same as one byte before, and
@@ -168,38 +265,20 @@ pub(crate) fn try_write<R: Eprint>(
     let (alloc, plan) = (trial.alloc, trial.plan);
     let before = with_stop(alloc, trial.records, number, 0, plan.room)?;
     let behind = with_stop(alloc, trial.records, number, span.length, plan.room)?;
-    let mut image = copy_of(alloc, &before)?;
-    let mut backs = come_back(alloc, image.bytes(), &plan.tables, before.played)?;
-    let mut ranges = Ranges::make(alloc, &backs)?;
-    counts.starts = counts.starts.saturating_add(1);
-    counts.add(&backs);
-    let mut is_changed = false;
-    for after in 1..=span.length {
-        let at = span.at.saturating_add(after - 1) as usize;
-        let byte = behind.bank.bytes().get(at).copied().ok_or(Fault::Full)?;
-        is_changed |= put(&mut image, at, byte);
-        if is_tried(after, span.length, trial.every) {
-            if is_changed {
-                backs = come_back(alloc, image.bytes(), &plan.tables, before.played)?;
-                is_changed = false;
-                counts.starts = counts.starts.saturating_add(1);
-                tell_progress(
-                    rt,
-                    counts.starts,
-                    number,
-                    plan.writes.len(),
-                    after,
-                    span.length,
-                );
-            }
-            ranges.extend(after, &backs)?;
-            counts.add(&backs);
-        }
+    let mut sweep = Sweep::begin(alloc, plan, &before, counts)?;
+    for place in 0..span.length {
+        try_byte(
+            rt,
+            trial,
+            number,
+            span,
+            place,
+            behind.bank.bytes(),
+            &mut sweep,
+            counts,
+        )?;
     }
-    Ok(Tried {
-        played: before.played,
-        runs: ranges.all()?,
-    })
+    sweep.end()
 }
 
 /// Says now and then on standard error how far the work is. Where that can't be written, it goes on.
