@@ -1,6 +1,7 @@
 use hex::FromHexError;
 use std::alloc::{AllocError, AllocFailed};
 use std::fmt;
+use tbl_kinds::Memory;
 
 /// Why a row wasn't tried to its end, or how it failed.
 #[derive(Debug, Drop)]
@@ -11,6 +12,12 @@ pub enum CaseFault {
     Unreadable,
     /// Something else came than the row states: what came.
     Differs(String),
+}
+
+impl From<Memory> for CaseFault {
+    fn from(_memory: Memory) -> CaseFault {
+        CaseFault::Memory
+    }
 }
 
 impl From<AllocError> for CaseFault {

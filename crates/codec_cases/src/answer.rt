@@ -4,7 +4,7 @@ ghost use Rattle.std.specs.Prelude.{◌≡◌, ◌≤◌, [], IfOk};
 
 use case_tables::CaseFault;
 use std::alloc::Global;
-use tbl_kinds::{Bytes, Memory};
+use tbl_kinds::Bytes;
 
 /// Whether a text is the one that is wanted, but for spaces at its end.
 pub(crate) fn same_text(came: String, wanted: &str) -> Result<(), CaseFault> {
@@ -29,15 +29,11 @@ pub(crate) fn text_of(name: &[u8]) -> &str {
     std::str::from_utf8(name).unwrap_or("no text")
 }
 
-pub(crate) fn out_of_memory(_memory: Memory) -> CaseFault {
-    CaseFault::Memory
-}
-
 /// Empty bytes with room for so many.
 pub(crate) fn room_for(alloc: Global, len: usize) -> Result<Bytes, CaseFault>
     ensures { IfOk result (λ bytes. (bytes.list ≡ []) × (len ≤ bytes.spare)) }
 {
-    Bytes::make(alloc, len).map_err(out_of_memory)
+    Ok(Bytes::make(alloc, len)?)
 }
 
 /// The same bytes as the service keeps them.

@@ -1,6 +1,6 @@
 //! The drawer of files.
 
-use crate::answer::{kept, out_of_memory, same_text, text_of};
+use crate::answer::{kept, same_text, text_of};
 use case_tables::CaseFault;
 use file_drawer::{Drawer, PutFault};
 use std::alloc::{AllocError, Global};
@@ -95,5 +95,5 @@ pub(crate) fn try_list(
 
 /// A drawer without files.
 pub(crate) fn empty_drawer(alloc: Global) -> Result<Drawer, CaseFault> {
-    Drawer::make(alloc).map_err(out_of_memory)
+    Ok(Drawer::make(alloc)?)
 }

@@ -1,6 +1,6 @@
 //! Session records, and the two spellings of a transcript.
 
-use crate::answer::{out_of_memory, room_for, same_bytes, same_text, text_of};
+use crate::answer::{room_for, same_bytes, same_text, text_of};
 use case_tables::CaseFault;
 use session_records::{Next, next_record, write_record};
 use std::alloc::{AllocError, Global};
@@ -60,14 +60,14 @@ fn text_of_request(alloc: Global, request: &Request) -> Result<String, AllocErro
 
 /// What stands at the front of bytes. A record is written again.
 pub(crate) fn try_record(alloc: Global, bytes: &[u8], wanted: &str) -> Result<(), CaseFault> {
-    let came = match next_record(alloc, bytes).map_err(out_of_memory)? {
+    let came = match next_record(alloc, bytes)? {
         Next::Item {
             actor,
             request,
             used,
         } => {
             let mut out = room_for(alloc, 0)?;
-            write_record(&mut out, actor, &request).map_err(out_of_memory)?;
+            write_record(&mut out, actor, &request)?;
             let front = bytes.get(..used).ok_or(CaseFault::Unreadable)?;
             same_bytes(alloc, out.bytes(), front)?;
             let request = text_of_request(alloc, &request)?;

@@ -1,7 +1,8 @@
-ghost use Rattle.std.specs.Prelude.{◌≡◌, ◌<◌, ◌≤◌};
+ghost use Rattle.std.specs.Prelude.{◌≡◌, ◌<◌, ◌≤◌, All, IfOk};
 ghost use Rattle.shipped_kit.specs.Verdicts.{asked_of};
-ghost use Rattle.shipped_kit.specs.Kit.{shipped_at};
+ghost use Rattle.shipped_kit.specs.Kit.{shipped_at, shipped_below};
 
+use std::alloc::{AllocError, Global};
 use tbl_fakes::{FirstByte, LastXor};
 use tbl_outside::{KitEntry, Validator};
 
@@ -48,4 +49,16 @@ pub fn shipped_entry(number: u8) -> KitEntry<Shipped>
         app: number / 2 + 1,
         check,
     }
+}
+
+/// All functions of the shipped program, in order of their numbers.
+pub fn shipped_entries(alloc: Global) -> Result<Vec<KitEntry<Shipped>>, AllocError>
+    ensures entries { IfOk result (λ entries. entries.items ≡ shipped_below 32) }
+    ensures fresh { IfOk result (λ entries. All (λ e. asked_of e.check ≡ 0) entries.items) }
+{
+    let mut entries = Vec::with_capacity(alloc, usize::from(FUNCTIONS))?;
+    'functions: for number in 0..FUNCTIONS {
+        entries.push(shipped_entry(number))?;
+    }
+    Ok(entries)
 }

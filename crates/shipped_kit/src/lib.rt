@@ -4,7 +4,7 @@
 
 mod functions;
 
-pub use functions::{FUNCTIONS, Shipped, shipped_entry};
+pub use functions::{FUNCTIONS, Shipped, shipped_entries, shipped_entry};
 
 #[cfg(test)]
 mod tests;

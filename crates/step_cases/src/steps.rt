@@ -6,7 +6,7 @@ ghost use Rattle.tbl_core.specs.Service.{AskedBelow};
 
 use crate::stepping::{step, step_all};
 use case_tables::{CaseFault, Cases, Pieces};
-use shipped_kit::{FUNCTIONS, Shipped, shipped_entry};
+use shipped_kit::{Shipped, shipped_entries};
 use std::alloc::Global;
 use tbl_core::{Core, StartFault};
 use tbl_fakes::CalmBank;
@@ -27,8 +27,9 @@ pub(crate) struct Steps {
     core: Option<Core<CalmBank, Shipped>>,
 }
 
-fn out_of_memory(_memory: Memory) -> CaseFault {
-    CaseFault::Memory
+/// Gives a value on. It compiles only for a core that may be sent to a thread.
+fn sent<T: Send>(value: T) -> T {
+    value
 }
 
 fn kept(alloc: Global, piece: &[u8]) -> Result<Bytes, Memory> {
@@ -49,11 +50,7 @@ fn compare(alloc: Global, came: &Bytes, wanted: &[u8]) -> Result<(), CaseFault> 
 fn shipped(alloc: Global) -> Result<Kit<Shipped>, Memory>
     ensures { IfOk result (AskedBelow asked_of 1) }
 {
-    let mut entries = Vec::with_capacity(alloc, usize::from(FUNCTIONS))?;
-    'functions: for number in 0..FUNCTIONS {
-        entries.push(shipped_entry(number))?;
-    }
-    Kit::make(alloc, entries)
+    Kit::make(alloc, shipped_entries(alloc)?)
 }
 
 impl Steps {
@@ -63,11 +60,11 @@ impl Steps {
     }
 
     fn start(&mut self) -> Result<u32, CaseFault> {
-        let kit = shipped(self.alloc).map_err(out_of_memory)?;
-        let bank = CalmBank::of_zeros(self.alloc, BANK_SIZE).map_err(out_of_memory)?;
+        let kit = shipped(self.alloc)?;
+        let bank = CalmBank::of_zeros(self.alloc, BANK_SIZE)?;
         match Core::start(self.alloc, bank, kit) {
             Ok(core) => {
-                self.core = Some(core);
+                self.core = Some(sent(core));
                 Ok(0)
             }
             Err(
@@ -83,7 +80,7 @@ impl Steps {
     /// Plays records.
     fn play(&mut self, records: &[u8], wanted: &[u8]) -> Result<u32, CaseFault> {
         let core = self.core.as_mut().ok_or(CaseFault::Unreadable)?;
-        let mut out = Bytes::make(self.alloc, 0).map_err(out_of_memory)?;
+        let mut out = Bytes::make(self.alloc, 0)?;
         let count = step_all(self.alloc, core, records, &mut out)?;
         compare(self.alloc, &out, wanted)?;
         Ok(count)
@@ -92,13 +89,13 @@ impl Steps {
     /// Uplinks a file, for which a record may have no room.
     fn uplink(&mut self, name: &[u8], contents: &[u8], wanted: &[u8]) -> Result<u32, CaseFault> {
         let core = self.core.as_mut().ok_or(CaseFault::Unreadable)?;
-        let mut out = Bytes::make(self.alloc, 0).map_err(out_of_memory)?;
+        let mut out = Bytes::make(self.alloc, 0)?;
         if name.len() > NAME_FIELD {
             return Err(CaseFault::Unreadable);
         }
         let file = Request::File {
             name: Name::of(name),
-            bytes: kept(self.alloc, contents).map_err(out_of_memory)?,
+            bytes: kept(self.alloc, contents)?,
         };
         step(core, Actor::Ground, file, &mut out)?;
         compare(self.alloc, &out, wanted)?;

@@ -6,7 +6,7 @@ mod words;
 ghost use Rattle.std.specs.Prelude.{◌≤◌};
 ghost use Rattle.tbl_kinds.specs.Places.{bank_size};
 
-use shipped_kit::{FUNCTIONS, shipped_entry};
+use shipped_kit::shipped_entries;
 use std::alloc::Global;
 use std::process::ExitCode;
 use tbl_adapters::{StandardInput, StandardOutput, StoreFile};
@@ -67,10 +67,7 @@ fn play<S: Source, K: Sink, B: Bank>(
 ) -> Result<u8, Memory>
     requires { bank_size ≤ B.size bank }
 {
-    let mut kit = Vec::with_capacity(alloc, usize::from(FUNCTIONS))?;
-    'functions: for number in 0..FUNCTIONS {
-        kit.push(shipped_entry(number))?;
-    }
+    let kit = shipped_entries(alloc)?;
     let (status, _bank) = run_with(alloc, words, source, sink, bank, kit);
     Ok(status)
 }
