@@ -4,11 +4,17 @@ ghost use Rattle.std.specs.Prelude.{◌≡◌, length, IfOk};
 
 use case_tables::{CaseFault, number_in};
 use std::alloc::Global;
-use tbl_fakes::{Break, Span};
+use tbl_fakes::{Break, MemBank, Span};
 use tbl_kinds::{Bytes, Memory};
 
+/// For how many writes a bank has room in its record.
+const MOST_WRITES: u32 = 512;
+
+/// For how many bytes of all its writes a bank has room in its record.
+const MOST_WRITTEN: u32 = 65_536;
+
 /// How many bytes a bank has.
-const BANK_SIZE: usize = 131_072;
+pub(crate) const BANK_SIZE: usize = 131_072;
 
 /// A bank that nothing was written to. Copies of it, and comparisons with a part of it, take a build that checks each
 /// access far less time than loops over single bytes.
@@ -19,10 +25,6 @@ static ZEROS: [u8; BANK_SIZE] = [0; BANK_SIZE];
 pub(crate) struct Run {
     at: usize,
     bytes: Vec<u8>,
-}
-
-pub(crate) fn out_of_memory(_memory: Memory) -> CaseFault {
-    CaseFault::Memory
 }
 
 /// What a bank has beside zeros: places and what stands there, as `0 43445331 16 A5`.
@@ -68,11 +70,24 @@ fn zeros(alloc: Global) -> Result<Bytes, Memory>
 pub(crate) fn bank_of(alloc: Global, runs: &[Run]) -> Result<Bytes, CaseFault>
     ensures { IfOk result (λ b. length b.list ≡ 131072) }
 {
-    let mut bytes = zeros(alloc).map_err(out_of_memory)?;
+    let mut bytes = zeros(alloc)?;
     'runs: for run in runs {
         patch(&mut bytes, run)?;
     }
     Ok(bytes)
+}
+
+/// A bank of these bytes, whose writes break off and whose reads fail as it is told.
+pub(crate) fn bank_over(
+    alloc: Global,
+    bytes: Bytes,
+    breaks: &[Break],
+    bad_reads: &[u32],
+) -> Result<MemBank, Memory>
+    requires { length bytes.list ≡ 131072 }
+    ensures { IfOk result (λ bank. length bank.bytes ≡ 131072) }
+{
+    MemBank::make(alloc, bytes, breaks, bad_reads, MOST_WRITES, MOST_WRITTEN)
 }
 
 /// A write that breaks off, as `3/15/stop`: its number, after how many bytes, and how.

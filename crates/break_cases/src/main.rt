@@ -4,6 +4,7 @@
 
 mod cells;
 mod notes;
+mod second_runs;
 mod sessions;
 
 use case_tables::play_table;

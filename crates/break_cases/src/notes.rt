@@ -8,7 +8,7 @@ ghost use Rattle.shipped_kit.specs.Verdicts.{asked_of};
 
 use case_tables::CaseFault;
 use session_records::{Next, next_record};
-use shipped_kit::{FUNCTIONS, Shipped, shipped_entry};
+use shipped_kit::{Shipped, shipped_entries};
 use std::alloc::Global;
 use std::fmt::{self, Write};
 use tbl_core::{Core, StepFault};
@@ -23,11 +23,7 @@ const MOST_ENTRIES: usize = 32_768;
 fn shipped(alloc: Global) -> Result<Kit<Shipped>, Memory>
     ensures { IfOk result (AskedBelow asked_of 1) }
 {
-    let mut entries = Vec::with_capacity(alloc, usize::from(FUNCTIONS))?;
-    'functions: for number in 0..FUNCTIONS {
-        entries.push(shipped_entry(number))?;
-    }
-    Kit::make(alloc, entries)
+    Kit::make(alloc, shipped_entries(alloc)?)
 }
 
 /// Writes how the calls went and how many were done: `-` where none was made.
@@ -152,7 +148,7 @@ fn step_all(
 pub(crate) fn notes_of(alloc: Global, records: &[u8], bank: MemBank) -> Result<String, CaseFault>
     requires { bank_size ≤ length bank.bytes }
 {
-    let kit = shipped(alloc).map_err(|_| CaseFault::Memory)?;
+    let kit = shipped(alloc)?;
     let Ok(mut core) = Core::start(alloc, bank, kit) else {
         return Err(CaseFault::Unreadable);
     };

@@ -1,26 +1,17 @@
 //! Sessions as a table states them.
 
-ghost use Rattle.std.specs.Prelude.{◌≡◌, ◌≤◌, length, All, IfOk};
-ghost use Rattle.shipped_kit.specs.Verdicts.{asked_of};
+ghost use Rattle.std.specs.Prelude.{◌≡◌, ◌≤◌, length, IfOk};
 ghost use Rattle.tbl_kinds.specs.Places.{bank_size};
 
-use crate::cells::{
-    Run, bank_of, breaks_in, end_of, first_unlike, out_of_memory, runs_in, spans_in,
-};
+use crate::cells::{Run, bank_of, bank_over, breaks_in, end_of, first_unlike, runs_in, spans_in};
 use crate::notes::notes_of;
+use crate::second_runs::{Both, Told, try_all};
 use case_tables::{CaseFault, Cases, Pieces, number_in, numbers_in};
-use shipped_kit::{FUNCTIONS, Shipped, shipped_entry};
+use shipped_kit::shipped_entries;
 use std::alloc::Global;
 use tbl_fakes::{MemBank, MemSink, MemSource, Span};
 use tbl_kinds::{Bytes, Memory};
-use tbl_outside::KitEntry;
 use tbl_top::run_with;
-
-/// For how many writes a bank has room in its record.
-const MOST_WRITES: u32 = 512;
-
-/// For how many bytes of all its writes a bank has room in its record.
-const MOST_WRITTEN: u32 = 65_536;
 
 /// For how many bytes the sink has room beside those that are wanted.
 const MORE_OUTPUT: u32 = 65_536;
@@ -38,10 +29,10 @@ struct Wanted {
 
 /// How a session ended.
 #[derive(Drop)]
-struct Came {
-    status: u8,
-    sink: MemSink,
-    bank: MemBank,
+pub(crate) struct Came {
+    pub(crate) status: u8,
+    pub(crate) sink: MemSink,
+    pub(crate) bank: MemBank,
 }
 
 /// Plays sessions.
@@ -51,7 +42,7 @@ pub(crate) struct Sessions {
 }
 
 /// The same bytes as the service keeps them.
-fn kept(alloc: Global, bytes: &[u8]) -> Result<Bytes, Memory>
+pub(crate) fn kept(alloc: Global, bytes: &[u8]) -> Result<Bytes, Memory>
     ensures { IfOk result (λ b. b.list ≡ bytes.now) }
 {
     let mut kept = Bytes::make(alloc, bytes.len())?;
@@ -59,27 +50,34 @@ fn kept(alloc: Global, bytes: &[u8]) -> Result<Bytes, Memory>
     Ok(kept)
 }
 
-/// The functions of the shipped program.
-fn functions(alloc: Global) -> Result<Vec<KitEntry<Shipped>>, CaseFault>
-    ensures { IfOk result (λ entries. All (λ e. asked_of e.check ≡ 0) entries.items) }
+/// A bank of these bytes, with the cells that tell which of its writes break off and which of its reads fail.
+fn broken_bank(
+    alloc: Global,
+    bytes: Bytes,
+    breaks: &str,
+    bad_reads: &str,
+) -> Result<MemBank, CaseFault>
+    requires { length bytes.list ≡ 131072 }
+    ensures { IfOk result (λ bank. length bank.bytes ≡ 131072) }
 {
-    let mut entries = Vec::with_capacity(alloc, usize::from(FUNCTIONS))?;
-    'functions: for number in 0..FUNCTIONS {
-        entries.push(shipped_entry(number))?;
+    let breaks = breaks_in(alloc, breaks)?;
+    let bad_reads = numbers_in(alloc, bad_reads)?;
+    match bank_over(alloc, bytes, &breaks, &bad_reads) {
+        Ok(bank) => Ok(bank),
+        Err(Memory) => Err(CaseFault::Memory),
     }
-    Ok(entries)
 }
 
 /// Plays a session over a bank.
-fn play(alloc: Global, input: &[u8], bank: MemBank, room: u32) -> Result<Came, CaseFault>
+pub(crate) fn play(alloc: Global, input: &[u8], bank: MemBank, room: u32) -> Result<Came, CaseFault>
     requires { bank_size ≤ length bank.bytes }
 {
-    let play = kept(alloc, b"play").map_err(out_of_memory)?;
+    let play = kept(alloc, b"play")?;
     let words = vec![in alloc; play]?;
-    let input = kept(alloc, input).map_err(out_of_memory)?;
-    let mut source = MemSource::make(alloc, input, &[]).map_err(out_of_memory)?;
-    let mut sink = MemSink::make(alloc, room, &[]).map_err(out_of_memory)?;
-    let kit = functions(alloc)?;
+    let input = kept(alloc, input)?;
+    let mut source = MemSource::make(alloc, input, &[])?;
+    let mut sink = MemSink::make(alloc, room, &[])?;
+    let kit = shipped_entries(alloc)?;
     let (status, bank) = run_with(alloc, &words, &mut source, &mut sink, bank, kit);
     Ok(Came { status, sink, bank })
 }
@@ -121,20 +119,10 @@ impl Sessions {
 
     /// The bank with which a session begins.
     fn bank(&self, runs: &[Run], breaks: &str, bad_reads: &str) -> Result<MemBank, CaseFault>
-        ensures { IfOk result (λ bank. bank_size ≤ length bank.bytes) }
+        ensures { IfOk result (λ bank. length bank.bytes ≡ 131072) }
     {
         let bytes = bank_of(self.alloc, runs)?;
-        let breaks = breaks_in(self.alloc, breaks)?;
-        let bad_reads = numbers_in(self.alloc, bad_reads)?;
-        MemBank::make(
-            self.alloc,
-            bytes,
-            &breaks,
-            &bad_reads,
-            MOST_WRITES,
-            MOST_WRITTEN,
-        )
-        .map_err(out_of_memory)
+        broken_bank(self.alloc, bytes, breaks, bad_reads)
     }
 
     fn wanted(
@@ -154,6 +142,13 @@ impl Sessions {
             end,
         })
     }
+
+    fn told(&self, pieces: &Pieces, status: &str, output: &str) -> Result<Told, CaseFault> {
+        Ok(Told {
+            status: u8::try_from(number_in(status)?).map_err(|_| CaseFault::Unreadable)?,
+            output: pieces.bytes(output)?,
+        })
+    }
 }
 
 /// Whether the notes of a session are these.
@@ -168,7 +163,9 @@ impl Cases for Sessions {
     /// A row is `play | NAME | INPUT | BANK | BREAKS | BAD READS | STATUS | OUTPUT | WRITES | BANK`: a session, the bank
     /// before it, which of the bank's writes break off and which of its reads fail, and then how it ends, with the
     /// ranges of all writes and the bank behind it. `notes | NAME | INPUT | BANK | BREAKS | BAD READS | NOTES` is one of
-    /// whose entries the statuses and notes are told.
+    /// whose entries the statuses and notes are told. `again | NAME | INPUT | INPUT | STOPS | STATUS | OUTPUT | STATUS | OUTPUT`
+    /// is a session over a bank of zeros with a stop at each of these places, and then a second one over the bank that the first
+    /// gave back, with how each ends.
     fn try_row(&mut self, pieces: &Pieces, cells: &[&str]) -> Result<u32, CaseFault> {
         match cells {
             [
@@ -197,6 +194,13 @@ impl Cases for Sessions {
                 let came = notes_of(self.alloc, &pieces.bytes(input)?, bank)?;
                 compare_notes(self.alloc, &came, notes)?;
                 Ok(1)
+            }
+            ["again", _, first, second, stops, p, q, r, s] => {
+                let both = Both {
+                    inputs: [pieces.bytes(first)?, pieces.bytes(second)?],
+                    wanted: [self.told(pieces, p, q)?, self.told(pieces, r, s)?],
+                };
+                try_all(self.alloc, &both, stops)
             }
             _ => Err(CaseFault::Unreadable),
         }
