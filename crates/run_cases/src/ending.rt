@@ -38,10 +38,10 @@ pub(crate) fn kept(alloc: Global, piece: &[u8]) -> Result<Bytes, Memory> {
 }
 
 /// How many bytes the bank has.
-const BANK_SIZE: u32 = 131_072;
+pub(crate) const BANK_SIZE: u32 = 131_072;
 
 /// A bank of zeros.
-fn bank(alloc: Global, size: u32) -> Result<CalmBank, Memory>
+pub(crate) fn bank(alloc: Global, size: u32) -> Result<CalmBank, Memory>
     ensures { IfOk result (λ bank. length bank ≡ size) }
 {
     CalmBank::of_zeros(alloc, size)
@@ -51,15 +51,11 @@ fn source_of(alloc: Global, given: &Given) -> Result<MemSource, Memory> {
     MemSource::make(alloc, kept(alloc, &given.input)?, &given.bad_reads)
 }
 
-fn out_of_memory(_memory: Memory) -> CaseFault {
-    CaseFault::Memory
-}
-
 /// Runs, with room for so many bytes in the sink.
 pub(crate) fn run_in(alloc: Global, given: &Given, room: u32) -> Result<Ending, CaseFault> {
-    let mut source = source_of(alloc, given).map_err(out_of_memory)?;
-    let mut sink = MemSink::make(alloc, room, &given.bad_writes).map_err(out_of_memory)?;
-    let bank = bank(alloc, BANK_SIZE).map_err(out_of_memory)?;
+    let mut source = source_of(alloc, given)?;
+    let mut sink = MemSink::make(alloc, room, &given.bad_writes)?;
+    let bank = bank(alloc, BANK_SIZE)?;
     let kit = Vec::new(alloc);
     let (status, _bank) = run(alloc, &given.words, &mut source, &mut sink, bank, kit);
     Ok(Ending {
@@ -73,13 +69,13 @@ pub(crate) fn run_in(alloc: Global, given: &Given, room: u32) -> Result<Ending, 
 
 /// Runs between a source and a sink that never fail. The status, and how many bytes of the input weren't read.
 pub(crate) fn run_calm(alloc: Global, given: &Given) -> Result<(u8, usize), CaseFault> {
-    let mut source = CalmSource::make(kept(alloc, &given.input).map_err(out_of_memory)?);
+    let mut source = CalmSource::make(kept(alloc, &given.input)?);
     let (status, _bank) = run(
         alloc,
         &given.words,
         &mut source,
         &mut CalmSink::make(),
-        bank(alloc, BANK_SIZE).map_err(out_of_memory)?,
+        bank(alloc, BANK_SIZE)?,
         Vec::new(alloc),
     );
     Ok((status, source.left_bytes().len()))

@@ -2,6 +2,7 @@
 #![tactic(auto)]
 
 mod ending;
+mod feeding;
 mod runs;
 
 use case_tables::play_table;

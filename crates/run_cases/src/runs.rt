@@ -1,6 +1,7 @@
 //! Runs as a table states them.
 
 use crate::ending::{Ending, Given, compare, kept, run_calm, run_in};
+use crate::feeding::{Told, feed_parts};
 use case_tables::{CaseFault, Cases, Pieces, number_in, numbers_in};
 use std::alloc::Global;
 use tbl_kinds::Bytes;
@@ -28,7 +29,7 @@ impl Runs {
         let mut words = Vec::new(self.alloc);
         for word in cell.split_ascii_whitespace() {
             let word = pieces.bytes(word)?;
-            let word = kept(self.alloc, &word).map_err(|_| CaseFault::Memory)?;
+            let word = kept(self.alloc, &word)?;
             words.push(word)?;
         }
         Ok(words)
@@ -80,13 +81,44 @@ impl Runs {
         compare(self.alloc, &run_in(self.alloc, given, most)?, wanted)?;
         Ok(most.saturating_add(1))
     }
+
+    fn told_in(&self, pieces: &Pieces, cells: [&str; 4]) -> Result<Told, CaseFault> {
+        let [between, status, entries, output] = cells;
+        Ok(Told {
+            between: number_in(between)? as usize,
+            status: status_in(status)?,
+            entries: number_in(entries)? as usize,
+            output: pieces.bytes(output)?,
+        })
+    }
+
+    /// Feeds the two parts of a session in pieces of each of these lengths.
+    fn try_pieces(
+        &self,
+        parts: [&[u8]; 2],
+        lengths: &[u32],
+        wanted: &Told,
+    ) -> Result<u32, CaseFault> {
+        let room = u32::try_from(wanted.output.len()).map_err(|_| CaseFault::Unreadable)?;
+        let mut count = 0u32;
+        for each in lengths {
+            if feed_parts(self.alloc, parts, *each as usize, room)? != *wanted {
+                return Err(CaseFault::Differs(format!(in self.alloc;
+                    "in pieces of {each} bytes"
+                )?));
+            }
+            count = count.saturating_add(1);
+        }
+        Ok(count)
+    }
 }
 
 impl Cases for Runs {
     /// A row is `run | WORDS | INPUT | BAD READS | BAD WRITES | ROOM | STATUS | READ FAULTS | WRITE FAULTS | LEFT |
     /// OUTPUT`: what the run is given, and how it ends, with so many bytes of the input left. It begins with `rooms` and has
     /// no room where each room up to that for the whole output is tried. `calm | WORDS | INPUT | STATUS | LEFT` is a run between a
-    /// source and a sink that never fail.
+    /// source and a sink that never fail. `fed | FIRST | SECOND | LENGTHS | BETWEEN | STATUS | ENTRIES | OUTPUT` is an input in two
+    /// parts, which are fed in pieces of each of these lengths: how many bytes the sink has between the parts, and how it ends.
     fn try_row(&mut self, pieces: &Pieces, cells: &[&str]) -> Result<u32, CaseFault> {
         match cells {
             ["run", a, b, c, d, room, p, q, r, s, t] => {
@@ -104,6 +136,22 @@ impl Cases for Runs {
             ["calm", words, input, status, left] => {
                 let given = self.given_in(pieces, [words, input, "", ""])?;
                 self.try_calm(&given, status_in(status)?, number_in(left)? as usize)
+            }
+            [
+                "fed",
+                first,
+                second,
+                lengths,
+                between,
+                status,
+                entries,
+                output,
+            ] => {
+                let first = pieces.bytes(first)?;
+                let second = pieces.bytes(second)?;
+                let wanted = self.told_in(pieces, [between, status, entries, output])?;
+                let lengths = numbers_in(self.alloc, lengths)?;
+                self.try_pieces([&first, &second], &lengths, &wanted)
             }
             _ => Err(CaseFault::Unreadable),
         }
