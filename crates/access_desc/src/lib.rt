@@ -7,6 +7,3 @@ mod pins;
 
 pub use handle_view::HandleView;
 pub use handles::Handles;
-
-#[cfg(test)]
-mod tests;

@@ -22,6 +22,3 @@ pub use places::{
     BANK_SIZE, BLOCKS_BEGIN, ENTRIES_PLACE, GATE_CLOSED, GATE_OPEN, HEAD_LENGTH, LIVE_MARK,
     MOST_IMAGE, SLOTS, end_of, gate_place, room_for,
 };
-
-#[cfg(test)]
-mod tests;

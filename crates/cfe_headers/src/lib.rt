@@ -15,6 +15,3 @@ pub use laws::{
     written_commands_are_command_packets, written_headers_are_read,
 };
 pub use telemetry::write_tlm;
-
-#[cfg(test)]
-mod tests;

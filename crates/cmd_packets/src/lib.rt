@@ -12,6 +12,3 @@ pub use laws::{
     written_commands_are_read,
 };
 pub use reading::read_command;
-
-#[cfg(test)]
-mod tests;

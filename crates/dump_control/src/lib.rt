@@ -11,6 +11,3 @@ pub use editing::edit;
 pub use files::{dump_file, dump_len, registry_file, registry_file_len};
 pub use owners::{fill, filled_len, finish, write_filled};
 pub use requests::{DumpAnswer, request_dump};
-
-#[cfg(test)]
-mod tests;

@@ -4,6 +4,3 @@
 mod drawer;
 
 pub use drawer::{Drawer, PutFault};
-
-#[cfg(test)]
-mod tests;

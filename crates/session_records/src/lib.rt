@@ -17,6 +17,3 @@ pub use laws::{
 };
 pub use reading::{Next, next_record};
 pub use writing::{body_len, write_record};
-
-#[cfg(test)]
-mod tests;

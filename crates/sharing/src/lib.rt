@@ -10,6 +10,3 @@ pub use apps::{Apps, plan_name};
 pub use handles::{info, notify, share};
 pub use leaving::{app_exit, unregister};
 pub use registering::{plan_table, register, register_plain, register_uncritical};
-
-#[cfg(test)]
-mod tests;

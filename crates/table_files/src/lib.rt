@@ -12,6 +12,3 @@ pub use laws::{
 };
 pub use reading::{FileFault, IMAGE_PLACE, TABLE_SUBTYPE, TableFile, read_table_file};
 pub use writing::write_table_file;
-
-#[cfg(test)]
-mod tests;

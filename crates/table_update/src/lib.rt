@@ -12,6 +12,3 @@ pub use judging::Judgement;
 pub use management::{Managed, manage};
 pub use updates::{request_activation, update};
 pub use validations::{Requested, Validated, request_validation, validate};
-
-#[cfg(test)]
-mod tests;

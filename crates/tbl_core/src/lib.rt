@@ -35,6 +35,3 @@ mod tally;
 mod validations;
 
 pub use service::{Core, StartFault, StepFault};
-
-#[cfg(test)]
-mod tests;

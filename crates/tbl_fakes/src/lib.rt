@@ -22,6 +22,3 @@ pub use mem_source::MemSource;
 pub use past::Span;
 pub use troubles::Break;
 pub use validators::{FirstByte, LastXor};
-
-#[cfg(test)]
-mod tests;

@@ -7,6 +7,3 @@ mod tables;
 
 pub use row::{Dump, NewTable, RowView};
 pub use tables::{AddFault, Tables};
-
-#[cfg(test)]
-mod tests;

@@ -12,6 +12,3 @@ mod writing;
 
 pub use player::{Fed, Player};
 pub use session::{run, run_with};
-
-#[cfg(test)]
-mod tests;

@@ -16,6 +16,3 @@ pub use laws::{event_packets_are_read, housekeeping_packets_are_read, registry_p
 pub use notice::write_notice;
 pub use reading::{read_event, read_housekeeping, read_registry};
 pub use registry::{registry_bytes, write_registry};
-
-#[cfg(test)]
-mod tests;

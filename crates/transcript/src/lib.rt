@@ -8,6 +8,3 @@ mod writing;
 pub use laws::an_end_is_no_entry;
 pub use reading::{EndRecord, EntryHead, read_end, read_entry};
 pub use writing::{write_end, write_entry};
-
-#[cfg(test)]
-mod tests;
