@@ -4,9 +4,11 @@
 #![tactic(auto)]
 
 mod bank;
+mod gate;
 mod stream;
 mod validator;
 
 pub use bank::{Back, Bank, Written};
+pub use gate::Gate;
 pub use stream::{Failed, Sink, Source};
 pub use validator::{KitEntry, Validator};

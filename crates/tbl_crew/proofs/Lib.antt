@@ -1,0 +1,9 @@
+pub mod TroubleLemmas
+pub mod CrashesOnward
+pub mod CrashLemmas
+pub mod ScriptLemmas
+pub mod TurnLemmas
+pub mod HistoryLemmas
+pub mod LockLemmas
+pub mod RestLemmas
+pub mod PushLemmas
