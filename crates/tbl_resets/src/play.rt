@@ -6,7 +6,7 @@ ghost use Rattle.tbl_core.specs.Service.{AskedBelow};
 ghost use Rattle.shipped_kit.specs.Verdicts.{asked_of};
 
 use session_records::{Next, next_record};
-use shipped_kit::{FUNCTIONS, Shipped, shipped_entry};
+use shipped_kit::{Shipped, shipped_entries};
 use std::alloc::{AllocError, AllocFailed, Global};
 use tbl_core::{Core, StartFault, StepFault};
 use tbl_fakes::{Break, MemBank};
@@ -72,11 +72,7 @@ pub(crate) enum Progress {
 fn shipped(alloc: Global) -> Result<Kit<Shipped>, Memory>
     ensures { IfOk result (AskedBelow asked_of 1) }
 {
-    let mut entries = Vec::with_capacity(alloc, usize::from(FUNCTIONS))?;
-    'functions: for number in 0..FUNCTIONS {
-        entries.push(shipped_entry(number))?;
-    }
-    Kit::make(alloc, entries)
+    Kit::make(alloc, shipped_entries(alloc)?)
 }
 
 /// A bank of these bytes.

@@ -5,4 +5,4 @@ use Rattle.tbl_core.proofs.Functions.{seldom_asked}
 use Rattle.tbl_resets.proofs.play.shipped.Goals as goal
 
 pub returns : goal.returns
-returns c = IfOk-weaker c.make.result _ _ (λ kit is. rw is (seldom_asked asked_of 1 c.functions.entries.items (λ k d within. let none = c.functions.invariant k d within in omega (arith, none)))) c.make.ensures
+returns c = IfOk-weaker c.make.result _ _ (λ kit is. rw is (seldom_asked asked_of 1 _ (λ k d within. let none = c.in_ok-shipped_entries.ensures.fresh k d within in omega (arith, none)))) c.make.ensures
