@@ -6,6 +6,3 @@ mod image;
 
 pub use buffers::Buffers;
 pub use image::Image;
-
-#[cfg(test)]
-mod tests;

@@ -5,6 +5,3 @@
 mod pool;
 
 pub use pool::place;
-
-#[cfg(test)]
-mod tests;

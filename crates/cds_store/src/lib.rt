@@ -24,6 +24,3 @@ pub use fault::{BankFault, ReserveFault};
 pub use recovery::{RecoverFault, recover};
 pub use slot::Slot;
 pub use store::Store;
-
-#[cfg(test)]
-mod tests;

@@ -51,6 +51,3 @@ pub fn check16(bytes: &[u8]) -> u16
 {
     bytes.iter().fold(0, |word, byte| after_byte(word, *byte))
 }
-
-#[cfg(test)]
-mod tests;

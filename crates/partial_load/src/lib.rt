@@ -11,6 +11,3 @@ pub use aborting::abort;
 pub use ground::{ground_load, load_into};
 pub use images::{Loaded, app_load, load_image, load_part};
 pub use refusals::closed_refusal;
-
-#[cfg(test)]
-mod tests;

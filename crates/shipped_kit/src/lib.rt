@@ -5,6 +5,3 @@
 mod functions;
 
 pub use functions::{FUNCTIONS, Shipped, shipped_entries, shipped_entry};
-
-#[cfg(test)]
-mod tests;

@@ -1,4 +1,3 @@
 pub mod Failing
 pub mod Growing
-pub mod OneByte
 pub mod Padding

@@ -12,6 +12,3 @@ pub use fault::OpenFault;
 pub use random_access::RandomAccess;
 pub use standard::{StandardInput, StandardOutput};
 pub use store_file::StoreFile;
-
-#[cfg(test)]
-mod tests;

@@ -25,6 +25,3 @@ pub use request::{Actor, Request, ResetKind, fits};
 pub use slots::Slots;
 pub use status::Status;
 pub use telemetry::{Event, Housekeeping, RegistryRow, TlmHead};
-
-#[cfg(test)]
-mod tests;

@@ -7,6 +7,3 @@ mod pending;
 
 pub use kit::Kit;
 pub use pending::{PendFault, Pending};
-
-#[cfg(test)]
-mod tests;

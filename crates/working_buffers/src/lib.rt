@@ -5,6 +5,3 @@ mod buffer;
 mod working;
 
 pub use working::Working;
-
-#[cfg(test)]
-mod tests;

@@ -1,9 +1,9 @@
 ghost use Rattle.std.specs.Prelude.{◌≡◌, IsSome, IfSome, length, slice_set};
 ghost use Rattle.working_buffers.specs.Places.{at_place};
 
-use super::Working;
 use std::process::Abort;
 use std::test::Fail;
+use working_buffers::Working;
 
 /// What a caller can prove of a write through the lent bytes.
 fn overwrite(working: &mut Working, buffer: u8, image: &[u8])

@@ -1,6 +1,8 @@
-use super::*;
 use bitflags::Flags;
 use std::test::Fail;
+use tbl_kinds::{
+    Actor, Answer, Bytes, Name, Name16, Options, Request, Slots, Status, fits, u16_at, u32_at,
+};
 
 #[test]
 fn bytes_grow_in_reserved_room(rt: HostRuntime) -> Result<(), Fail> {

@@ -1,4 +1,4 @@
-use super::place;
+use cds_pool::place;
 use tbl_kinds::{Block, BlockKind, Name};
 
 fn block(offset: u32, size: u32) -> Block {

@@ -1,6 +1,6 @@
 ghost use Rattle.std.specs.Prelude.{◌≡◌, length, IfOk};
 
-use super::recover;
+use cds_store::recover;
 use std::alloc::Global;
 use std::test::Fail;
 use tbl_fakes::MemBank;

@@ -1,4 +1,4 @@
-use super::shipped_entry;
+use shipped_kit::shipped_entry;
 use std::test::Fail;
 use tbl_outside::Validator;
 

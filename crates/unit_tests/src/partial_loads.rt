@@ -1,7 +1,7 @@
 ghost use Rattle.std.specs.Prelude.{◌≤◌, length};
 
-use super::{abort, closed_refusal, ground_load, load_image, load_part};
 use bitflags::Flags;
+use partial_load::{abort, closed_refusal, ground_load, load_image, load_part};
 use std::alloc::Global;
 use std::test::Fail;
 use table_files::TableFile;

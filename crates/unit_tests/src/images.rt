@@ -1,4 +1,4 @@
-use super::{Buffers, Image};
+use buffer_pairs::{Buffers, Image};
 use std::test::Fail;
 use std::thread;
 

@@ -1,6 +1,6 @@
 use Rattle.std.proofs.Common.{arith}
-use Rattle.tbl_adapters.proofs.OneByte.{read_one}
-use Rattle.tbl_adapters.proofs.tests.OneByteFileRandomAccess.read_some.Goals as goal
+use Rattle.unit_tests.proofs.OneByte.{read_one}
+use Rattle.unit_tests.proofs.adapters.OneByteFileRandomAccess.read_some.Goals as goal
 
 pub returns-clause-read : goal.returns-clause-read
 returns-clause-read c = λ told.

@@ -1,7 +1,7 @@
-use super::{Kit, PendFault, Pending};
 use std::test::Fail;
 use tbl_fakes::FirstByte;
 use tbl_outside::KitEntry;
+use validation::{Kit, PendFault, Pending};
 
 #[test]
 fn a_function_is_asked_and_dropped(rt: HostRuntime) -> Result<(), Fail> {

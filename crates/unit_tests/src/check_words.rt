@@ -1,4 +1,4 @@
-use super::check16;
+use check_word::check16;
 
 #[test]
 fn known_check_words(rt: HostRuntime) {

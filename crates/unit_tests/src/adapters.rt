@@ -1,11 +1,11 @@
 ghost use Rattle.std.specs.Prelude.{◌≡◌, ◌<◌, ◌≤◌, ⊤, length, take, IfOk, OnErr};
 ghost use Rattle.tbl_adapters.specs.Files.{written, Spoiled};
 
-use super::*;
 use std::alloc::Global;
 use std::fs;
 use std::io::{self, ErrorKind};
 use std::test::Fail;
+use tbl_adapters::{OpenFault, RandomAccess, StandardInput, StandardOutput, StoreFile};
 use tbl_kinds::{Bytes, Memory};
 use tbl_outside::{Bank, Sink, Written};
 
