@@ -8,6 +8,3 @@ pub mod workers;
 
 pub use held::{Crew, Turn};
 pub use scripts::Scripts;
-
-#[cfg(test)]
-mod tests;

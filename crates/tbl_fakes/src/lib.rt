@@ -4,6 +4,7 @@
 
 mod calm;
 mod calm_bank;
+mod gates;
 mod mem_bank;
 mod mem_sink;
 mod mem_source;
@@ -16,6 +17,7 @@ mod validators;
 
 pub use calm::{CalmSink, CalmSource};
 pub use calm_bank::CalmBank;
+pub use gates::{MeetingGate, OpenGate};
 pub use mem_bank::MemBank;
 pub use mem_sink::MemSink;
 pub use mem_source::MemSource;
