@@ -20,7 +20,13 @@ use Rattle.tbl_laws.proofs.VouchedLaws.{vouched}
 use Rattle.tbl_laws.proofs.WholeLaws.{whole}
 use Rattle.tbl_crew.specs.Histories.{HasPlayed, HavePlayed, OneHistory}
 use Rattle.tbl_crew.specs.Holding.{Holding, MayGoOn}
-use Rattle.tbl_crew.specs.Openings.{Opening, IsPlayed, LeadsFrom}
+use Rattle.tbl_crew.specs.Openings.{Opening, IsFirst, IsPlayed, LeadsFrom}
+use Rattle.tbl_crew.specs.Crashes.{Survives}
+use Rattle.tbl_crew.specs.Served.{IsServed}
+use Rattle.tbl_crew.specs.Trouble.{IsCaused}
+use Rattle.tbl_core.specs.Service.{CoreView, Vouches}
+use Rattle.tbl_model.specs.State.{State}
+use Rattle.tbl_outside.specs.declared.validator.KitEntry.{KitEntry}
 use Rattle.tbl_crew.specs.Scripts.{actor_count, actor_of, part, script_of, HaveActors, OfEach}
 
 -- nothing is left of a script
@@ -34,26 +40,35 @@ module _ {B C : Type 0} (tells tells_moments : Type 0) (now : B → List ℕ) (f
       (λ within. none is actor within)
       (λ past. get_or_past h.left actor [] (omega (arith, goes_on.actors)))
 
+  -- what was served is all that a core stands for, and the laws over its legal history
+  pub served_of : (opening : State) (bank : B) (given : List (Option (KitEntry C))) (core : CoreView B C) → IsFirst opening → Vouches tells now verdict given opening core
+      → Survives tells tells_moments now may_leave clock left_since opening bank core → IsCaused faults stops bank core
+      → IsServed tells tells_moments faults stops may_leave clock left_since verdict given opening bank core.state.store.bank core.entries
+  served_of opening bank given core first vouches survives caused = record {
+    state = (run_from (begins_at opening) core.entries).state;
+    legal = survives.stands.legal;
+    whole = λ told. whole opening core.entries _ first.tables first.pending (survives.stands.legal told);
+    vouched = λ told. vouched opening core.entries _ first.tables first.pending (survives.stands.legal told);
+    verdicts = vouches.verdicts;
+    kept = λ told. keeps verdict given opening core.entries (vouches.verdicts told);
+    backed = λ told. backed opening core.entries _ first.tables first.single (survives.stands.legal told);
+    moments = survives.moments;
+    exit = survives.exit;
+    restored = survives.restored;
+    causes = caused.causes;
+    trouble = caused.trouble;
+  }
+
   pub one_history : (o : Opening B C) (h : Holding B C) → MayGoOn h → (h.fault ≡ None → (actor : ℕ) → actor < actor_count → script_of h.left actor ≡ []) → LeadsFrom tells tells_moments now faults stops may_leave clock left_since verdict o h
       → OneHistory tells tells_moments faults stops may_leave clock left_since verdict o h.fault h.core
   one_history o h goes_on none leads = record {
-    state = (run_from (begins_at o.state) h.core.entries).state;
-    legal = leads.survives.stands.legal;
-    whole = λ told. whole o.state h.core.entries _ leads.first.tables leads.first.pending (leads.survives.stands.legal told);
-    vouched = λ told. vouched o.state h.core.entries _ leads.first.tables leads.first.pending (leads.survives.stands.legal told);
-    verdicts = leads.vouches.verdicts;
-    kept = λ told. keeps verdict o.given o.state h.core.entries (leads.vouches.verdicts told);
-    backed = λ told. backed o.state h.core.entries _ leads.first.tables leads.first.single (leads.survives.stands.legal told);
-    moments = leads.survives.moments;
-    exit = leads.survives.exit;
-    restored = leads.survives.restored;
-    causes = leads.caused.causes;
-    trouble = leads.caused.trouble;
+    served = served_of o.state o.bank o.given h.core leads.first leads.vouches leads.survives leads.caused;
     played = record {
       parts = λ actor. all_played h.fault h.fault (script_of o.scripts actor) (part actor (pairs_of h.core.entries)) (script_of h.left actor) refl (λ is. none_left h goes_on none is actor) (leads.played actor);
       actors = leads.actors;
     };
     few = omega (arith, goes_on.few);
+    caused = leads.caused;
     ended = goes_on.fault;
   }
 

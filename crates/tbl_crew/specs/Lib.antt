@@ -4,5 +4,6 @@ pub mod Crashes
 pub mod Holding
 pub mod Openings
 pub mod Turns
+pub mod Served
 pub mod Histories
 pub mod Locks

@@ -1,7 +1,7 @@
 //! What each actor asks, in order.
 
-ghost use Rattle.std.specs.Prelude.{◌≡◌, ◌≤◌, ◌<◌, [], ◌∷◌, ◌++◌, length, replicate, IfOk, OnOk, OnErr, MatchOption};
-ghost use Rattle.tbl_kinds.specs.Records.{actor_number};
+ghost use Rattle.std.specs.Prelude.{◌≡◌, ℕ, ◌≤◌, ◌<◌, [], ◌∷◌, ◌++◌, length, replicate, min, slice_index, IfOk, OnOk, OnErr, MatchOption};
+ghost use Rattle.tbl_kinds.specs.Records.{actor_number, record_limit};
 ghost use Rattle.tbl_crew.specs.Scripts.{actor_count, script_of, pushed, with_script};
 
 use std::alloc::Global;
@@ -38,6 +38,13 @@ impl Script {
         Script {
             requests: VecDeque::new(alloc),
         }
+    }
+
+    /// How many requests there are, as far as they can be played.
+    fn len(&self) -> u32
+        ensures { result ≡ min (length self.now) record_limit }
+    {
+        self.requests.len().min(RECORD_LIMIT) as u32
     }
 
     /// Puts a request last.
@@ -98,10 +105,12 @@ impl Scripts {
     }
 
     /// How many requests each actor has, as far as they can be played.
-    pub(crate) fn counts(&self) -> [u32; ACTOR_COUNT] {
+    pub(crate) fn counts(&self) -> [u32; ACTOR_COUNT]
+        ensures { (actor : ℕ) → actor < actor_count → slice_index result actor ≡ min (length (script_of self.now actor)) record_limit }
+    {
         let mut counts = [0; ACTOR_COUNT];
-        for (count, script) in counts.iter_mut().zip(self.scripts.as_slice()) {
-            *count = script.requests.len().min(RECORD_LIMIT) as u32;
+        'actors: for actor in 0..ACTOR_COUNT {
+            counts[actor] = self.scripts[actor].len();
         }
         counts
     }
