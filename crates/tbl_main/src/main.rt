@@ -9,9 +9,11 @@ ghost use Rattle.tbl_kinds.specs.Places.{bank_size};
 use shipped_kit::shipped_entries;
 use std::alloc::Global;
 use std::process::ExitCode;
+use std::sync::Wait;
+use std::thread::Threads;
 use tbl_adapters::{StandardInput, StandardOutput, StoreFile};
 use tbl_kinds::{Bytes, Memory};
-use tbl_outside::{Bank, Sink, Source};
+use tbl_outside::{Bank, Gate, Sink, Source};
 use tbl_top::run_with;
 use words::{WordsFault, given_words};
 
@@ -20,6 +22,8 @@ const HELP: &str = "tbl: the cFE table service, played from a session
 
 tbl play       reads session records from standard input and writes the transcript to standard output. Blocks of the
                Critical Data Store are kept in the file cds.store of the working folder, which is made where it isn't there
+tbl crew       does the same with a thread for each actor: it reads all records, plays them, and then writes the transcript.
+               Each actor's records are played in their order, and the order between actors differs from run to run
 tbl --help     writes this text to standard output
 tbl --version  writes the version to standard output
 
@@ -31,7 +35,7 @@ It ends with one of these statuses:
 4  writing failed
 5  a record of the input is bad or cut short; the records before it were played
 6  the input goes on after 32,768 records, which were played
-7  the store file can't be opened or made longer, or failed in a boot; the records before it were played
+7  the store file can't be opened or made longer, or failed in a boot; no record was played behind it
 ";
 
 /// What `--version` answers.
@@ -57,8 +61,20 @@ fn tell(text: &str, sink: &mut StandardOutput) -> u8 {
 /// How many bytes the Critical Data Store has.
 const BANK_SIZE: u32 = 131_072;
 
+/// The gate of the program, which returns at once.
+struct OpenGate;
+
+impl Gate for OpenGate {
+    fn before(&self, _actor: u8, _nth: u32) {}
+
+    fn after(&self, _actor: u8, _nth: u32) {}
+
+    fn reading(&self, _actor: u8) {}
+}
+
 /// Plays a session with the shipped validation functions.
-fn play<S: Source, K: Sink, B: Bank>(
+fn play<R: Threads + Wait + Sync, S: Source, K: Sink, B: Bank + Send>(
+    rt: &R,
     alloc: Global,
     words: &[Bytes],
     source: &mut S,
@@ -68,7 +84,7 @@ fn play<S: Source, K: Sink, B: Bank>(
     requires { bank_size ≤ B.size bank }
 {
     let kit = shipped_entries(alloc)?;
-    let (status, _bank) = run_with(alloc, words, source, sink, bank, kit);
+    let (status, _bank) = run_with(rt, alloc, words, source, sink, bank, kit, &OpenGate);
     Ok(status)
 }
 
@@ -86,7 +102,7 @@ fn main(rt: HostRuntime) -> ExitCode {
         return ExitCode::from(7);
     };
     let mut source = StandardInput::of(rt.stdin());
-    match play(rt.alloc(), &words, &mut source, &mut sink, bank) {
+    match play(&rt, rt.alloc(), &words, &mut source, &mut sink, bank) {
         Ok(status) => ExitCode::from(status),
         Err(Memory) => ExitCode::from(1),
     }

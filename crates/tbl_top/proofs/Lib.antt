@@ -1,10 +1,11 @@
 pub mod WritingLemmas
-pub mod TroubleLemmas
-pub mod CrashesOnward
-pub mod CrashLemmas
 pub mod PlayingLemmas
+pub mod OffsetLemmas
+pub mod ScriptsLemmas
 pub mod FeedingLemmas
 pub mod ReadingLemmas
+pub mod CollectingLemmas
 pub mod SessionLemmas
 pub mod CompletenessLemmas
 pub mod RecoveredLaws
+pub mod CrewLemmas

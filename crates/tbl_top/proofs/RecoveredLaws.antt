@@ -4,6 +4,7 @@ use Rattle.std.specs.Prelude.{◌-◌, if◌then◌else◌, is_some, slice_get, 
 use Rattle.std.proofs.lemmas.Option.{same_Some}
 use Rattle.tbl_kinds.specs.Blocks.{Store}
 use Rattle.tbl_kinds.specs.Names.{is_name}
+use Rattle.tbl_kinds.specs.Records.{Pair}
 use Rattle.tbl_kinds.specs.Requests.{Fits}
 use Rattle.tbl_model.specs.State.{State, first_state}
 use Rattle.tbl_model.specs.Tables.{table_at}
@@ -27,7 +28,7 @@ use Rattle.tbl_kinds.specs.declared.request.Request.{Request}
 use Rattle.tbl_kinds.specs.declared.request.Request.TheVariants as ask
 use Rattle.tbl_kinds.specs.declared.status.Status.{Status}
 use Rattle.tbl_kinds.specs.declared.status.TheConstants.Status.{SUCCESS, ERR_APP_RUNNING, ERR_INVALID_NAME}
-use Rattle.tbl_top.specs.Crashes.{run_at, AtSomePlace}
+use Rattle.tbl_crew.specs.Crashes.{run_at, AtSomePlace}
 use Rattle.tbl_top.specs.Recovered.{Asks, RegistersAt, RegistersFirst, TableBegins, IsRecoveredOrEmpty, RecoversFrom}
 use Rattle.tbl_top.specs.Session.{Session, given_of, opening_of}
 
@@ -136,19 +137,19 @@ registers_first left kit entries are first e app_name r begun =
 -- ---- two sessions
 
 -- the first, over a bank that tells its moments
-module _ {B C : Type 0} (tells tells_moments : Type 0) (now : B → List ℕ) (faults stops : B → ℕ) (may_leave : B → List ℕ → Type 0) (clock : B → ℕ) (left_since : B → ℕ → List ℕ → Type 0) (verdict : C → List ℕ → ℤ) (kit : List (KitEntry C)) (bank bank_then : B) (read : List ℕ) (at_end read_failed : Type 0) (status : ℕ) (before after : Option (List ℕ))
+module _ {B C : Type 0} (plays : ℕ → List Pair → List Entry → Type 0) (tells tells_moments : Type 0) (now : B → List ℕ) (faults stops : B → ℕ) (may_leave : B → List ℕ → Type 0) (clock : B → ℕ) (left_since : B → ℕ → List ℕ → Type 0) (verdict : C → List ℕ → ℤ) (kit : List (KitEntry C)) (bank bank_then : B) (read : List ℕ) (at_end read_failed : Type 0) (status : ℕ) (before after : Option (List ℕ))
     (tells_both : tells_moments → tells) (told : tells_moments)
-    (s : Session tells tells_moments faults stops may_leave clock left_since verdict (given_of kit) (opening_of (now bank) kit) bank bank_then read at_end read_failed status before after) where
+    (s : Session plays tells tells_moments faults stops may_leave clock left_since verdict (given_of kit) (opening_of (now bank) kit) bank bank_then read at_end read_failed status before after) where
   abbrev First : State
   First = opening_of (now bank) kit
 
   is_history : IsHistory First s.entries
-  is_history = record { tables = refl; single = store-single (now bank); answered = (s.legal (tells_both told)).answered }
+  is_history = record { tables = refl; single = store-single (now bank); answered = (s.served.legal (tells_both told)).answered }
 
   -- and the second, over a bank of which the bytes are an image that a reset in the first one, or behind it, may have left
-  module _ {B' C' : Type 0} (tells' tells_moments' : Type 0) (now' : B' → List ℕ) (faults' stops' : B' → ℕ) (may_leave' : B' → List ℕ → Type 0) (clock' : B' → ℕ) (left_since' : B' → ℕ → List ℕ → Type 0) (verdict' : C' → List ℕ → ℤ) (kit' : List (KitEntry C')) (bank' bank_then' : B') (read' : List ℕ) (at_end' read_failed' : Type 0) (status' : ℕ) (before' after' : Option (List ℕ))
+  module _ {B' C' : Type 0} (plays' : ℕ → List Pair → List Entry → Type 0) (tells' tells_moments' : Type 0) (now' : B' → List ℕ) (faults' stops' : B' → ℕ) (may_leave' : B' → List ℕ → Type 0) (clock' : B' → ℕ) (left_since' : B' → ℕ → List ℕ → Type 0) (verdict' : C' → List ℕ → ℤ) (kit' : List (KitEntry C')) (bank' bank_then' : B') (read' : List ℕ) (at_end' read_failed' : Type 0) (status' : ℕ) (before' after' : Option (List ℕ))
       (told' : tells') (over : left_since bank_then (clock bank) (now' bank'))
-      (s' : Session tells' tells_moments' faults' stops' may_leave' clock' left_since' verdict' (given_of kit') (opening_of (now' bank') kit') bank' bank_then' read' at_end' read_failed' status' before' after') where
+      (s' : Session plays' tells' tells_moments' faults' stops' may_leave' clock' left_since' verdict' (given_of kit') (opening_of (now' bank') kit') bank' bank_then' read' at_end' read_failed' status' before' after') where
     abbrev Second : State
     Second = opening_of (now' bank') kit'
 
@@ -156,10 +157,10 @@ module _ {B C : Type 0} (tells tells_moments : Type 0) (now : B → List ℕ) (f
     pub recovered : (place : ℕ) (e : Entry) (name : List ℕ) (r : Registration) → RegistersAt (store_of (now' bank')) Second s'.entries place e name r
         → RecoversFrom First s.entries (now' bank') (run_at Second s'.entries place) e name r.size
     recovered place e name r registers =
-        recovers_from First s.entries (now' bank') is_history ((s.moments told).each (now' bank') over) Second s'.entries (s'.legal told').answered place e name r registers
+        recovers_from First s.entries (now' bank') is_history ((s.served.moments told).each (now' bank') over) Second s'.entries (s'.served.legal told').answered place e name r registers
 
     -- as the first thing behind the start of its application
     pub recovered_first : (first e : Entry) (app_name : List ℕ) (r : Registration) → RegistersFirst (owners (given_of kit')) s'.entries first e app_name r
         → RecoversFrom First s.entries (now' bank') (run_at Second s'.entries 1) e (full_name app_name r.short) r.size
     recovered_first first e app_name r begun =
-        recovered 1 e (full_name app_name r.short) r (registers_first (store_of (now' bank')) (owners (given_of kit')) s'.entries (s'.legal told').answered first e app_name r begun)
+        recovered 1 e (full_name app_name r.short) r (registers_first (store_of (now' bank')) (owners (given_of kit')) s'.entries (s'.served.legal told').answered first e app_name r begun)

@@ -4,38 +4,38 @@ use Rattle.std.specs.Prelude.{if◌then◌else◌}
 use Rattle.std.specs.Io.KnownBytes.{append_known}
 use Rattle.std.proofs.lemmas.Bool.{eqb-true}
 use Rattle.std.proofs.lemmas.List.{nil_from_length, length-map}
-use Rattle.tbl_model.specs.State.{State, no_tables}
+use Rattle.tbl_model.specs.State.{State}
 use Rattle.std.proofs.lemmas.Bool.Decides.{nat_tests}
 use Rattle.tbl_kinds.specs.StoreSteps.{Shows}
 use Rattle.cds_layout.specs.Images.{store_of}
+use Rattle.cds_layout.proofs.SingleBlocks.{store-single}
 use Rattle.tbl_kinds.specs.Heads.{IsShort, IsBad, is_short, is_bad, EndsBefore}
 use Rattle.tbl_kinds.proofs.RecordLaws.{are_records}
+use Rattle.tbl_kinds.specs.Records.{Pair}
 use Rattle.tbl_kinds.specs.Transcript.{pair_of, pairs_of, entries_bytes, end_bytes, offset_of, transcript}
-use Rattle.tbl_model.specs.History.{begins_at, run_from}
 use Rattle.tbl_outside.specs.declared.validator.KitEntry.{KitEntry}
-use Rattle.tbl_core.specs.Service.{CoreView, Vouches, StartCounted}
+use Rattle.tbl_core.specs.Service.{CoreView, StartCounted}
 use Rattle.tbl_core.specs.declared.service.StartFault.{StartFault}
 use Rattle.tbl_core.specs.declared.service.StartFault.TheVariants.{Memory as NoMemory, BootFault as FirstFault, BootStopped as FirstStopped}
 use Rattle.tbl_core.proofs.Keeping.{keeps}
-use Rattle.tbl_laws.specs.Backed.{AreSingle}
 use Rattle.tbl_laws.proofs.BackedLaws.{backed}
 use Rattle.tbl_laws.proofs.VouchedLaws as laws
 use Rattle.tbl_laws.proofs.WholeLaws.{whole}
 use Rattle.tbl_outside.specs.Streams.{TakesFront}
 use Rattle.tbl_outside.proofs.Streams.{append_known-nil, written_more, front_of_first, front_of_second, front_of_whole}
 use Rattle.tbl_top.specs.Playing.{Playing, IsBeginning, IsSession, IsWritten}
-use Rattle.tbl_top.specs.Standing.{Leaves, TellsWritten, TellsBoot}
-use Rattle.tbl_top.specs.Trouble.{Rises, IsCaused}
-use Rattle.tbl_top.specs.Crashes.{Survives}
-use Rattle.tbl_top.proofs.CrashLemmas.{no_moments, no_exit}
+use Rattle.tbl_top.specs.Standing.{Leaves, HasPlayedAll, TellsWritten, TellsBoot}
+use Rattle.tbl_crew.specs.Trouble.{Rises, IsCaused}
+use Rattle.tbl_crew.specs.Openings.{IsFirst}
+use Rattle.tbl_crew.specs.Served.{IsServed}
+use Rattle.tbl_crew.proofs.CrashLemmas.{no_moments, no_exit}
 use Rattle.tbl_outside.specs.Bank.{LeavesOnly}
 use Rattle.tbl_outside.specs.Counts.{Rose}
-use Rattle.tbl_core.specs.Called.{RoseBy}
-use Rattle.tbl_top.proofs.TroubleLemmas.{still_lives, one_boot, no_last, rose_once, rose_never, rose_by_fault, rose_by_stop}
+use Rattle.tbl_crew.proofs.TroubleLemmas.{still_lives, one_boot, no_last, rose_never}
 use Rattle.tbl_top.specs.Feeding.{IsKept}
 use Rattle.tbl_top.specs.Finishing.{status_of, WritesEnd, WritesEndAlone, Finishes, FinishesUnbegun}
-use Rattle.tbl_top.specs.Reading.{EndsReading, StopsReading}
-use Rattle.tbl_top.specs.Session.{IsStatus, IsEnded, IsBooted, IsBrokenOff, EndsAs, BootsAs, IsExact, WouldEnd, Tells, Session}
+use Rattle.tbl_top.specs.Reading.{EndsReading, HasRead, StopsReading}
+use Rattle.tbl_top.specs.Session.{IsStatus, IsEnded, IsBooted, IsBrokenOff, EndsAs, BootsAs, IsExact, WouldEnd, Tells, Session, opening_of}
 use Rattle.tbl_top.proofs.CompletenessLemmas.{bad_is_some}
 use Rattle.tbl_top.specs.declared.playback.Standing.{Standing}
 use Rattle.tbl_top.specs.declared.playback.Standing.TheVariants.{Open, Bad, Full, BootFault, BootStopped, SinkFailed, Memory, Unwritten}
@@ -185,11 +185,11 @@ exact_of status played rest at_end read_failed (inl (inr (inr (inr six)))) ends 
 exact_of status played rest at_end read_failed (inr ended) ends = record { bad = λ lt bad. inr ended; full = λ all some. inr ended }
 
 -- no further record follows
-ends_before : (status : ℕ) (entries : List Entry) (rest : List ℕ) (at_end read_failed : Type 0) → IsEnded status → EndsAs status (length entries) rest at_end read_failed → EndsBefore (pairs_of entries) rest
-ends_before status entries rest at_end read_failed (inl zero) ends = inl (ends.done zero).0
-ends_before status entries rest at_end read_failed (inr (inl three)) ends = elim (ends.cut three).0 [ inl none ↦ inl none | inr short ↦ inr (inl short.0) ]
-ends_before status entries rest at_end read_failed (inr (inr (inl five))) ends = elim (ends.bad five).1 [ inl bad ↦ inr (inr (inl bad)) | inr short ↦ inr (inl short.0) ]
-ends_before status entries rest at_end read_failed (inr (inr (inr six))) ends = inr (inr (inr (length-map entries pair_of ∙ (ends.full six).0)))
+ends_before : (status : ℕ) (pairs : List Pair) (rest : List ℕ) (at_end read_failed : Type 0) → IsEnded status → EndsAs status (length pairs) rest at_end read_failed → EndsBefore pairs rest
+ends_before status pairs rest at_end read_failed (inl zero) ends = inl (ends.done zero).0
+ends_before status pairs rest at_end read_failed (inr (inl three)) ends = elim (ends.cut three).0 [ inl none ↦ inl none | inr short ↦ inr (inl short.0) ]
+ends_before status pairs rest at_end read_failed (inr (inr (inl five))) ends = elim (ends.bad five).1 [ inl bad ↦ inr (inr (inl bad)) | inr short ↦ inr (inl short.0) ]
+ends_before status pairs rest at_end read_failed (inr (inr (inr six))) ends = inr (inr (inr (ends.full six).0))
 
 -- ---- what the sink took
 
@@ -269,78 +269,82 @@ not_sink SinkFailed failed whole is = λ e. is refl
 not_sink Memory failed whole is = λ e. omega (arith, e)
 not_sink Unwritten failed whole is = λ e. omega (arith, e)
 
+-- a status that tells an end of the input
+ended_standing : (standing : Standing) (failed whole : Bool) → IsEnded (status_of standing failed whole) → HasPlayedAll standing
+ended_standing Open failed whole ended = tt
+ended_standing Bad failed whole ended = tt
+ended_standing Full failed whole ended = tt
+ended_standing BootFault failed whole ended = absurd (booted_not_ended 7 (inl refl) ended)
+ended_standing BootStopped failed whole ended = absurd (booted_not_ended 8 (inr refl) ended)
+ended_standing SinkFailed failed whole ended = absurd (not_ended 4 (inr refl) ended)
+ended_standing Memory failed whole ended = absurd (not_ended 1 (inl refl) ended)
+ended_standing Unwritten failed whole ended = absurd (not_ended 1 (inl refl) ended)
+
 -- ---- the session
 
-module _ {B C : Type 0} (tells tells_moments : Type 0) (now : B → List ℕ) (faults stops : B → ℕ) (may_leave : B → List ℕ → Type 0) (clock : B → ℕ) (left_since : B → ℕ → List ℕ → Type 0) (verdict : C → List ℕ → ℤ) (given : List (Option (KitEntry C))) (opening : State) (bank : B) (p : Playing B C) (read : List ℕ) (failed : Bool) (at_end read_failed : Type 0) (result : ℕ) (before mid after : Option (List ℕ)) (sink_faults sink_then : ℕ)
-    (at_first : opening.tables ≡ no_tables) (unasked : opening.pending ≡ []) (single : AreSingle opening.store) (vouched : Vouches tells now verdict given opening p.core) (caused : IsCaused faults stops bank p.core) (survives : Survives tells tells_moments now may_leave clock left_since opening bank p.core) (session : IsSession p.core) (ends : EndsReading p read failed at_end) (cause : failed ≡ true → read_failed) (boot : TellsBoot p.standing p.core) where
+module _ {B C : Type 0} (plays : ℕ → List Pair → List Entry → Type 0) (tells tells_moments : Type 0) (faults stops : B → ℕ) (may_leave : B → List ℕ → Type 0) (clock : B → ℕ) (left_since : B → ℕ → List ℕ → Type 0) (verdict : C → List ℕ → ℤ) (given : List (Option (KitEntry C))) (opening : State) (bank : B) (core : CoreView B C) (standing : Standing) (pairs : List Pair) (kept read : List ℕ) (failed : Bool) (at_end read_failed : Type 0) (result : ℕ) (before mid after : Option (List ℕ)) (sink_faults sink_then : ℕ)
+    (served : IsServed tells tells_moments faults stops may_leave clock left_since verdict given opening bank core.state.store.bank core.entries) (caused : IsCaused faults stops bank core) (asked : (IsEnded result → HasPlayedAll standing) → plays result pairs core.entries)
+    (has : HasRead standing pairs kept read failed at_end) (cause : failed ≡ true → read_failed) (boot : TellsBoot standing core) where
   abbrev Ends : ℕ → Type 0
-  Ends n = EndsAs n (length p.core.entries) ends.feeds.behind at_end read_failed
+  Ends n = EndsAs n (length pairs) has.behind at_end read_failed
 
   abbrev Boots : ℕ → Type 0
-  Boots n = BootsAs n p.core.entries read (Rose (faults bank) (faults p.core.state.store.bank)) (Rose (stops bank) (stops p.core.state.store.bank))
+  Boots n = BootsAs n core.entries read (Rose (faults bank) (faults core.state.store.bank)) (Rose (stops bank) (stops core.state.store.bank))
 
   abbrev Is : Type 0
-  Is = Session tells tells_moments faults stops may_leave clock left_since verdict given opening bank p.core.state.store.bank read at_end read_failed result before after
+  Is = Session plays tells tells_moments faults stops may_leave clock left_since verdict given opening bank core.state.store.bank read at_end read_failed result before after
 
-  made : IsStatus result → Ends result → Boots result → Tells result p.core.entries (λ other. WouldEnd other Ends Boots) before after → Is
-  made known ends_as_is boots told = record {
+  made : IsStatus result → Ends result → Boots result → (IsEnded result → HasPlayedAll standing) → Tells result core.entries (λ other. WouldEnd other Ends Boots) before after → Is
+  made known ends_as_is boots all told = record {
+    entries = core.entries;
+    pairs = pairs;
+    rest = has.behind;
+    served = served;
+    asked = asked all;
+    each = has.each;
+    few = has.few;
+    parts = has.parts;
+    near = omega (arith, has.near);
+    stops = has.stops;
+    records = λ ended. are_records read pairs has.behind has.each has.few has.parts (ends_before result pairs has.behind at_end read_failed ended ends_as_is);
     known = known;
-    entries = p.core.entries;
-    state = (run_from (begins_at opening) p.core.entries).state;
-    rest = ends.feeds.behind;
-    legal = vouched.stands.legal;
-    whole = λ told. whole opening p.core.entries _ at_first unasked (vouched.stands.legal told);
-    vouched = λ told. laws.vouched opening p.core.entries _ at_first unasked (vouched.stands.legal told);
-    verdicts = vouched.verdicts;
-    kept = λ told. keeps verdict _ opening p.core.entries (vouched.verdicts told);
-    moments = survives.moments;
-    exit = survives.exit;
-    restored = survives.restored;
-    backed = λ told. backed opening p.core.entries _ at_first single (vouched.stands.legal told);
-    causes = caused.causes;
-    trouble = caused.trouble;
-    each = session.each;
-    few = session.few;
-    parts = ends.feeds.parts;
-    records = λ ended. are_records read (pairs_of p.core.entries) ends.feeds.behind session.each (omega (arith, session.few, length-map p.core.entries pair_of)) ends.feeds.parts
-        (ends_before result p.core.entries ends.feeds.behind at_end read_failed ended ends_as_is);
-    exact = exact_of result (length p.core.entries) ends.feeds.behind at_end read_failed known ends_as_is;
-    near = omega (arith, ends.feeds.near);
-    stops = ends.stops;
     ends = ends_as_is;
     boots = boots;
+    exact = exact_of result (length pairs) has.behind at_end read_failed known ends_as_is;
     told = told;
   }
 
   -- with an end record, whole or cut short
-  ended : (p.standing ≢ SinkFailed) → IsWritten before p.core.entries mid → WritesEnd (status_of p.standing failed (eqb (length p.rest) 0)) result p.core.entries mid after sink_faults sink_then → Is
+  ended : (standing ≢ SinkFailed) → IsWritten before core.entries mid → WritesEnd (status_of standing failed (eqb (length kept) 0)) result core.entries mid after sink_faults sink_then → Is
   ended is written w =
-      let status = status_of p.standing failed (eqb (length p.rest) 0) in
-      let tells : Ends status = ends_as p.standing failed (length p.core.entries) ends.feeds.behind p.rest at_end read_failed ends.feeds.leaves ends.feeds.keeps ends.ended cause in
-      let boots : Boots status = boots_as p.standing failed (eqb (length p.rest) 0) faults stops bank p.core read _ _ caused boot in
-      let known : IsStatus status = status_is p.standing failed (eqb (length p.rest) 0) in
-      let not_four : status ≢ 4 = not_sink p.standing failed (eqb (length p.rest) 0) is in
+      let whole = eqb (length kept) 0 in
+      let status = status_of standing failed whole in
+      let tells : Ends status = ends_as standing failed (length pairs) has.behind kept at_end read_failed has.leaves has.keeps has.ended cause in
+      let boots : Boots status = boots_as standing failed whole faults stops bank core read _ _ caused boot in
+      let known : IsStatus status = status_is standing failed whole in
+      let not_four : status ≢ 4 = not_sink standing failed whole is in
       made
       (elim w [ inl wrote ↦ subst IsStatus (sym wrote.0) known | inr broke ↦ inr (inr (inr broke.0)) ])
       (elim w [
         | inl wrote ↦ subst Ends (sym wrote.0) tells
-        | inr broke ↦ tells_none result (length p.core.entries) ends.feeds.behind at_end read_failed (not_ended result (inr broke.0))
+        | inr broke ↦ tells_none result (length pairs) has.behind at_end read_failed (not_ended result (inr broke.0))
       ])
-      (elim w [ inl wrote ↦ subst Boots (sym wrote.0) boots | inr broke ↦ no_boot result p.core.entries read _ _ (inr broke.0) ])
-      (tells_end status result p.core.entries (λ other. WouldEnd other Ends Boots) before mid after sink_faults sink_then not_four (would_end status Ends Boots known not_four tells boots) written w)
+      (elim w [ inl wrote ↦ subst Boots (sym wrote.0) boots | inr broke ↦ no_boot result core.entries read _ _ (inr broke.0) ])
+      (elim w [ inl wrote ↦ λ e. ended_standing standing failed whole (subst IsEnded wrote.0 e) | inr broke ↦ λ e. absurd (not_ended result (inr broke.0) e) ])
+      (tells_end status result core.entries (λ other. WouldEnd other Ends Boots) before mid after sink_faults sink_then not_four (would_end status Ends Boots known not_four tells boots) written w)
 
-  broken_off : IsBrokenOff result → Tells result p.core.entries (λ other. WouldEnd other Ends Boots) before after → Is
+  broken_off : IsBrokenOff result → Tells result core.entries (λ other. WouldEnd other Ends Boots) before after → Is
   broken_off broken told =
-      made (inr (inr broken)) (tells_none result (length p.core.entries) ends.feeds.behind at_end read_failed (not_ended result broken)) (no_boot result p.core.entries read _ _ broken) told
+      made (inr (inr broken)) (tells_none result (length pairs) has.behind at_end read_failed (not_ended result broken)) (no_boot result core.entries read _ _ broken) (λ e. absurd (not_ended result broken e)) told
 
-  without_end : (result ≡ 4) × (after ≡ mid) → TakesFront before mid (entries_bytes 0 p.core.entries) → Is
-  without_end w told = broken_off (inr w.0) (tells_front 4 result p.core.entries (λ other. WouldEnd other Ends Boots) before mid after sink_faults sink_then w told)
+  without_end : (result ≡ 4) × (after ≡ mid) → TakesFront before mid (entries_bytes 0 core.entries) → Is
+  without_end w told = broken_off (inr w.0) (tells_front 4 result core.entries (λ other. WouldEnd other Ends Boots) before mid after sink_faults sink_then w told)
 
-  without_memory : (result ≡ 1) × (after ≡ mid) → TakesFront before mid (entries_bytes 0 p.core.entries) → Is
-  without_memory w told = broken_off (inl w.0) (tells_starved 1 result p.core.entries (λ other. WouldEnd other Ends Boots) before mid after sink_faults sink_then w told)
+  without_memory : (result ≡ 1) × (after ≡ mid) → TakesFront before mid (entries_bytes 0 core.entries) → Is
+  without_memory w told = broken_off (inl w.0) (tells_starved 1 result core.entries (λ other. WouldEnd other Ends Boots) before mid after sink_faults sink_then w told)
 
-  by_standing : (standing : Standing) → p.standing ≡ standing → TellsWritten standing before p.core.entries mid
-      → Finishes standing (status_of p.standing failed (eqb (length p.rest) 0)) result p.core.entries mid after sink_faults sink_then → Is
+  by_standing : (s : Standing) → standing ≡ s → TellsWritten s before core.entries mid
+      → Finishes s (status_of standing failed (eqb (length kept) 0)) result core.entries mid after sink_faults sink_then → Is
   by_standing Open is told w = ended (λ e. cc) told w
   by_standing Bad is told w = ended (λ e. cc) told w
   by_standing Full is told w = ended (λ e. cc) told w
@@ -350,10 +354,28 @@ module _ {B C : Type 0} (tells tells_moments : Type 0) (now : B → List ℕ) (f
   by_standing SinkFailed is told w = without_end w told
   by_standing Unwritten is told w = without_memory w told
 
-  pub session_of : TellsWritten p.standing before p.core.entries mid
-      → Finishes p.standing (status_of p.standing failed (eqb (length p.rest) 0)) result p.core.entries mid after sink_faults sink_then
-      → Session tells tells_moments faults stops may_leave clock left_since verdict given opening bank p.core.state.store.bank read at_end read_failed result before after
-  session_of told w = by_standing p.standing refl told w
+  pub session_of : TellsWritten standing before core.entries mid
+      → Finishes standing (status_of standing failed (eqb (length kept) 0)) result core.entries mid after sink_faults sink_then
+      → Session plays tells tells_moments faults stops may_leave clock left_since verdict given opening bank core.state.store.bank read at_end read_failed result before after
+  session_of told w = by_standing standing refl told w
+
+-- what was read of a session that was played
+pub has_read : {B C : Type 0} (p : Playing B C) (read : List ℕ) (failed : Bool) (at_end : Type 0) → IsSession p.core → EndsReading p read failed at_end → HasRead p.standing (pairs_of p.core.entries) p.rest read failed at_end
+has_read p read failed at_end session ends = record {
+  behind = ends.feeds.behind;
+  parts = ends.feeds.parts;
+  near = ends.feeds.near;
+  each = session.each;
+  few = omega (arith, session.few, length-map p.core.entries pair_of);
+  leaves = subst (λ n. Leaves p.standing n ends.feeds.behind) (sym (length-map p.core.entries pair_of)) ends.feeds.leaves;
+  keeps = ends.feeds.keeps;
+  ended = ends.ended;
+  stops = ends.stops;
+}
+
+-- a session begins without a table, and with the blocks that the bank shows
+pub first_opening : {C : Type 0} (bytes : List ℕ) (kit : List (KitEntry C)) → IsFirst (opening_of bytes kit)
+first_opening bytes kit = record { tables = refl; pending = refl; single = store-single bytes }
 
 -- at first nothing is written
 pub nothing_written : (taken : Option (List ℕ)) (entries : List Entry) → entries ≡ [] → IsWritten taken entries taken
@@ -376,53 +398,60 @@ no_reading = record {
 
 -- ---- where the service didn't begin
 
-module _ {B C : Type 0} (tells tells_moments : Type 0) (faults stops : B → ℕ) (may_leave : B → List ℕ → Type 0) (clock : B → ℕ) (left_since : B → ℕ → List ℕ → Type 0) (verdict : C → List ℕ → ℤ) (given : List (Option (KitEntry C))) (opening : State) (at_first : opening.tables ≡ no_tables) (unasked : opening.pending ≡ []) (single : AreSingle opening.store) (bank bank_then : B)
+module _ {B C : Type 0} (plays : ℕ → List Pair → List Entry → Type 0) (tells tells_moments : Type 0) (faults stops : B → ℕ) (may_leave : B → List ℕ → Type 0) (clock : B → ℕ) (left_since : B → ℕ → List ℕ → Type 0) (verdict : C → List ℕ → ℤ) (given : List (Option (KitEntry C))) (opening : State) (first : IsFirst opening) (bank bank_then : B)
     (counts_now : (bank : B) (t : ℕ) (image : List ℕ) → tells_moments → t ≤ clock bank → may_leave bank image → left_since bank t image) (crash : tells_moments → LeavesOnly clock left_since bank bank_then (λ image. Shows opening.store (store_of image)))
-    (at_end read_failed : Type 0) (result : ℕ) (before after : Option (List ℕ)) (sink_faults sink_then : ℕ) where
+    (at_end read_failed : Type 0) (result : ℕ) (before after : Option (List ℕ)) (sink_faults sink_then : ℕ) (asked : plays result [] []) where
   abbrev Empty : ℕ → Type 0
   Empty n = EndsAs n 0 [] at_end read_failed
 
   abbrev First : ℕ → Type 0
   First n = BootsAs n [] [] (Rose (faults bank) (faults bank_then)) (Rose (stops bank) (stops bank_then))
 
-  empty : Rises faults stops bank bank_then [] → IsStatus result → (IsEnded result → ⊥) → First result → Tells result [] (λ other. WouldEnd other Empty First) before after
-      → Session tells tells_moments faults stops may_leave clock left_since verdict given opening bank bank_then [] at_end read_failed result before after
-  empty rises known never boots told = record {
-    entries = [];
+  served_nothing : Rises faults stops bank bank_then [] → IsServed tells tells_moments faults stops may_leave clock left_since verdict given opening bank bank_then []
+  served_nothing rises = record {
     state = opening;
-    rest = [];
     legal = λ _. record { answered = tt; leads = refl };
-    whole = λ _. whole opening [] opening at_first unasked (record { answered = tt; leads = refl });
-    vouched = λ _. laws.vouched opening [] opening at_first unasked (record { answered = tt; leads = refl });
+    whole = λ _. whole opening [] opening first.tables first.pending (record { answered = tt; leads = refl });
+    vouched = λ _. laws.vouched opening [] opening first.tables first.pending (record { answered = tt; leads = refl });
     verdicts = λ _. tt;
     kept = λ _. keeps verdict given opening [] tt;
+    backed = λ _. backed opening [] opening first.tables first.single (record { answered = tt; leads = refl });
     moments = no_moments tells_moments may_leave clock left_since counts_now opening bank bank_then crash;
     exit = no_exit tells_moments may_leave clock left_since counts_now opening bank bank_then crash;
     restored = λ told place e at. absurd (cc at);
-    backed = λ _. backed opening [] opening at_first single (record { answered = tt; leads = refl });
     causes = tt;
     trouble = rises;
+  }
+
+  empty : Rises faults stops bank bank_then [] → IsStatus result → (IsEnded result → ⊥) → First result → Tells result [] (λ other. WouldEnd other Empty First) before after
+      → Session plays tells tells_moments faults stops may_leave clock left_since verdict given opening bank bank_then [] at_end read_failed result before after
+  empty rises known never boots told = record {
+    entries = [];
+    pairs = [];
+    rest = [];
+    served = served_nothing rises;
+    asked = asked;
     each = tt;
     few = omega arith;
     parts = refl;
     near = omega arith;
     stops = no_reading;
-    known = known;
     records = λ ended. absurd (never ended);
-    exact = exact_of result 0 [] at_end read_failed known (tells_none result 0 [] at_end read_failed never);
+    known = known;
     ends = tells_none result 0 [] at_end read_failed never;
     boots = boots;
+    exact = exact_of result 0 [] at_end read_failed known (tells_none result 0 [] at_end read_failed never);
     told = told;
   }
 
   -- memory ran out
-  starved : Rises faults stops bank bank_then [] → (result ≡ 1) × (after ≡ before) → Session tells tells_moments faults stops may_leave clock left_since verdict given opening bank bank_then [] at_end read_failed result before after
+  starved : Rises faults stops bank bank_then [] → (result ≡ 1) × (after ≡ before) → Session plays tells tells_moments faults stops may_leave clock left_since verdict given opening bank bank_then [] at_end read_failed result before after
   starved rises w = empty rises (inr (inr (inl w.0))) (not_ended result (inl w.0)) (no_boot result [] [] _ _ (inl w.0))
       (tells_starved 1 result [] (λ other. WouldEnd other Empty First) before before after sink_faults sink_then w (front_of_nothing before (entries_bytes 0 [])))
 
   -- or the first boot didn't come to its end
   unbooted : (status : ℕ) → Rises faults stops bank bank_then [] → IsBooted status → (status ≢ 4) → First status → WritesEndAlone status result before after sink_faults sink_then
-      → Session tells tells_moments faults stops may_leave clock left_since verdict given opening bank bank_then [] at_end read_failed result before after
+      → Session plays tells tells_moments faults stops may_leave clock left_since verdict given opening bank bank_then [] at_end read_failed result before after
   unbooted status rises booted not_four boots (inl (inl wrote)) =
       let is : IsBooted result = subst IsBooted (sym wrote.0) booted in
       empty rises (inr (inl is)) (booted_not_ended result is) (subst First (sym wrote.0) boots)
@@ -433,7 +462,7 @@ module _ {B C : Type 0} (tells tells_moments : Type 0) (faults stops : B → ℕ
   unbooted status rises booted not_four boots (inr w) = starved rises w
 
   pub unbegun : (fault : StartFault) → StartCounted faults stops bank bank_then fault → FinishesUnbegun fault result before after sink_faults sink_then
-      → Session tells tells_moments faults stops may_leave clock left_since verdict given opening bank bank_then [] at_end read_failed result before after
+      → Session plays tells tells_moments faults stops may_leave clock left_since verdict given opening bank bank_then [] at_end read_failed result before after
   unbegun NoMemory counted w = starved (record { fault = inl (omega (arith, counted.0)); stop = inl (omega (arith, counted.1)) }) w
   unbegun FirstFault counted w =
       unbooted 7 (record { fault = rose_never (faults bank) (faults bank_then) counted.0; stop = inl (omega (arith, counted.1)) }) (inl refl) (λ e. omega (arith, e))
@@ -467,13 +496,3 @@ pub unbegun_source : (fault : StartFault) (result : ℕ) (before after : Option 
 unbegun_source NoMemory result before after sink_faults sink_then w = λ three. omega (arith, w.0, three)
 unbegun_source FirstFault result before after sink_faults sink_then w = alone_source 7 result sink_faults sink_then (λ e. omega (arith, e)) (alone_is 7 result before after sink_faults sink_then w)
 unbegun_source FirstStopped result before after sink_faults sink_then w = alone_source 8 result sink_faults sink_then (λ e. omega (arith, e)) (alone_is 8 result before after sink_faults sink_then w)
-
--- ---- the causes of 7 and 8
-
-module _ {B C : Type 0} (tells tells_moments : Type 0) (faults stops : B → ℕ) (may_leave : B → List ℕ → Type 0) (clock : B → ℕ) (left_since : B → ℕ → List ℕ → Type 0) (verdict : C → List ℕ → ℤ) (given : List (Option (KitEntry C))) (opening : State) (bank bank_then : B) (read : List ℕ) (at_end read_failed : Type 0) (result : ℕ) (before after : Option (List ℕ))
-    (s : Session tells tells_moments faults stops may_leave clock left_since verdict given opening bank bank_then read at_end read_failed result before after) where
-  pub rose_at_fault : result ≡ 7 → RoseBy 1 (faults bank) (faults bank_then)
-  rose_at_fault seven = elim (s.boots.fault seven) [ inl boot ↦ rose_by_fault faults stops bank bank_then s.entries s.trouble boot | inr first ↦ rose_once (faults bank) (faults bank_then) first.2 ]
-
-  pub rose_at_stop : result ≡ 8 → RoseBy 1 (stops bank) (stops bank_then)
-  rose_at_stop eight = elim (s.boots.stop eight) [ inl boot ↦ rose_by_stop faults stops bank bank_then s.entries s.trouble boot | inr first ↦ rose_once (stops bank) (stops bank_then) first.2 ]

@@ -1,9 +1,11 @@
+pub mod Words
 pub mod Playing
 pub mod Standing
-pub mod Trouble
-pub mod Crashes
 pub mod Feeding
 pub mod Finishing
 pub mod Reading
+pub mod Collecting
 pub mod Session
+pub mod Orders
+pub mod Begun
 pub mod Recovered

@@ -3,7 +3,9 @@ use Rattle.std.specs.Prelude.{◌≡◌, ℕ, ◌<◌, ◌≤◌, List, ◌++◌
 use Rattle.std.specs.List.{AllByRecursion}
 use Rattle.tbl_kinds.specs.Records.{Pair, IsRecord, joined, record_limit}
 use Rattle.tbl_top.specs.Playing.{Playing, IsBeginning, bytes_fed}
-use Rattle.tbl_top.specs.Feeding.{Feeds}
+use Rattle.tbl_top.specs.Feeding.{Feeds, IsKept}
+use Rattle.tbl_top.specs.Standing.{Leaves}
+use Rattle.tbl_top.specs.declared.playback.Standing.{Standing}
 use Rattle.tbl_top.specs.declared.playback.Standing.TheVariants.{Open}
 
 -- how many bytes are asked for at a time
@@ -22,7 +24,20 @@ pub record StopsReading (read : List ℕ) : Type 0 where
   pub begun : IsBeginning (length records) beginning
   pub short : length last ≤ piece_limit
 
--- this was read: it was fed, and the session is open still only where the input ended or a read failed
+-- This was read: these records, and behind them what a standing tells. What is kept of it is what stands behind them as long as more
+-- could follow; and more could only where the input ended or a read failed.
+pub record HasRead (standing : Standing) (pairs : List Pair) (kept read : List ℕ) (failed : Bool) (at_end : Type 0) : Type 0 where
+  pub behind : List ℕ
+  pub parts : read ≡ joined pairs ++ behind
+  pub near : length behind ≤ 36931
+  pub each : AllByRecursion IsRecord pairs
+  pub few : length pairs ≤ record_limit
+  pub leaves : Leaves standing (length pairs) behind
+  pub keeps : IsKept standing behind kept
+  pub ended : standing ≡ Open → failed ≡ false → at_end
+  pub stops : StopsReading read
+
+-- as a session that is played: it was fed, and the session is open still only where the input ended or a read failed
 pub record EndsReading {B C : Type 0} (p : Playing B C) (read : List ℕ) (failed : Bool) (at_end : Type 0) : Type 0 where
   pub feeds : Feeds p.standing read 36931 p.core p.rest
   pub ended : p.standing ≡ Open → failed ≡ false → at_end

@@ -17,7 +17,7 @@ use Rattle.tbl_kinds.specs.declared.request.Actor.TheVariants.{App}
 use Rattle.tbl_kinds.specs.declared.request.Request.TheVariants as ask
 use Rattle.tbl_kinds.specs.declared.status.Status.{Status}
 use Rattle.tbl_kinds.specs.declared.status.TheConstants.Status.{SUCCESS, INFO_RECOVERED_TBL}
-use Rattle.tbl_top.specs.Crashes.{run_at}
+use Rattle.tbl_crew.specs.Crashes.{run_at}
 
 -- ---- the registration in the second session
 

@@ -1,13 +1,16 @@
 -- What is known of a session by how it stands.
-use Rattle.std.specs.Prelude.{◌≡◌, ℕ, ◌<◌, List, [], ◌∷◌, ◌++◌, length, Option, Some, None, Bool, true, false}
+use Rattle.std.specs.Prelude.{◌≡◌, ◌⊎◌, ℕ, ◌<◌, List, length, Option, Some, None, true, false}
 use Rattle.tbl_kinds.specs.Records.{record_limit}
 use Rattle.tbl_kinds.specs.Heads.{IsBad}
 use Rattle.tbl_outside.specs.Streams.{TakesFront}
 use Rattle.tbl_core.specs.Service.{CoreView}
 use Rattle.tbl_outside.specs.Counts.{Rose}
+use Rattle.tbl_crew.specs.Trouble.{EndsInBoot}
 use Rattle.tbl_top.specs.Playing.{IsBeginning, IsWritten, IsFrontWritten}
 use Rattle.tbl_top.specs.declared.playback.Standing.{Standing}
 use Rattle.tbl_top.specs.declared.playback.Standing.TheVariants.{Open, Bad, Full, BootFault, BootStopped, SinkFailed, Memory, Unwritten}
+use Rattle.tbl_core.specs.declared.service.StepFault.{StepFault}
+use Rattle.tbl_core.specs.declared.service.StepFault.TheVariants.{Memory as NoMemory, BootFault as Faulted, BootStopped as Stopped}
 use Rattle.tbl_kinds.specs.declared.entry.Entry.{Entry}
 
 -- what stands behind so many records that were played
@@ -20,6 +23,14 @@ Leaves BootStopped played behind = Unit {0}
 Leaves SinkFailed played behind = Unit {0}
 Leaves Memory played behind = Unit {0}
 Leaves Unwritten played behind = Unit {0}
+
+-- reading alone leads to these
+abbrev pub IsOfInput : Standing → Type 0
+IsOfInput Open = Unit {0}
+IsOfInput Bad = Unit {0}
+IsOfInput Full = Unit {0}
+IsOfInput Memory = Unit {0}
+IsOfInput _ = ⊥
 
 -- all records of what was fed were played
 abbrev pub HasPlayedAll : Standing → Type 0
@@ -44,10 +55,6 @@ abbrev pub TellsCause : Standing → ℕ → ℕ → Type 0
 TellsCause SinkFailed before after = Rose before after
 TellsCause _ before after = Unit {0}
 
--- the last entry tells that a boot ended the service: the bank failed in it, or a reset came into it
-abbrev pub EndsInBoot : Bool → List Entry → Type 0
-EndsInBoot stopped entries = (before : List Entry) × (last : Entry) × (entries ≡ before ++ last ∷ []) × (last.note.ended ≡ true) × (last.note.stopped ≡ stopped)
-
 -- a boot that ended the service is told. Else it goes on, unless the last entry wasn't written
 abbrev pub TellsBoot : {B C : Type 0} → Standing → CoreView B C → Type 0
 TellsBoot Open core = core.state.ended ≡ false
@@ -58,6 +65,23 @@ TellsBoot BootFault core = EndsInBoot false core.entries
 TellsBoot BootStopped core = EndsInBoot true core.entries
 TellsBoot SinkFailed core = Unit {0}
 TellsBoot Unwritten core = Unit {0}
+
+-- how a session stands behind what its crew played: a fault that a step answered goes before what was read
+abbrev pub standing_behind : Option StepFault → Standing → Standing
+standing_behind None read = read
+standing_behind (Some NoMemory) read = Memory
+standing_behind (Some Faulted) read = BootFault
+standing_behind (Some Stopped) read = BootStopped
+
+-- the telling stopped: the sink failed, or memory ran out for a spelling
+abbrev pub IsStop : Standing → Type 0
+IsStop SinkFailed = Unit {0}
+IsStop Unwritten = Unit {0}
+IsStop _ = ⊥
+
+-- and a stop goes before both
+abbrev pub StandsBehind : Option StepFault → Standing → Standing → Type 0
+StandsBehind fault read standing = (standing ≡ standing_behind fault read) ⊎ IsStop standing
 
 -- the same behind a record that was played: None where a further one may follow
 abbrev pub TellsService : {B C : Type 0} → Option Standing → CoreView B C → Type 0

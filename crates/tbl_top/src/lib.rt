@@ -1,14 +1,18 @@
-//! A session from its bytes to its transcript, in one call or as a stream: whatever it is, the history that is told is the sequential service's.
+//! A session from its bytes to its transcript, in one call or as a stream, in order or with a thread for each actor: whatever it is, the history that is told is the sequential service's.
 #![tactic(auto)]
 
+mod collecting;
+mod crewing;
 mod finishing;
 mod playback;
 mod player;
 mod playing;
 mod reading;
+mod running;
 mod session;
 mod words;
 mod writing;
 
 pub use player::{Fed, Player};
-pub use session::{run, run_with};
+pub use running::{run, run_with};
+pub use session::{run_in_order, run_in_order_with};

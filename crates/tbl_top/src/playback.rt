@@ -1,9 +1,8 @@
 //! Plays whole records at the front of bytes, and writes each entry before the next record is looked for.
 
-ghost use Rattle.std.specs.Prelude.{◌≡◌, ⊤, ℕ, ◌<◌, ◌≤◌, Option, List, [], ◌++◌, length, take, drop, false, All, IfOk, IfErr, OnOk, MatchOption, OnErr};
+ghost use Rattle.std.specs.Prelude.{◌≡◌, ⊤, ℕ, ◌<◌, ◌≤◌, Option, List, [], ◌++◌, length, drop, false, IfOk, IfErr, OnOk, MatchOption, OnErr};
 ghost use Rattle.tbl_model.specs.State.{State};
 ghost use Rattle.tbl_kinds.specs.Records.{IsRecord, spelling, joined, record_limit};
-ghost use Rattle.tbl_core.specs.Log.{IsSmall};
 ghost use Rattle.tbl_core.specs.Service.{StandsFor, Vouches};
 ghost use Rattle.tbl_outside.specs.declared.validator.KitEntry.{KitEntry as Function};
 ghost use Rattle.std.specs.Io.KnownBytes.{append_known};
@@ -11,21 +10,33 @@ ghost use Rattle.tbl_kinds.specs.Transcript.{pairs_of, end_bytes, offset_of};
 ghost use Rattle.tbl_outside.specs.Counts.{Rose};
 ghost use Rattle.tbl_outside.specs.Streams.{TakesFront};
 ghost use Rattle.tbl_top.specs.Playing.{played_before, IsSession, IsWritten};
-ghost use Rattle.tbl_top.specs.Standing.{Leaves, TellsWritten, TellsCause, TellsBoot, TellsService, TellsLast};
-ghost use Rattle.tbl_top.specs.Trouble.{IsCaused};
-ghost use Rattle.tbl_top.specs.Crashes.{Survives};
+ghost use Rattle.tbl_top.specs.Standing.{Leaves, TellsWritten, TellsCause, TellsBoot, TellsService, TellsWhy, TellsLast};
+ghost use Rattle.std.specs.List.{AllByRecursion};
+ghost use Rattle.tbl_crew.specs.Crashes.{Survives};
+ghost use Rattle.tbl_crew.specs.Histories.{OneHistory};
+ghost use Rattle.tbl_crew.specs.Openings.{IsFirst};
+ghost use Rattle.tbl_crew.specs.Scripts.{request_count, AllFit, OfEach};
+ghost use Rattle.tbl_crew.specs.Trouble.{IsCaused};
+ghost use Rattle.tbl_top.specs.Begun.{IsBegun};
 
 use crate::playing::play;
-use session_records::{Next, next_record};
+use crate::writing::write;
+use session_records::{Next, body_len, next_record};
 use std::alloc::Global;
 use std::marker::Model;
-use tbl_core::Core;
+use std::sync::Wait;
+use std::thread::Threads;
+use tbl_core::{Core, StepFault};
+use tbl_crew::{Scripts, workers};
 use tbl_kinds::{Actor, Bytes, Entry, Memory, Request};
-use tbl_outside::{Bank, Failed, Sink, Validator};
+use tbl_outside::{Bank, Failed, Gate, Sink, Validator};
 use transcript::write_end;
 
 /// The most records of a session.
-const RECORD_LIMIT: usize = 32_768;
+pub(crate) const RECORD_LIMIT: usize = 32_768;
+
+/// The length of a record's head.
+const HEAD_LENGTH: usize = 4;
 
 /// The length of the end record.
 pub(crate) const END_LENGTH: usize = 13;
@@ -99,6 +110,22 @@ impl<B: Bank, C: Validator> Playback<B, C> {
             out,
             end,
         })
+    }
+
+    /// Writes each entry of the history; None where the sink took all of them.
+    pub(crate) fn tell_all<K: Sink>(&mut self, sink: &mut K) -> Option<Standing>
+        ensures same { self.new ≡ self.old }
+        ensures written { MatchOption result (IsWritten (K.taken sink.old) self.old.entries (K.taken sink.new)) (λ standing. TellsWritten standing (K.taken sink.old) self.old.entries (K.taken sink.new)) }
+        ensures why { TellsWhy result (K.faults sink.old) (K.faults sink.new) }
+        ensures count { K.faults sink.old ≤ K.faults sink.new }
+    {
+        let entries = self.core.history();
+        'entries: for place in 0..entries.len() {
+            if let Some(stop) = write(&mut self.out, place, &entries[place], sink) {
+                return Some(stop);
+            }
+        }
+        None
     }
 
     /// The core as it is.
@@ -237,5 +264,50 @@ impl<B: Bank, C: Validator> Playback<B, C> {
         let told = sink.write(self.end.bytes());
         self.end.clear();
         told
+    }
+}
+
+/// How many bytes the records of these entries have.
+fn offset_of(entries: &[Entry]) -> u32
+    requires each { AllByRecursion IsRecord (pairs_of entries.now) }
+    requires few { length entries.now ≤ record_limit }
+    ensures { result ≡ offset_of entries.now }
+{
+    let mut offset = 0;
+    'entries: for entry in entries {
+        offset += (HEAD_LENGTH + body_len(&entry.request)) as u32;
+    }
+    offset
+}
+
+impl<B: Bank + Send, C: Validator + Send> Playback<B, C> {
+    /// Plays scripts with a thread for each actor, where nothing was played yet. The session behind it, of which no entry is
+    /// told yet, and the fault that a step answered.
+    pub(crate) fn play_beside<R: Threads + Wait + Sync, G: Gate + Sync>(
+        self,
+        rt: &R,
+        scripts: Scripts,
+        gate: &G,
+    ) -> (Playback<B, C>, Option<StepFault>)
+        requires live { self.state.ended ≡ false }
+        requires empty { self.entries ≡ [] }
+        requires begun { IsBegun B.tells B.tells_moments B.now B.faults B.stops B.may_leave B.clock B.left_since C.verdict self }
+        requires fits { AllFit scripts }
+        requires records { OfEach IsRecord scripts }
+        requires few { request_count scripts ≤ record_limit }
+        ensures history { (opening : State) (bank : B) (given : List (Option (Function C))) → IsFirst opening → Vouches B.tells B.now C.verdict given opening self
+            → Survives B.tells B.tells_moments B.now B.may_leave B.clock B.left_since opening bank self → IsCaused B.faults B.stops bank self
+            → OneHistory B.tells B.tells_moments B.faults B.stops B.may_leave B.clock B.left_since C.verdict (record { state = opening; bank = bank; given = given; scripts = scripts }) result.1 result.0 }
+    {
+        let (core, fault) = workers::crew(rt, self.alloc, self.core, scripts, gate);
+        let offset = offset_of(core.history());
+        let played = Playback {
+            alloc: self.alloc,
+            core,
+            offset,
+            out: self.out,
+            end: self.end,
+        };
+        (played, fault)
     }
 }

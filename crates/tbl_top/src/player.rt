@@ -13,8 +13,8 @@ ghost use Rattle.tbl_core.specs.Service.{StandsFor, Vouches};
 ghost use Rattle.tbl_outside.specs.declared.validator.KitEntry.{KitEntry as Function};
 ghost use Rattle.tbl_top.specs.Playing.{played_before, bytes_fed, IsBeginning, IsSession, IsWritten};
 ghost use Rattle.tbl_top.specs.Standing.{Leaves, HasPlayedAll, TellsWritten, TellsCause, TellsBoot};
-ghost use Rattle.tbl_top.specs.Trouble.{IsCaused};
-ghost use Rattle.tbl_top.specs.Crashes.{Survives};
+ghost use Rattle.tbl_crew.specs.Trouble.{IsCaused};
+ghost use Rattle.tbl_crew.specs.Crashes.{Survives};
 ghost use Rattle.tbl_top.specs.Feeding.{answer_of, Feeds};
 ghost use Rattle.tbl_top.specs.Finishing.{Finishes, status_of};
 ghost use Rattle.tbl_top.specs.declared.playback.Standing.TheVariants.{Open};
@@ -142,6 +142,13 @@ impl<B: Bank, C: Validator> Player<B, C> {
             is_whole,
             sink,
         )
+    }
+
+    /// The session without what was fed of a further record.
+    pub(crate) fn playback(self) -> Playback<B, C>
+        ensures { result ≡ self.core }
+    {
+        self.playback
     }
 
     /// The core as it is.

@@ -8,8 +8,8 @@ ghost use Rattle.tbl_core.specs.Service.{StandsFor, Vouches};
 ghost use Rattle.tbl_outside.specs.declared.validator.KitEntry.{KitEntry as Function};
 ghost use Rattle.tbl_top.specs.Playing.{IsWritten};
 ghost use Rattle.tbl_top.specs.Standing.{IsEnding, TellsWritten, TellsService, TellsLast};
-ghost use Rattle.tbl_top.specs.Trouble.{IsCaused};
-ghost use Rattle.tbl_top.specs.Crashes.{Survives};
+ghost use Rattle.tbl_crew.specs.Trouble.{IsCaused};
+ghost use Rattle.tbl_crew.specs.Crashes.{Survives};
 ghost use Rattle.tbl_kinds.specs.declared.entry.Entry.{Entry};
 
 use crate::playback::Standing;

@@ -8,8 +8,8 @@ ghost use Rattle.tbl_outside.specs.declared.validator.KitEntry.{KitEntry as Func
 ghost use Rattle.tbl_outside.specs.Counts.{Rose};
 ghost use Rattle.tbl_top.specs.Playing.{bytes_fed, IsBeginning, IsSession, IsWritten};
 ghost use Rattle.tbl_top.specs.Standing.{TellsWritten, TellsCause, TellsBoot};
-ghost use Rattle.tbl_top.specs.Trouble.{IsCaused};
-ghost use Rattle.tbl_top.specs.Crashes.{Survives};
+ghost use Rattle.tbl_crew.specs.Trouble.{IsCaused};
+ghost use Rattle.tbl_crew.specs.Crashes.{Survives};
 ghost use Rattle.tbl_top.specs.Reading.{ReadsOn, EndsReading, piece_limit};
 ghost use Rattle.tbl_top.specs.declared.playback.Standing.TheVariants.{Open};
 
@@ -17,11 +17,11 @@ use crate::player::{Fed, Player};
 use tbl_outside::{Bank, Failed, Sink, Source, Validator};
 
 /// How many bytes are asked for at a time.
-const PIECE_LENGTH: usize = 4096;
+pub(crate) const PIECE_LENGTH: usize = 4096;
 
 /// More reads than a session can need: each takes a byte, and a session has at most 32,768 records of at most 32,836
 /// bytes, and the beginning of one more.
-const MOST_READS: u32 = 1_076_100_000;
+pub(crate) const MOST_READS: u32 = 1_076_100_000;
 
 /// Reads one piece of the input and feeds it; None where the session goes on, and else whether a read failed.
 fn read_piece<B: Bank, C: Validator, S: Source, K: Sink>(

@@ -2,20 +2,22 @@
 
 ghost use Rattle.std.specs.Prelude.{◌≡◌, ◌≢◌, ◌↔◌, ◌≤◌, ◌<◌, ◌^◌, ℕ, Option, List, [], length, false, All, IfSome, IfOk, IfErr};
 ghost use Rattle.std.specs.Io.KnownBytes.{prepend_known, IsAtEnd};
-ghost use Rattle.tbl_model.specs.State.{State, no_tables};
+ghost use Rattle.tbl_model.specs.State.{State};
 ghost use Rattle.tbl_kinds.specs.Places.{bank_size};
 ghost use Rattle.tbl_kinds.specs.StoreSteps.{Shows};
 ghost use Rattle.cds_layout.specs.Images.{store_of};
-ghost use Rattle.tbl_laws.specs.Backed.{AreSingle};
 ghost use Rattle.tbl_core.specs.Called.{RoseBy};
 ghost use Rattle.tbl_core.specs.Service.{Vouches, StartCounted};
 ghost use Rattle.tbl_outside.specs.Bank.{LeavesOnly};
 ghost use Rattle.tbl_outside.specs.Counts.{Rose};
 ghost use Rattle.tbl_outside.specs.declared.validator.KitEntry.{KitEntry as Entry};
 ghost use Rattle.tbl_top.specs.Playing.{bytes_fed, IsSession};
-ghost use Rattle.tbl_top.specs.Session.{IsPlay, IsWellFormed, PlaysThrough, Session, given_of, opening_of};
-ghost use Rattle.tbl_top.specs.Trouble.{IsCaused};
-ghost use Rattle.tbl_top.specs.Crashes.{Survives};
+ghost use Rattle.tbl_top.specs.Orders.{InOrder};
+ghost use Rattle.tbl_top.specs.Session.{IsWellFormed, PlaysThrough, Session, given_of, opening_of};
+ghost use Rattle.tbl_top.specs.Words.{IsPlay};
+ghost use Rattle.tbl_crew.specs.Openings.{IsFirst};
+ghost use Rattle.tbl_crew.specs.Trouble.{IsCaused};
+ghost use Rattle.tbl_crew.specs.Crashes.{Survives};
 ghost use Rattle.tbl_top.specs.declared.playback.Standing.TheVariants.{Open};
 
 use crate::finishing::finish_unbegun;
@@ -32,10 +34,10 @@ use validation::Kit;
 const USAGE: u8 = 2;
 
 /// A validation function as a session is given one.
-type Function = Box<dyn Validator + Send>;
+pub(crate) type Function = Box<dyn Validator + Send>;
 
 /// A session in which nothing was read yet, over a service at its start; or the bank again.
-fn begin<B: Bank, C: Validator>(
+pub(crate) fn begin<B: Bank, C: Validator>(
     alloc: Global,
     bank: B,
     kit: Vec<KitEntry<C>>,
@@ -79,10 +81,10 @@ fn play<B: Bank, C: Validator, S: Source, K: Sink>(
     requires empty { player.old.core.entries ≡ [] }
     requires session { IsSession player.old.core }
     requires live { player.old.core.state.ended ≡ false }
-    ensures session { (given : List (Option (Entry C))) (opening : State) (bank : B) → opening.tables ≡ no_tables → opening.pending ≡ [] → AreSingle opening.store → Vouches B.tells B.now C.verdict given opening player.old.core
+    ensures session { (given : List (Option (Entry C))) (opening : State) (bank : B) → IsFirst opening → Vouches B.tells B.now C.verdict given opening player.old.core
         → IsCaused B.faults B.stops bank player.old.core → Survives B.tells B.tells_moments B.now B.may_leave B.clock B.left_since opening bank player.old.core
         → (read : List ℕ) × (S.left source.old ≡ prepend_known read (S.left source.new))
-        × Session B.tells B.tells_moments B.faults B.stops B.may_leave B.clock B.left_since C.verdict given opening bank player.new.core.state.store.bank read (IsAtEnd (S.left source.new)) (Rose (S.faults source.old) (S.faults source.new)) result (K.taken sink.old) (K.taken sink.new) }
+        × Session InOrder B.tells B.tells_moments B.faults B.stops B.may_leave B.clock B.left_since C.verdict given opening bank player.new.core.state.store.bank read (IsAtEnd (S.left source.new)) (Rose (S.faults source.old) (S.faults source.new)) result (K.taken sink.old) (K.taken sink.new) }
     ensures source_failed { result ≡ 3 → Rose (S.faults source.old) (S.faults source.new) }
     ensures sink_failed { result ≡ 4 → Rose (K.faults sink.old) (K.faults sink.new) }
     ensures not_usage { result ≢ 2 }
@@ -91,8 +93,8 @@ fn play<B: Bank, C: Validator, S: Source, K: Sink>(
     player.finish(read_failed, sink)
 }
 
-/// `run` with validation functions of one type, which need no box.
-pub fn run_with<B: Bank, C: Validator, S: Source, K: Sink>(
+/// `run_in_order` with validation functions of one type, which need no box.
+pub fn run_in_order_with<B: Bank, C: Validator, S: Source, K: Sink>(
     alloc: Global,
     words: &[Bytes],
     source: &mut S,
@@ -105,7 +107,7 @@ pub fn run_with<B: Bank, C: Validator, S: Source, K: Sink>(
     ensures usage { (result.0 ≡ 2) ↔ (¬ IsPlay words.now) }
     ensures untouched { (¬ IsPlay words.now) → (source.new ≡ source.old) × (sink.new ≡ sink.old) × (result.1 ≡ bank) }
     ensures session { IsPlay words.now → (read : List ℕ) × (S.left source.old ≡ prepend_known read (S.left source.new))
-        × Session B.tells B.tells_moments B.faults B.stops B.may_leave B.clock B.left_since C.verdict (given_of kit.items) (opening_of (B.now bank) kit.items) bank result.1 read (IsAtEnd (S.left source.new)) (Rose (S.faults source.old) (S.faults source.new)) result.0 (K.taken sink.old) (K.taken sink.new) }
+        × Session InOrder B.tells B.tells_moments B.faults B.stops B.may_leave B.clock B.left_since C.verdict (given_of kit.items) (opening_of (B.now bank) kit.items) bank result.1 read (IsAtEnd (S.left source.new)) (Rose (S.faults source.old) (S.faults source.new)) result.0 (K.taken sink.old) (K.taken sink.new) }
     ensures complete { IsPlay words.now → IfSome (S.left source.old) (λ input. IsWellFormed input
         → ¬ Rose (S.faults source.old) (S.faults source.new) → ¬ Rose (K.faults sink.old) (K.faults sink.new)
         → PlaysThrough B.faults B.stops bank result.1 result.0 (S.left source.new)) }
@@ -129,7 +131,7 @@ pub fn run_with<B: Bank, C: Validator, S: Source, K: Sink>(
 /// Plays a session: boots over the bank as after a reset of the processor, reads records from the source, and writes the
 /// transcript to the sink. The applications have the validation functions of the kit, which are numbered from 0. The bank
 /// comes back beside the status.
-pub fn run<S: Source, K: Sink, B: Bank>(
+pub fn run_in_order<S: Source, K: Sink, B: Bank>(
     alloc: Global,
     words: &[Bytes],
     source: &mut S,
@@ -150,7 +152,7 @@ pub fn run<S: Source, K: Sink, B: Bank>(
     // answer that tells of trouble with the bank has its cause in the bank's counts. Where the bank tells its moments, a reset at
     // any moment since leaves the blocks of a place of this history, or what the entry under way there made of them.
     ensures session { IsPlay words.now → (read : List ℕ) × (S.left source.old ≡ prepend_known read (S.left source.new))
-        × Session B.tells B.tells_moments B.faults B.stops B.may_leave B.clock B.left_since (⟦<Function as Validator>⟧.verdict) (given_of kit.items) (opening_of (B.now bank) kit.items) bank result.1 read (IsAtEnd (S.left source.new)) (Rose (S.faults source.old) (S.faults source.new)) result.0 (K.taken sink.old) (K.taken sink.new) }
+        × Session InOrder B.tells B.tells_moments B.faults B.stops B.may_leave B.clock B.left_since (⟦<Function as Validator>⟧.verdict) (given_of kit.items) (opening_of (B.now bank) kit.items) bank result.1 read (IsAtEnd (S.left source.new)) (Rose (S.faults source.old) (S.faults source.new)) result.0 (K.taken sink.old) (K.taken sink.new) }
 
     // A session's records and nothing else are played to their end, unless something failed, a boot was stopped or memory ran out.
     ensures complete { IsPlay words.now → IfSome (S.left source.old) (λ input. IsWellFormed input
@@ -163,5 +165,5 @@ pub fn run<S: Source, K: Sink, B: Bank>(
     ensures boot_fault { result.0 ≡ 7 → RoseBy 1 (B.faults bank) (B.faults result.1) }
     ensures boot_stopped { result.0 ≡ 8 → RoseBy 1 (B.stops bank) (B.stops result.1) }
 {
-    run_with(alloc, words, source, sink, bank, kit)
+    run_in_order_with(alloc, words, source, sink, bank, kit)
 }

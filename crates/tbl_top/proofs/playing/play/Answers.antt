@@ -1,5 +1,5 @@
-use Rattle.tbl_top.proofs.CrashLemmas.{survives_on}
-use Rattle.tbl_top.proofs.TroubleLemmas.{on_fault, on_stop}
+use Rattle.tbl_crew.proofs.CrashLemmas.{survives_on}
+use Rattle.tbl_crew.proofs.TroubleLemmas.{on_fault, on_stop}
 use Rattle.tbl_top.proofs.playing.play.Goals as goal
 
 pub returns-in-Err-BootFault-clause-written : goal.returns-in-Err-BootFault-clause-written

@@ -6,8 +6,8 @@ use Rattle.tbl_core.specs.Service.{StandsFor, Vouches}
 use Rattle.tbl_top.specs.Playing.{IsBeginning, bytes_fed, IsSession, IsWritten}
 use Rattle.tbl_top.specs.Reading.{piece_limit}
 use Rattle.tbl_top.specs.declared.playback.Standing.TheVariants.{Open}
-use Rattle.tbl_top.specs.Trouble.{IsCaused}
-use Rattle.tbl_top.specs.Crashes.{Survives}
+use Rattle.tbl_crew.specs.Trouble.{IsCaused}
+use Rattle.tbl_crew.specs.Crashes.{Survives}
 use Rattle.tbl_top.proofs.reading.read_all.Given as goal
 
 abbrev pub invariant-reads : goal.invariant-reads

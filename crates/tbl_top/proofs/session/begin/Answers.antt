@@ -2,7 +2,7 @@ use Rattle.tbl_core.proofs.Functions.{seldom_asked}
 use Rattle.tbl_core.proofs.Vouching.{vouch_first}
 use Rattle.std.proofs.Common.{◌∙◌}
 use Rattle.tbl_top.specs.Session.{given_of, opening_of}
-use Rattle.tbl_top.proofs.CrashLemmas.{survives_at_first}
+use Rattle.tbl_crew.proofs.CrashLemmas.{survives_at_first}
 use Rattle.tbl_core.proofs.Starting.{stays_shown}
 use Rattle.tbl_top.proofs.session.begin.Goals as goal
 

@@ -3,8 +3,8 @@ use Rattle.tbl_model.specs.State.{State}
 use Rattle.tbl_outside.specs.declared.validator.KitEntry.{KitEntry}
 use Rattle.tbl_core.specs.Service.{StandsFor, Vouches}
 use Rattle.tbl_top.specs.Playing.{played_before, IsWritten}
-use Rattle.tbl_top.specs.Trouble.{IsCaused}
-use Rattle.tbl_top.specs.Crashes.{Survives}
+use Rattle.tbl_crew.specs.Trouble.{IsCaused}
+use Rattle.tbl_crew.specs.Crashes.{Survives}
 use Rattle.tbl_top.proofs.playback.Playback.play_whole.Given as goal
 
 abbrev pub invariant-records : goal.invariant-records

@@ -1,0 +1,34 @@
+use Rattle.std.proofs.Common.{◌++◌, arith, rules}
+use Rattle.std.proofs.lemmas.List.{length-append}
+use Rattle.tbl_outside.proofs.Streams.{read_more}
+use Rattle.tbl_top.proofs.CollectingLemmas.{taken_bound}
+use Rattle.tbl_top.proofs.collecting.Collector.read_all.Goals as goal
+
+pub returns-in-Some-clause-reads : goal.returns-in-Some-clause-reads
+returns-in-Some-clause-reads g c =
+    let old = c.reads.invariant.takes in
+    let one = c.in-Some.ensures.reads in
+    let ended = one.2 old.0 old.3 old.4 old.5 in
+    (old.0 ++ one.0, read_more (g.S.Source.left c.args.source.now) (g.S.Source.left c.reads.source) (g.S.Source.left c.read_piece.new.source) old.0 one.0 old.1 one.1, ended.0, ended.1, ended.2)
+
+pub reads-preserved : goal.reads-preserved
+reads-preserved g c = record {
+  room = search rules;
+  takes =
+      let old = c.reads.invariant.takes in
+      let one = c.in_default.ensures.reads in
+      let more = one.2 old.0 old.3 old.4 old.5 in (
+        old.0 ++ one.0,
+        read_more (g.S.Source.left c.args.source.now) (g.S.Source.left c.reads.source) (g.S.Source.left c.read_piece.new.source) old.0 one.0 old.1 one.1,
+        omega (arith, old.2, more.0, length-append old.0 one.0),
+        more.1,
+        more.2,
+        more.3,
+      );
+  count = search rules;
+}
+
+pub unreachable-requires : goal.unreachable-requires
+unreachable-requires g c =
+    let old = c.reads.invariant.takes in
+    omega (arith, old.2, taken_bound old.0 old.3 old.4 c.reads.self old.5)

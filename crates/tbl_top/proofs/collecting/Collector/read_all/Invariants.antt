@@ -1,0 +1,15 @@
+use Rattle.std.proofs.Common.{◌≡◌, ℕ, ◌≤◌, List, length}
+use Rattle.std.specs.Io.KnownBytes.{prepend_known}
+use Rattle.tbl_kinds.specs.Records.{Pair}
+use Rattle.tbl_top.specs.Collecting.{HasTaken}
+use Rattle.tbl_top.specs.Reading.{piece_limit}
+use Rattle.tbl_top.specs.declared.playback.Standing.TheVariants.{Open}
+use Rattle.tbl_top.proofs.collecting.Collector.read_all.Given as goal
+
+abbrev pub invariant-reads : goal.invariant-reads
+invariant-reads g l = record {
+  room : length l.piece ≡ piece_limit;
+  takes : (fed : List ℕ) × (g.S.Source.left l.fn.source ≡ prepend_known fed (g.S.Source.left l.source)) × (l.counter ≤ length fed)
+      × (most : ℕ) × (pairs : List Pair) × HasTaken Open fed most pairs l.self;
+  count : g.S.Source.faults l.fn.source ≤ g.S.Source.faults l.source;
+}

@@ -1,0 +1,27 @@
+use Rattle.std.proofs.Common.{◌∙◌, ap}
+use Rattle.tbl_kinds.specs.Records.{IsRecord}
+use Rattle.tbl_kinds.specs.Transcript.{offset_of}
+use Rattle.tbl_crew.proofs.HistoryLemmas.{of_each}
+use Rattle.tbl_top.proofs.playback.Playback.play_beside.Goals as goal
+
+pub offset_of-offset-requires : goal.offset_of-offset-requires
+offset_of-offset-requires g c =
+    let begun = rw (← c.self.view_is) at c.requires.begun in
+    let one = c.crew-core.ensures.history begun.opening begun.bank begun.given begun.first begun.vouches begun.survives begun.caused in
+    record {
+      each = rw c.history.ensures.entries (of_each IsRecord c.crew-core.result.1 c.args.scripts c.crew-core.result.0.entries one.played c.requires.records);
+      few = rw c.history.ensures.entries one.few;
+    }
+
+pub invariant_of-played : goal.invariant_of-played
+invariant_of-played g c =
+    let begun = rw (← c.self.view_is) at c.requires.begun in
+    let one = c.crew-core.ensures.history begun.opening begun.bank begun.given begun.first begun.vouches begun.survives begun.caused in (
+      c.self.invariant.0,
+      c.self.invariant.1,
+      record { each = of_each IsRecord c.crew-core.result.1 c.args.scripts c.crew-core.result.0.entries one.played c.requires.records; few = one.few },
+      c.offset_of-offset.ensures ∙ ap offset_of c.history.ensures.entries,
+    )
+
+pub returns : goal.returns
+returns g c = record { history = rw (← c.self.view_is) c.crew-core.ensures.history }

@@ -1,0 +1,168 @@
+//! Reads all records of an input, by their actors, before any of them is played.
+
+ghost use Rattle.std.specs.Prelude.{◌≡◌, ◌==◌, ◌<◌, ◌≤◌, ◌+◌, List, ℕ, [], ◌++◌, length, true, IfOk, MatchOption};
+ghost use Rattle.std.specs.Io.KnownBytes.{prepend_known, IsAtEnd};
+ghost use Rattle.tbl_kinds.specs.Records.{Pair};
+ghost use Rattle.tbl_outside.specs.Counts.{Rose};
+ghost use Rattle.tbl_top.specs.Collecting.{HasTaken, TakesMore, TakesNone, TakesOne, scripts_of};
+ghost use Rattle.tbl_top.specs.Reading.{HasRead, piece_limit};
+ghost use Rattle.tbl_top.specs.Standing.{IsOfInput};
+ghost use Rattle.tbl_top.specs.declared.playback.Standing.TheVariants.{Open};
+
+use crate::playback::{RECORD_LIMIT, Standing};
+use crate::reading::{MOST_READS, PIECE_LENGTH};
+use session_records::{Next, next_record};
+use std::alloc::Global;
+use std::marker::Model;
+use tbl_crew::Scripts;
+use tbl_kinds::Memory;
+use tbl_outside::{Failed, Source};
+
+/// The records that were read, and the beginning of a further one.
+#[derive(Drop)]
+pub(crate) struct Collector {
+    alloc: Global,
+    scripts: Scripts,
+    /// How many records there are.
+    count: usize,
+    /// The beginning of a record that isn't whole yet.
+    kept: Vec<u8>,
+}
+
+impl Model for Collector {
+    ghost use Rattle.tbl_top.specs.Collecting.{Collecting};
+
+    ghost Value = { Collecting };
+
+    ghost use Rattle.std.specs.Prelude.{◌≤◌};
+    ghost use Rattle.tbl_kinds.specs.Records.{record_limit};
+
+    ghost view = { λ c. record { scripts = c.scripts; count = c.count; rest = c.kept.items } };
+
+    ghost invariant = { λ c. c.count ≤ record_limit };
+}
+
+impl Collector {
+    /// Before the first byte. An Err is want of memory.
+    pub(crate) fn make(alloc: Global) -> Result<Collector, Memory>
+        ensures { IfOk result (HasTaken Open [] 0 []) }
+    {
+        Ok(Collector {
+            alloc,
+            scripts: Scripts::make(alloc)?,
+            count: 0,
+            kept: Vec::new(alloc),
+        })
+    }
+
+    /// Takes the record at a place, where one is whole; else answers what stands in its way.
+    fn take_next(&mut self, at: &mut usize) -> Option<Standing>
+        requires within { at.old ≤ length self.old.rest }
+        ensures within { at.new ≤ length self.new.rest }
+        ensures rest { self.new.rest ≡ self.old.rest }
+        ensures takes { MatchOption result (TakesOne at.old at.new self.old self.new) (λ standing. TakesNone standing at.old at.new self.old self.new) }
+    {
+        let rest = &self.kept.as_slice()[*at..];
+        if self.count == RECORD_LIMIT {
+            return Some(if rest.is_empty() {
+                Standing::Open
+            } else {
+                Standing::Full
+            });
+        }
+        match next_record(self.alloc, rest) {
+            Err(Memory) => Some(Standing::Memory),
+            Ok(Next::End) | Ok(Next::Short) => Some(Standing::Open),
+            Ok(Next::Bad) => Some(Standing::Bad),
+            Ok(
+                Next::Item {
+                    actor,
+                    request,
+                    used,
+                },
+            ) => match self.scripts.push(actor, request) {
+                Err(Memory) => Some(Standing::Memory),
+                Ok(()) => {
+                    *at += used;
+                    self.count += 1;
+                    None
+                }
+            },
+        }
+    }
+
+    /// Takes the records that are whole with this piece of the input, and answers what stands behind them.
+    fn feed(&mut self, piece: &[u8]) -> Standing
+        // Of whatever was fed before, more records are taken, and what is behind them is what the answer says.
+        ensures takes { (fed : List ℕ) (most : ℕ) (pairs : List Pair) → HasTaken Open fed most pairs self.old
+            → (more : List Pair) × HasTaken result (fed ++ piece.now) (length self.old.rest + length piece.now) more self.new }
+        ensures input { IsOfInput result }
+    {
+        if self.kept.extend_from_slice(piece).is_err() {
+            return Standing::Memory;
+        }
+        let mut at = 0;
+        'records: loop {
+            if let Some(standing) = self.take_next(&mut at) {
+                self.kept.drain(..at);
+                return standing;
+            }
+        }
+    }
+
+    /// Reads one piece of the input; None where more may come, and else how the input stands and whether the read failed.
+    fn read_piece<S: Source>(
+        &mut self,
+        piece: &mut [u8],
+        source: &mut S,
+    ) -> Option<(Standing, bool)>
+        requires room { length piece.old ≡ piece_limit }
+        ensures room { length piece.new ≡ piece_limit }
+        ensures reads { (read : List ℕ) × (S.left source.old ≡ prepend_known read (S.left source.new))
+            × ((fed : List ℕ) (most : ℕ) (pairs : List Pair) → HasTaken Open fed most pairs self.old → TakesMore result (fed ++ read) self.new (0 < length read) (IsAtEnd (S.left source.new))) }
+        ensures input { MatchOption result (Unit {0}) (λ ended. IsOfInput ended.0) }
+        ensures source_failed { MatchOption result (Unit {0}) (λ ended. ended.1 ≡ true → Rose (S.faults source.old) (S.faults source.new)) }
+        ensures count { S.faults source.old ≤ S.faults source.new }
+    {
+        match source.read(piece) {
+            Err(Failed) => Some((Standing::Open, true)),
+            Ok(0) => Some((Standing::Open, false)),
+            Ok(count) => match self.feed(&piece[..count]) {
+                Standing::Open => None,
+                stop => Some((stop, false)),
+            },
+        }
+    }
+
+    /// Reads an input to its end, or to what is no record, and answers how it stands then and whether a read failed.
+    pub(crate) fn read_all<S: Source>(&mut self, source: &mut S) -> (Standing, bool)
+        requires fresh { HasTaken Open [] 0 [] self.old }
+        ensures reads { (read : List ℕ) × (S.left source.old ≡ prepend_known read (S.left source.new))
+            × (pairs : List Pair) × (self.new.scripts ≡ scripts_of pairs) × HasRead result.0 pairs self.new.rest read result.1 (IsAtEnd (S.left source.new)) }
+        ensures input { IsOfInput result.0 }
+        ensures source_failed { result.1 ≡ true → Rose (S.faults source.old) (S.faults source.new) }
+        ensures count { S.faults source.old ≤ S.faults source.new }
+    {
+        let mut piece = [0u8; PIECE_LENGTH];
+        'reads: for _ in 0..MOST_READS {
+            if let Some(ended) = self.read_piece(&mut piece, source) {
+                return ended;
+            }
+        }
+        unreachable!()
+    }
+
+    /// Whether no byte is kept.
+    pub(crate) fn is_whole(&self) -> bool
+        ensures { result ≡ (length self.now.rest == 0) }
+    {
+        self.kept.is_empty()
+    }
+
+    /// What each actor asks.
+    pub(crate) fn scripts(self) -> Scripts
+        ensures { result ≡ self.scripts }
+    {
+        self.scripts
+    }
+}

@@ -1,0 +1,163 @@
+//! Plays the records of an input with a thread for each actor.
+
+ghost use Rattle.std.specs.Prelude.{◌≡◌, ◌≢◌, ◌≤◌, ◌<◌, ◌^◌, ℕ, Option, List, [], false, All, IfOk, IfErr};
+ghost use Rattle.std.specs.Io.KnownBytes.{prepend_known, IsAtEnd};
+ghost use Rattle.tbl_kinds.specs.Places.{bank_size};
+ghost use Rattle.tbl_kinds.specs.StoreSteps.{Shows};
+ghost use Rattle.tbl_model.specs.State.{State};
+ghost use Rattle.cds_layout.specs.Images.{store_of};
+ghost use Rattle.tbl_core.specs.Service.{Vouches, StartCounted};
+ghost use Rattle.tbl_outside.specs.Bank.{LeavesOnly};
+ghost use Rattle.tbl_outside.specs.Counts.{Rose};
+ghost use Rattle.tbl_outside.specs.declared.validator.KitEntry.{KitEntry as Entry};
+ghost use Rattle.tbl_crew.specs.Crashes.{Survives};
+ghost use Rattle.tbl_crew.specs.Holding.{TellsFault};
+ghost use Rattle.tbl_crew.specs.Openings.{IsFirst};
+ghost use Rattle.tbl_crew.specs.Trouble.{IsCaused};
+ghost use Rattle.tbl_top.specs.Begun.{IsBegun};
+ghost use Rattle.tbl_top.specs.Collecting.{HasTaken};
+ghost use Rattle.tbl_top.specs.Orders.{ByActor};
+ghost use Rattle.tbl_top.specs.Session.{Session, given_of, opening_of};
+ghost use Rattle.tbl_top.specs.Standing.{IsOfInput, StandsBehind, TellsBoot, TellsCause, TellsWritten, standing_behind};
+ghost use Rattle.tbl_top.specs.declared.playback.Standing.TheVariants.{Open};
+
+use crate::collecting::Collector;
+use crate::finishing::{finish, finish_unbegun};
+use crate::playback::{Playback, Standing};
+use crate::session::begin;
+use std::alloc::Global;
+use std::sync::Wait;
+use std::thread::Threads;
+use tbl_core::{Core, StartFault, StepFault};
+use tbl_outside::{Back, Bank, Gate, KitEntry, Sink, Source, Validator};
+
+/// How a session stands behind what its crew played.
+fn standing_behind(fault: Option<StepFault>, read: Standing) -> Standing
+    ensures { result ≡ standing_behind fault read }
+{
+    match fault {
+        None => read,
+        Some(StepFault::Memory) => Standing::Memory,
+        Some(StepFault::BootFault) => Standing::BootFault,
+        Some(StepFault::BootStopped) => Standing::BootStopped,
+    }
+}
+
+/// Writes what a crew played, and answers how the session stands behind it.
+fn tell_crew<B: Bank, C: Validator, K: Sink>(
+    playback: &mut Playback<B, C>,
+    fault: Option<StepFault>,
+    read: Standing,
+    sink: &mut K,
+) -> Standing
+    requires input { IsOfInput read }
+    requires boot { TellsFault fault playback.old }
+    ensures same { playback.new ≡ playback.old }
+    ensures behind { StandsBehind fault read result }
+    ensures written { TellsWritten result (K.taken sink.old) playback.old.entries (K.taken sink.new) }
+    ensures boot { TellsBoot result playback.old }
+    ensures cause { TellsCause result (K.faults sink.old) (K.faults sink.new) }
+    ensures count { K.faults sink.old ≤ K.faults sink.new }
+{
+    match playback.tell_all(sink) {
+        None => standing_behind(fault, read),
+        Some(stop) => stop,
+    }
+}
+
+/// Reads the records of an input, plays them with a thread for each actor, and writes the transcript. The status, and the
+/// core as it is.
+pub(crate) fn play_crew<
+    R: Threads + Wait + Sync,
+    B: Bank + Send,
+    C: Validator + Send,
+    S: Source,
+    K: Sink,
+    G: Gate + Sync,
+>(
+    rt: &R,
+    playback: Playback<B, C>,
+    mut collector: Collector,
+    source: &mut S,
+    sink: &mut K,
+    gate: &G,
+) -> (u8, Core<B, C>)
+    requires live { playback.state.ended ≡ false }
+    requires empty { playback.entries ≡ [] }
+    requires begun { IsBegun B.tells B.tells_moments B.now B.faults B.stops B.may_leave B.clock B.left_since C.verdict playback }
+    requires fresh { HasTaken Open [] 0 [] collector }
+    ensures session { (given : List (Option (Entry C))) (opening : State) (bank : B) → IsFirst opening → Vouches B.tells B.now C.verdict given opening playback
+        → IsCaused B.faults B.stops bank playback → Survives B.tells B.tells_moments B.now B.may_leave B.clock B.left_since opening bank playback
+        → (read : List ℕ) × (S.left source.old ≡ prepend_known read (S.left source.new))
+        × Session ByActor B.tells B.tells_moments B.faults B.stops B.may_leave B.clock B.left_since C.verdict given opening bank result.1.state.store.bank read (IsAtEnd (S.left source.new)) (Rose (S.faults source.old) (S.faults source.new)) result.0 (K.taken sink.old) (K.taken sink.new) }
+    ensures source_failed { result.0 ≡ 3 → Rose (S.faults source.old) (S.faults source.new) }
+    ensures sink_failed { result.0 ≡ 4 → Rose (K.faults sink.old) (K.faults sink.new) }
+    ensures not_usage { result.0 ≢ 2 }
+{
+    let (read, read_failed) = collector.read_all(source);
+    let is_whole = collector.is_whole();
+    let (mut playback, fault) = playback.play_beside(rt, collector.scripts(), gate);
+    let standing = tell_crew(&mut playback, fault, read, sink);
+    let status = finish(&mut playback, standing, read_failed, is_whole, sink);
+    (status, playback.end())
+}
+
+/// A session in which nothing was read yet, over a service at its start; or the bank again.
+fn begin_crew<B: Bank, C: Validator>(
+    alloc: Global,
+    bank: B,
+    kit: Vec<KitEntry<C>>,
+) -> Result<(Playback<B, C>, Collector), Back<StartFault, B>>
+    requires room { bank_size ≤ B.size bank }
+    requires asked { All (λ (e : Entry C). C.asked e.check < 2 ^ 62) kit.items }
+    ensures empty { IfOk result (λ begun. begun.0.entries ≡ []) }
+    ensures live { IfOk result (λ begun. begun.0.state.ended ≡ false) }
+    ensures vouched { IfOk result (λ begun. Vouches B.tells B.now C.verdict (given_of kit.items) (opening_of (B.now bank) kit.items) begun.0) }
+    ensures trouble { IfOk result (λ begun. IsCaused B.faults B.stops bank begun.0) }
+    ensures survives { IfOk result (λ begun. Survives B.tells B.tells_moments B.now B.may_leave B.clock B.left_since (opening_of (B.now bank) kit.items) bank begun.0) }
+    ensures fresh { IfOk result (λ begun. HasTaken Open [] 0 [] begun.1) }
+    ensures crash_err { IfErr result (λ back. B.tells_moments → LeavesOnly B.clock B.left_since bank back.bank (λ image. Shows (store_of (B.now bank)) (store_of image))) }
+    ensures cause { IfErr result (λ back. StartCounted B.faults B.stops bank back.bank back.cause) }
+{
+    match Collector::make(alloc) {
+        Err(_) => Err(Back {
+            cause: StartFault::Memory,
+            bank,
+        }),
+        Ok(collector) => Ok((begin(alloc, bank, kit)?.playback(), collector)),
+    }
+}
+
+/// Plays a session with a thread for each actor, with validation functions of one type.
+pub(crate) fn run_crew_with<
+    R: Threads + Wait + Sync,
+    B: Bank + Send,
+    C: Validator + Send,
+    S: Source,
+    K: Sink,
+    G: Gate + Sync,
+>(
+    rt: &R,
+    alloc: Global,
+    source: &mut S,
+    sink: &mut K,
+    bank: B,
+    kit: Vec<KitEntry<C>>,
+    gate: &G,
+) -> (u8, B)
+    requires room { bank_size ≤ B.size bank }
+    requires asked { All (λ (e : Entry C). C.asked e.check < 2 ^ 62) kit.items }
+    ensures not_usage { result.0 ≢ 2 }
+    ensures session { (read : List ℕ) × (S.left source.old ≡ prepend_known read (S.left source.new))
+        × Session ByActor B.tells B.tells_moments B.faults B.stops B.may_leave B.clock B.left_since C.verdict (given_of kit.items) (opening_of (B.now bank) kit.items) bank result.1 read (IsAtEnd (S.left source.new)) (Rose (S.faults source.old) (S.faults source.new)) result.0 (K.taken sink.old) (K.taken sink.new) }
+    ensures source_failed { result.0 ≡ 3 → Rose (S.faults source.old) (S.faults source.new) }
+    ensures sink_failed { result.0 ≡ 4 → Rose (K.faults sink.old) (K.faults sink.new) }
+{
+    match begin_crew(alloc, bank, kit) {
+        Err(Back { cause, bank }) => (finish_unbegun(alloc, cause, sink), bank),
+        Ok((playback, collector)) => {
+            let (status, core) = play_crew(rt, playback, collector, source, sink, gate);
+            (status, core.end())
+        }
+    }
+}
