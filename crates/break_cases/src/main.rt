@@ -7,12 +7,11 @@ mod notes;
 mod second_runs;
 mod sessions;
 
-use case_tables::play_table;
-use sessions::Sessions;
+use sessions::play_sessions;
 use std::process::ExitCode;
 
 fn main(rt: HostRuntime) -> ExitCode {
-    match play_table(&rt, &mut Sessions::make(rt.alloc())) {
+    match play_sessions(&rt) {
         Ok(true) => ExitCode::from(0),
         _ => ExitCode::from(1),
     }

@@ -6,10 +6,16 @@ use crate::cells::{BANK_SIZE, bank_of, bank_over};
 use crate::sessions::{Came, kept, play};
 use case_tables::{CaseFault, number_in};
 use std::alloc::Global;
+use std::sync::Wait;
+use std::thread::Threads;
 use tbl_fakes::{Break, MemBank};
+use tbl_kinds::Memory;
 
 /// For how many bytes the sinks have room.
 const ROOM: u32 = 512;
+
+/// Both sessions are played in order.
+const PLAY: &str = "play";
 
 /// A write that is stopped, after each number of bytes from one to another.
 #[derive(Drop)]
@@ -53,7 +59,11 @@ fn stopped_bank(alloc: Global, write: u32, after: u32) -> Result<MemBank, CaseFa
         after,
         stop: true,
     };
-    Ok(bank_over(alloc, bank_of(alloc, &[])?, &[stop], &[])?)
+    let zeros = bank_of(alloc, &[])?;
+    match bank_over(alloc, zeros, &[stop], &[]) {
+        Ok(bank) => Ok(bank),
+        Err(Memory) => Err(CaseFault::Memory),
+    }
 }
 
 /// A bank that keeps what another one held, and in which no write is stopped.
@@ -72,21 +82,39 @@ fn is_told(came: &Came, wanted: &Told) -> bool {
 }
 
 /// Plays both sessions with a stop in one place. The answer is whether each ended so.
-fn try_stop(alloc: Global, both: &Both, write: u32, after: u32) -> Result<bool, CaseFault> {
+fn try_stop<R: Threads + Wait + Sync>(
+    rt: &R,
+    alloc: Global,
+    both: &Both,
+    write: u32,
+    after: u32,
+) -> Result<bool, CaseFault> {
     let [first, second] = &both.inputs;
     let [wanted_first, wanted_second] = &both.wanted;
-    let came = play(alloc, first, stopped_bank(alloc, write, after)?, ROOM)?;
+    let came = play(
+        rt,
+        alloc,
+        PLAY,
+        first,
+        stopped_bank(alloc, write, after)?,
+        ROOM,
+    )?;
     let bank = same_bank(alloc, &came.bank)?;
-    let again = play(alloc, second, bank, ROOM)?;
+    let again = play(rt, alloc, PLAY, second, bank, ROOM)?;
     Ok(is_told(&came, wanted_first) && is_told(&again, wanted_second))
 }
 
 /// Plays both with a write stopped after each of these numbers of bytes, and tells how many there are.
-fn try_stops(alloc: Global, both: &Both, stops: &Stops) -> Result<u32, CaseFault> {
+fn try_stops<R: Threads + Wait + Sync>(
+    rt: &R,
+    alloc: Global,
+    both: &Both,
+    stops: &Stops,
+) -> Result<u32, CaseFault> {
     let write = stops.write;
     let mut count = 0u32;
     for after in stops.from..=stops.to {
-        if !try_stop(alloc, both, write, after)? {
+        if !try_stop(rt, alloc, both, write, after)? {
             return Err(CaseFault::Differs(format!(in alloc;
                 "with a stop in write {write} after {after} bytes"
             )?));
@@ -97,10 +125,15 @@ fn try_stops(alloc: Global, both: &Both, stops: &Stops) -> Result<u32, CaseFault
 }
 
 /// Plays both with a stop in each place of a cell, as `1/0-15 2/0-8192`, and tells how many places there are.
-pub(crate) fn try_all(alloc: Global, both: &Both, cell: &str) -> Result<u32, CaseFault> {
+pub(crate) fn try_all<R: Threads + Wait + Sync>(
+    rt: &R,
+    alloc: Global,
+    both: &Both,
+    cell: &str,
+) -> Result<u32, CaseFault> {
     let mut count = 0u32;
     for word in cell.split_ascii_whitespace() {
-        count = count.saturating_add(try_stops(alloc, both, &stops_in(word)?)?);
+        count = count.saturating_add(try_stops(rt, alloc, both, &stops_in(word)?)?);
     }
     Ok(count)
 }

@@ -11,4 +11,4 @@ mod table;
 pub use fault::CaseFault;
 pub use number::{number_in, numbers_in};
 pub use pieces::Pieces;
-pub use table::{Cases, play_table};
+pub use table::{Cases, Tally, play_table, row_in};

@@ -13,7 +13,7 @@ pub struct Pieces {
 
 impl Pieces {
     /// No pieces.
-    pub(crate) fn make(alloc: Global) -> Pieces {
+    pub fn make(alloc: Global) -> Pieces {
         Pieces {
             alloc,
             named: BTreeMap::new(alloc),

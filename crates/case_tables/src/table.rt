@@ -22,45 +22,79 @@ fn cells_of(alloc: Global, row: &str) -> Result<Vec<&str>, AllocError> {
     row.split('|').map(|cell| cell.trim()).collect(alloc)
 }
 
-/// Tries the cases of a line, and tells how many there are: none where it names a piece or is empty.
+/// The cells of a line that is a row; none where it names a piece, which is kept then, or is empty.
+pub fn row_in<'l>(
+    alloc: Global,
+    pieces: &mut Pieces,
+    line: &'l str,
+) -> Result<Option<Vec<&'l str>>, CaseFault> {
+    let line = without_comment(line);
+    if line.is_empty() {
+        Ok(None)
+    } else if line.contains('|') {
+        Ok(Some(cells_of(alloc, line)?))
+    } else {
+        pieces.define(line)?;
+        Ok(None)
+    }
+}
+
+/// How many cases were tried, and how many lines failed.
+#[derive(Debug, Drop)]
+pub struct Tally {
+    count: u32,
+    failed: u32,
+}
+
+impl Tally {
+    /// Before the first line.
+    pub fn make() -> Tally {
+        Tally {
+            count: 0,
+            failed: 0,
+        }
+    }
+
+    /// Counts the cases of the line at a place, or tells why it failed.
+    pub fn add<R: Print>(
+        &mut self,
+        rt: &R,
+        place: usize,
+        tried: Result<u32, CaseFault>,
+    ) -> io::Result<()> {
+        match tried {
+            Ok(more) => {
+                self.count = self.count.saturating_add(more);
+                Ok(())
+            }
+            Err(fault) => {
+                self.failed = self.failed.saturating_add(1);
+                let number = place.saturating_add(1);
+                println!(rt; "line {number}: {fault}")
+            }
+        }
+    }
+
+    /// Tells how many cases there were and how many lines failed. The answer is whether none did.
+    pub fn end<R: Print>(&self, rt: &R) -> io::Result<bool> {
+        let count = self.count;
+        let failed = self.failed;
+        println!(rt; "{count} cases, {failed} lines that fail")?;
+        Ok(failed == 0)
+    }
+}
+
+/// Tries the cases of a line, and tells how many there are.
 fn try_line<C: Cases>(
     alloc: Global,
     pieces: &mut Pieces,
     cases: &mut C,
     line: &str,
 ) -> Result<u32, CaseFault> {
-    if line.is_empty() {
-        Ok(0)
-    } else if line.contains('|') {
-        cases.try_row(pieces, &cells_of(alloc, line)?)
-    } else {
-        pieces.define(line)?;
-        Ok(0)
+    match row_in(alloc, pieces, line)? {
+        Some(cells) => cases.try_row(pieces, &cells),
+        None => Ok(0),
     }
-}
-
-/// Tries each line of a table, and tells those that fail and how many cases there were. The answer is whether none
-/// failed.
-fn try_all<R: Print + AllocGlobal, C: Cases>(
-    rt: &R,
-    cases: &mut C,
-    table: &str,
-) -> io::Result<bool> {
-    let mut pieces = Pieces::make(rt.alloc());
-    let mut count = 0u32;
-    let mut failed = 0u32;
-    for (place, line) in table.lines().enumerate() {
-        match try_line(rt.alloc(), &mut pieces, cases, without_comment(line)) {
-            Ok(more) => count = count.saturating_add(more),
-            Err(fault) => {
-                failed = failed.saturating_add(1);
-                let number = place.saturating_add(1);
-                println!(rt; "line {number}: {fault}")?;
-            }
-        }
-    }
-    println!(rt; "{count} cases, {failed} lines that fail")?;
-    Ok(failed == 0)
 }
 
 /// Tries the table on standard input, and tells each line that fails and how many cases there were. The answer is whether
@@ -71,5 +105,11 @@ pub fn play_table<R: Input + Print + AllocGlobal, C: Cases>(
     cases: &mut C,
 ) -> io::Result<bool> {
     let table = io::read_to_string(rt.alloc(), rt.reader())?;
-    try_all(rt, cases, &table)
+    let mut pieces = Pieces::make(rt.alloc());
+    let mut tally = Tally::make();
+    for (place, line) in table.lines().enumerate() {
+        let tried = try_line(rt.alloc(), &mut pieces, cases, line);
+        tally.add(rt, place, tried)?;
+    }
+    tally.end(rt)
 }

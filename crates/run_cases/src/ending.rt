@@ -4,7 +4,9 @@ ghost use Rattle.std.specs.Prelude.{◌≡◌, length, IfOk};
 
 use case_tables::CaseFault;
 use std::alloc::Global;
-use tbl_fakes::{CalmBank, CalmSink, CalmSource, MemSink, MemSource};
+use std::sync::Wait;
+use std::thread::Threads;
+use tbl_fakes::{CalmBank, CalmSink, CalmSource, MemSink, MemSource, OpenGate};
 use tbl_kinds::{Bytes, Memory};
 use tbl_top::run;
 
@@ -52,12 +54,26 @@ fn source_of(alloc: Global, given: &Given) -> Result<MemSource, Memory> {
 }
 
 /// Runs, with room for so many bytes in the sink.
-pub(crate) fn run_in(alloc: Global, given: &Given, room: u32) -> Result<Ending, CaseFault> {
+pub(crate) fn run_in<R: Threads + Wait + Sync>(
+    rt: &R,
+    alloc: Global,
+    given: &Given,
+    room: u32,
+) -> Result<Ending, CaseFault> {
     let mut source = source_of(alloc, given)?;
     let mut sink = MemSink::make(alloc, room, &given.bad_writes)?;
     let bank = bank(alloc, BANK_SIZE)?;
     let kit = Vec::new(alloc);
-    let (status, _bank) = run(alloc, &given.words, &mut source, &mut sink, bank, kit);
+    let (status, _bank) = run(
+        rt,
+        alloc,
+        &given.words,
+        &mut source,
+        &mut sink,
+        bank,
+        kit,
+        &OpenGate,
+    );
     Ok(Ending {
         status,
         read_faults: source.faults(),
@@ -68,15 +84,21 @@ pub(crate) fn run_in(alloc: Global, given: &Given, room: u32) -> Result<Ending, 
 }
 
 /// Runs between a source and a sink that never fail. The status, and how many bytes of the input weren't read.
-pub(crate) fn run_calm(alloc: Global, given: &Given) -> Result<(u8, usize), CaseFault> {
+pub(crate) fn run_calm<R: Threads + Wait + Sync>(
+    rt: &R,
+    alloc: Global,
+    given: &Given,
+) -> Result<(u8, usize), CaseFault> {
     let mut source = CalmSource::make(kept(alloc, &given.input)?);
     let (status, _bank) = run(
+        rt,
         alloc,
         &given.words,
         &mut source,
         &mut CalmSink::make(),
         bank(alloc, BANK_SIZE)?,
         Vec::new(alloc),
+        &OpenGate,
     );
     Ok((status, source.left_bytes().len()))
 }

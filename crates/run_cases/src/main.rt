@@ -5,12 +5,11 @@ mod ending;
 mod feeding;
 mod runs;
 
-use case_tables::play_table;
-use runs::Runs;
+use runs::play_runs;
 use std::process::ExitCode;
 
 fn main(rt: HostRuntime) -> ExitCode {
-    match play_table(&rt, &mut Runs::make(rt.alloc())) {
+    match play_runs(&rt) {
         Ok(true) => ExitCode::from(0),
         _ => ExitCode::from(1),
     }

@@ -2,16 +2,23 @@
 
 use crate::ending::{Ending, Given, compare, kept, run_calm, run_in};
 use crate::feeding::{Told, feed_parts};
-use case_tables::{CaseFault, Cases, Pieces, number_in, numbers_in};
+use case_tables::{CaseFault, Pieces, Tally, number_in, numbers_in, row_in};
 use std::alloc::Global;
+use std::io::{self, Read};
+use std::sync::Wait;
+use std::thread::Threads;
 use tbl_kinds::Bytes;
 
 /// The status of a run whose sink fails.
 const WRITE_FAILED: u8 = 4;
 
+/// `play` and `crew`, as a cell has words.
+const PLAY_AND_CREW: [&str; 2] = ["706C6179", "63726577"];
+
 /// Tries runs.
 #[derive(Drop)]
-pub(crate) struct Runs {
+pub(crate) struct Runs<'r, R> {
+    rt: &'r R,
     alloc: Global,
 }
 
@@ -19,9 +26,9 @@ fn status_in(cell: &str) -> Result<u8, CaseFault> {
     u8::try_from(number_in(cell)?).map_err(|_| CaseFault::Unreadable)
 }
 
-impl Runs {
-    pub(crate) fn make(alloc: Global) -> Runs {
-        Runs { alloc }
+impl<'r, R: Threads + Wait + Sync> Runs<'r, R> {
+    pub(crate) fn make(rt: &'r R, alloc: Global) -> Runs<'r, R> {
+        Runs { rt, alloc }
     }
 
     /// The words of a cell, each of which is bytes.
@@ -56,9 +63,26 @@ impl Runs {
         })
     }
 
+    /// Runs with each of the words that play a session.
+    fn try_both(
+        &self,
+        pieces: &Pieces,
+        cells: [&str; 3],
+        room: u32,
+        wanted: &Ending,
+    ) -> Result<u32, CaseFault> {
+        let [input, bad_reads, bad_writes] = cells;
+        for word in PLAY_AND_CREW {
+            let given = self.given_in(pieces, [word, input, bad_reads, bad_writes])?;
+            let came = run_in(self.rt, self.alloc, &given, room)?;
+            compare(self.alloc, &came, wanted)?;
+        }
+        Ok(2)
+    }
+
     /// Runs where nothing can fail.
     fn try_calm(&self, given: &Given, status: u8, wanted: usize) -> Result<u32, CaseFault> {
-        let (came, left) = run_calm(self.alloc, given)?;
+        let (came, left) = run_calm(self.rt, self.alloc, given)?;
         if came == status && left == wanted {
             return Ok(1);
         }
@@ -70,7 +94,7 @@ impl Runs {
     fn try_rooms(&self, given: &Given, wanted: &Ending) -> Result<u32, CaseFault> {
         let most = u32::try_from(wanted.output.len()).map_err(|_| CaseFault::Unreadable)?;
         for room in 0..most {
-            let came = run_in(self.alloc, given, room)?;
+            let came = run_in(self.rt, self.alloc, given, room)?;
             let front = wanted.output.get(..room as usize);
             if came.status != WRITE_FAILED || front != Some(came.output.as_slice()) {
                 return Err(CaseFault::Differs(format!(in self.alloc;
@@ -78,7 +102,11 @@ impl Runs {
                 )?));
             }
         }
-        compare(self.alloc, &run_in(self.alloc, given, most)?, wanted)?;
+        compare(
+            self.alloc,
+            &run_in(self.rt, self.alloc, given, most)?,
+            wanted,
+        )?;
         Ok(most.saturating_add(1))
     }
 
@@ -113,20 +141,25 @@ impl Runs {
     }
 }
 
-impl Cases for Runs {
+impl<'r, R: Threads + Wait + Sync> Runs<'r, R> {
     /// A row is `run | WORDS | INPUT | BAD READS | BAD WRITES | ROOM | STATUS | READ FAULTS | WRITE FAULTS | LEFT |
-    /// OUTPUT`: what the run is given, and how it ends, with so many bytes of the input left. It begins with `rooms` and has
+    /// OUTPUT`: what the run is given, and how it ends, with so many bytes of the input left. It begins with `both`, and has no words,
+    /// where it ends so with `play` and with `crew`. It begins with `rooms` and has
     /// no room where each room up to that for the whole output is tried. `calm | WORDS | INPUT | STATUS | LEFT` is a run between a
     /// source and a sink that never fail. `fed | FIRST | SECOND | LENGTHS | BETWEEN | STATUS | ENTRIES | OUTPUT` is an input in two
     /// parts, which are fed in pieces of each of these lengths: how many bytes the sink has between the parts, and how it ends.
-    fn try_row(&mut self, pieces: &Pieces, cells: &[&str]) -> Result<u32, CaseFault> {
+    fn try_row(&self, pieces: &Pieces, cells: &[&str]) -> Result<u32, CaseFault> {
         match cells {
             ["run", a, b, c, d, room, p, q, r, s, t] => {
                 let given = self.given_in(pieces, [a, b, c, d])?;
                 let wanted = self.ending_in(pieces, [p, q, r, s, t])?;
-                let came = run_in(self.alloc, &given, number_in(room)?)?;
+                let came = run_in(self.rt, self.alloc, &given, number_in(room)?)?;
                 compare(self.alloc, &came, &wanted)?;
                 Ok(1)
+            }
+            ["both", b, c, d, room, p, q, r, s, t] => {
+                let wanted = self.ending_in(pieces, [p, q, r, s, t])?;
+                self.try_both(pieces, [b, c, d], number_in(room)?, &wanted)
             }
             ["rooms", a, b, c, d, p, q, r, s, t] => {
                 let given = self.given_in(pieces, [a, b, c, d])?;
@@ -156,4 +189,30 @@ impl Cases for Runs {
             _ => Err(CaseFault::Unreadable),
         }
     }
+}
+
+/// Tries the cases of a line, and tells how many there are.
+fn try_line<R: Threads + Wait + Sync>(
+    rt: &R,
+    alloc: Global,
+    pieces: &mut Pieces,
+    line: &str,
+) -> Result<u32, CaseFault> {
+    match row_in(alloc, pieces, line)? {
+        Some(cells) => Runs::make(rt, alloc).try_row(pieces, &cells),
+        None => Ok(0),
+    }
+}
+
+/// Tries the table on standard input. The answer is whether no line failed.
+pub(crate) fn play_runs<R: Input + Print + AllocGlobal + Threads + Wait + Sync>(
+    rt: &R,
+) -> io::Result<bool> {
+    let table = io::read_to_string(rt.alloc(), rt.reader())?;
+    let mut pieces = Pieces::make(rt.alloc());
+    let mut tally = Tally::make();
+    for (place, line) in table.lines().enumerate() {
+        tally.add(rt, place, try_line(rt, rt.alloc(), &mut pieces, line))?;
+    }
+    tally.end(rt)
 }
