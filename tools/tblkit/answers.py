@@ -8,10 +8,10 @@ BUFFERS = 4
 
 
 class Answer:
-    """An entry of a transcript beside its record, where the session is at hand and has one."""
+    """An entry of a transcript beside its record, where the session is at hand and has one: one that has none is foreign."""
 
-    def __init__(self, entry, record=None):
-        self.entry, self.record = entry, record
+    def __init__(self, entry, record=None, is_foreign=False):
+        self.entry, self.record, self.is_foreign = entry, record, is_foreign
         self.status, self.actor = entry.number("status"), entry.number("actor")
         self.packets = [packets.decode(it) for it in packets.split(entry.sent)]
 
@@ -27,7 +27,8 @@ class Answer:
     def line(self, is_all=False):
         """The request as a line of session text, long data cut short."""
         if self.record is None:
-            return "ground" if self.actor == 0 else f"app {self.actor}"
+            actor = "ground" if self.actor == 0 else f"app {self.actor}"
+            return f"{actor}, whose request isn't in this session" if self.is_foreign else actor
         line = text.line_of(self.record)
         return line if is_all or len(line) <= 100 else f"{line[:80]}.. ({len(self.record.body)} bytes)"
 
@@ -104,14 +105,23 @@ def end_words(end, index=None):
     """The end record in words; with the session at hand also what stands where the records that were played end."""
     run = names.named("run").get(end.status)
     said = [f"status {end.status}, {run.name if run else 'which is none'}", f"{end.entries} entries"]
-    piece = index.piece_at(end.place) if index else None
     if index is None:
-        said.append(f"the records that were played end at byte {end.place}")
-    elif piece is None:
-        said.append(f"all {end.place} bytes of the session were played")
-    elif piece.fault:
-        said.append(f"record {end.entries}, at byte {end.place}, is bad: {piece.fault}")
+        said.append(f"the records that were played have {end.place} bytes")
+    elif index.bytes_taken != end.place:
+        said.append(f"the records that were played have {end.place} bytes, and those of this session {index.bytes_taken}: "
+                    "the transcript is of another one")
     else:
-        kind = f"kind {piece.content[0]:02X} {piece.request.name}"
-        said.append(f"record {end.entries}, at byte {end.place}, wasn't played: {kind}")
+        said.append(_left_words(end, index))
     return "; ".join(said)
+
+
+def _left_words(end, index):
+    """What of a session wasn't played. Where each actor had a thread and they broke off, records behind that may have been."""
+    number, place = index.first_left() or (end.entries, end.place)
+    piece = index.piece_at(place)
+    if piece is None:
+        return f"all {end.place} bytes of the session were played"
+    if piece.fault:
+        return f"record {number}, at byte {place}, is bad: {piece.fault}"
+    first = "wasn't played" if place == end.place else "is the first that wasn't played"
+    return f"record {number}, at byte {place}, {first}: kind {piece.content[0]:02X} {piece.request.name}"

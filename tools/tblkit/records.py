@@ -107,17 +107,19 @@ class Index:
     """Where the records of a session stand, by actor, so that those of each actor can be read in order.
 
     A transcript has the requests of one actor in the order of the session, and those of several actors in any order where
-    they ran side by side. At most 32,768 records are ever played, so that many places are kept and no contents.
+    each had a thread. At most 32,768 records are ever played, so that many places are kept and no contents.
     """
 
     def __init__(self, stream):
         self._stream = stream
         self._places = {actor: [] for actor in (0, *APPLICATIONS)}
         self._taken = dict.fromkeys(self._places, 0)
-        for piece in itertools.islice(pieces(stream), MOST_RECORDS):
+        # How many bytes the records have that were taken.
+        self.bytes_taken = 0
+        for number, piece in enumerate(itertools.islice(pieces(stream), MOST_RECORDS)):
             if piece.fault:
                 break
-            self._places[piece.actor].append((piece.at, len(piece.content)))
+            self._places[piece.actor].append((number, piece.at, len(piece.content)))
 
     def next_of(self, actor):
         """The next record of an actor, or None where it has no further one."""
@@ -125,9 +127,15 @@ class Index:
         if taken == len(places):
             return None
         self._taken[actor] = taken + 1
-        at, length = places[taken]
+        _, at, length = places[taken]
+        self.bytes_taken += length
         self._stream.seek(at)
         return Piece(at, self._stream.read(length))
+
+    def first_left(self):
+        """The number and the place of the first record that wasn't taken, or None where all were."""
+        left = [places[self._taken[actor]] for actor, places in self._places.items() if self._taken[actor] < len(places)]
+        return min(left)[:2] if left else None
 
     def piece_at(self, place):
         """What stands at a place of the session: None at its end and beyond."""

@@ -10,10 +10,11 @@ HEADER_SHOWN = ("sequence count", "seconds", "subseconds")
 
 
 def answers(parts, index):
-    """The parts of a transcript, each entry as an answer beside its record."""
+    """The parts of a transcript, each entry as an answer beside its record: the next one of its actor."""
     for part in parts:
         if isinstance(part, transcript.Entry):
-            yield Answer(part, index.next_of(part.number("actor")) if index else None)
+            record = index.next_of(part.number("actor")) if index else None
+            yield Answer(part, record, index is not None and record is None)
         else:
             yield part
 

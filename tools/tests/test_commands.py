@@ -65,7 +65,7 @@ end: status 0, the work is done; 2 entries; all 24 bytes of the session were pla
             given = file.read()
         self.assertEqual(call("tbl-show", HELLO + ".session", "-", given=given)[1].count(b"\n"), 5)
         self.assertEqual(call("tbl-show", given=given)[1].splitlines()[-1],
-                         b"end: status 0, the work is done; 2 entries; the records that were played end at byte 24")
+                         b"end: status 0, the work is done; 2 entries; the records that were played have 24 bytes")
         self.assertEqual(call("tbl-show", "--end", given=given)[1].count(b"\n"), 1)
 
     def test_json(self):

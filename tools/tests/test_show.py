@@ -24,6 +24,15 @@ def entry(place, actor, status, detail, reply, sent):
     return place.to_bytes(4, "big") + bytes([actor]) + status.to_bytes(4, "big") + detail + counted
 
 
+def entries(actors):
+    """Entries of these actors that say nothing else."""
+    return b"".join(entry(place, actor, 0, bytes(4), b"", b"") for place, actor in enumerate(actors))
+
+
+def end(status, count, place):
+    return b"\xff\xff\xff\xff" + bytes([status]) + count.to_bytes(4, "big") + place.to_bytes(4, "big")
+
+
 def parts(session, output):
     index = records.Index(io.BytesIO(session)) if session is not None else None
     return list(show.answers(transcript.parts(io.BytesIO(output)), index)), index
@@ -50,16 +59,66 @@ class Lines(unittest.TestCase):
             "length: 17", "seconds: 0", "subseconds: 0", "number: 1 command accepted", "status: 0 SUCCESS", "row: none",
             "function code: 0 NOOP"])
 
-    def test_actors_in_another_order(self):
-        session = records_of(b"app 1 start A\napp 1 exit\napp 2 start B\n")
-        output = b"".join(entry(place, actor, 0, bytes(4), b"", b"") for place, actor in enumerate((2, 1, 1)))
-        found = [next(show.lines(it)) for it in parts(session, output)[0][:3]]
-        self.assertEqual(found, [f"{it} -> 0 SUCCESS" for it in ("0 app 2 start B", "1 app 1 start A", "2 app 1 exit")])
+
+class AnotherOrder(unittest.TestCase):
+    """Transcripts in which the actors had their turns in another order than that of the session."""
+
+    SESSION = b"app 1 start A\nground NOOP\napp 1 exit\napp 2 start B\n"
+    LENGTH = 24 + 12 + 4 + 24
+
+    def shown(self, actors, *ending):
+        found, index = parts(records_of(self.SESSION), entries(actors) + end(*ending))
+        return [next(show.lines(it)) for it in found[:-1]] + [show.end_lines(found[-1], index)]
+
+    def test_each_actor_has_its_records_in_order(self):
+        for actors, lines in (((2, 1, 0, 1), ("app 2 start B", "app 1 start A", "ground NOOP", "app 1 exit")),
+                              ((0, 1, 1, 2), ("ground NOOP", "app 1 start A", "app 1 exit", "app 2 start B"))):
+            self.assertEqual(self.shown(actors, 0, 4, self.LENGTH), [
+                *(f"{place} {it} -> 0 SUCCESS" for place, it in enumerate(lines)),
+                "end: status 0, the work is done; 4 entries; all 64 bytes of the session were played"])
+
+    def test_records_that_were_not_played(self):
+        failed = "end: status 7, the store failed while it booted"
+        for actors, place, words in (
+                ((1, 0), 36, "record 2, at byte 36, wasn't played: kind 21 Exit"),
+                ((0, 1), 36, "record 2, at byte 36, wasn't played: kind 21 Exit"),
+                ((1, 2), 48, "record 1, at byte 24, is the first that wasn't played: kind 01 Command"),
+                ((2, 0), 36, "record 0, at byte 0, is the first that wasn't played: kind 10 Start")):
+            with self.subTest(actors):
+                self.assertEqual(self.shown(actors, 7, 2, place)[-1], f"{failed}; 2 entries; {words}")
+
+    def test_a_transcript_of_another_session(self):
+        self.assertEqual(self.shown((0, 2, 2, 3), 0, 4, 80), [
+            "0 ground NOOP -> 0 SUCCESS", "1 app 2 start B -> 0 SUCCESS",
+            "2 app 2, whose request isn't in this session -> 0 SUCCESS",
+            "3 app 3, whose request isn't in this session -> 0 SUCCESS",
+            "end: status 0, the work is done; 4 entries; the records that were played have 80 bytes, and those of this session 36: "
+            "the transcript is of another one"])
+        self.assertIn("of another one", self.shown((1, 0, 1, 2), 0, 4, self.LENGTH + 1)[-1])
+
+    def test_as_objects(self):
+        found, index = parts(records_of(self.SESSION), entries((2, 0, 1, 2)))
+        told = [show.as_object(it, index) for it in found[:-1]]
+        self.assertEqual([it["line"] for it in told], ["app 2 start B", "ground NOOP", "app 1 start A", None])
+        self.assertEqual([it["request"] for it in told], ["Start", "NOOP", "Start", None])
+
+    def test_a_difference_is_of_the_actors_request(self):
+        found, _ = parts(records_of(self.SESSION), entries((2, 0, 1, 1)))
+        other = entries((2, 0, 1)) + entry(3, 1, 9, bytes(4), b"", b"")
+        self.assertEqual(list(diff.lines(found, transcript.parts(io.BytesIO(other))))[0], "entry 3, app 1 exit:")
+
+    def test_a_capture_has_the_commands(self):
+        file = io.BytesIO()
+        capture = pcap.Capture(file)
+        for answer in parts(records_of(self.SESSION), entries((2, 1, 0, 1)))[0][:-1]:
+            capture.add(answer)
+        self.assertEqual(file.getvalue()[24 + 16 + 28:].hex(), "1804c00000010022")
 
 
 class Ends(unittest.TestCase):
-    def end_of(self, session, end):
-        found, index = parts(session, bytes_of(end))
+    def end_of(self, session, ending):
+        count = int.from_bytes(bytes_of(ending)[5:9], "big")
+        found, index = parts(session, entries([0] * count) + bytes_of(ending))
         return show.end_lines(found[-1], index)
 
     def test_all_was_played(self):
@@ -111,8 +170,8 @@ class Differences(unittest.TestCase):
                             (21 + 12 + 7, "  packet 1, row: none | 65530"),
                             (45 + 21 + 12 + 20, "  packet 1, free shared buffers: 4 | 1"),
                             (len(whole) - 9, "  end: status 0, the work is done; 2 entries; the records that were played "
-                             "end at byte 24 | status 5, a record is bad, or the input ends inside one; 2 entries; the "
-                             "records that were played end at byte 24")):
+                             "have 24 bytes | status 5, a record is bad, or the input ends inside one; 2 entries; the "
+                             "records that were played have 24 bytes")):
             changed = whole[:place] + bytes([whole[place] ^ 5]) + whole[place + 1:]
             self.assertEqual(self.difference(whole, changed)[1:], [line])
 
