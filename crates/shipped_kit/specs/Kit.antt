@@ -12,6 +12,6 @@ shipped_at number = record {
 }
 
 -- those whose number is lower than this, in order
-abbrev pub shipped_below : ℕ → List (KitEntry Shipped)
+unfoldable pub shipped_below : ℕ → List (KitEntry Shipped)
 shipped_below zero = []
 shipped_below (suc number) = shipped_below number ++ shipped_at number ∷ []

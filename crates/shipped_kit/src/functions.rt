@@ -52,6 +52,7 @@ pub fn shipped_entry(number: u8) -> KitEntry<Shipped>
 }
 
 /// All functions of the shipped program, in order of their numbers.
+#[tactic(auto, unfolding(crate::specs::Kit::shipped_below))]
 pub fn shipped_entries(alloc: Global) -> Result<Vec<KitEntry<Shipped>>, AllocError>
     ensures entries { IfOk result (λ entries. entries.items ≡ shipped_below 32) }
     ensures fresh { IfOk result (λ entries. All (λ e. asked_of e.check ≡ 0) entries.items) }
