@@ -5,6 +5,7 @@ pub mod ScriptsLemmas
 pub mod FeedingLemmas
 pub mod ReadingLemmas
 pub mod CollectingLemmas
+pub mod StatusLemmas
 pub mod SessionLemmas
 pub mod CompletenessLemmas
 pub mod RecoveredLaws
