@@ -1,0 +1,106 @@
+-- The effect of a request as the code has it, and what it stands for.
+use Rattle.std.specs.Prelude.{◌≡◌, ℕ, ◌≤◌, List, [], ◌∷◌, ◌++◌, length, map, Bool, false, Option, None, Some, IfSome}
+use Rattle.tbl_model.specs.State.{State, Tables, first_state}
+use Rattle.tbl_model.specs.Effects as model
+use Rattle.tbl_model.specs.Deeds.{Question}
+use Rattle.tbl_model.specs.Given.{Given, nothing_given}
+use Rattle.tbl_model.specs.Commands.{Asked}
+use Rattle.tbl_model.specs.Events.{deed_event, command_events}
+use Rattle.tbl_model.specs.Counts.{Told}
+use Rattle.tbl_model.specs.History.{told}
+use Rattle.tbl_laws.specs.Fit.{HasCode}
+use Rattle.tbl_model.specs.declared.deeds.Shown.{Shown}
+use Rattle.tbl_model.specs.declared.deeds.Shown.TheVariants.{Nothing, Housekeeping, Registry}
+use Rattle.tbl_kinds.specs.declared.telemetry.Event.{Event}
+use Rattle.tbl_kinds.specs.declared.request.Actor.TheVariants.{Ground}
+use Rattle.tbl_kinds.specs.declared.request.Request.{Request}
+use Rattle.request_effects.specs.declared.effect.Effect.{Effect}
+
+-- ---- what it stands for
+
+-- it is this effect, which asks validation functions these questions, calls nothing of the store, and leaves this state
+pub record IsEffect (done : Effect) (questions : List Question) (after : State) (e : model.Effect) : Type 0 where
+  pub status : e.status ≡ done.answer.status
+  pub detail : e.detail ≡ done.answer.detail
+  pub bytes : e.bytes ≡ done.bytes.list
+  pub table : e.table ≡ done.table
+  pub deeds : e.deeds ≡ done.deeds.items
+  pub shown : e.shown ≡ done.shown
+  pub asked : e.asked ≡ questions
+  pub calls : e.calls ≡ []
+  pub notice : e.notice ≡ done.notice
+  pub next : e.next ≡ after
+
+-- the effect as it is told, which doesn't tell the calls of the store
+abbrev pub uncalled : model.Effect → model.Effect
+uncalled e = record e { calls = [] }
+
+-- what came from the outside in it
+abbrev pub given_of : Effect → Given
+given_of done = record { note = done.note; verdicts = done.verdicts }
+
+-- ---- what is told of it
+
+-- the same without images, questions and calls, which telemetry doesn't tell
+abbrev pub without_images : Effect → State → model.Effect
+without_images done next = record {
+  status = done.answer.status;
+  detail = done.answer.detail;
+  bytes = done.bytes.list;
+  table = done.table;
+  deeds = done.deeds.items;
+  images = [];
+  asked = [];
+  calls = [];
+  shown = done.shown;
+  notice = done.notice;
+  next = next;
+}
+
+-- a state of which telemetry tells the same: it has the time and the tables
+abbrev pub seen_at : ℕ → ℕ → Tables → State
+seen_at seconds sub tables = record (first_state [] []) { tables = tables; seconds = seconds; sub = sub }
+
+-- what telemetry tells of a request with this effect, at this time, behind which these tables stand
+abbrev pub told_at : ℕ → ℕ → Tables → Request → Effect → Told
+told_at seconds sub tables request done = told (seen_at seconds sub tables) Ground request (without_images done (seen_at seconds sub tables))
+
+abbrev pub seen : Effect → model.Effect
+seen done = without_images done (first_state [] [])
+
+-- the events of a command, or of another request, with this effect
+abbrev pub told_events : Asked → Effect → List Event
+told_events asked done = command_events asked (seen done) ++ map deed_event done.deeds.items
+
+abbrev pub listed : Option Event → List Event
+listed None = []
+listed (Some event) = event ∷ []
+
+-- ---- how much it tells
+
+-- the length of the packet behind the events
+abbrev pub shown_len : Shown → ℕ
+shown_len Nothing = 0
+shown_len Housekeeping = 290
+shown_len (Registry row) = 156
+
+-- a reply has at most this many bytes, and its packets too
+abbrev pub reply_limit : ℕ
+reply_limit = 66000
+
+-- it has so many deeds at most, its packet behind the events is so long at most, it gives a notice only where it may owe one,
+-- that can be sent, and its reply isn't too long
+pub record IsWithin (most room : ℕ) (owes : Bool) (done : Effect) : Type 0 where
+  pub deeds : length done.deeds.items ≤ most
+  pub shown : shown_len done.shown ≤ room
+  pub no_notice : owes ≡ false → done.notice ≡ None
+  pub notice : IfSome done.notice HasCode
+  pub bytes : length done.bytes.list ≤ reply_limit
+
+-- it answers, with a reply that is not too long, and no more is told of it
+pub record IsQuiet (done : Effect) : Type 0 where
+  pub deeds : done.deeds.items ≡ []
+  pub shown : done.shown ≡ Nothing
+  pub notice : done.notice ≡ None
+  pub given : given_of done ≡ nothing_given
+  pub bytes : length done.bytes.list ≤ reply_limit

@@ -1,0 +1,63 @@
+//! What a request does, as a value: its answer, and what telemetry tells of it.
+
+ghost use Rattle.std.specs.Prelude.{◌≡◌, [], ◌∷◌, None, IfOk, vec_capacity};
+ghost use Rattle.tbl_model.specs.Given.{nothing_given};
+ghost use Rattle.request_effects.specs.Asked.{asked_of, most_deeds};
+ghost use Rattle.request_effects.specs.Effects.{given_of};
+
+use crate::asked::{Asked, most_deeds};
+use std::alloc::Global;
+use tbl_kinds::{Answer, Bytes, Memory, Note, Request};
+use tbl_model::{Deed, Named, Notice, Shown};
+
+/// What a request did, once it is done.
+#[derive(Drop)]
+pub struct Effect {
+    pub answer: Answer,
+    /// The reply's bytes.
+    pub bytes: Bytes,
+    /// The table that a command names or a load fills.
+    pub table: Option<Named>,
+    pub deeds: Vec<Deed>,
+    /// The packet behind the events.
+    pub shown: Shown,
+    /// The command packet that tells an application of pending work.
+    pub notice: Option<Notice>,
+    /// How the calls of the Critical Data Store went.
+    pub note: Note,
+    /// What validation functions answered.
+    pub verdicts: [Option<i32>; 2],
+}
+
+/// Reserved room for the deeds of a request.
+pub fn room_for_deeds(alloc: Global, request: &Request, asked: &Asked) -> Result<Vec<Deed>, Memory>
+    ensures empty { IfOk result (λ deeds. deeds.items ≡ []) }
+    ensures room { IfOk result (λ deeds. vec_capacity deeds ≡ most_deeds request.now (asked_of asked.now)) }
+{
+    Ok(Vec::with_capacity(alloc, most_deeds(request, asked))?)
+}
+
+impl Effect {
+    /// An answer with these bytes, and no more.
+    pub fn of(answer: Answer, bytes: Bytes) -> Effect
+        ensures answer { result.answer ≡ answer }
+        ensures bytes { result.bytes ≡ bytes }
+        ensures table { result.table ≡ None }
+        ensures deeds { result.deeds.items ≡ [] }
+        ensures shown { result.shown ≡ Shown.Nothing }
+        ensures notice { result.notice ≡ None }
+        ensures given { given_of result ≡ nothing_given }
+    {
+        let deeds = Vec::new(bytes.allocator());
+        Effect {
+            answer,
+            bytes,
+            table: None,
+            deeds,
+            shown: Shown::Nothing,
+            notice: None,
+            note: Note::untouched(),
+            verdicts: [None, None],
+        }
+    }
+}
