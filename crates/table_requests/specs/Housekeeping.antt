@@ -1,0 +1,29 @@
+-- Filled dumps come to their end in two parts: their files are written, while no dump has ended yet, and then all end.
+use Rattle.std.specs.Prelude.{ℕ, List, if◌then◌else◌}
+use Rattle.tbl_kinds.specs.Drawer.{File}
+use Rattle.tbl_model.specs.State.{State, Tables}
+use Rattle.tbl_model.specs.Tables.{table_at}
+use Rattle.tbl_model.specs.TableSteps.{end_dump}
+use Rattle.tbl_model.specs.Dumps.{Ended, then_end, is_filled}
+use Rattle.tbl_model.specs.declared.deeds.Deed.{Deed}
+
+-- what was written so far: the drawer, the bytes of all files, and what is told of them
+pub record Written : Type 0 where
+  pub drawer : List File
+  pub bytes : List ℕ
+  pub deeds : List Deed
+
+-- with these files, in this state
+abbrev pub with_files : State → Written → Ended
+with_files s w = record { state = record s { drawer = w.drawer }; bytes = w.bytes; deeds = w.deeds }
+
+abbrev pub files_of : Ended → Written
+files_of e = record { drawer = e.state.drawer; bytes = e.bytes; deeds = e.deeds }
+
+-- the file of the dump in this row, as it is written when the dump ends
+abbrev pub then_write : State → Written → ℕ → Written
+then_write s w row = files_of (then_end (with_files s w) row)
+
+-- the dump in this row is over, if it is filled
+abbrev pub then_finish : Tables → ℕ → Tables
+then_finish tables row = if is_filled (table_at tables row) then end_dump row tables else tables

@@ -1,0 +1,81 @@
+//! Addresses of tables: got, read through, and given back.
+
+ghost use Rattle.std.specs.Prelude.{◌≡◌, ◌≤◌, [], length, IfOk, IfErr};
+ghost use Rattle.tbl_model.specs.State.{State};
+ghost use Rattle.tbl_model.specs.Effects.{answered};
+ghost use Rattle.tbl_model.specs.Addresses.{get_effect, release_effect, read_effect};
+ghost use Rattle.tbl_kinds.specs.Limits.{table_limit};
+ghost use Rattle.sharing.specs.Registering.{answered_with};
+ghost use Rattle.request_effects.specs.Effects.{IsEffect, IsQuiet};
+
+use crate::checks::check;
+use request_effects::Effect;
+use sharing::Apps;
+use tbl_kinds::{Answer, Bytes, Memory, Status};
+use tbl_registry::Tables;
+
+/// An application gets the address of a table (`CFE_TBL_GetAddress`): its handle pins the last image.
+#[tactic(auto, unfolding(tbl_model::specs::Addresses::get_effect))]
+pub fn get(tables: &mut Tables, apps: &Apps, app: u8, handle: u16) -> Answer
+    ensures { (s : State) → s.tables ≡ tables.old → s.apps ≡ apps.now → get_effect s app handle ≡ answered_with s result tables.new }
+{
+    match check(tables, apps, app, handle, false) {
+        Ok(_) => tables.get_address(handle),
+        Err(status) => Answer::plain(status),
+    }
+}
+
+/// An application gives the address of a table back (`CFE_TBL_ReleaseAddress`): the pin ends.
+#[tactic(auto, unfolding(tbl_model::specs::Addresses::release_effect))]
+pub fn release(tables: &mut Tables, apps: &Apps, app: u8, handle: u16) -> Answer
+    ensures { (s : State) → s.tables ≡ tables.old → s.apps ≡ apps.now → release_effect s app handle ≡ answered_with s result tables.new }
+{
+    match check(tables, apps, app, handle, false) {
+        Ok(_) => tables.release(handle),
+        Err(status) => Answer::plain(status),
+    }
+}
+
+/// The bytes that a handle's image has there, or why they aren't given.
+#[tactic(auto, unfolding(tbl_model::specs::Addresses::read_effect))]
+fn piece<'a>(
+    tables: &'a Tables,
+    apps: &Apps,
+    app: u8,
+    handle: u16,
+    offset: u32,
+    len: u32,
+) -> Result<&'a [u8], Status>
+    ensures ok { IfOk result (λ bytes. (s : State) → s.tables ≡ tables.now → s.apps ≡ apps.now → read_effect s app handle offset len ≡ record (answered s Status.SUCCESS 0) { bytes = bytes.now }) }
+    ensures err { IfErr result (λ status. (s : State) → s.tables ≡ tables.now → s.apps ≡ apps.now → read_effect s app handle offset len ≡ answered s status 0) }
+    ensures within { IfOk result (λ bytes. length bytes.now ≤ table_limit) }
+{
+    match check(tables, apps, app, handle, false) {
+        Ok(_) => tables.read(handle, offset, len),
+        Err(status) => Err(status),
+    }
+}
+
+/// An application reads bytes of the image that its handle pins.
+pub fn read(
+    tables: &Tables,
+    apps: &Apps,
+    app: u8,
+    handle: u16,
+    offset: u32,
+    len: u32,
+    mut empty: Bytes,
+) -> Result<Effect, Memory>
+    requires { empty.list ≡ [] }
+    ensures effect { IfOk result (λ done. (s : State) → s.tables ≡ tables.now → s.apps ≡ apps.now → IsEffect done [] s (read_effect s app handle offset len)) }
+    ensures quiet { IfOk result IsQuiet }
+{
+    match piece(tables, apps, app, handle, offset, len) {
+        Ok(piece) => {
+            empty.reserve(piece.len())?;
+            empty.append(piece);
+            Ok(Effect::of(Answer::plain(Status::SUCCESS), empty))
+        }
+        Err(status) => Ok(Effect::of(Answer::plain(status), empty)),
+    }
+}

@@ -1,0 +1,73 @@
+//! The tests that several requests share, and how they are answered.
+
+ghost use Rattle.std.specs.Prelude.{◌≡◌, ◌+◌, ◌<◌, ◌≤◌, ◌==◌, ℕ, [], ◌∷◌, ◌++◌, length, None, if◌then◌else◌, IsSome, IfOk, IfErr, OnOk};
+ghost use Rattle.tbl_model.specs.State.{State};
+ghost use Rattle.tbl_model.specs.Tables.{table_at, in_use};
+ghost use Rattle.tbl_model.specs.TableSteps.{access_of};
+ghost use Rattle.tbl_model.specs.Effects.{Effect as Model, answered};
+ghost use Rattle.tbl_model.specs.Subjects.{if_handle};
+ghost use Rattle.request_effects.specs.Effects.{IsQuiet};
+ghost use Rattle.table_requests.specs.Rows.{rows_in};
+
+use request_effects::Effect;
+use sharing::Apps;
+use tbl_kinds::{Answer, Bytes, Status};
+use tbl_registry::Tables;
+
+/// How many shared working buffers there are, and so how many rows use them at most.
+pub(crate) const BUFFERS: usize = 4;
+
+/// The tests that all calls with a handle have in common: the application runs, the handle is in use, it is this
+/// application's, its table is there, and for the owner alone, the caller owns it. The row of the table.
+pub fn check(tables: &Tables, apps: &Apps, app: u8, handle: u16, owner: bool) -> Result<u8, Status>
+    ensures ok { IfOk result (λ row. (s : State) (effect : ℕ → Model) → s.tables ≡ tables.now → s.apps ≡ apps.now → if_handle s app handle owner effect ≡ effect row) }
+    ensures err { IfErr result (λ status. (s : State) (effect : ℕ → Model) → s.tables ≡ tables.now → s.apps ≡ apps.now → if_handle s app handle owner effect ≡ answered s status 0) }
+    ensures table { IfOk result (λ row. IsSome (table_at tables.now row)) }
+    ensures access { OnOk result (IsSome (access_of tables.now handle)) }
+{
+    if apps.name(app).is_none() {
+        return Err(Status::ERR_BAD_APP);
+    }
+    tables.check(app, handle, owner)
+}
+
+/// Appends the row, if there is one.
+fn put_row(bytes: &mut Bytes, row: Option<u8>)
+    requires { 1 ≤ bytes.old.spare }
+    ensures row { bytes.new.list ≡ bytes.old.list ++ rows_in (row ∷ []) }
+    ensures room { bytes.old.spare ≤ bytes.new.spare + 1 }
+    ensures len { length bytes.new.list ≤ length bytes.old.list + 1 }
+{
+    if let Some(row) = row {
+        bytes.append(&[row]);
+    }
+}
+
+/// Appends the rows that stand at some of the places.
+fn put_rows(bytes: &mut Bytes, places: &[Option<u8>])
+    requires { length places.now ≤ bytes.old.spare }
+    ensures rows { bytes.new.list ≡ bytes.old.list ++ rows_in places.now }
+    ensures len { length bytes.new.list ≤ length bytes.old.list + length places.now }
+{
+    for place in places {
+        put_row(bytes, *place);
+    }
+}
+
+/// The effect of an answer to a load. Where no shared buffer is free, it gives the rows that use them.
+#[tactic(auto, using(crate::proofs::Buffers::rows_in_padded))]
+pub(crate) fn answered_load(tables: &Tables, answer: Answer, mut empty: Bytes) -> Effect
+    requires empty { empty.list ≡ [] }
+    requires room { 4 ≤ empty.spare }
+    ensures answer { result.answer ≡ answer }
+    ensures bytes { result.bytes.list ≡ (if answer.status.0 == Status.ERR_NO_BUFFER_AVAIL.0 then in_use tables.now else []) }
+    ensures len { length result.bytes.list ≤ 4 }
+    ensures table { result.table ≡ None }
+    ensures quiet { IsQuiet result }
+{
+    if answer.status != Status::ERR_NO_BUFFER_AVAIL {
+        return Effect::of(answer, empty);
+    }
+    put_rows(&mut empty, &tables.in_use());
+    Effect::of(answer, empty)
+}

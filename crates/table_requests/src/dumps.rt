@@ -1,0 +1,218 @@
+//! Dumps: the ground asks for them, owners fill them, and write over the images of dump-only tables.
+
+ghost use Rattle.std.specs.Prelude.{◌≡◌, ◌≤◌, ◌^◌, ◌-◌, ◌<◌, true, false, [], length, None, Some, IsSome, IfOk, OnErr, vec_capacity};
+ghost use Rattle.std.specs.Option.{ForSome};
+ghost use Rattle.tbl_model.specs.State.{State};
+ghost use Rattle.tbl_model.specs.Tables.{table_at};
+ghost use Rattle.tbl_model.specs.Given.{nothing_given};
+ghost use Rattle.tbl_model.specs.Validations.{selected};
+ghost use Rattle.tbl_model.specs.Dumps.{dump_file, registry_file, written_effect, dump_by, dump_effect, dump_registry_effect};
+ghost use Rattle.dump_control.specs.Images.{CanBeDumped, dumped_image};
+ghost use Rattle.request_effects.specs.Effects.{IsEffect, IsQuiet, IsWithin, given_of};
+ghost use Rattle.request_effects.specs.Effects.{reply_limit};
+ghost use Rattle.table_requests.specs.RowEffects.{filled_effect, edited_effect};
+ghost use Rattle.table_requests.specs.Limits.{AreCounted, AreSendable};
+
+use crate::checks::{BUFFERS, answered_load};
+use dump_control::{
+    DumpAnswer, dump_file, dump_len, registry_file, registry_file_len, request_dump,
+};
+use file_drawer::{Drawer, PutFault};
+use request_effects::{Clock, Effect, notice, subject};
+use std::alloc::Global;
+use tbl_kinds::{Answer, Bytes, Memory, Name40, Name64, Status};
+use tbl_model::{Deed, Named};
+use tbl_registry::Tables;
+
+/// A file of these bytes is put into the drawer, and they are the reply; or the drawer is full.
+fn written(
+    drawer: &mut Drawer,
+    row: Option<u8>,
+    file: &Name64,
+    contents: Bytes,
+    mut deeds: Vec<Deed>,
+    empty: Bytes,
+) -> Result<Effect, Memory>
+    requires few { length contents.list ≤ reply_limit }
+    requires no_deeds { deeds.items ≡ [] }
+    requires room { 1 ≤ vec_capacity deeds }
+    requires empty { empty.list ≡ [] }
+    ensures effect { IfOk result (λ done. (s : State) → s.drawer ≡ drawer.old → IsEffect done [] (record s { drawer = drawer.new }) (written_effect s row file.now contents.list)) }
+    ensures within { IfOk result (IsWithin 1 0 false) }
+    ensures given { IfOk result (λ done. given_of done ≡ nothing_given) }
+    ensures err { OnErr result (drawer.new ≡ drawer.old) }
+{
+    let copy = contents.copy()?;
+    match drawer.put(file, copy) {
+        Ok(_) => {
+            let len = contents.bytes().len() as u32;
+            deeds.push_reserved(Deed::Dumped {
+                row,
+                file: file.copy(),
+                len,
+            });
+            Ok(Effect {
+                deeds,
+                ..Effect::of(Answer::plain(Status::SUCCESS), contents)
+            })
+        }
+        Err(PutFault::Full) => Ok(Effect::of(Answer::plain(Status::ERR_DRAWER_FULL), empty)),
+        Err(PutFault::Memory) => Err(Memory),
+    }
+}
+
+/// The table file of the last image of the table of a row, or of that of its open load.
+fn image_file(
+    alloc: Global,
+    tables: &Tables,
+    row: u8,
+    active: bool,
+    clock: Clock,
+) -> Result<Bytes, Memory>
+    requires table { IsSome (table_at tables.now row) }
+    requires image { ForSome (table_at tables.now row) (λ t. CanBeDumped t active) }
+    ensures file { IfOk result (λ contents. (s : State) → s.seconds ≡ clock.seconds → s.sub ≡ clock.sub → ForSome (table_at tables.now row) (λ t. contents.list ≡ dump_file s t.name (dumped_image t active))) }
+    ensures few { IfOk result (λ contents. length contents.list ≤ reply_limit) }
+{
+    let mut contents = Bytes::make(alloc, dump_len(tables, row))?;
+    dump_file(tables, row, active, &mut contents, clock.seconds, clock.sub);
+    Ok(contents)
+}
+
+/// Dumps this table, or asks its owner for the dump.
+fn dump_found(
+    alloc: Global,
+    tables: &mut Tables,
+    drawer: &mut Drawer,
+    clock: Clock,
+    table: Named,
+    select: u16,
+    file: &Name64,
+    deeds: Vec<Deed>,
+    mut empty: Bytes,
+) -> Result<Effect, Memory>
+    requires table { IsSome (table_at tables.old table.row) }
+    requires notices { AreSendable tables.old }
+    requires no_deeds { deeds.items ≡ [] }
+    requires room { 1 ≤ vec_capacity deeds }
+    requires empty { empty.list ≡ [] }
+    ensures effect { IfOk result (λ done. (s : State) → s.tables ≡ tables.old → s.drawer ≡ drawer.old → s.seconds ≡ clock.seconds → s.sub ≡ clock.sub
+        → ForSome (table_at tables.old table.row) (λ t. IsEffect done [] (record s { tables = tables.new; drawer = drawer.new }) (record (dump_by s file.now table.row t (selected t select)) { table = Some table }))) }
+    ensures within { IfOk result (IsWithin 1 0 true) }
+    ensures given { IfOk result (λ done. given_of done ≡ nothing_given) }
+    ensures err { OnErr result (tables.new ≡ tables.old) }
+    ensures drawer { OnErr result (drawer.new ≡ drawer.old) }
+{
+    empty.reserve(BUFFERS)?;
+    let row = table.row;
+    let owed = notice(tables, row);
+    match request_dump(tables, row, select, file) {
+        DumpAnswer::Refused(answer) => Ok(Effect {
+            table: Some(table),
+            ..answered_load(tables, answer, empty)
+        }),
+        DumpAnswer::Asked => Ok(Effect {
+            table: Some(table),
+            notice: owed,
+            ..Effect::of(Answer::plain(Status::SUCCESS), empty)
+        }),
+        DumpAnswer::Write { active } => {
+            let contents = image_file(alloc, tables, row, active, clock)?;
+            let done = written(drawer, Some(row), file, contents, deeds, empty)?;
+            Ok(Effect {
+                table: Some(table),
+                ..done
+            })
+        }
+    }
+}
+
+/// The ground dumps the table of this name into a file (`CFE_TBL_DUMP_CC`): its last image, or that of its open load. Of a
+/// dump-only table the owner is asked to fill the dump, and is told.
+#[tactic(auto, unfolding(tbl_model::specs::Dumps::dump_effect))]
+#[inline(never)]
+pub(crate) fn dump(
+    alloc: Global,
+    tables: &mut Tables,
+    drawer: &mut Drawer,
+    clock: Clock,
+    select: u16,
+    name: &Name40,
+    file: &Name64,
+    deeds: Vec<Deed>,
+    empty: Bytes,
+) -> Result<Effect, Memory>
+    requires notices { AreSendable tables.old }
+    requires no_deeds { deeds.items ≡ [] }
+    requires room { 1 ≤ vec_capacity deeds }
+    requires empty { empty.list ≡ [] }
+    ensures effect { IfOk result (λ done. (s : State) → s.tables ≡ tables.old → s.drawer ≡ drawer.old → s.seconds ≡ clock.seconds → s.sub ≡ clock.sub
+        → IsEffect done [] (record s { tables = tables.new; drawer = drawer.new }) (dump_effect s select name.now file.now)) }
+    ensures within { IfOk result (IsWithin 1 0 true) }
+    ensures given { IfOk result (λ done. given_of done ≡ nothing_given) }
+    ensures err { OnErr result (tables.new ≡ tables.old) }
+    ensures drawer { OnErr result (drawer.new ≡ drawer.old) }
+{
+    match subject(tables, name) {
+        None => Ok(Effect::of(Answer::plain(Status::ERR_NO_SUCH_TABLE), empty)),
+        Some(table) => dump_found(
+            alloc, tables, drawer, clock, table, select, file, deeds, empty,
+        ),
+    }
+}
+
+/// The ground dumps the registry into a file (`CFE_TBL_DUMP_REGISTRY_CC`): the record of each table, in order of rows.
+#[tactic(auto, unfolding(tbl_model::specs::Dumps::dump_registry_effect))]
+#[inline(never)]
+pub(crate) fn dump_registry(
+    alloc: Global,
+    tables: &Tables,
+    drawer: &mut Drawer,
+    clock: Clock,
+    file: &Name64,
+    deeds: Vec<Deed>,
+    empty: Bytes,
+) -> Result<Effect, Memory>
+    requires no_deeds { deeds.items ≡ [] }
+    requires room { 1 ≤ vec_capacity deeds }
+    requires empty { empty.list ≡ [] }
+    ensures effect { IfOk result (λ done. (s : State) → s.tables ≡ tables.now → s.drawer ≡ drawer.old → s.seconds ≡ clock.seconds → s.sub ≡ clock.sub
+        → IsEffect done [] (record s { drawer = drawer.new }) (dump_registry_effect s file.now)) }
+    ensures within { IfOk result (IsWithin 1 0 false) }
+    ensures given { IfOk result (λ done. given_of done ≡ nothing_given) }
+    ensures err { OnErr result (drawer.new ≡ drawer.old) }
+{
+    let mut contents = Bytes::make(alloc, registry_file_len(tables))?;
+    registry_file(tables, &mut contents, clock.seconds, clock.sub);
+    written(drawer, None, file, contents, deeds, empty)
+}
+
+/// The owner of the table in the row fills the dump that the ground asked for (`CFE_TBL_DumpToBuffer`).
+pub fn dump_to_buffer(tables: &mut Tables, row: u8, empty: Bytes) -> Effect
+    requires table { IsSome (table_at tables.old row) }
+    requires empty { empty.list ≡ [] }
+    ensures effect { (s : State) → s.tables ≡ tables.old → ForSome (table_at tables.old row) (λ t. IsEffect result [] (record s { tables = tables.new }) (filled_effect s row t)) }
+    ensures quiet { IsQuiet result }
+{
+    Effect::of(dump_control::fill(tables, row), empty)
+}
+
+/// The owner of the dump-only table in the row writes bytes over its image.
+pub fn edit(
+    alloc: Global,
+    tables: &mut Tables,
+    row: u8,
+    offset: u32,
+    bytes: &[u8],
+    empty: Bytes,
+) -> Result<Effect, Memory>
+    requires table { IsSome (table_at tables.old row) }
+    requires counted { AreCounted tables.old }
+    requires empty { empty.list ≡ [] }
+    ensures effect { IfOk result (λ done. (s : State) → s.tables ≡ tables.old → ForSome (table_at tables.old row) (λ t. IsEffect done [] (record s { tables = tables.new }) (edited_effect s row t offset bytes.now))) }
+    ensures quiet { IfOk result IsQuiet }
+    ensures err { OnErr result (tables.new ≡ tables.old) }
+{
+    let answer = dump_control::edit(alloc, tables, row, offset, bytes)?;
+    Ok(Effect::of(answer, empty))
+}

@@ -1,0 +1,99 @@
+//! Loads from files, which the ground asks for.
+
+ghost use Rattle.std.specs.Prelude.{◌≡◌, ◌≤◌, [], length, IsSome, IfSome, IfOk, OnErr};
+ghost use Rattle.tbl_model.specs.State.{State};
+ghost use Rattle.tbl_model.specs.Tables.{table_at};
+ghost use Rattle.tbl_model.specs.Subjects.{by_row};
+ghost use Rattle.tbl_model.specs.GroundLoads.{load_into, load_file_effect, load_effect};
+ghost use Rattle.table_files.specs.Files.{with_image};
+ghost use Rattle.request_effects.specs.Effects.{IsEffect, IsQuiet};
+
+use crate::checks::{BUFFERS, answered_load};
+use file_drawer::Drawer;
+use partial_load::load_into;
+use request_effects::Effect;
+use std::alloc::Global;
+use table_files::{IMAGE_PLACE, TableFile, read_table_file};
+use tbl_kinds::{Answer, Bytes, Memory, Name64, Status};
+use tbl_model::Named;
+use tbl_registry::Tables;
+
+/// Fills the load of the table in the row where it was found, or answers why not.
+fn load_found(
+    alloc: Global,
+    tables: &mut Tables,
+    row: Option<u8>,
+    file: &Name64,
+    parsed: &TableFile,
+    image: &[u8],
+    empty: Bytes,
+) -> Result<Effect, Memory>
+    requires found { IfSome row (λ row. IsSome (table_at tables.old row)) }
+    requires count { length image.now ≡ parsed.now.count }
+    requires empty { empty.list ≡ [] }
+    requires room { 4 ≤ empty.spare }
+    ensures effect { IfOk result (λ done. (s : State) → s.tables ≡ tables.old → IsEffect done [] (record s { tables = tables.new }) (by_row s parsed.now.name row (load_into s file.now (with_image parsed.now image.now)))) }
+    ensures quiet { IfOk result IsQuiet }
+    ensures err { OnErr result (tables.new ≡ tables.old) }
+{
+    let Some(row) = row else {
+        return Ok(Effect::of(Answer::plain(Status::ERR_NO_SUCH_TABLE), empty));
+    };
+    let answer = load_into(alloc, tables, row, file, parsed, image)?;
+    Ok(Effect {
+        table: Some(Named {
+            row,
+            name: parsed.name.copy(),
+        }),
+        ..answered_load(tables, answer, empty)
+    })
+}
+
+/// Fills the load of the table that a file names, or answers why not.
+#[tactic(auto, unfolding(tbl_model::specs::GroundLoads::load_file_effect))]
+fn load_parsed(
+    alloc: Global,
+    tables: &mut Tables,
+    file: &Name64,
+    parsed: &TableFile,
+    image: &[u8],
+    empty: Bytes,
+) -> Result<Effect, Memory>
+    requires count { length image.now ≡ parsed.now.count }
+    requires empty { empty.list ≡ [] }
+    requires room { 4 ≤ empty.spare }
+    ensures effect { IfOk result (λ done. (s : State) → s.tables ≡ tables.old → IsEffect done [] (record s { tables = tables.new }) (load_file_effect s file.now (with_image parsed.now image.now))) }
+    ensures quiet { IfOk result IsQuiet }
+    ensures err { OnErr result (tables.new ≡ tables.old) }
+{
+    let row = tables.find(parsed.name.bytes());
+    load_found(alloc, tables, row, file, parsed, image, empty)
+}
+
+/// Fills the load of a table from a file in the drawer, or answers why not.
+#[tactic(auto, unfolding(tbl_model::specs::GroundLoads::load_effect))]
+#[inline(never)]
+pub(crate) fn load(
+    alloc: Global,
+    tables: &mut Tables,
+    drawer: &Drawer,
+    file: &Name64,
+    mut empty: Bytes,
+) -> Result<Effect, Memory>
+    requires { empty.list ≡ [] }
+    ensures effect { IfOk result (λ done. (s : State) → s.tables ≡ tables.old → s.drawer ≡ drawer.now → IsEffect done [] (record s { tables = tables.new }) (load_effect s file.now)) }
+    ensures quiet { IfOk result IsQuiet }
+    ensures err { OnErr result (tables.new ≡ tables.old) }
+{
+    empty.reserve(BUFFERS)?;
+    let Some(contents) = drawer.get(file) else {
+        return Ok(Effect::of(Answer::plain(Status::ERR_FILE_NOT_FOUND), empty));
+    };
+    match read_table_file(contents) {
+        Ok(parsed) => {
+            let (_, image) = contents.split_at(IMAGE_PLACE);
+            load_parsed(alloc, tables, file, &parsed, image, empty)
+        }
+        Err(fault) => Ok(Effect::of(Answer::plain(fault.status()), empty)),
+    }
+}

@@ -1,0 +1,29 @@
+//! What requests do to tables: the layer above may rely on it that each call gives the model's effect in every state that
+//! has the parts that it is given, and that want of memory changes nothing.
+#![tactic(auto)]
+
+mod activations;
+mod addresses;
+mod applications;
+mod checks;
+mod commands;
+mod dumps;
+mod files;
+mod ground_loads;
+mod housekeeping;
+mod loads;
+mod management;
+mod registry;
+mod validations;
+
+pub use activations::update;
+pub use addresses::{get, read, release};
+pub use applications::{exit, share, start};
+pub use checks::check;
+pub use commands::command;
+pub use dumps::{dump_to_buffer, edit};
+pub use files::file;
+pub use loads::{load_file, load_image};
+pub use management::{get_status, manage, notify};
+pub use registry::get_info;
+pub use validations::app_validate;
