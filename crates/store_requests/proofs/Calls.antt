@@ -1,0 +1,297 @@
+-- Requests that call the store: from how each call ended to what the model says of the request.
+use Rattle.std.proofs.Common.{◌≡◌, ◌≢◌, ℕ, ◌+◌, zero, suc, List, [], ◌∷◌, length, take, Bool, true, false, Option, Some, None, Result, Ok, Err, refl, sym, ◌∙◌, ap, subst}
+use Rattle.std.specs.Prelude.{OnOk, IfErr, slice_get, slice_index_or, ◌==◌, map, if◌then◌else◌, option_and_then}
+use Rattle.std.specs.Option.{ForSome, option_map}
+use Rattle.std.proofs.lemmas.Option.{same_Some}
+use Rattle.std.proofs.lemmas.Bool.{eq-eqb}
+use Rattle.tbl_kinds.specs.Blocks.{Stored, Store as Blocks}
+use Rattle.tbl_kinds.specs.StoreCalls.{StoreCall, copy, restore, delete, after, after_first, broken, CanBreak}
+use Rattle.tbl_kinds.specs.StoreSteps.{stored_at, Shows, MayShow, MayGive}
+use Rattle.tbl_kinds.specs.Buffers.{Buffer}
+use Rattle.tbl_kinds.specs.Notes.{untouched, restored_image}
+use Rattle.tbl_kinds.specs.declared.note.BankNote.{BankNote}
+use Rattle.tbl_kinds.specs.declared.note.Outcome.TheVariants.{Stopped}
+use Rattle.tbl_kinds.specs.declared.request.ResetKind.TheVariants.{Processor}
+use Rattle.tbl_kinds.specs.declared.status.Status.{Status}
+use Rattle.tbl_kinds.specs.declared.status.TheConstants.Status.{SUCCESS, INFO_STOPPED, ERR_CDS_FAULT, ERR_IMAGE_SIZE, ERR_CDS_TORN}
+use Rattle.tbl_model.specs.State.{State}
+use Rattle.tbl_model.specs.Effects as model
+use Rattle.tbl_model.specs.Effects.{answered}
+use Rattle.tbl_model.specs.Boots.{boot}
+use Rattle.tbl_model.specs.StoreUse.{left_by, then_broken, then_call}
+use Rattle.tbl_model.specs.StoreNotes.{NoGate, is_restore, MayGo, MayGoOn, Tells}
+use Rattle.tbl_model.specs.AppBlocks.{faulted, restore_answer}
+use Rattle.cds_store.specs.Calls.{HasFlags, is_gate, is_old}
+use Rattle.cds_store.specs.Standing.{StoreParts, StandsFor, AreHeld, slot_of, held_at, after_fault}
+use Rattle.cds_layout.specs.Restores.{TellsTorn}
+use Rattle.cds_layout.specs.declared.blocks.RestoreFault.{RestoreFault}
+use Rattle.cds_layout.specs.declared.blocks.RestoreFault.TheVariants.{Torn, Fault as Unread}
+use Rattle.cds_store.specs.Sound.{slot_at}
+use Rattle.cds_store.specs.declared.slot.Slot.{Slot}
+use Rattle.cds_store.proofs.Showing.{slot_is}
+use Rattle.cds_layout.specs.Directory.{directory_of}
+use Rattle.cds_layout.specs.Images.{held_in, stored_in, store_of}
+use Rattle.tbl_kinds.specs.declared.block.Block.{Block}
+use Rattle.cds_store.specs.declared.fault.BankFault.{BankFault}
+use Rattle.cds_store.specs.declared.fault.BankFault.TheVariants.{Fault, Stopped as Cut}
+use Rattle.request_effects.specs.Effects.{IsEffect}
+use Rattle.tbl_laws.specs.Crashes.{DuringCalls, writes}
+use Rattle.tbl_outside.specs.Bank.{LeavesOnly}
+use Rattle.cds_store.specs.Moments.{LeavesIn}
+use Rattle.store_requests.proofs.Moments.{one_leaves}
+use Rattle.store_requests.specs.Called.{Leaving, with_boot, broken_note, broken_status, done_note, call_note, call_status, IsTold, IsCalled, Calls}
+use Rattle.tbl_model.specs.declared.deeds.Named.{Named}
+use Rattle.request_effects.specs.declared.effect.Effect.{Effect}
+
+-- ---- the effect
+
+-- what is told is the answer
+pub told_so : (s next : State) (done : Effect) (status : Status) (detail : ℕ) (bytes : List ℕ) (note : BankNote) → IsTold done status detail bytes note
+    → IsEffect done [] next (record (answered s status detail) { bytes = bytes; next = next })
+told_so s next done status detail bytes note told = record {
+  status = sym told.status_is;
+  detail = sym told.detail_is;
+  bytes = sym told.bytes_are;
+  table = sym told.silent.table;
+  deeds = sym told.silent.deeds;
+  shown = sym told.silent.shown;
+  asked = refl;
+  calls = refl;
+  notice = sym told.silent.notice;
+  next = refl;
+}
+
+pub told_with : {done : Effect} {status : Status} {detail : ℕ} {bytes other : List ℕ} {note is : BankNote} → bytes ≡ other → note ≡ is → IsTold done status detail bytes note → IsTold done status detail other is
+told_with {done} {status} {detail} {bytes} {other} {note} {is} same same_note told =
+    subst (λ b. IsTold done status detail b is) same (subst (IsTold done status detail bytes) same_note told)
+
+pub torn_told : {done : Effect} {status : Status} {words : ℕ} {bytes : List ℕ} {note : BankNote} → note ≡ untouched → bytes ≡ [] → IsTold done status words bytes (record (done_note note) { torn = words })
+    → IsTold done status words [] (record (done_note untouched) { torn = words })
+torn_told {done} {status} {words} {bytes} {note} fresh empty told =
+    told_with empty (ap (λ (n : BankNote). record (done_note n) { torn = words }) fresh) told
+
+-- it is enough to know it of the note that is told
+pub by_note : {B : Type 0} (tells : Type 0) (now : B → List ℕ) (tells_moments : Type 0) (clock : B → ℕ) (left_since : B → ℕ → List ℕ → Type 0) (first kept : StoreParts B) (s : State) (done : Effect) (means : BankNote → model.Effect) (note : BankNote) → done.note ≡ note
+    → ((ended stopped : Bool) (found : List ℕ) → IsCalled tells now tells_moments clock left_since first kept s [] done (with_boot ended stopped found note) (means (with_boot ended stopped found note)))
+    → Calls tells now tells_moments clock left_since first kept s done means
+by_note tells now tells_moments clock left_since first kept s done means note is all =
+    subst (λ (n : BankNote). (ended stopped : Bool) (found : List ℕ) → IsCalled tells now tells_moments clock left_since first kept s [] done (with_boot ended stopped found n) (means (with_boot ended stopped found n))) (sym is) all
+
+-- a note that tells of no restore
+abbrev pub Plain : BankNote → Type 0
+Plain note = (note.restored ≡ None) × (note.torn ≡ 0)
+
+module _ {B : Type 0} (tells : Type 0) (now : B → List ℕ) (tells_moments : Type 0) (clock : B → ℕ) (left_since : B → ℕ → List ℕ → Type 0) (first kept : StoreParts B) (s : State) (done : Effect) where
+  -- an answer that calls nothing
+  pub calls_none : Leaving tells_moments clock left_since first kept (DuringCalls [] s.store) → (status : Status) (detail : ℕ) → IsTold done status detail [] untouched → StandsFor tells now kept s.store → Calls tells now tells_moments clock left_since first kept s done (λ n. answered s status detail)
+  calls_none moments status detail told stands = by_note tells now tells_moments clock left_since first kept s done (λ n. answered s status detail) untouched told.note_is (λ ended stopped found. record {
+    blocks = stands;
+    effect = told_so s s done status detail [] untouched told;
+    ends = (refl, refl, (refl, refl));
+    gave = tt;
+    says = (refl, refl);
+    writing = λ stop. refl;
+    moments = moments;
+  })
+
+  module _ (calls : List StoreCall) (status : Status) (detail : ℕ) (bytes : List ℕ) (note : BankNote) where
+    -- all calls are done
+    pub calls_done : Leaving tells_moments clock left_since first kept (DuringCalls (writes calls) s.store) → IsTold done status detail bytes (done_note note) → StandsFor tells now kept (left_by calls (done_note note) s.store)
+        → calls ≢ [] → note.done + 1 ≡ length calls → NoGate note
+        → MayGoOn (take (note.done + 1) calls) s.store → ((n : BankNote) → n.restored ≡ note.restored → n.torn ≡ note.torn → Tells (take (note.done + 1) calls) n)
+        → (ended stopped : Bool) (found : List ℕ)
+        → IsCalled tells now tells_moments clock left_since first kept s [] done (with_boot ended stopped found (done_note note)) (then_call calls (with_boot ended stopped found (done_note note)) faulted (record (answered s status detail) { bytes = bytes }))
+    calls_done moments told stands some many no_gate gave says ended stopped found = record {
+      blocks = stands;
+      effect = told_so s (record s { store = left_by calls (done_note note) s.store }) done status detail bytes (done_note note) told;
+      ends = (some, many, no_gate);
+      gave = gave;
+      says = says (with_boot ended stopped found (done_note note)) refl refl;
+      writing = λ stop. absurd (cc stop);
+      moments = moments;
+    }
+
+    -- the next one broke off
+    pub calls_broke : Leaving tells_moments clock left_since first kept (DuringCalls (writes calls) s.store) → (call : StoreCall) → slice_get calls note.done ≡ Some call → (fault : BankFault)
+        → IsTold done (broken_status fault) 0 [] (broken_note fault note)
+        → StandsFor tells now kept (broken (is_gate fault) (is_old fault) call (after_first note.done calls s.store))
+        → CanBreak (is_gate fault) (is_old fault) call (after_first note.done calls s.store) → ((broken_note fault note).outcome ≡ Stopped → (is_restore call ≡ false) × (writes calls ≡ calls))
+        → MayGoOn (take note.done calls) s.store → ((n : BankNote) → n.restored ≡ note.restored → n.torn ≡ note.torn → Tells (take note.done calls) n)
+        → (ended stopped : Bool) (found : List ℕ)
+        → IsCalled tells now tells_moments clock left_since first kept s [] done (with_boot ended stopped found (broken_note fault note)) (then_call calls (with_boot ended stopped found (broken_note fault note)) faulted (record (answered s status detail) { bytes = bytes }))
+    calls_broke moments call next (Fault gate old) told stands can writes gave says ended stopped found =
+        let n = broken_note (Fault gate old) note in record {
+          blocks = subst (λ o. StandsFor tells now kept (then_broken n o (after_first note.done calls s.store))) (sym next) stands;
+          effect = told_so s (record s { store = left_by calls n s.store }) done ERR_CDS_FAULT 0 [] n told;
+          ends = record { call = call; next = next; breaks = can };
+          gave = gave;
+          says = says (with_boot ended stopped found n) refl refl;
+          writing = λ stop. absurd (cc stop);
+          moments = moments;
+        }
+    calls_broke moments call next (Cut gate old) told stands can stops gave says ended stopped found =
+        let n = broken_note (Cut gate old) note in
+        let behind = boot Processor (with_boot ended stopped found n) (record s { store = left_by calls n s.store }) in record {
+          blocks = subst (λ o. StandsFor tells now kept (then_broken n o (after_first note.done calls s.store))) (sym next) stands;
+          effect = told_so behind behind done INFO_STOPPED 0 [] n told;
+          ends = (record { call = call; next = next; breaks = can }, (stops refl).0);
+          gave = gave;
+          says = says (with_boot ended stopped found n) refl refl;
+          writing = λ stop. (stops refl).1;
+          moments = moments;
+        }
+
+  -- the first call broke off, which writes
+  pub first_broke : (call : StoreCall) (more : List StoreCall) → Leaving tells_moments clock left_since first kept (DuringCalls (writes (call ∷ more)) s.store) → (writes (call ∷ more) ≡ call ∷ more) → (status : Status) (detail : ℕ) (fault : BankFault) (before : StoreParts B) (gate old : Bool)
+      → is_restore call ≡ false → CanBreak gate old call s.store → HasFlags gate old fault → StandsFor tells now before s.store
+      → ((blocks : Blocks) → StandsFor tells now before blocks → StandsFor tells now kept (broken (is_gate fault) (is_old fault) call blocks))
+      → IsTold done (broken_status fault) 0 [] (broken_note fault untouched)
+      → (ended stopped : Bool) (found : List ℕ)
+      → IsCalled tells now tells_moments clock left_since first kept s [] done (with_boot ended stopped found (broken_note fault untouched)) (then_call (call ∷ more) (with_boot ended stopped found (broken_note fault untouched)) faulted (answered s status detail))
+  first_broke call more moments all status detail fault before gate old plain can flags stands err told =
+      calls_broke (call ∷ more) status detail [] untouched moments call refl fault told (err s.store stands)
+      (subst (λ g. CanBreak g (is_old fault) call s.store) (sym flags.gate_is) (subst (λ o. CanBreak gate o call s.store) (sym flags.old_is) can))
+      (λ is. (plain, all)) tt (λ n restored torn. (restored, torn))
+
+  -- a single call that writes
+  pub one_call : (call : StoreCall) → Leaving tells_moments clock left_since first kept (DuringCalls (writes (call ∷ [])) s.store) → (writes (call ∷ []) ≡ call ∷ []) → (ended : Result Unit BankFault) (before : StoreParts B) (gate old : Bool)
+      → is_restore call ≡ false → ((store : Blocks) → MayGoOn (call ∷ []) store) → ((n : BankNote) → Plain n → Tells (call ∷ []) n)
+      → CanBreak gate old call s.store → IfErr ended (HasFlags gate old)
+      → StandsFor tells now before s.store
+      → OnOk ended ((blocks : Blocks) → StandsFor tells now before blocks → StandsFor tells now kept (after call blocks))
+      → IfErr ended (λ fault. (blocks : Blocks) → StandsFor tells now before blocks → StandsFor tells now kept (broken (is_gate fault) (is_old fault) call blocks))
+      → IsTold done (call_status ended) 0 [] (call_note ended untouched)
+      → Calls tells now tells_moments clock left_since first kept s done (λ n. then_call (call ∷ []) n faulted (answered s SUCCESS 0))
+  one_call call moments all (Ok x) before gate old plain gave says can flags stands ok err told =
+      by_note tells now tells_moments clock left_since first kept s done (λ n. then_call (call ∷ []) n faulted (answered s SUCCESS 0)) (done_note untouched) told.note_is
+      (calls_done (call ∷ []) SUCCESS 0 [] untouched moments told (ok s.store stands) (λ is. cc is) refl (refl, refl) (gave s.store) (λ n restored torn. says n (restored, torn)))
+  one_call call moments all (Err fault) before gate old plain gave says can flags stands ok err told =
+      by_note tells now tells_moments clock left_since first kept s done (λ n. then_call (call ∷ []) n faulted (answered s SUCCESS 0)) (broken_note fault untouched) told.note_is
+      (first_broke call [] moments all SUCCESS 0 fault before gate old plain can flags stands err told)
+
+  -- what means the same
+  pub calls_same : (one other : BankNote → model.Effect) → ((n : BankNote) → other n ≡ one n) → Calls tells now tells_moments clock left_since first kept s done one → Calls tells now tells_moments clock left_since first kept s done other
+  calls_same one other same all ended stopped found =
+      let n = with_boot ended stopped found done.note in
+      subst (IsCalled tells now tells_moments clock left_since first kept s [] done n) (sym (same n)) (all ended stopped found)
+
+  -- a command is about this table
+  pub calls_about : (table named : Option Named) (means : BankNote → model.Effect) → named ≡ table → Calls tells now tells_moments clock left_since first kept s done means
+      → Calls tells now tells_moments clock left_since first kept s (record done { table = table }) (λ n. record (means n) { table = named })
+  calls_about table named means same all ended stopped found =
+      let is = all ended stopped found in record {
+        blocks = is.blocks;
+        effect = record {
+          status = is.effect.status;
+          detail = is.effect.detail;
+          bytes = is.effect.bytes;
+          table = same;
+          deeds = is.effect.deeds;
+          shown = is.effect.shown;
+          asked = is.effect.asked;
+          calls = is.effect.calls;
+          notice = is.effect.notice;
+          next = is.effect.next;
+        };
+        ends = is.ends;
+        gave = is.gave;
+        says = is.says;
+        writing = is.writing;
+        moments = is.moments;
+      }
+
+-- a copy of an image of this size, and the deletion of a block
+module _ {B : Type 0} (tells : Type 0) (now : B → List ℕ) (tells_moments : Type 0) (clock : B → ℕ) (left_since : B → ℕ → List ℕ → Type 0) (first before kept : StoreParts B) (s : State) (done : Effect) (slot : ℕ) (ended : Result Unit BankFault) (stands : StandsFor tells now before s.store) (told : IsTold done (call_status ended) 0 [] (call_note ended untouched)) where
+  pub copy_called : (image : List ℕ) (size : ℕ) → (tells_moments → LeavesOnly clock left_since first.bank kept.bank (LeavesIn (copy slot image) s.store)) → length image ≡ size → IfErr ended (HasFlags false false)
+      → OnOk ended ((blocks : Blocks) → StandsFor tells now before blocks → StandsFor tells now kept (after (copy slot image) blocks))
+      → IfErr ended (λ fault. (blocks : Blocks) → StandsFor tells now before blocks → StandsFor tells now kept (broken (is_gate fault) (is_old fault) (copy slot image) blocks))
+      → Calls tells now tells_moments clock left_since first kept s done (λ n. if length image == size then then_call (copy slot image ∷ []) n faulted (answered s SUCCESS 0) else answered s ERR_IMAGE_SIZE 0)
+  copy_called image size left fits flags ok err =
+      calls_same tells now tells_moments clock left_since first kept s done (λ n. then_call (copy slot image ∷ []) n faulted (answered s SUCCESS 0)) (λ n. if length image == size then then_call (copy slot image ∷ []) n faulted (answered s SUCCESS 0) else answered s ERR_IMAGE_SIZE 0)
+      (λ n. ap (λ b. if b then then_call (copy slot image ∷ []) n faulted (answered s SUCCESS 0) else answered s ERR_IMAGE_SIZE 0) (eq-eqb (length image) size fits))
+      (one_call tells now tells_moments clock left_since first kept s done (copy slot image) (one_leaves tells_moments clock left_since first kept (copy slot image) [] s.store left) refl ended before false false refl (λ store. (tt, tt)) (λ n plain. plain) (refl, refl) flags stands ok err told)
+
+  pub delete_called : (tells_moments → LeavesOnly clock left_since first.bank kept.bank (LeavesIn (delete slot) s.store)) → IfErr ended (HasFlags true false)
+      → OnOk ended ((blocks : Blocks) → StandsFor tells now before blocks → StandsFor tells now kept (after (delete slot) blocks))
+      → IfErr ended (λ fault. (blocks : Blocks) → StandsFor tells now before blocks → StandsFor tells now kept (broken (is_gate fault) (is_old fault) (delete slot) blocks))
+      → Calls tells now tells_moments clock left_since first kept s done (λ n. then_call (delete slot ∷ []) n faulted (answered s SUCCESS 0))
+  delete_called left flags ok err = one_call tells now tells_moments clock left_since first kept s done (delete slot) (one_leaves tells_moments clock left_since first kept (delete slot) [] s.store left) refl ended before true false refl (λ store. (tt, tt)) (λ n plain. plain) (refl, refl) flags stands ok err told
+
+-- ---- a restore
+
+-- what the bank shows of a block is what stands in it
+held_is : (bytes : List ℕ) (directory : List (Option Block)) (n : ℕ) (left : Stored) → slice_index_or (map (option_map (stored_in bytes)) directory) n None ≡ Some left → left.held ≡ held_in bytes left.block
+held_is bytes [] n left is = absurd (cc is)
+held_is bytes (None ∷ blocks) zero left is = absurd (cc is)
+held_is bytes (Some b ∷ blocks) zero left is = subst (λ (x : Stored). x.held ≡ held_in bytes x.block) (same_Some (stored_in bytes b) left is) refl
+held_is bytes (x ∷ blocks) (suc n) left is = held_is bytes blocks n left is
+
+-- an image that came back is what the block of the slot held
+pub held_image : (bytes : List ℕ) (blocks : Blocks) (slot : ℕ) (image : List ℕ) → Shows blocks (store_of bytes) → held_at slot (store_of bytes) ≡ Some image → ForSome (stored_at blocks slot) (λ b. held_in bytes b.block ≡ Some image)
+unfolding store_of
+held_image bytes blocks slot image shows held b there = by (stored_at (store_of bytes) slot) refl held (subst (λ o. MayShow o (stored_at (store_of bytes) slot)) there (shows.each slot)) where
+  by : (o : Option Stored) → stored_at (store_of bytes) slot ≡ o → option_and_then (λ (b : Stored). b.held) (stored_at (store_of bytes) slot) ≡ Some image → MayShow (Some b) (stored_at (store_of bytes) slot) → held_in bytes b.block ≡ Some image
+  by None is held shown = absurd (cc (ap (option_and_then (λ (b : Stored). b.held)) is, held))
+  by (Some left) is held shown =
+      let same : left.block ≡ b.block = ap (λ (x : Stored). x.block) (subst (MayShow (Some b)) is shown).0 in
+      let whole : left.held ≡ Some image = sym (ap (option_and_then (λ (b : Stored). b.held)) is) ∙ held in
+      sym (ap (held_in bytes) same) ∙ sym (held_is bytes (directory_of bytes) slot left is) ∙ whole
+
+-- the block of a slot that stands for blocks
+pub block_there : (slots : List (Option Slot)) (blocks : Blocks) (slot : ℕ) (b : Stored) → slots ≡ map (option_map slot_of) blocks → stored_at blocks slot ≡ Some b → slot_at slots slot ≡ Some (slot_of b)
+block_there slots blocks slot b same there = slot_is [] slots blocks same slot ∙ ap (option_map slot_of) there
+
+-- what the bank tells of the block in a slot is what a restore of it may give
+module _ (bytes : List ℕ) (blocks : Blocks) (slot : ℕ) where
+  pub gives_image : (image : List ℕ) → Shows blocks (store_of bytes) → held_at slot (store_of bytes) ≡ Some image → ForSome (stored_at blocks slot) (λ b. MayGive b (Some image))
+  gives_image image shows held b there = by (stored_at (store_of bytes) slot) refl held (subst (λ o. MayShow o (stored_at (store_of bytes) slot)) there (shows.each slot)) where
+    by : (o : Option Stored) → stored_at (store_of bytes) slot ≡ o → option_and_then (λ (b : Stored). b.held) (stored_at (store_of bytes) slot) ≡ Some image → MayShow (Some b) (stored_at (store_of bytes) slot) → MayGive b (Some image)
+    by None is held shown = absurd (cc (ap (option_and_then (λ (b : Stored). b.held)) is, held))
+    by (Some left) is held shown = subst (MayGive b) (sym (ap (option_and_then (λ (b : Stored). b.held)) is) ∙ held) (subst (MayShow (Some b)) is shown).1
+
+  pub gives_none : (slots : List (Option Slot)) → slots ≡ map (option_map slot_of) blocks → AreHeld bytes blocks
+      → ForSome (slot_at slots slot) (λ t. held_in bytes t.block ≡ None) → ForSome (stored_at blocks slot) (λ b. MayGive b None)
+  gives_none slots same held none b there =
+      let at : slot_at slots slot ≡ Some (slot_of b) = slot_is [] slots blocks same slot ∙ ap (option_map slot_of) there in
+      subst (MayGive b) (none (slot_of b) at) (held slot b there)
+
+module _ {B : Type 0} (tells : Type 0) (now : B → List ℕ) (tells_moments : Type 0) (clock : B → ℕ) (left_since : B → ℕ → List ℕ → Type 0) (first before kept : StoreParts B) (s : State) (done : Effect) (slot : ℕ) (stands : StandsFor tells now before s.store) (moments : Leaving tells_moments clock left_since first kept (DuringCalls [] s.store)) where
+  abbrev Restores : Type 0
+  Restores = Calls tells now tells_moments clock left_since first kept s done (λ n. then_call (restore slot (restored_image n) ∷ []) n faulted (restore_answer s n.torn (restored_image n)))
+
+  abbrev means : BankNote → model.Effect
+  means n = then_call (restore slot (restored_image n) ∷ []) n faulted (restore_answer s n.torn (restored_image n))
+
+  pub given_called : (image : List ℕ) (kept_bytes : Option Buffer) → option_map (λ (b : Buffer). b.list) kept_bytes ≡ Some image
+      → ForSome (stored_at s.store slot) (λ b. MayGive b (Some image)) → ForSome (stored_at s.store slot) (λ b. length image ≡ b.block.size)
+      → StandsFor tells now kept (after (restore slot (Some image)) s.store)
+      → IsTold done SUCCESS 0 image (record (done_note untouched) { restored = kept_bytes })
+      → Restores
+  given_called image None is gives sized left told = absurd (cc is)
+  given_called image (Some b) is gives sized left told =
+      let same : b.list ≡ image = same_Some b.list image is in
+      by_note tells now tells_moments clock left_since first kept s done means (record (done_note untouched) { restored = Some b }) told.note_is
+      (calls_done tells now tells_moments clock left_since first kept s done (restore slot (Some b.list) ∷ []) SUCCESS 0 b.list (record untouched { restored = Some b }) moments (told_with (sym same) refl told)
+      (subst (λ i. StandsFor tells now kept (after (restore slot (Some i)) s.store)) (sym same) left) (λ is. cc is) refl (refl, refl)
+      (subst (λ (i : List ℕ). MayGo (restore slot (Some i)) s.store) (sym same) (λ b there. (gives b there, sized b there)), tt)
+      (λ n restored torn. (ap (option_map (λ (b : Buffer). b.list)) restored, λ given. torn)))
+
+  pub torn_called : tells → (broke : RestoreFault) (length word found words : ℕ) → broke ≡ Torn length word found
+      → (tells → ForSome (slot_at before.slots slot) (λ t. TellsTorn (now before.bank) t.block broke))
+      → ((blocks : Blocks) → StandsFor tells now before blocks → StandsFor tells now kept (after_fault broke slot blocks))
+      → IsTold done ERR_CDS_TORN words [] (record (done_note untouched) { torn = words })
+      → Restores
+  torn_called told broke length word found words is none left answer =
+      let gives = gives_none (now before.bank) s.store slot before.slots stands.slots (stands.holds told) (λ t at. (subst (TellsTorn (now before.bank) t.block) is (none told t at)).no_image) in
+      let there = subst (λ f. StandsFor tells now kept (after_fault f slot s.store)) is (left s.store stands) in
+      by_note tells now tells_moments clock left_since first kept s done means (record (done_note untouched) { torn = words }) answer.note_is
+      (calls_done tells now tells_moments clock left_since first kept s done (restore slot None ∷ []) ERR_CDS_TORN words [] (record untouched { torn = words }) moments answer there (λ is. cc is) refl (refl, refl) ((λ b there. (gives b there, tt)), tt)
+      (λ n restored torn. (ap (option_map (λ (b : Buffer). b.list)) restored, λ given. absurd (cc given))))
+
+  pub unread_called : (broke : RestoreFault) → broke ≡ Unread
+      → ((blocks : Blocks) → StandsFor tells now before blocks → StandsFor tells now kept (after_fault broke slot blocks))
+      → IsTold done ERR_CDS_FAULT 0 [] (broken_note (Fault false false) untouched) → Restores
+  unread_called broke is left told =
+      let there = subst (λ f. StandsFor tells now kept (after_fault f slot s.store)) is (left s.store stands) in
+      by_note tells now tells_moments clock left_since first kept s done means (broken_note (Fault false false) untouched) told.note_is
+      (calls_broke tells now tells_moments clock left_since first kept s done (restore slot None ∷ []) ERR_CDS_TORN 0 [] untouched moments (restore slot None) refl (Fault false false) told there (refl, refl) (λ is. absurd (cc is)) tt (λ n restored torn. (restored, torn)))

@@ -1,0 +1,289 @@
+-- The copy of an image that went active: from how it ended to what the model says.
+use Rattle.std.proofs.Common.{◌≡◌, inl, inr, ℕ, suc, ◌≤◌, List, [], ◌∷◌, ◌++◌, length, Bool, true, false, not, ◌&&◌, cond, Option, Some, None, Result, Ok, Err, refl, sym, ◌∙◌, ap, subst, arith}
+use Rattle.std.specs.Prelude.{◌-◌, OnOk, IfErr, IfSome, slice_get, option_and_then}
+use Rattle.std.specs.Option.{option_map}
+use Rattle.std.proofs.lemmas.List.Quantifiers.{position-Some}
+use Rattle.std.proofs.lemmas.Option.{same_Some}
+use Rattle.tbl_kinds.specs.Blocks.{Store as Blocks}
+use Rattle.tbl_kinds.specs.StoreCalls.{StoreCall, copy, after, broken}
+use Rattle.tbl_kinds.specs.Notes.{untouched}
+use Rattle.tbl_kinds.specs.declared.block.Block.{Block}
+use Rattle.tbl_kinds.specs.declared.block.BlockKind.{BlockKind}
+use Rattle.tbl_kinds.specs.declared.note.BankNote.{BankNote}
+use Rattle.tbl_kinds.specs.declared.entry.Answer.{Answer}
+use Rattle.tbl_model.specs.State.{Table, Tables}
+use Rattle.tbl_model.specs.Tables.{table_at, is_critical}
+use Rattle.tbl_model.specs.Effects as model
+use Rattle.tbl_model.specs.StoreUse.{left_by}
+use Rattle.tbl_model.specs.Copies.{went_active, is_activation, block_of, copied_to, copied_of, then_copy}
+use Rattle.tbl_model.specs.declared.deeds.Deed.{Deed}
+use Rattle.tbl_model.specs.declared.deeds.Deed.TheVariants.{CopyFailed}
+use Rattle.cds_store.specs.Calls.{CallCounted, HasFlags, is_gate, is_old}
+use Rattle.cds_store.specs.Slots.{is_open_slot, open_slot, block_of as block_in}
+use Rattle.cds_store.specs.Sound.{slot_at, IsOpenOf}
+use Rattle.cds_store.specs.Standing.{StoreParts, StandsFor}
+use Rattle.cds_store.specs.declared.slot.Slot.{Slot}
+use Rattle.cds_store.specs.declared.fault.BankFault.{BankFault}
+use Rattle.cds_store.specs.declared.fault.BankFault.TheVariants.{Fault, Stopped as Cut}
+use Rattle.tbl_outside.specs.Counts.{Rose}
+use Rattle.std.proofs.lemmas.List.{length-append}
+use Rattle.store_requests.specs.Called.{RoseBy, with_boot, done_note, broken_note, IsCalled, CallsBehind}
+use Rattle.tbl_laws.specs.Crashes.{DuringCalls, writes}
+use Rattle.tbl_outside.specs.Bank.{LeavesOnly}
+use Rattle.tbl_outside.proofs.Moments.{leaves_among}
+use Rattle.cds_layout.specs.Images.{store_of}
+use Rattle.cds_store.specs.Moments.{LeavesIn}
+use Rattle.store_requests.proofs.Moments.{one_leaves}
+use Rattle.store_requests.specs.Copying.{IsCopied, IsCopyCall}
+use Rattle.request_effects.specs.Effects.{IsEffect}
+use Rattle.request_effects.specs.declared.effect.Effect.{Effect}
+
+-- ---- the block of a table
+
+open_in_slot : (kind : BlockKind) (name : List ℕ) (size : ℕ) (b : Block) (o : Option Slot) → is_open_slot kind name o ≡ true → Some b ≡ option_map block_in o → b.size ≡ size → IsOpenOf size o
+open_in_slot kind name size b None open_there is sized = absurd (cc open_there)
+open_in_slot kind name size b (Some s) open_there is sized = (closed s.doubtful _ open_there, ap (λ (x : Block). x.size) (sym (same_Some b s.block is)) ∙ sized) where
+  closed : (doubtful named : Bool) → (named && not doubtful) ≡ true → doubtful ≡ false
+  closed false named is = refl
+  closed true true is = absurd (cc is)
+  closed true false is = absurd (cc is)
+
+-- the open block that was found has this size
+pub open_of_size : (kind : BlockKind) (name : List ℕ) (slots : List (Option Slot)) (n size : ℕ) (b : Block) → open_slot kind name slots ≡ Some n → Some b ≡ option_map block_in (slot_at slots n) → b.size ≡ size → IsOpenOf size (slot_at slots n)
+open_of_size kind name slots n size b found is sized = open_in_slot kind name size b (slot_at slots n) (position-Some (is_open_slot kind name) slots n None found).1 is sized
+
+-- ---- what the request did before
+
+module _ {B : Type 0} (tells : Type 0) (now : B → List ℕ) (tells_moments : Type 0) (clock : B → ℕ) (left_since : B → ℕ → List ℕ → Type 0) (first kept : StoreParts B) (e : model.Effect) (before : Effect) (is : IsEffect before e.asked e.next e) where
+  abbrev Behind : Effect → (BankNote → model.Effect) → Type 0
+  Behind done means = CallsBehind tells now tells_moments clock left_since first kept e.next e.asked done means
+
+  -- it is enough to know it of the note that is told
+  by_told : (done : Effect) (means : BankNote → model.Effect) (note : BankNote) → done.note ≡ note
+      → ((ended stopped : Bool) (found : List ℕ) → IsCalled tells now tells_moments clock left_since first kept e.next e.asked done (with_boot ended stopped found note) (means (with_boot ended stopped found note))) → Behind done means
+  by_told done means note told all =
+      subst (λ (n : BankNote). (ended stopped : Bool) (found : List ℕ) → IsCalled tells now tells_moments clock left_since first kept e.next e.asked done (with_boot ended stopped found n) (means (with_boot ended stopped found n))) (sym told) all
+
+  -- nothing is copied behind it
+  alone : (tells_moments → LeavesOnly clock left_since first.bank kept.bank (λ image. (calls : List StoreCall) → DuringCalls calls e.next.store (store_of image))) → before.note ≡ untouched → StandsFor tells now kept e.next.store → Behind before (λ n. e)
+  alone moments told stands = by_told before (λ n. e) untouched told (λ ended stopped found. record {
+    blocks = subst (λ (calls : List StoreCall). StandsFor tells now kept (left_by calls (with_boot ended stopped found untouched) e.next.store)) (sym is.calls) stands;
+    effect = record {
+      status = is.status;
+      detail = is.detail;
+      bytes = is.bytes;
+      table = is.table;
+      deeds = is.deeds;
+      shown = is.shown;
+      asked = refl;
+      calls = refl;
+      notice = is.notice;
+      next = ap (λ (calls : List StoreCall). record e.next { store = left_by calls (with_boot ended stopped found untouched) e.next.store }) (sym is.calls);
+    };
+    ends = (is.calls, refl, (refl, refl));
+    gave = tt;
+    says = (refl, refl);
+    writing = λ stop. absurd (cc stop);
+    moments = λ m. leaves_among (moments m) (λ image all. all (writes e.calls));
+  })
+
+  pub stays : (tells_moments → LeavesOnly clock left_since first.bank kept.bank (λ image. (calls : List StoreCall) → DuringCalls calls e.next.store (store_of image))) → (means : BankNote → model.Effect) → ((n : BankNote) → means n ≡ e) → before.note ≡ untouched → StandsFor tells now kept e.next.store → Behind before means
+  stays moments means same told stands ended stopped found =
+      let n = with_boot ended stopped found before.note in
+      subst (IsCalled tells now tells_moments clock left_since first kept e.next e.asked before n) (sym (same n)) (alone moments told stands ended stopped found)
+
+  -- it is copied into this slot
+  pub copied_behind : (prior : StoreParts B) (row slot : ℕ) (image : List ℕ) (done : Effect) (ended : Result Unit BankFault) → (tells_moments → LeavesOnly clock left_since first.bank kept.bank (LeavesIn (copy slot image) e.next.store)) → StandsFor tells now prior e.next.store → IfErr ended (HasFlags false false)
+      → OnOk ended ((blocks : Blocks) → StandsFor tells now prior blocks → StandsFor tells now kept (after (copy slot image) blocks))
+      → IfErr ended (λ fault. (blocks : Blocks) → StandsFor tells now prior blocks → StandsFor tells now kept (broken (is_gate fault) (is_old fault) (copy slot image) blocks))
+      → IsCopied row slot ended before done → Behind done (λ n. copied_to row n e (Some slot) (Some image))
+  copied_behind prior row slot image done (Ok x) left stands flags ok err copied = by_told done (λ n. copied_to row n e (Some slot) (Some image)) (done_note untouched) copied.note (λ ended stopped found. record {
+    blocks = ok e.next.store stands;
+    effect = record {
+      status = is.status ∙ ap (λ (a : Answer). a.status) (sym copied.answer);
+      detail = is.detail ∙ ap (λ (a : Answer). a.detail) (sym copied.answer);
+      bytes = is.bytes ∙ sym copied.bytes;
+      table = is.table ∙ sym copied.table;
+      deeds = is.deeds ∙ sym copied.deeds;
+      shown = is.shown ∙ sym copied.shown;
+      asked = refl;
+      calls = refl;
+      notice = is.notice ∙ sym copied.notice;
+      next = refl;
+    };
+    ends = ((λ none. cc none), refl, (refl, refl));
+    gave = (tt, tt);
+    says = (refl, refl);
+    writing = λ stop. refl;
+    moments = one_leaves tells_moments clock left_since first kept (copy slot image) [] e.next.store left;
+  })
+  copied_behind prior row slot image done (Err (Fault gate old)) left stands flags ok err copied = by_told done (λ n. copied_to row n e (Some slot) (Some image)) (broken_note (Fault gate old) untouched) copied.note (λ ended stopped found. record {
+    blocks = err e.next.store stands;
+    effect = record {
+      status = is.status ∙ ap (λ (a : Answer). a.status) (sym copied.answer);
+      detail = is.detail ∙ ap (λ (a : Answer). a.detail) (sym copied.answer);
+      bytes = is.bytes ∙ sym copied.bytes;
+      table = is.table ∙ sym copied.table;
+      deeds = ap (λ (deeds : List Deed). deeds ++ CopyFailed row slot ∷ []) is.deeds ∙ sym copied.deeds;
+      shown = is.shown ∙ sym copied.shown;
+      asked = refl;
+      calls = refl;
+      notice = is.notice ∙ sym copied.notice;
+      next = refl;
+    };
+    ends = record { call = copy slot image; next = refl; breaks = (flags.gate_is, flags.old_is) };
+    gave = tt;
+    says = (refl, refl);
+    writing = λ stop. refl;
+    moments = one_leaves tells_moments clock left_since first kept (copy slot image) [] e.next.store left;
+  })
+  copied_behind prior row slot image done (Err (Cut gate old)) left stands flags ok err copied = by_told done (λ n. copied_to row n e (Some slot) (Some image)) (broken_note (Cut gate old) untouched) copied.note (λ ended stopped found. record {
+    blocks = err e.next.store stands;
+    effect = record {
+      status = ap (λ (a : Answer). a.status) (sym copied.answer);
+      detail = ap (λ (a : Answer). a.detail) (sym copied.answer);
+      bytes = sym copied.bytes;
+      table = sym copied.table;
+      deeds = is.deeds ∙ sym copied.deeds;
+      shown = sym copied.shown;
+      asked = refl;
+      calls = refl;
+      notice = sym copied.notice;
+      next = refl;
+    };
+    ends = (record { call = copy slot image; next = refl; breaks = (flags.gate_is, flags.old_is) }, refl);
+    gave = tt;
+    says = (refl, refl);
+    writing = λ stop. refl;
+    moments = one_leaves tells_moments clock left_since first kept (copy slot image) [] e.next.store left;
+  })
+
+  -- what means the same
+  pub behind_same : (done : Effect) (one other : BankNote → model.Effect) → ((n : BankNote) → other n ≡ one n) → Behind done one → Behind done other
+  behind_same done one other same all ended stopped found =
+      let n = with_boot ended stopped found done.note in
+      subst (IsCalled tells now tells_moments clock left_since first kept e.next e.asked done n) (sym (same n)) (all ended stopped found)
+
+-- ---- how much is told, and the counts of the bank
+
+pub rose_one : (before now : ℕ) → Rose before now → RoseBy 1 before now
+rose_one before now (inl more) = inl (omega (arith, more))
+rose_one before now (inr top) = inr (omega (arith, top))
+
+one_more : (deeds : List Deed) (deed : Deed) (most : ℕ) → length deeds ≤ most → length (deeds ++ deed ∷ []) ≤ suc most
+one_more deeds deed most few = let both = length-append deeds (deed ∷ []) in omega (arith, few, both)
+
+pub copied_call : {B : Type 0} (faults stops : B → ℕ) (old new : StoreParts B) (before done : Effect) (row slot : ℕ) (ended : Result Unit BankFault) → new.booted ≡ true → faults old.bank ≤ faults new.bank → stops old.bank ≤ stops new.bank → CallCounted faults stops old.bank new.bank ended → IsCopied row slot ended before done
+    → IsCopyCall faults stops old new before done
+copied_call faults stops old new before done row slot (Ok x) booted more_faults more_stops counted copied = record {
+  within = λ most room owes within. record {
+    deeds = let few = within.deeds in rw copied.deeds (omega (arith, few));
+    shown = rw copied.shown within.shown;
+    no_notice = λ owing. copied.notice ∙ within.no_notice owing;
+    notice = rw copied.notice within.notice;
+    bytes = rw copied.bytes within.bytes;
+  };
+  verdicts = copied.verdicts;
+  no_boot = rw copied.note (record { ended = refl; stopped = refl; found = refl });
+  stopped = rw copied.note (λ is. absurd (cc is));
+  answer = inl (ap (λ (a : Answer). a.status) copied.answer);
+  trouble = rw copied.note (let a = counted.0 in let b = counted.1 in record { fault_count = more_faults; stop_count = more_stops; fault = inl (omega (arith, a)); stop = inl (omega (arith, b)) });
+  booted = booted;
+}
+copied_call faults stops old new before done row slot (Err (Fault gate prior)) booted more_faults more_stops counted copied = record {
+  within = λ most room owes within. record {
+    deeds = let few = within.deeds in rw copied.deeds (one_more before.deeds.items (CopyFailed row slot) most few);
+    shown = rw copied.shown within.shown;
+    no_notice = λ owing. copied.notice ∙ within.no_notice owing;
+    notice = rw copied.notice within.notice;
+    bytes = rw copied.bytes within.bytes;
+  };
+  verdicts = copied.verdicts;
+  no_boot = rw copied.note (record { ended = refl; stopped = refl; found = refl });
+  stopped = rw copied.note (λ is. absurd (cc is));
+  answer = inl (ap (λ (a : Answer). a.status) copied.answer);
+  trouble = rw copied.note (let b = counted.1 in record { fault_count = more_faults; stop_count = more_stops; fault = rose_one _ _ counted.0; stop = inl (omega (arith, b)) });
+  booted = booted;
+}
+copied_call faults stops old new before done row slot (Err (Cut gate prior)) booted more_faults more_stops counted copied = record {
+  within = λ most room owes within. record {
+    deeds = let few = within.deeds in rw copied.deeds (omega (arith, few));
+    shown = rw copied.shown (omega arith);
+    no_notice = λ owing. copied.notice;
+    notice = rw copied.notice tt;
+    bytes = rw copied.bytes (omega arith);
+  };
+  verdicts = copied.verdicts;
+  no_boot = rw copied.note (record { ended = refl; stopped = refl; found = refl });
+  stopped = λ is. ap (λ (a : Answer). a.status) copied.answer;
+  answer = inr (ap (λ (a : Answer). a.status) copied.answer, rw copied.note refl);
+  trouble = rw copied.note (let b = counted.1 in record { fault_count = more_faults; stop_count = more_stops; fault = inl (omega (arith, b)); stop = rose_one _ _ counted.0 });
+  booted = booted;
+}
+
+-- ---- which image is copied
+
+pub went_as : (e : model.Effect) (deeds : List Deed) (b : Bool) → e.deeds ≡ deeds → b ≡ is_activation (slice_get deeds (length deeds - 1)) → went_active e ≡ b
+went_as e deeds b same is = ap (λ (d : List Deed). is_activation (slice_get d (length d - 1))) same ∙ sym is
+
+chosen : {X : Type 0} (b : Bool) (x y : X) → b ≡ true → cond b x y ≡ x
+chosen true x y is = refl
+chosen false x y is = absurd (cc is)
+
+left_out : {X : Type 0} (b : Bool) (x y : X) → b ≡ false → cond b x y ≡ y
+left_out false x y is = refl
+left_out true x y is = absurd (cc is)
+
+module _ (row : ℕ) (n : BankNote) (e : model.Effect) (tables : Tables) (same : e.next.tables ≡ tables) where
+  -- none went active
+  pub none_active : went_active e ≡ false → then_copy row n e ≡ e
+  none_active is = left_out (went_active e) (copied_of row n e (table_at e.next.tables row)) e is
+
+  unless_active : (t : Option Table) → table_at tables row ≡ t → copied_of row n e t ≡ e → then_copy row n e ≡ e
+  unless_active t there is = either (went_active e) where
+    found : copied_of row n e (table_at e.next.tables row) ≡ e
+    found = ap (λ (ts : Tables). copied_of row n e (table_at ts row)) same ∙ ap (copied_of row n e) there ∙ is
+
+    either : (b : Bool) → cond b (copied_of row n e (table_at e.next.tables row)) e ≡ e
+    either true = found
+    either false = refl
+
+  -- the table isn't critical, where one is there
+  pub none_critical : IfSome (table_at tables row) (λ t. false ≡ is_critical t) → then_copy row n e ≡ e
+  none_critical plain = by (table_at tables row) refl plain where
+    by : (t : Option Table) → table_at tables row ≡ t → IfSome t (λ t. false ≡ is_critical t) → then_copy row n e ≡ e
+    by None there plain = unless_active None there refl
+    by (Some t) there plain = unless_active (Some t) there (left_out (is_critical t) (copied_to row n e (block_of t e.next.store) t.last) e (sym plain))
+
+  -- it has no image
+  pub none_there : None ≡ option_and_then (λ (t : Table). t.last) (table_at tables row) → then_copy row n e ≡ e
+  none_there none = by (table_at tables row) refl none where
+    without : (t : Table) → None ≡ t.last → (slot : Option ℕ) → copied_to row n e slot t.last ≡ e
+    without t none None = refl
+    without t none (Some slot) = ap (copied_to row n e (Some slot)) (sym none)
+
+    critical : (t : Table) → None ≡ t.last → (b : Bool) → cond b (copied_to row n e (block_of t e.next.store) t.last) e ≡ e
+    critical t none true = without t none (block_of t e.next.store)
+    critical t none false = refl
+
+    by : (t : Option Table) → table_at tables row ≡ t → None ≡ option_and_then (λ (t : Table). t.last) t → then_copy row n e ≡ e
+    by None there none = unless_active None there refl
+    by (Some t) there none = unless_active (Some t) there (critical t none (is_critical t))
+
+  -- it is critical, and this is its image
+  pub one_there : (t : Table) (image : List ℕ) → went_active e ≡ true → table_at tables row ≡ Some t → true ≡ is_critical t → Some image ≡ t.last → then_copy row n e ≡ copied_to row n e (block_of t e.next.store) (Some image)
+  one_there t image is there critical last =
+      chosen (went_active e) (copied_of row n e (table_at e.next.tables row)) e is ∙ ap (λ (ts : Tables). copied_of row n e (table_at ts row)) same ∙ ap (copied_of row n e) there
+      ∙ chosen (is_critical t) (copied_to row n e (block_of t e.next.store) t.last) e (sym critical) ∙ ap (copied_to row n e (block_of t e.next.store)) (sym last)
+
+  -- there is no table
+  pub none_named : None ≡ option_map (λ (t : Table). t.name) (table_at tables row) → then_copy row n e ≡ e
+  none_named none = by (table_at tables row) refl none where
+    by : (t : Option Table) → table_at tables row ≡ t → None ≡ option_map (λ (t : Table). t.name) t → then_copy row n e ≡ e
+    by None there none = unless_active None there refl
+    by (Some t) there none = absurd (cc none)
+
+-- the table of this name, and its image
+pub named_there : (o : Option Table) (name : List ℕ) → Some name ≡ option_map (λ (t : Table). t.name) o → (t : Table) × (o ≡ Some t) × (t.name ≡ name)
+named_there None name is = absurd (cc is)
+named_there (Some t) name is = (t, refl, sym (same_Some name t.name is))

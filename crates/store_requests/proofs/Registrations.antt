@@ -1,0 +1,361 @@
+-- A critical table is registered: from how the calls for its block ended to what the model says of the request.
+use Rattle.std.proofs.Common.{◌≡◌, ◌≢◌, inl, ℕ, ◌+◌, ◌*◌, List, [], ◌∷◌, length, take, drop, ◌++◌, ◌≤◌, arith, Bool, true, false, not, Option, Some, None, Result, Ok, Err, refl, sym, ◌∙◌, ap, subst}
+use Rattle.std.specs.Prelude.{OnOk, IfErr, slice_get, if◌then◌else◌}
+use Rattle.std.specs.Option.{ForSome, option_map}
+use Rattle.std.proofs.lemmas.Option.{same_Some}
+use Rattle.std.proofs.Math.Seq.{take-append_seam}
+use Rattle.tbl_kinds.specs.Blocks.{Store as Blocks}
+use Rattle.tbl_kinds.specs.Buffers.{Buffer}
+use Rattle.tbl_kinds.specs.StoreCalls.{StoreCall, reserve, restore, delete, after, after_first, broken, CanBreak}
+use Rattle.tbl_kinds.specs.StoreSteps.{stored_at, open_of, doubtful_of, has_room}
+use Rattle.tbl_kinds.specs.Notes.{untouched, restored_image}
+use Rattle.tbl_kinds.specs.declared.block.BlockKind.TheVariants.{Table as of_table}
+use Rattle.tbl_kinds.specs.declared.note.BankNote.{BankNote}
+use Rattle.tbl_kinds.specs.declared.note.Outcome.TheVariants.{Untouched, Done, Failed, Stopped}
+use Rattle.tbl_kinds.specs.declared.note.Outcome.{Outcome}
+use Rattle.tbl_kinds.specs.declared.request.ResetKind.TheVariants.{Processor}
+use Rattle.tbl_kinds.specs.declared.status.Status.{Status}
+use Rattle.tbl_kinds.specs.declared.status.TheConstants.Status.{SUCCESS, INFO_STOPPED, INFO_RECOVERED_TBL, WARN_NOT_CRITICAL}
+use Rattle.tbl_model.specs.State.{State, Table, Tables}
+use Rattle.tbl_model.specs.TableSteps.{with_first, uncritical, added}
+use Rattle.tbl_model.specs.Effects as model
+use Rattle.tbl_model.specs.Effects.{answered}
+use Rattle.tbl_model.specs.Boots.{boot, stopped}
+use Rattle.tbl_model.specs.StoreUse.{left_by, then_broken, with_calls, by_outcome, then_call}
+use Rattle.tbl_model.specs.StoreNotes.{NoGate, is_restore, MayGo, MayGoOn, Tells}
+use Rattle.tbl_model.specs.AppBlocks.{any_of, has_size, renewal}
+use Rattle.tbl_model.specs.CriticalTables.{registered, not_kept, recovered, instead, kept_effect}
+use Rattle.tbl_model.specs.Copies.{block_of}
+use Rattle.sharing.specs.Registering.{next_row, next_handle}
+use Rattle.cds_layout.specs.declared.blocks.RestoreFault.{RestoreFault}
+use Rattle.cds_layout.specs.declared.blocks.RestoreFault.TheVariants.{Torn, Fault as Unread}
+use Rattle.cds_layout.specs.Images.{store_of}
+use Rattle.cds_layout.specs.Restores.{TellsTorn, RestoreCounted}
+use Rattle.cds_store.specs.Calls.{HasFlags, IfBank, lacks_room, is_gate, is_old}
+use Rattle.cds_store.specs.Slots.{doubtful_slot}
+use Rattle.cds_store.specs.Sound.{slot_at}
+use Rattle.cds_store.specs.Standing.{StoreParts, StandsFor, slot_of, held_at, after_fault}
+use Rattle.cds_store.proofs.Reservations.{doubtful_same}
+use Rattle.cds_store.specs.declared.fault.BankFault.{BankFault}
+use Rattle.cds_store.specs.declared.fault.BankFault.TheVariants.{Fault, Stopped as Cut}
+use Rattle.cds_store.specs.declared.fault.ReserveFault.{ReserveFault}
+use Rattle.cds_store.specs.declared.fault.ReserveFault.TheVariants.{NoRoom, Bank}
+use Rattle.tbl_model.specs.BankCounts.{tells_trouble, HasCause}
+use Rattle.request_effects.specs.Effects.{IsEffect, IsWithin}
+use Rattle.store_requests.specs.Called.{NoBoot, Troubled, GaveHeld, RestoresHeld, with_boot, broken_note, done_note, IsTold, IsCall, IsCalled, Calls}
+use Rattle.store_requests.specs.Registering.{Enters, EntersBroken, EntersRestored, EntersReserved, recovery, making}
+use Rattle.request_effects.specs.declared.effect.Effect.{Effect}
+use Rattle.store_requests.proofs.Calls.{told_so, by_note, calls_same, held_image, block_there, gives_image, gives_none}
+use Rattle.tbl_laws.specs.Crashes.{DuringCalls, writes}
+use Rattle.tbl_outside.specs.Bank.{LeavesOnly}
+use Rattle.cds_store.specs.Moments.{LeavesIn}
+use Rattle.store_requests.specs.Called.{Leaving}
+use Rattle.store_requests.proofs.Moments.{one_leaves}
+use Rattle.store_requests.proofs.CopyEnds.{rose_one}
+use Rattle.store_requests.proofs.Reserved.{not_lacking, lacking}
+use Rattle.store_requests.proofs.CriticalTables.{there, any_is, kept_made, kept_full, other_size}
+
+-- ---- the effect
+
+-- the answer and the tables are those of this registration
+entered : (s : State) (old new : Tables) (u : Table) (done : Effect) (status : Status) (note : BankNote) → s.tables ≡ old → u.handle ≡ next_handle old → Enters old new u done status note → (left : Blocks)
+    → IsEffect done [] (record s { tables = new; store = left }) (record (answered s status u.handle) { next = record s { tables = added (next_row old) u s.tables; store = left } })
+entered s old new u done status note same handle enters left = record {
+  status = sym enters.told.status_is;
+  detail = handle ∙ sym enters.told.detail_is;
+  bytes = sym enters.told.bytes_are;
+  table = sym enters.told.silent.table;
+  deeds = sym enters.told.silent.deeds;
+  shown = sym enters.told.silent.shown;
+  asked = refl;
+  calls = refl;
+  notice = sym enters.told.silent.notice;
+  next = ap (λ (tables : Tables). record s { tables = tables; store = left }) (ap (added (next_row old) u) same ∙ sym enters.tables);
+}
+
+module _ {B : Type 0} (tells : Type 0) (now : B → List ℕ) (tells_moments : Type 0) (clock : B → ℕ) (left_since : B → ℕ → List ℕ → Type 0) (first kept : StoreParts B) (s : State) (done : Effect) (old new : Tables) (t : Table) (same : s.tables ≡ old) (handle : t.handle ≡ next_handle old) where
+  abbrev row : ℕ
+  row = next_row old
+
+  abbrev behind : State
+  behind = record s { tables = new }
+
+  -- the store isn't called
+  pub enters_alone : Leaving tells_moments clock left_since first kept (DuringCalls [] s.store) → (u : Table) (status : Status) → u.handle ≡ next_handle old → Enters old new u done status untouched → StandsFor tells now kept s.store → Calls tells now tells_moments clock left_since first kept behind done (λ n. registered s row u status)
+  enters_alone moments u status at enters stands = by_note tells now tells_moments clock left_since first kept behind done (λ n. registered s row u status) untouched enters.told.note_is (λ ended stopped found. record {
+    blocks = stands;
+    effect = entered s old new u done status untouched same at enters s.store;
+    ends = (refl, refl, (refl, refl));
+    gave = tt;
+    says = (refl, refl);
+    writing = λ stop. refl;
+    moments = moments;
+  })
+
+  module _ (calls : List StoreCall) (u : Table) (status : Status) (note : BankNote) where
+    -- all calls are done
+    pub enters_done : Leaving tells_moments clock left_since first kept (DuringCalls (writes calls) s.store) → u.handle ≡ next_handle old → Enters old new u done status (done_note note) → StandsFor tells now kept (left_by calls (done_note note) s.store)
+        → calls ≢ [] → note.done + 1 ≡ length calls → NoGate note
+        → MayGoOn (take (note.done + 1) calls) s.store → ((n : BankNote) → n.restored ≡ note.restored → n.torn ≡ note.torn → Tells (take (note.done + 1) calls) n)
+        → (ended stopped : Bool) (found : List ℕ)
+        → IsCalled tells now tells_moments clock left_since first kept behind [] done (with_boot ended stopped found (done_note note)) (then_call calls (with_boot ended stopped found (done_note note)) (instead (not_kept s row t)) (registered s row u status))
+    enters_done moments at enters stands some many no_gate gave says ended stopped found = record {
+      blocks = stands;
+      effect = entered s old new u done status (done_note note) same at enters (left_by calls (done_note note) s.store);
+      ends = (some, many, no_gate);
+      gave = gave;
+      says = says (with_boot ended stopped found (done_note note)) refl refl;
+      writing = λ stop. absurd (cc stop);
+      moments = moments;
+    }
+
+    -- the next one broke off
+    pub enters_broke : Leaving tells_moments clock left_since first kept (DuringCalls (writes calls) s.store) → (call : StoreCall) → slice_get calls note.done ≡ Some call → (fault : BankFault) → EntersBroken old new t done fault note
+        → StandsFor tells now kept (broken (is_gate fault) (is_old fault) call (after_first note.done calls s.store))
+        → CanBreak (is_gate fault) (is_old fault) call (after_first note.done calls s.store) → ((broken_note fault note).outcome ≡ Stopped → (is_restore call ≡ false) × (writes calls ≡ calls))
+        → MayGoOn (take note.done calls) s.store → ((n : BankNote) → n.restored ≡ note.restored → n.torn ≡ note.torn → Tells (take note.done calls) n)
+        → (ended stopped : Bool) (found : List ℕ)
+        → IsCalled tells now tells_moments clock left_since first kept behind [] done (with_boot ended stopped found (broken_note fault note)) (then_call calls (with_boot ended stopped found (broken_note fault note)) (instead (not_kept s row t)) (registered s row u status))
+    enters_broke moments call next (Fault gate prior) enters stands can writes gave says ended stopped found =
+        let n = broken_note (Fault gate prior) note in record {
+          blocks = subst (λ o. StandsFor tells now kept (then_broken n o (after_first note.done calls s.store))) (sym next) stands;
+          effect = entered s old new (uncritical t) done WARN_NOT_CRITICAL n same handle enters (left_by calls n s.store);
+          ends = record { call = call; next = next; breaks = can };
+          gave = gave;
+          says = says (with_boot ended stopped found n) refl refl;
+          writing = λ stop. absurd (cc stop);
+          moments = moments;
+        }
+    enters_broke moments call next (Cut gate prior) enters stands can stops gave says ended stopped found =
+        let n = broken_note (Cut gate prior) note in
+        let left = boot Processor (with_boot ended stopped found n) (record s { store = left_by calls n s.store }) in record {
+          blocks = subst (λ o. StandsFor tells now kept (then_broken n o (after_first note.done calls s.store))) (sym next) stands;
+          effect = told_so left left done INFO_STOPPED 0 [] n enters.0;
+          ends = (record { call = call; next = next; breaks = can }, (stops refl).0);
+          gave = gave;
+          says = says (with_boot ended stopped found n) refl refl;
+          writing = λ stop. (stops refl).1;
+          moments = moments;
+        }
+
+  -- the note is this one, where the call broke off
+  broken_is : (fault : BankFault) (note : BankNote) → EntersBroken old new t done fault note → done.note ≡ broken_note fault note
+  broken_is (Fault gate prior) note enters = enters.told.note_is
+  broken_is (Cut gate prior) note enters = enters.0.note_is
+
+  -- ---- its block is restored
+
+  pub enters_restored : Leaving tells_moments clock left_since first kept (DuringCalls [] s.store) → with_first None t ≡ t → tells → (before : StoreParts B) (slot : ℕ) (ended : Result Unit RestoreFault) (image : List ℕ) → StandsFor tells now before s.store → EntersRestored old new t done ended image
+      → OnOk ended (tells → held_at slot (store_of (now before.bank)) ≡ Some image)
+      → OnOk ended ((blocks : Blocks) → StandsFor tells now before blocks → StandsFor tells now kept (after (restore slot (Some image)) blocks))
+      → IfErr ended (λ fault. tells → ForSome (slot_at before.slots slot) (λ b. TellsTorn (now before.bank) b.block fault))
+      → IfErr ended (λ fault. (blocks : Blocks) → StandsFor tells now before blocks → StandsFor tells now kept (after_fault fault slot blocks))
+      → ForSome (stored_at s.store slot) (λ b. b.block.size ≡ length image)
+      → Calls tells now tells_moments clock left_since first kept behind done (recovery s row t slot)
+  enters_restored moments fresh told before slot (Ok x) image stands enters held ok torn err sized = by done.note.restored enters.1 enters.0 where
+    by : (gave : Option Buffer) → option_map (λ (b : Buffer). b.list) gave ≡ Some image → Enters old new (with_first (Some image) t) done INFO_RECOVERED_TBL (record (done_note untouched) { restored = gave }) → Calls tells now tells_moments clock left_since first kept behind done (recovery s row t slot)
+    by None is enters = absurd (cc is)
+    by (Some b) is enters =
+        let whole : b.list ≡ image = same_Some b.list image is in
+        by_note tells now tells_moments clock left_since first kept behind done (recovery s row t slot) (record (done_note untouched) { restored = Some b }) enters.told.note_is
+        (enters_done (restore slot (Some b.list) ∷ []) (with_first (Some b.list) t) INFO_RECOVERED_TBL (record untouched { restored = Some b }) moments handle
+        (subst (λ (i : List ℕ). Enters old new (with_first (Some i) t) done INFO_RECOVERED_TBL (record (done_note untouched) { restored = Some b })) (sym whole) enters)
+        (subst (λ (i : List ℕ). StandsFor tells now kept (after (restore slot (Some i)) s.store)) (sym whole) (ok s.store stands)) (λ is. cc is) refl (refl, refl)
+        (subst (λ (i : List ℕ). MayGo (restore slot (Some i)) s.store) (sym whole) (λ b there. (gives_image (now before.bank) s.store slot image (stands.shows told) (held told) b there, sym (sized b there))), tt)
+        (λ n restored torn. (ap (option_map (λ (b : Buffer). b.list)) restored, λ given. torn)))
+  enters_restored moments fresh told before slot (Err (Torn size word found)) image stands enters held ok torn err sized =
+      let words = word * 65536 + found in
+      let gives = gives_none (now before.bank) s.store slot before.slots stands.slots (stands.holds told) (λ b at. (torn told b at).no_image) in
+      by_note tells now tells_moments clock left_since first kept behind done (recovery s row t slot) (record (done_note untouched) { torn = words }) enters.told.note_is
+      (enters_done (restore slot None ∷ []) (with_first None t) SUCCESS (record untouched { torn = words }) moments handle (subst (λ (u : Table). Enters old new u done SUCCESS (record (done_note untouched) { torn = words })) (sym fresh) enters) (err s.store stands) (λ is. cc is) refl (refl, refl) ((λ b there. (gives b there, tt)), tt)
+      (λ n restored torn. (ap (option_map (λ (b : Buffer). b.list)) restored, λ given. absurd (cc given))))
+  enters_restored moments fresh told before slot (Err Unread) image stands enters held ok torn err sized =
+      by_note tells now tells_moments clock left_since first kept behind done (recovery s row t slot) (broken_note (Fault false false) untouched) (broken_is (Fault false false) untouched enters)
+      (enters_broke (restore slot None ∷ []) (with_first None t) SUCCESS untouched moments (restore slot None) refl (Fault false false) enters (err s.store stands) (refl, refl) (λ is. absurd (cc is)) tt (λ n restored torn. (restored, torn)))
+
+  -- ---- its block is made
+
+  module _ (before : StoreParts B) where
+    abbrev Made : Result ℕ ReserveFault → Type 0
+    Made result = OnOk result ((blocks : Blocks) → StandsFor tells now before blocks → StandsFor tells now kept (after (reserve of_table t.name t.size) blocks))
+
+    abbrev Full : Result ℕ ReserveFault → Type 0
+    Full result = (blocks : Blocks) → StandsFor tells now before blocks → lacks_room result ≡ not (has_room t.size (doubtful_of of_table t.name blocks) blocks)
+
+    abbrev Broke : Result ℕ ReserveFault → Type 0
+    Broke result = IfErr result (λ fault. IfBank fault (λ fault. (blocks : Blocks) → StandsFor tells now before blocks → StandsFor tells now kept (broken (is_gate fault) (is_old fault) (reserve of_table t.name t.size) blocks)))
+
+    abbrev Breaks : Result ℕ ReserveFault → Type 0
+    Breaks result = IfErr result (λ fault. IfBank fault (λ fault. (blocks : Blocks) → StandsFor tells now before blocks → CanBreak (is_gate fault) (is_old fault) (reserve of_table t.name t.size) blocks))
+
+    -- where no open block of its name is there
+    pub new_reserved : (result : Result ℕ ReserveFault) → (tells_moments → LeavesOnly clock left_since first.bank kept.bank (LeavesIn (reserve of_table t.name t.size) s.store)) → (kept ≡ before → Leaving tells_moments clock left_since first kept (DuringCalls [] s.store)) → open_of of_table t.name s.store ≡ None → StandsFor tells now before s.store
+        → Made result → Full result → (lacks_room result ≡ true → kept ≡ before) → Broke result → Breaks result → EntersReserved old new t done result untouched
+        → Calls tells now tells_moments clock left_since first kept behind done (λ n. kept_effect s row t n None)
+    new_reserved (Ok slot) left still none stands ok full untouched' err breaks enters =
+        calls_same tells now tells_moments clock left_since first kept behind done (making s row t None) (λ n. kept_effect s row t n None)
+        (λ n. kept_made s row t n None (doubtful_of of_table t.name s.store) (any_is s t None none) refl (not_lacking (has_room t.size (doubtful_of of_table t.name s.store) s.store) (full s.store stands)))
+        (by_note tells now tells_moments clock left_since first kept behind done (making s row t None) (done_note untouched) enters.told.note_is
+        (enters_done (reserve of_table t.name t.size ∷ []) t SUCCESS untouched (one_leaves tells_moments clock left_since first kept (reserve of_table t.name t.size) [] s.store left) handle enters (ok s.store stands) (λ is. cc is) refl (refl, refl) (tt, tt) (λ n restored torn. (restored, torn))))
+    new_reserved (Err NoRoom) left still none stands ok full untouched' err breaks enters =
+        calls_same tells now tells_moments clock left_since first kept behind done (λ n. not_kept s row t) (λ n. kept_effect s row t n None)
+        (λ n. kept_full s row t n None (doubtful_of of_table t.name s.store) (any_is s t None none) refl (lacking (has_room t.size (doubtful_of of_table t.name s.store) s.store) (full s.store stands)))
+        (enters_alone (still (untouched' refl)) (uncritical t) WARN_NOT_CRITICAL handle enters (subst (λ (parts : StoreParts B). StandsFor tells now parts s.store) (sym (untouched' refl)) stands))
+    new_reserved (Err (Bank fault)) left still none stands ok full untouched' err breaks enters =
+        calls_same tells now tells_moments clock left_since first kept behind done (making s row t None) (λ n. kept_effect s row t n None)
+        (λ n. kept_made s row t n None (doubtful_of of_table t.name s.store) (any_is s t None none) refl (not_lacking (has_room t.size (doubtful_of of_table t.name s.store) s.store) (full s.store stands)))
+        (by_note tells now tells_moments clock left_since first kept behind done (making s row t None) (broken_note fault untouched) (broken_is fault untouched enters)
+        (enters_broke (reserve of_table t.name t.size ∷ []) t SUCCESS untouched (one_leaves tells_moments clock left_since first kept (reserve of_table t.name t.size) [] s.store left) (reserve of_table t.name t.size) refl fault enters (err s.store stands) (breaks s.store stands) (λ is. (refl, refl)) tt (λ n restored torn. (restored, torn))))
+
+    -- behind the deletion of the one of another size
+    pub renewed : (result : Result ℕ ReserveFault) (slot : ℕ) → Leaving tells_moments clock left_since first kept (DuringCalls (delete slot ∷ reserve of_table t.name t.size ∷ []) s.store) → StandsFor tells now before (after (delete slot) s.store) → doubtful_slot of_table t.name before.slots ≡ None → has_room t.size (Some slot) s.store ≡ true
+        → Made result → Full result → Broke result → Breaks result → EntersReserved old new t done result (done_note untouched)
+        → Calls tells now tells_moments clock left_since first kept behind done (making s row t (Some slot))
+    renewed (Ok x) slot moments stands alone room ok full err breaks enters =
+        by_note tells now tells_moments clock left_since first kept behind done (making s row t (Some slot)) (done_note (done_note untouched)) enters.told.note_is
+        (enters_done (delete slot ∷ reserve of_table t.name t.size ∷ []) t SUCCESS (done_note untouched) moments handle enters (ok (after (delete slot) s.store) stands) (λ is. cc is) refl (refl, refl) (tt, (tt, tt)) (λ n restored torn. (restored, torn)))
+    renewed (Err NoRoom) slot moments stands alone room ok full err breaks enters =
+        let left = after (delete slot) s.store in
+        let none : doubtful_of of_table t.name left ≡ None = sym (doubtful_same of_table t.name before.slots left stands.slots) ∙ alone in
+        absurd (cc (lacking (has_room t.size (doubtful_of of_table t.name left) left) (full left stands), none, room))
+    renewed (Err (Bank fault)) slot moments stands alone room ok full err breaks enters =
+        let left = after (delete slot) s.store in
+        by_note tells now tells_moments clock left_since first kept behind done (making s row t (Some slot)) (broken_note fault (done_note untouched)) (broken_is fault (done_note untouched) enters)
+        (enters_broke (delete slot ∷ reserve of_table t.name t.size ∷ []) t SUCCESS (done_note untouched) moments (reserve of_table t.name t.size) refl fault enters (err left stands) (breaks left stands) (λ is. (refl, refl)) (tt, tt) (λ n restored torn. (restored, torn)))
+
+    -- that deletion broke off
+    pub delete_lost : (slot : ℕ) (fault : BankFault) → (tells_moments → LeavesOnly clock left_since first.bank kept.bank (LeavesIn (delete slot) s.store)) → StandsFor tells now before s.store → HasFlags true false fault
+        → ((blocks : Blocks) → StandsFor tells now before blocks → StandsFor tells now kept (broken (is_gate fault) (is_old fault) (delete slot) blocks)) → EntersBroken old new t done fault untouched
+        → Calls tells now tells_moments clock left_since first kept behind done (making s row t (Some slot))
+    delete_lost slot fault left stands flags err enters =
+        by_note tells now tells_moments clock left_since first kept behind done (making s row t (Some slot)) (broken_note fault untouched) (broken_is fault untouched enters)
+        (enters_broke (delete slot ∷ reserve of_table t.name t.size ∷ []) t SUCCESS untouched (one_leaves tells_moments clock left_since first kept (delete slot) (reserve of_table t.name t.size ∷ []) s.store left) (delete slot) refl fault enters (err s.store stands)
+        (subst (λ g. CanBreak g (is_old fault) (delete slot) s.store) (sym flags.gate_is) (subst (λ o. CanBreak true o (delete slot) s.store) (sym flags.old_is) (refl, refl)))
+        (λ is. (refl, refl)) tt (λ n restored torn. (restored, torn)))
+
+-- ---- in place
+
+-- a vector whose elements were all written over has these
+pub refilled : (n : ℕ) (xs ys : List ℕ) → n ≡ length xs → take n (xs ++ drop (length xs) ys) ≡ xs
+refilled n xs ys is = ap (λ (k : ℕ). take k (xs ++ drop (length xs) ys)) is ∙ take-append_seam xs (drop (length xs) ys)
+
+-- ---- what is told of it, and the counts of the bank
+
+plain_cause : (status : Status) (note : BankNote) → tells_trouble status ≡ false → HasCause status note
+plain_cause status note quiet = record {
+  stop = λ is. absurd (cc (ap tells_trouble (sym is) ∙ quiet));
+  fault = λ is. absurd (cc (ap tells_trouble (sym is) ∙ quiet));
+  boot = λ is. absurd (cc (ap tells_trouble (sym is) ∙ quiet));
+}
+
+silent_within : (done : Effect) (status : Status) (detail : ℕ) (note : BankNote) → IsTold done status detail [] note → IsWithin 0 0 false done
+silent_within done status detail note told = record {
+  deeds = rw told.silent.deeds (omega arith);
+  shown = rw told.silent.shown (omega arith);
+  no_notice = λ _. told.silent.notice;
+  notice = rw told.silent.notice tt;
+  bytes = rw told.bytes_are (omega arith);
+}
+
+module _ {B : Type 0} (faults stops : B → ℕ) (before kept : StoreParts B) (old new : Tables) (t : Table) (done : Effect) (booted : kept.booted ≡ true) where
+  -- the table was registered
+  pub enters_call : (u : Table) (status : Status) (note : BankNote) → Enters old new u done status note → NoBoot note → note.outcome ≢ Stopped → tells_trouble status ≡ false → Troubled faults stops before.bank kept.bank note → IsCall faults stops before kept done
+  enters_call u status note enters no_boot goes quiet trouble = record {
+    within = silent_within done status (next_handle old) note enters.told;
+    verdicts = enters.told.silent.verdicts;
+    no_boot = subst NoBoot (sym enters.told.note_is) no_boot;
+    stopped = λ is. absurd (goes (ap (λ (n : BankNote). n.outcome) (sym enters.told.note_is) ∙ is));
+    cause = rw enters.told.status_is (plain_cause status done.note quiet);
+    trouble = subst (Troubled faults stops before.bank kept.bank) (sym enters.told.note_is) trouble;
+    booted = booted;
+  }
+
+  -- a call broke off
+  pub broken_call : (fault : BankFault) (note : BankNote) → EntersBroken old new t done fault note → NoBoot note → Troubled faults stops before.bank kept.bank (broken_note fault note) → IsCall faults stops before kept done
+  broken_call (Fault gate prior) note enters no_boot trouble =
+      enters_call (uncritical t) WARN_NOT_CRITICAL (broken_note (Fault gate prior) note) enters (record { ended = no_boot.ended; stopped = no_boot.stopped; found = no_boot.found }) (λ is. cc is) refl trouble
+  broken_call (Cut gate prior) note enters no_boot trouble =
+      let n = broken_note (Cut gate prior) note in record {
+        within = silent_within done INFO_STOPPED 0 n enters.0;
+        verdicts = enters.0.silent.verdicts;
+        no_boot = subst NoBoot (sym enters.0.note_is) (record { ended = no_boot.ended; stopped = no_boot.stopped; found = no_boot.found });
+        stopped = λ is. enters.0.status_is;
+        cause = rw (enters.0.status_is, enters.0.note_is) (record {
+          stop = λ is none. absurd (cc none);
+          fault = λ is. let same = ap (λ (status : Status). status.0) is in absurd (omega (arith, same));
+          boot = λ is. let same = ap (λ (status : Status). status.0) is in absurd (omega (arith, same));
+        });
+        trouble = subst (Troubled faults stops before.bank kept.bank) (sym enters.0.note_is) trouble;
+        booted = booted;
+      }
+
+  pub restored_call : (ended : Result Unit RestoreFault) (image : List ℕ) → EntersRestored old new t done ended image → RestoreCounted faults stops before.bank kept.bank ended → faults before.bank ≤ faults kept.bank → stops before.bank ≤ stops kept.bank
+      → IsCall faults stops before kept done
+  restored_call (Ok x) image enters counted more_faults more_stops =
+      let a = counted.0 in let b = counted.1 in
+      enters_call (with_first (Some image) t) INFO_RECOVERED_TBL (record (done_note untouched) { restored = done.note.restored }) enters.0 (record { ended = refl; stopped = refl; found = refl }) (λ is. cc is) refl
+      (record { fault_count = more_faults; stop_count = more_stops; fault = inl (omega (arith, a)); stop = inl (omega (arith, b)) })
+  restored_call (Err (Torn size word found)) image enters counted more_faults more_stops =
+      let a = counted.0 in let b = counted.1 in
+      enters_call t SUCCESS (record (done_note untouched) { torn = word * 65536 + found }) enters (record { ended = refl; stopped = refl; found = refl }) (λ is. cc is) refl
+      (record { fault_count = more_faults; stop_count = more_stops; fault = inl (omega (arith, a)); stop = inl (omega (arith, b)) })
+  restored_call (Err Unread) image enters counted more_faults more_stops =
+      let b = counted.1 in
+      broken_call (Fault false false) untouched enters (record { ended = refl; stopped = refl; found = refl })
+      (record { fault_count = more_faults; stop_count = more_stops; fault = rose_one _ _ counted.0; stop = inl (omega (arith, b)) })
+
+-- what the restore gave is what the block held
+pub restored_gave : {B : Type 0} (tells : Type 0) (now : B → List ℕ) (before : StoreParts B) (old new : Tables) (t : Table) (done : Effect) (slot : ℕ) (blocks : Blocks) (ended : Result Unit RestoreFault) (image : List ℕ) → tells
+    → StandsFor tells now before blocks → EntersRestored old new t done ended image
+    → OnOk ended (tells → held_at slot (store_of (now before.bank)) ≡ Some image)
+    → IfErr ended (λ fault. tells → ForSome (slot_at before.slots slot) (λ b. TellsTorn (now before.bank) b.block fault))
+    → done.note.outcome ≡ Done → ForSome (stored_at blocks slot) (λ b. GaveHeld (now before.bank) b.block done.note)
+restored_gave tells now before old new t done slot blocks (Ok x) image told stands enters held torn went b there =
+    let whole = held_image (now before.bank) blocks slot image (stands.shows told) (held told) b there in record {
+      image = enters.1 ∙ sym whole;
+      words = λ none. absurd (cc (none, enters.1));
+    }
+restored_gave tells now before old new t done slot blocks (Err (Torn size word found)) image told stands enters held torn went b there =
+    let is = torn told (slot_of b) (block_there before.slots blocks slot b stands.slots there) in record {
+      image = ap (λ (n : BankNote). restored_image n) enters.told.note_is ∙ sym is.no_image;
+      words = λ none. ap (λ (n : BankNote). n.torn) enters.told.note_is ∙ (λ i. is.kept_is i * 65536 + is.computed i);
+    }
+restored_gave tells now before old new t done slot blocks (Err Unread) image told stands enters held torn went b there =
+    absurd (cc (went, ap (λ (n : BankNote). n.outcome) enters.told.note_is))
+
+-- ---- what it restores
+
+module _ (bytes : List ℕ) (s : State) (row : ℕ) (t : Table) where
+  abbrev Holds : BankNote → model.Effect → Type 0
+  Holds n e = RestoresHeld bytes e.calls s.store n
+
+  -- of its calls, which break off or are done, it is the first that counts
+  calls_hold : (calls : List StoreCall) (n : BankNote) (base : model.Effect) → RestoresHeld bytes calls s.store n → Holds n (then_call calls n (instead (not_kept s row t)) base)
+  calls_hold calls n base held = by n.outcome where
+    by : (outcome : Outcome) → RestoresHeld bytes (by_outcome outcome (with_calls calls n base) (instead (not_kept s row t) (with_calls calls n base)) (stopped n (with_calls calls n base))).calls s.store n
+    by Untouched = held
+    by Done = held
+    by Failed = held
+    by Stopped = held
+
+  pub recovery_holds : (slot : ℕ) (n : BankNote) → (n.outcome ≡ Done → ForSome (stored_at s.store slot) (λ b. GaveHeld bytes b.block n)) → Holds n (recovery s row t slot n)
+  recovery_holds slot n held = calls_hold (restore slot (restored_image n) ∷ []) n (recovered s row t (restored_image n)) held
+
+  -- nothing, where it has no block of its size
+  made_holds : (n : BankNote) (old : Option ℕ) → Holds n (making s row t old n)
+  made_holds n None = calls_hold (renewal of_table t.name t.size None) n (registered s row t SUCCESS) tt
+  made_holds n (Some slot) = calls_hold (renewal of_table t.name t.size (Some slot)) n (registered s row t SUCCESS) tt
+
+  room_holds : (n : BankNote) (old : Option ℕ) (room : Bool) → Holds n (if not room then not_kept s row t else making s row t old n)
+  room_holds n old true = made_holds n old
+  room_holds n old false = tt
+
+  sized_holds : (n : BankNote) (old : Option ℕ) (sized : Bool) → sized ≡ false → Holds n (if sized then there s row t n old else (if not (has_room t.size (any_of of_table t.name s.store) s.store) then not_kept s row t else making s row t old n))
+  sized_holds n old false is = room_holds n old (has_room t.size (any_of of_table t.name s.store) s.store)
+  sized_holds n old true is = absurd (cc is)
+
+  pub making_holds : (n : BankNote) → block_of t s.store ≡ None → Holds n (kept_effect s row t n (open_of of_table t.name s.store))
+  making_holds n none = by (open_of of_table t.name s.store) refl where
+    by : (old : Option ℕ) → open_of of_table t.name s.store ≡ old → Holds n (kept_effect s row t n old)
+    by None is = sized_holds n None false refl
+    by (Some slot) is = sized_holds n (Some slot) (has_size t.size (stored_at s.store slot)) (other_size s t slot is none)

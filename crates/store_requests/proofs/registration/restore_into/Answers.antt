@@ -1,0 +1,23 @@
+use Rattle.std.proofs.Common.{◌≡◌, ℕ, List, length, take, drop, ◌++◌, sym, subst, rules}
+use Rattle.std.specs.Arc.{arc_value}
+use Rattle.store_requests.specs.Registering.{Restores}
+use Rattle.store_requests.proofs.Registrations.{refilled}
+use Rattle.store_requests.proofs.registration.restore_into.Goals as goal
+
+pub returns-clause-restores : goal.returns-clause-restores
+returns-clause-restores g c =
+    let b = g.B.Bank in
+    let into = c.restore.new.into in
+    let whole : take c.in_ok-bytes.bytes.now.len (into ++ drop (length into) c.in_ok-bytes.bytes.now.items) ≡ into = refilled c.in_ok-bytes.bytes.now.len into c.in_ok-bytes.bytes.now.items (search rules) in
+    subst (λ (image : List ℕ). Restores b.tells b.now b.tells_moments b.clock b.left_since b.faults b.stops c.args.store.now c.restore.new.self c.args.slot (length (arc_value c.args.room.now).items) image c.restore.result) (sym whole) (record {
+      sized = search rules;
+      booted = c.restore.ensures.booted;
+      held = c.restore.ensures.image;
+      ok = c.restore.ensures.ok;
+      torn = c.restore.ensures.torn;
+      err = c.restore.ensures.err;
+      counted = c.restore.ensures.counted;
+      more_faults = search rules;
+      more_stops = search rules;
+      moments = c.restore.ensures.moments;
+    })
