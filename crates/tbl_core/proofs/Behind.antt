@@ -19,11 +19,12 @@ use Rattle.tbl_kinds.specs.StoreSteps.{Shows as ShowsBlocks}
 use Rattle.tbl_outside.proofs.Moments.{goes_on}
 use Rattle.tbl_laws.proofs.Crashes.{behind_calls}
 use Rattle.cds_layout.specs.Images.{store_of}
-use Rattle.tbl_core.specs.Called.{Leaving, Follows, boots_behind, boot_only, Troubled}
-use Rattle.tbl_core.specs.Effects.{given_of}
+use Rattle.store_requests.specs.Called.{Leaving, boots_behind, Troubled}
+use Rattle.tbl_core.specs.Ended.{Follows, boot_only}
+use Rattle.request_effects.specs.Effects.{given_of}
 use Rattle.tbl_core.specs.Service.{Held, HoldsAll, state_of, EndsIn, HasEffect, Has, Makes, Meets, IsMade, after_stop}
 use Rattle.tbl_core.specs.Verdicts.{Judged}
-use Rattle.tbl_core.specs.declared.effect.Effect.{Effect}
+use Rattle.request_effects.specs.declared.effect.Effect.{Effect}
 use Rattle.tbl_core.proofs.Trouble.{troubled_behind, caused_behind}
 
 module _ {B C : Type 0} (tells : Type 0) (now : B → List ℕ) (tells_moments : Type 0) (clock : B → ℕ) (left_since : B → ℕ → List ℕ → Type 0) (faults stops : B → ℕ) (verdict : C → List ℕ → ℤ) (asked : C → ℕ) (most room : ℕ) (owes : Bool) (old mid new : Held B C) (request : Request) (means : State → Given → Option model.Effect)

@@ -31,14 +31,14 @@ use Rattle.tbl_laws.specs.Fit.{AreFit}
 use Rattle.tbl_laws.proofs.Cases.{OfEffect}
 use Rattle.tbl_laws.proofs.Causes.{caused}
 use Rattle.tbl_laws.proofs.Ordinary.{IsOrdinary, ordinary}
-use Rattle.tbl_core.specs.Asked.{activates}
-use Rattle.tbl_core.specs.Called.{with_boot, RestoresHeld}
-use Rattle.tbl_core.specs.Effects.{IsEffect, given_of}
+use Rattle.request_effects.specs.Asked.{activates}
+use Rattle.store_requests.specs.Called.{with_boot, RestoresHeld}
+use Rattle.request_effects.specs.Effects.{IsEffect, given_of}
 use Rattle.tbl_core.specs.Owned.{owned_effect, owned_at}
 use Rattle.tbl_core.specs.Service.{Held, Stands, state_of, DoesAndCopies, Has, HasEffect, Makes, Meets}
 use Rattle.tbl_core.specs.Verdicts.{Judged}
 use Rattle.cds_store.specs.Standing.{StandsFor as HasBlocks}
-use Rattle.tbl_core.specs.declared.effect.Effect.{Effect}
+use Rattle.request_effects.specs.declared.effect.Effect.{Effect}
 use Rattle.tbl_core.proofs.StoreRequests.{has_called}
 use Rattle.tbl_core.proofs.TableRequests.{stands_in, state_is, effect_left, asked_there, fit_without}
 

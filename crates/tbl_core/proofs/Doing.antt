@@ -3,9 +3,9 @@ use Rattle.std.proofs.Common.{◌≡◌, ℕ, Bool, List, length, Option, ℤ, a
 use Rattle.tbl_model.specs.State.{State}
 use Rattle.tbl_model.specs.Effects as model
 use Rattle.tbl_model.specs.Given.{Given, nothing_given}
-use Rattle.tbl_core.specs.Effects.{IsWithin, IsQuiet, given_of}
+use Rattle.request_effects.specs.Effects.{IsWithin, IsQuiet, given_of}
 use Rattle.tbl_core.specs.Service.{Held, Stands, Leaves, Asks, Does}
-use Rattle.tbl_core.specs.declared.effect.Effect.{Effect}
+use Rattle.request_effects.specs.declared.effect.Effect.{Effect}
 
 module _ {B C : Type 0} (verdict : C → List ℕ → ℤ) (asked : C → ℕ) (most room : ℕ) (owes : Bool) (old new : Held B C) (means : State → Given → Option model.Effect) (done : Effect)
     (effect : (s : State) → Stands s.store old s → Leaves s.store done new (means s (given_of done)))

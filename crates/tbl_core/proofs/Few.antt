@@ -7,10 +7,10 @@ use Rattle.tbl_model.specs.Events.{deed_event, command_events}
 use Rattle.tbl_model.specs.declared.deeds.Notice.{Notice}
 use Rattle.tbl_kinds.specs.declared.request.Request.{Request}
 use Rattle.tbl_kinds.specs.declared.request.Request.TheVariants as ask
-use Rattle.tbl_core.specs.Asked.{shown_room, command_deeds, most_deeds}
-use Rattle.tbl_core.specs.Effects.{seen, told_events}
+use Rattle.request_effects.specs.Asked.{shown_room, command_deeds, most_deeds}
+use Rattle.request_effects.specs.Effects.{seen, told_events}
 use Rattle.tbl_core.specs.Finish.{notice_room, packets_room}
-use Rattle.tbl_core.specs.declared.effect.Effect.{Effect}
+use Rattle.request_effects.specs.declared.effect.Effect.{Effect}
 
 of_command : (asked : Asked) (n : ℕ) → n ≤ command_deeds asked → n ≤ 8
 of_command None n few = omega (arith, few)

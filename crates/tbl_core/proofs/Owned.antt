@@ -9,11 +9,11 @@ use Rattle.tbl_model.specs.Given.{Given}
 use Rattle.tbl_laws.proofs.Options.{update_options, load_image_options, app_file_options, manage_options}
 use Rattle.tbl_kinds.specs.declared.request.Request.{Request}
 use Rattle.tbl_kinds.specs.declared.request.Request.TheVariants as ask
-use Rattle.tbl_core.specs.Asked.{activates, owned_deeds}
-use Rattle.tbl_core.specs.Effects.{given_of}
+use Rattle.request_effects.specs.Asked.{activates, owned_deeds}
+use Rattle.request_effects.specs.Effects.{given_of}
 use Rattle.tbl_core.specs.Owned.{owned_effect, owned_at}
 use Rattle.tbl_core.specs.Service.{Held, state_of, Does}
-use Rattle.tbl_core.specs.declared.effect.Effect.{Effect}
+use Rattle.request_effects.specs.declared.effect.Effect.{Effect}
 use Rattle.tbl_core.proofs.TableRequests.{stands_in, effect_left}
 
 abbrev Stay : ℕ → Table → model.Effect → Type 0

@@ -23,11 +23,12 @@ use Rattle.tbl_kinds.specs.Blocks.{Store as Blocks}
 use Rattle.std.specs.Option.{option_map}
 use Rattle.tbl_model.specs.Copies.{then_copy}
 use Rattle.tbl_kinds.specs.declared.note.BankNote.{BankNote}
-use Rattle.tbl_core.specs.Asked.{owners_handle, activates}
-use Rattle.tbl_core.specs.Effects.{IsEffect, given_of}
+use Rattle.request_effects.specs.Asked.{owners_handle, activates}
+use Rattle.request_effects.specs.Effects.{IsEffect, given_of}
 use Rattle.tbl_core.specs.Service.{Held, Stands, Leaves, Asks, Does}
-use Rattle.tbl_core.specs.declared.effect.Effect.{Effect as Done}
-use Rattle.tbl_core.specs.Owned.{filled_effect, edited_effect, noticed_effect, owned_effect, owned_at, copied_at}
+use Rattle.request_effects.specs.declared.effect.Effect.{Effect as Done}
+use Rattle.table_requests.specs.RowEffects.{filled_effect, edited_effect, noticed_effect}
+use Rattle.tbl_core.specs.Owned.{owned_effect, owned_at, copied_at}
 
 module _ (s : State) (app handle : ℕ) (given : Given) where
   module _ (status : Status) (no : (effect : ℕ → Effect) → if_handle s app handle true effect ≡ answered s status 0) where

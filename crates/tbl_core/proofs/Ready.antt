@@ -10,7 +10,8 @@ use Rattle.tbl_laws.specs.Fit.{IsFit, FitAt, CanValidate, owner_at}
 use Rattle.tbl_outside.specs.declared.validator.KitEntry.{KitEntry}
 use Rattle.validation.specs.Kits.{entry_at, owners, FewAsked}
 use Rattle.validation.specs.Ready.{HasImage, CanBeJudged, HaveFunctions}
-use Rattle.tbl_core.specs.Service.{CoreView, IsReady, AreCounted, AreSendable, MayPlay}
+use Rattle.tbl_core.specs.Service.{CoreView, IsReady, MayPlay}
+use Rattle.table_requests.specs.Limits.{AreCounted, AreSendable}
 
 -- whose function it is stands at its number
 owner_of_entry : {C : Type 0} (kit : List (Option (KitEntry C))) (number : ℕ) → owner_at (owners kit) number ≡ option_map (λ (e : KitEntry C). e.app) (entry_at kit number)

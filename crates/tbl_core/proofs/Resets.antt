@@ -1,5 +1,5 @@
 -- A boot: which doubtful blocks it finds, and what a Reset leaves.
-use Rattle.std.proofs.Common.{◌≡◌, ◌∙◌, ℕ, zero, suc, List, [], ◌∷◌, map, ◌&&◌, Bool, false, not, Option, Some, None, is_some, replicate, ℤ, refl, sym, ap, arith}
+use Rattle.std.proofs.Common.{◌≡◌, ◌∙◌, ⊎_elim, inl, inr, ℕ, zero, suc, List, [], ◌∷◌, map, ◌&&◌, Bool, false, not, Option, Some, None, is_some, replicate, ℤ, refl, sym, ap, arith}
 use Rattle.std.specs.List.{filter, range_with_len}
 use Rattle.std.specs.Option.{option_map}
 use Rattle.tbl_kinds.specs.Blocks.{Store as Blocks}
@@ -20,12 +20,14 @@ use Rattle.tbl_kinds.specs.declared.request.Actor.TheVariants.{Ground}
 use Rattle.tbl_kinds.specs.declared.request.Request.TheVariants as ask
 use Rattle.tbl_kinds.specs.declared.entry.Answer.{Answer}
 use Rattle.tbl_outside.specs.Bank.{LeavesOnly}
+use Rattle.tbl_outside.proofs.Moments.{leaves_among}
+use Rattle.tbl_laws.proofs.Crashes.{before_calls}
+use Rattle.cds_layout.specs.Images.{store_of}
 use Rattle.cds_store.specs.Moments.{BootLeaves}
-use Rattle.tbl_core.specs.Called.{Leaving, with_boot, Troubled, IsSilent}
+use Rattle.store_requests.specs.Called.{Leaving, with_boot, Troubled, IsSilent}
 use Rattle.tbl_core.specs.Service.{Held, state_of, EndsIn, Makes, Meets}
 use Rattle.tbl_core.specs.Verdicts.{Judged}
-use Rattle.tbl_core.specs.declared.effect.Effect.{Effect}
-use Rattle.tbl_core.proofs.Moments.{reset_leaves}
+use Rattle.request_effects.specs.declared.effect.Effect.{Effect}
 use Rattle.tbl_core.proofs.Verdicts.{none_judged}
 
 -- ---- doubtful blocks
@@ -48,6 +50,12 @@ finds Processor slots blocks shown found are is = record {
 finds PowerOn slots blocks shown found are is = is
 
 -- ---- a Reset
+
+-- its boot leaves the blocks, or none
+reset_leaves : {B : Type 0} (tells_moments : Type 0) (clock : B → ℕ) (left_since : B → ℕ → List ℕ → Type 0) (old new : StoreParts B) (kind : ResetKind) (blocks : Blocks)
+    → (tells_moments → LeavesOnly clock left_since old.bank new.bank (BootLeaves kind blocks)) → Leaving tells_moments clock left_since old new (EndsIn (ask.Reset kind) [] blocks)
+reset_leaves tells_moments clock left_since old new kind blocks moments told =
+    leaves_among (moments told) (λ image left. ⊎_elim (λ shows. inl (before_calls [] blocks (store_of image) shows)) (λ power_on. inr (ap ask.Reset power_on.0, power_on.1)) left)
 
 -- what it leaves
 abbrev pub after_reset : {B C : Type 0} → ResetKind → BankNote → StoreParts B → Held B C → Held B C

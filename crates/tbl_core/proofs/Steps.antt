@@ -12,14 +12,15 @@ use Rattle.tbl_model.specs.History.{Run, begins_at, onward, onward_by, run_from,
 use Rattle.tbl_model.proofs.CountsLaws.{counts_push}
 use Rattle.tbl_model.proofs.HistoryLaws.{run_push, answered_push}
 use Rattle.tbl_core.specs.Log.{Logged, entry_of}
-use Rattle.tbl_core.specs.Called.{OnPlayed, RestoresHeld, Leaving, session_end}
-use Rattle.tbl_core.specs.Effects.{IsEffect, uncalled, given_of, without_images, told_at}
+use Rattle.tbl_core.specs.Ended.{OnPlayed, session_end}
+use Rattle.store_requests.specs.Called.{RestoresHeld, Leaving}
+use Rattle.request_effects.specs.Effects.{IsEffect, uncalled, given_of, without_images, told_at}
 use Rattle.tbl_core.specs.Service.{CoreView, HoldsAll, Shows, StandsFor, Finishes, EndsIn, IsMade, Plays, IsReady}
 use Rattle.tbl_core.specs.Verdicts.{Judged, questions_in, all_calls_in}
 use Rattle.tbl_laws.specs.Crashes.{UnderWay}
 use Rattle.tbl_core.proofs.Verdicts.{answers_each, few_more}
-use Rattle.tbl_core.specs.declared.effect.Effect.{Effect}
-use Rattle.tbl_core.specs.declared.parts.Clock.{Clock}
+use Rattle.request_effects.specs.declared.effect.Effect.{Effect}
+use Rattle.request_effects.specs.declared.clock.Clock.{Clock}
 use Rattle.tbl_core.specs.declared.service.StepFault.{StepFault}
 use Rattle.tbl_core.specs.declared.service.StepFault.TheVariants.{Memory, BootFault, BootStopped}
 use Rattle.tbl_kinds.specs.declared.request.Actor.{Actor}

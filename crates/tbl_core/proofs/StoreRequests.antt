@@ -29,10 +29,10 @@ use Rattle.validation.specs.Kits.{owners}
 use Rattle.tbl_laws.specs.Crashes.{DuringCalls, writes}
 use Rattle.tbl_outside.proofs.Moments.{leaves_among}
 use Rattle.cds_layout.specs.Images.{store_of}
-use Rattle.tbl_core.specs.Called.{NoBoot, with_boot, RestoresHeld, IsCall, IsCalled, Calls}
+use Rattle.store_requests.specs.Called.{NoBoot, with_boot, RestoresHeld, IsCall, IsCalled, Calls}
 use Rattle.tbl_core.specs.Service.{Held, Stands, HoldsAll, state_of, HasEffect, Makes, Meets}
 use Rattle.tbl_core.specs.Verdicts.{Judged}
-use Rattle.tbl_core.specs.declared.effect.Effect.{Effect}
+use Rattle.request_effects.specs.declared.effect.Effect.{Effect}
 use Rattle.tbl_core.proofs.Verdicts.{none_judged}
 
 -- which boot stands behind a request that isn't a Reset

@@ -22,11 +22,11 @@ use Rattle.tbl_outside.specs.declared.validator.KitEntry.{KitEntry}
 use Rattle.tbl_laws.specs.Crashes.{DuringCalls, writes}
 use Rattle.tbl_outside.proofs.Moments.{leaves_among}
 use Rattle.cds_layout.specs.Images.{store_of}
-use Rattle.tbl_core.specs.Called.{Leaving, boots_behind, RestoresHeld}
-use Rattle.tbl_core.specs.Effects.{IsEffect, given_of}
+use Rattle.store_requests.specs.Called.{Leaving, boots_behind, RestoresHeld}
+use Rattle.request_effects.specs.Effects.{IsEffect, given_of}
 use Rattle.tbl_core.specs.Service.{Held, Stands, state_of, Leaves, Asks, Does, HasEffect, Has, Makes, Meets}
 use Rattle.tbl_core.specs.Verdicts.{Judged}
-use Rattle.tbl_core.specs.declared.effect.Effect.{Effect}
+use Rattle.request_effects.specs.declared.effect.Effect.{Effect}
 
 -- ---- what the parts stand for
 

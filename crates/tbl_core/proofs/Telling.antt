@@ -4,9 +4,9 @@ use Rattle.tbl_model.specs.Counts.{is_reset}
 use Rattle.tbl_kinds.specs.declared.request.Request.{Request}
 use Rattle.tbl_kinds.specs.declared.request.Request.TheVariants as ask
 use Rattle.tbl_model.specs.Commands.{Asked}
-use Rattle.tbl_core.specs.Asked.{asks_store, activates, owners_handle, owned_deeds, most_deeds}
+use Rattle.request_effects.specs.Asked.{asks_store, activates, owners_handle, owned_deeds, most_deeds}
 use Rattle.tbl_core.specs.Service.{Held, Makes}
-use Rattle.tbl_core.specs.declared.effect.Effect.{Effect}
+use Rattle.request_effects.specs.declared.effect.Effect.{Effect}
 
 -- no more is told than where more may be
 pub wider : {B C : Type 0} (asked : C → ℕ) (verdict : C → List ℕ → ℤ) (faults stops : B → ℕ) (least most room : ℕ) (owes : Bool) (old new : Held B C) (done : Effect) → least ≤ most

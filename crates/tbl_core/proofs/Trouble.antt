@@ -6,7 +6,8 @@ use Rattle.tbl_kinds.specs.declared.note.BankNote.{BankNote}
 use Rattle.tbl_kinds.specs.declared.note.Outcome.{Outcome}
 use Rattle.tbl_kinds.specs.declared.note.Outcome.TheVariants.{Untouched, Done, Failed, Stopped}
 use Rattle.tbl_kinds.specs.declared.status.Status.{Status}
-use Rattle.tbl_core.specs.Called.{NoBoot, Follows, boot_only, RoseBy, Troubled}
+use Rattle.store_requests.specs.Called.{NoBoot, RoseBy, Troubled}
+use Rattle.tbl_core.specs.Ended.{Follows, boot_only}
 
 -- one rise after another
 pub rose_on : (a b x y z : ℕ) → x ≤ y → y ≤ z → RoseBy a x y → RoseBy b y z → RoseBy (a + b) x z

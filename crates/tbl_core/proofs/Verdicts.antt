@@ -1,15 +1,11 @@
 -- What is known of the kit of validation functions after an entry.
 use Rattle.std.proofs.Common.{◌≡◌, ◌==◌, ◌<◌, ◌≤◌, ◌+◌, ◌*◌, ◌^◌, ℕ, zero, suc, Bool, true, false, cond, List, [], ◌∷◌, length, count_by, Option, Some, None, ℤ, refl, ap, subst, arith}
-use Rattle.std.specs.Option.{ForSome, option_map}
 use Rattle.std.proofs.lemmas.List.Sums.{count_by-le-length}
 use Rattle.tbl_model.specs.Deeds.{Question}
 use Rattle.tbl_model.specs.Given.{Given, AnswersEach, nothing_given}
 use Rattle.tbl_kinds.specs.declared.note.BankNote.{BankNote}
-use Rattle.tbl_model.specs.State.{Tables}
-use Rattle.tbl_model.specs.Tables.{table_at}
 use Rattle.tbl_outside.specs.declared.validator.KitEntry.{KitEntry}
-use Rattle.validation.specs.Kits.{entry_at, unless_of, dropped, owners, MayAsk, FewAsked}
-use Rattle.validation.specs.Ready.{HaveFunctions}
+use Rattle.validation.specs.Kits.{entry_at, unless_of, dropped}
 use Rattle.validation.specs.Asked.{is_for, GivesEach, Stays, WasAsked}
 use Rattle.validation.proofs.Asking.{asked_nothing}
 use Rattle.tbl_core.specs.Service.{AskedBelow}
@@ -63,22 +59,6 @@ module _ {C : Type 0} (verdict : C → List ℕ → ℤ) (asked : C → ℕ) whe
   pub was_judged : (old new : List (Option (KitEntry C))) (questions : List Question) (verdicts : List (Option ℤ)) → WasAsked verdict asked old new questions verdicts → Judged verdict asked old new questions verdicts
   was_judged old new questions verdicts was = record { gives = was.gives; each = λ number. stood_there _ (entry_at old number) (entry_at new number) (was.each number) }
 
-  owner_stays : (times : ℕ) (old new : Option (KitEntry C)) → Stays verdict asked times old new → option_map (λ (e : KitEntry C). e.app) new ≡ option_map (λ (e : KitEntry C). e.app) old
-  owner_stays times None new stays = rw stays refl
-  owner_stays times (Some old) None stays = absurd (cc stays.0)
-  owner_stays times (Some old) (Some new) stays = ap (λ (app : ℕ). Some app) (stays.1 new refl).0
-
-  owners_stay : (times : ℕ → ℕ) (old new : List (Option (KitEntry C))) → length new ≡ length old → ((number : ℕ) → Stays verdict asked (times number) (entry_at old number) (entry_at new number)) → owners new ≡ owners old
-  owners_stay times [] [] same each = refl
-  owners_stay times [] (y ∷ new) same each = absurd (cc same)
-  owners_stay times (x ∷ old) [] same each = absurd (cc same)
-  owners_stay times (x ∷ old) (y ∷ new) same each =
-      rw (owner_stays (times 0) x y (each 0), owners_stay (λ n. times (suc n)) old new (omega (arith, same)) (λ n. each (suc n))) refl
-
-  -- whoever is asked stays whose it is
-  pub same_owners : (old new : List (Option (KitEntry C))) (questions : List Question) (verdicts : List (Option ℤ)) → WasAsked verdict asked old new questions verdicts → owners new ≡ owners old
-  same_owners old new questions verdicts was = owners_stay (λ number. count_by (is_for number) questions) old new was.numbers was.each
-
   -- a request that asks nothing leaves the kit as it is
   pub none_judged : (kit : List (Option (KitEntry C))) (questions : List Question) (note : BankNote) (verdicts : List (Option ℤ)) → questions ≡ [] → record { note = note; verdicts = verdicts } ≡ nothing_given
       → Judged verdict asked kit kit questions verdicts
@@ -107,7 +87,3 @@ module _ {C : Type 0} (verdict : C → List ℕ → ℤ) (asked : C → ℕ) whe
       let unsaid : verdicts ≡ None ∷ None ∷ [] = ap (λ (g : Given). g.verdicts) given in
       rw (is, none, unsaid) (record { gives = tt; each = λ number. dropped_there app old number })
   end_judged app false old new questions note verdicts is none given = rw is (none_judged old questions note verdicts none given)
-
--- the function of each table can be asked
-pub may_ask_there : {C : Type 0} (asked : C → ℕ) (kit : List (Option (KitEntry C))) (tables : Tables) (row : ℕ) → HaveFunctions tables kit → FewAsked asked 2 kit → ForSome (table_at tables row) (λ t. ForSome t.validator (MayAsk asked 1 kit))
-may_ask_there asked kit tables row have few t there number is = (have row t there number is, λ entry found. let low = few number entry found in omega (arith, low))

@@ -5,11 +5,11 @@ use Rattle.tbl_model.specs.Commands.{Asked}
 use Rattle.tbl_model.specs.CountsAfter.{tally_of, counts_after}
 use Rattle.tbl_model.specs.Replies.{packets_by}
 use Rattle.tbl_kinds.specs.declared.request.Request.{Request}
-use Rattle.tbl_core.specs.Asked.{asks_notice, shown_room, most_deeds}
-use Rattle.tbl_core.specs.Effects.{told_at}
+use Rattle.request_effects.specs.Asked.{asks_notice, shown_room, most_deeds}
+use Rattle.request_effects.specs.Effects.{told_at}
 use Rattle.tbl_core.specs.Log.{Logged}
-use Rattle.tbl_core.specs.declared.effect.Effect.{Effect}
-use Rattle.tbl_core.specs.declared.parts.Clock.{Clock}
+use Rattle.request_effects.specs.declared.effect.Effect.{Effect}
+use Rattle.request_effects.specs.declared.clock.Clock.{Clock}
 
 -- a notice of 12 bytes
 abbrev pub notice_room : Asked → ℕ

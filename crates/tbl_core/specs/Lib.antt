@@ -1,15 +1,6 @@
-pub mod Asked
-pub mod Called
-pub mod Copying
-pub mod Counters
-pub mod Effects
+pub mod Ended
 pub mod Finish
-pub mod Housekeeping
-pub mod Loads
 pub mod Log
-pub mod Managed
 pub mod Owned
-pub mod Registering
-pub mod Rows
 pub mod Service
 pub mod Verdicts

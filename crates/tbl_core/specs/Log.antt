@@ -2,6 +2,7 @@
 use Rattle.std.specs.Prelude.{ℕ, ◌≤◌, List, length}
 use Rattle.tbl_model.specs.Counts.{Counts}
 use Rattle.tbl_model.specs.Given.{Given}
+use Rattle.request_effects.specs.Effects.{reply_limit}
 use Rattle.tbl_kinds.specs.declared.request.Actor.{Actor}
 use Rattle.tbl_kinds.specs.declared.request.Request.{Request}
 use Rattle.tbl_kinds.specs.declared.entry.Entry.{Entry}
@@ -13,10 +14,7 @@ pub record Logged : Type 0 where
   pub counts : Counts
   pub spare : ℕ
 
--- a reply has at most this many bytes, and its packets too
-abbrev pub reply_limit : ℕ
-reply_limit = 66000
-
+-- what an entry answers, and its packets
 pub record IsSmallReply (reply : Reply) : Type 0 where
   pub bytes : length reply.bytes.list ≤ reply_limit
   pub packets : length reply.packets.list ≤ reply_limit

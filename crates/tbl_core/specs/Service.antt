@@ -1,10 +1,9 @@
 -- What the core keeps, and which histories it stands for.
-use Rattle.std.specs.Prelude.{◌≡◌, ◌⊎◌, ℕ, suc, ◌+◌, ◌-◌, ◌*◌, ◌^◌, ◌<◌, List, [], ◌∷◌, ◌++◌, length, Bool, true, false, not, Option, Some, None, IfSome, Result}
+use Rattle.std.specs.Prelude.{◌≡◌, ◌⊎◌, ℕ, suc, ◌+◌, ◌-◌, ◌*◌, ◌^◌, ◌<◌, List, [], ◌∷◌, ◌++◌, length, Bool, true, false, not, Option, Some, None, Result}
 use Rattle.std.specs.Option.{ForSome}
 use Rattle.std.proofs.Common.{ℤ}
 use Rattle.tbl_model.specs.State.{State, Tables, no_tables}
-use Rattle.tbl_model.specs.Tables.{table_at}
-use Rattle.tbl_laws.specs.Fit.{HasCode, AreFit}
+use Rattle.tbl_laws.specs.Fit.{AreFit}
 use Rattle.tbl_kinds.specs.Blocks.{Store as Blocks, empty_store}
 use Rattle.tbl_kinds.specs.StoreCalls.{StoreCall}
 use Rattle.tbl_kinds.specs.StoreSteps.{Shows as ShowsBlocks}
@@ -38,14 +37,16 @@ use Rattle.tbl_kinds.specs.declared.request.Request.TheVariants as ask
 use Rattle.tbl_kinds.specs.declared.request.ResetKind.TheVariants.{Processor, PowerOn}
 use Rattle.tbl_kinds.specs.declared.status.TheConstants.Status.{INFO_STOPPED}
 use Rattle.tbl_model.specs.Copies.{then_copy}
-use Rattle.tbl_core.specs.Called.{NoBoot, Follows, boots_behind, session_end, Troubled, RestoresHeld, Leaving, CallsBehind}
-use Rattle.tbl_core.specs.Copying.{IsCopyCall}
-use Rattle.tbl_core.specs.Effects.{IsEffect, IsWithin, uncalled, given_of, told_at}
+use Rattle.store_requests.specs.Called.{NoBoot, boots_behind, Troubled, RestoresHeld, Leaving, CallsBehind}
+use Rattle.tbl_core.specs.Ended.{Follows, session_end}
+use Rattle.table_requests.specs.Limits.{AreCounted, AreSendable}
+use Rattle.store_requests.specs.Copying.{IsCopyCall}
+use Rattle.request_effects.specs.Effects.{IsEffect, IsWithin, uncalled, given_of, told_at}
 use Rattle.tbl_kinds.specs.Notes.{untouched}
 use Rattle.tbl_model.specs.Given.{Given}
 use Rattle.tbl_core.specs.Verdicts.{Judged, questions_in, all_calls_in, AreGiven, AreOf}
-use Rattle.tbl_core.specs.declared.effect.Effect.{Effect}
-use Rattle.tbl_core.specs.declared.parts.Clock.{Clock}
+use Rattle.request_effects.specs.declared.effect.Effect.{Effect}
+use Rattle.request_effects.specs.declared.clock.Clock.{Clock}
 use Rattle.tbl_core.specs.declared.parts.Parts.{Parts}
 use Rattle.tbl_core.specs.declared.service.StartFault.{StartFault}
 use Rattle.tbl_core.specs.declared.service.StartFault.TheVariants.{Memory, BootFault, BootStopped}
@@ -148,14 +149,6 @@ pub record IsReady {B C : Type 0} (asked : C → ℕ) (core : CoreView B C) : Ty
   pub fit : AreFit (length core.entries) (state_of core.state)
   pub booted : core.state.store.booted ≡ not core.state.ended
   pub kit : AskedBelow asked (2 ^ 62 + 2 * length core.entries) core.state.kit
-
--- the next image of each table can be counted in 32 bits
-abbrev pub AreCounted : Tables → Type 0
-AreCounted tables = (row : ℕ) → ForSome (table_at tables row) (λ t. t.count < 2 ^ 32 - 1)
-
--- the notice of each table can be sent
-abbrev pub AreSendable : Tables → Type 0
-AreSendable tables = (row : ℕ) → ForSome (table_at tables row) (λ t. IfSome t.notice HasCode)
 
 -- what each request may rely on
 pub record MayPlay {B C : Type 0} (asked : C → ℕ) (held : Held B C) : Type 0 where

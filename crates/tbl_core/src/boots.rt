@@ -13,16 +13,17 @@ ghost use Rattle.cds_store.specs.Moments.{BootLeaves};
 ghost use Rattle.cds_store.specs.Standing.{StandsFor as HasBlocks};
 ghost use Rattle.tbl_kinds.specs.StoreSteps.{Shows as ShowsBlocks};
 ghost use Rattle.tbl_outside.specs.Bank.{LeavesOnly};
-ghost use Rattle.tbl_core.specs.Called.{Follows, NoBoot, Leaving, boots_behind, with_boot, boot_only, session_end, Troubled};
+ghost use Rattle.tbl_core.specs.Ended.{Follows, boot_only, session_end};
+ghost use Rattle.store_requests.specs.Called.{NoBoot, Leaving, boots_behind, with_boot, Troubled};
 ghost use Rattle.tbl_core.specs.Service.{HoldsAll, Makes, Meets, held_of, after_stop};
 
-use crate::effect::Effect;
-use crate::notes::{note_room, noted};
 use crate::parts::Parts;
 use crate::service::StepFault;
 use cds_store::{BankFault, Store};
+use request_effects::Effect;
 use sharing::Apps;
 use std::mem;
+use store_requests::{note_room, noted};
 use tbl_kinds::{Answer, BankNote, Bytes, Memory, Note, Outcome, ResetKind, Status};
 use tbl_outside::{Bank, Validator};
 

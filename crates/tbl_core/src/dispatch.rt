@@ -7,30 +7,20 @@ ghost use Rattle.tbl_model.specs.Tables.{table_at};
 ghost use Rattle.tbl_model.specs.Commands.{asked_in};
 ghost use Rattle.tbl_kinds.specs.declared.request.Actor.TheVariants as by;
 ghost use Rattle.tbl_model.specs.Dispatch.{ground_effect, app_effect, effect_of};
-ghost use Rattle.tbl_core.specs.Asked.{asked_of, asks_notice, asks_store, activates, shown_room, owners_handle, owned_deeds, most_deeds};
+ghost use Rattle.request_effects.specs.Asked.{asked_of, asks_notice, asks_store, activates, shown_room, owners_handle, owned_deeds, most_deeds};
 ghost use Rattle.tbl_core.specs.Owned.{owned_at};
 ghost use Rattle.tbl_core.specs.Service.{MayPlay, Does, DoesAndCopies, Makes, Meets, held_of, state_of};
 
-use crate::activations::update;
-use crate::addresses::{get, read, release};
-use crate::applications::{exit, share, start};
-use crate::asked::{Asked, activates, asks_store, owners_handle};
-use crate::blocks::cds_register;
-use crate::checks::check;
-use crate::commands::command;
-use crate::copies::{copy_room, then_copy};
-use crate::dumps::{dump_to_buffer, edit};
-use crate::effect::{Effect, room_for_deeds};
-use crate::files::file;
-use crate::loads::{load_file, load_image};
-use crate::management::{get_status, manage, notify};
-use crate::own_blocks::{cds_copy, cds_delete, cds_restore};
-use crate::parts::{Clock, Parts};
-use crate::registration::register;
-use crate::registry::get_info;
-use crate::table_blocks::delete_cds;
-use crate::validations::app_validate;
+use crate::parts::Parts;
 use cmd_packets::Ground;
+use request_effects::{Asked, Clock, Effect, activates, asks_store, owners_handle, room_for_deeds};
+use store_requests::{
+    cds_copy, cds_delete, cds_register, cds_restore, copy_room, delete_cds, register, then_copy,
+};
+use table_requests::{
+    app_validate, check, command, dump_to_buffer, edit, exit, file, get, get_info, get_status,
+    load_file, load_image, manage, notify, read, release, share, start, update,
+};
 use tbl_kinds::{Actor, Answer, Bytes, Memory, Request, Status};
 use tbl_model::Deed;
 use tbl_outside::{Bank, Validator};

@@ -2,26 +2,25 @@
 
 ghost use Rattle.std.specs.Prelude.{◌≡◌, ◌+◌, ◌*◌, ◌<◌, ◌≤◌, [], length};
 ghost use Rattle.tbl_model.specs.Commands.{asked_in};
-ghost use Rattle.tbl_core.specs.Asked.{asked_of, asks_notice, shown_room, most_deeds};
+ghost use Rattle.request_effects.specs.Asked.{asked_of, asks_notice, shown_room, most_deeds};
 ghost use Rattle.tbl_model.specs.State.{no_tables};
 ghost use Rattle.tbl_model.specs.CountsAfter.{counts_after, tally_of};
 ghost use Rattle.tbl_model.specs.Replies.{sent_of};
-ghost use Rattle.tbl_core.specs.Counters.{counts_view};
-ghost use Rattle.tbl_core.specs.Effects.{IsWithin, told_at};
+ghost use Rattle.telemetry.specs.Counters.{counts_view};
+ghost use Rattle.request_effects.specs.Effects.{IsWithin, told_at};
 ghost use Rattle.tbl_core.specs.Finish.{packets_room, Reports};
-ghost use Rattle.tbl_core.specs.Log.{reply_limit};
+ghost use Rattle.request_effects.specs.Effects.{reply_limit};
 ghost use Rattle.tbl_core.specs.Service.{Finishes, held_of};
 
-use crate::asked::{Asked, asks_notice, most_deeds, shown_room};
-use crate::counters::Counters;
-use crate::effect::Effect;
-use crate::events::{EVENT_LENGTH, head_at, put_events};
-use crate::packets::{NOTICE_LENGTH, put_notice, put_shown};
-use crate::parts::{Clock, Parts};
-use crate::tally::{loaded_file, loaded_name, tally};
+use crate::parts::Parts;
+use request_effects::{Asked, Clock, Effect, asks_notice, most_deeds, shown_room};
 use tbl_kinds::{Actor, Bytes, Entry, Reply, Request, Status};
 use tbl_model::Shown;
 use tbl_outside::{Bank, Validator};
+use telemetry::{
+    Counters, EVENT_LENGTH, NOTICE_LENGTH, head_at, loaded_file, loaded_name, put_events,
+    put_notice, put_shown, tally,
+};
 
 /// How many bytes of packets a request can send.
 pub(crate) fn packets_room(request: &Request, asked: &Asked) -> usize

@@ -6,35 +6,26 @@ ghost use Rattle.tbl_model.specs.State.{no_tables};
 ghost use Rattle.tbl_kinds.specs.Requests.{Fits};
 ghost use Rattle.tbl_kinds.specs.Records.{record_limit};
 ghost use Rattle.tbl_model.specs.Counts.{no_counts};
-ghost use Rattle.tbl_core.specs.Called.{OnPlayed};
+ghost use Rattle.tbl_core.specs.Ended.{OnPlayed};
 ghost use Rattle.tbl_model.specs.Commands.{asked_in};
 ghost use Rattle.tbl_model.specs.Dispatch.{effect_of};
-ghost use Rattle.tbl_core.specs.Asked.{asked_of, asks_notice, shown_room, most_deeds};
+ghost use Rattle.request_effects.specs.Asked.{asked_of, asks_notice, shown_room, most_deeds};
 ghost use Rattle.tbl_core.specs.Finish.{packets_room};
 ghost use Rattle.tbl_core.specs.Service.{Makes, Meets, Plays, IsReady, held_of, view_of};
 
-use crate::asked::{Asked, asked_in};
 use crate::boots::session_end;
-use crate::effect::Effect;
 use crate::finish::packets_room;
 use crate::log::Log;
 use crate::service::StepFault;
 use cds_store::Store;
 use file_drawer::Drawer;
+use request_effects::{Asked, Clock, Effect, asked_in};
 use sharing::Apps;
 use std::alloc::Global;
 use tbl_kinds::{Actor, Bytes, Memory, Request};
 use tbl_outside::{Back, Bank, Validator};
 use tbl_registry::Tables;
 use validation::{Kit, Pending};
-
-/// The service's time.
-#[derive(Clone, Copy, Debug)]
-pub(crate) struct Clock {
-    pub seconds: u32,
-    /// Subseconds, in units of 1/65,536 of a second.
-    pub sub: u16,
-}
 
 /// The parts of the service, of which a request changes several in one go.
 #[derive(Drop)]

@@ -12,7 +12,7 @@ use Rattle.tbl_crew.proofs.CrashesOnward.{crash_onward}
 use Rattle.tbl_outside.specs.Bank.{LeavesOnly}
 use Rattle.tbl_outside.proofs.Moments.{goes_on, leaves_among}
 use Rattle.cds_layout.specs.Images.{store_of}
-use Rattle.tbl_core.specs.Called.{RestoresHeld}
+use Rattle.store_requests.specs.Called.{RestoresHeld}
 use Rattle.tbl_core.specs.Service.{CoreView, StandsFor}
 use Rattle.tbl_core.specs.Verdicts.{all_calls_in}
 use Rattle.tbl_kinds.specs.declared.entry.Entry.{Entry}

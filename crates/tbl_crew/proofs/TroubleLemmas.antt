@@ -4,7 +4,8 @@ use Rattle.std.proofs.lemmas.List.{length-append}
 use Rattle.std.proofs.lemmas.List.Sums.{sum_by_push}
 use Rattle.tbl_model.specs.BankCounts.{HasCause, faults_in, stops_in, fault_count, stop_count}
 use Rattle.tbl_outside.specs.Counts.{Rose, Still}
-use Rattle.tbl_core.specs.Called.{OnPlayed, RoseBy, session_end}
+use Rattle.tbl_core.specs.Ended.{OnPlayed, session_end}
+use Rattle.store_requests.specs.Called.{RoseBy}
 use Rattle.tbl_core.specs.Service.{CoreView, AddsOne}
 use Rattle.tbl_core.proofs.Trouble.{rose_on}
 use Rattle.tbl_core.specs.declared.service.StepFault.{StepFault}

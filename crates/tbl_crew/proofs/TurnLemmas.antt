@@ -20,7 +20,8 @@ use Rattle.tbl_crew.specs.Turns.{Takes}
 use Rattle.tbl_crew.proofs.ScriptLemmas as scripts
 use Rattle.tbl_crew.proofs.CrashLemmas.{survives_on}
 use Rattle.tbl_crew.proofs.TroubleLemmas.{caused_on, ends_in_fault, ends_in_stop}
-use Rattle.tbl_core.specs.Called.{OnPlayed, RestoresHeld}
+use Rattle.tbl_core.specs.Ended.{OnPlayed}
+use Rattle.store_requests.specs.Called.{RestoresHeld}
 use Rattle.tbl_core.specs.Service.{StandsFor}
 use Rattle.tbl_core.specs.Verdicts.{all_calls_in}
 use Rattle.tbl_model.specs.History.{begins_at, run_from}

@@ -6,7 +6,7 @@ use Rattle.tbl_model.specs.History.{Run, begins_at, run_from}
 use Rattle.tbl_laws.specs.Crashes.{AfterCrash}
 use Rattle.tbl_outside.specs.Bank.{LeavesOnly}
 use Rattle.cds_layout.specs.Images.{store_of}
-use Rattle.tbl_core.specs.Called.{RestoresHeld}
+use Rattle.store_requests.specs.Called.{RestoresHeld}
 use Rattle.tbl_core.specs.Service.{CoreView, StandsFor}
 use Rattle.tbl_core.specs.Verdicts.{all_calls_in}
 use Rattle.tbl_kinds.specs.declared.entry.Entry.{Entry}

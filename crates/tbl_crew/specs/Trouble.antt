@@ -2,7 +2,7 @@
 use Rattle.std.specs.Prelude.{◌≡◌, ℕ, ◌≤◌, List, [], ◌∷◌, ◌++◌, Bool, true}
 use Rattle.std.specs.List.{AllByRecursion}
 use Rattle.tbl_model.specs.BankCounts.{HasCause, fault_count, stop_count}
-use Rattle.tbl_core.specs.Called.{RoseBy}
+use Rattle.store_requests.specs.Called.{RoseBy}
 use Rattle.tbl_core.specs.Service.{CoreView}
 use Rattle.tbl_kinds.specs.declared.entry.Entry.{Entry}
 

@@ -8,7 +8,7 @@ use Rattle.tbl_kinds.specs.Records.{Pair, joined, record_limit}
 use Rattle.tbl_kinds.specs.Heads.{IsShort, IsBad, is_short, is_bad, EndsBefore}
 use Rattle.tbl_kinds.proofs.RecordLaws.{bad-append, no_rest}
 use Rattle.tbl_outside.specs.Counts.{Rose}
-use Rattle.tbl_core.specs.Called.{RoseBy}
+use Rattle.store_requests.specs.Called.{RoseBy}
 use Rattle.tbl_crew.proofs.TroubleLemmas.{rose_once, rose_by_fault, rose_by_stop}
 use Rattle.tbl_outside.specs.declared.validator.KitEntry.{KitEntry}
 use Rattle.tbl_kinds.specs.declared.entry.Entry.{Entry}

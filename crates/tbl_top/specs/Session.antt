@@ -11,7 +11,7 @@ use Rattle.tbl_kinds.specs.Transcript.{entries_bytes, transcript}
 use Rattle.cds_layout.specs.Images.{store_of}
 use Rattle.tbl_outside.specs.Counts.{Rose}
 use Rattle.tbl_outside.specs.Streams.{TakesFront}
-use Rattle.tbl_core.specs.Called.{RoseBy}
+use Rattle.store_requests.specs.Called.{RoseBy}
 use Rattle.tbl_outside.specs.declared.validator.KitEntry.{KitEntry}
 use Rattle.tbl_top.specs.Playing.{IsBeginning}
 use Rattle.tbl_top.specs.Reading.{StopsReading}

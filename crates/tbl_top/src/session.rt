@@ -6,7 +6,7 @@ ghost use Rattle.tbl_model.specs.State.{State};
 ghost use Rattle.tbl_kinds.specs.Places.{bank_size};
 ghost use Rattle.tbl_kinds.specs.StoreSteps.{Shows};
 ghost use Rattle.cds_layout.specs.Images.{store_of};
-ghost use Rattle.tbl_core.specs.Called.{RoseBy};
+ghost use Rattle.store_requests.specs.Called.{RoseBy};
 ghost use Rattle.tbl_core.specs.Service.{Vouches, StartCounted};
 ghost use Rattle.tbl_outside.specs.Bank.{LeavesOnly};
 ghost use Rattle.tbl_outside.specs.Counts.{Rose};

@@ -2,11 +2,11 @@ use Rattle.std.proofs.Common.{refl, subst}
 use Rattle.std.proofs.lemmas.Result.{IfOk-weaker}
 use Rattle.tbl_model.specs.Registration.{register_effect}
 use Rattle.tbl_model.specs.AppBlocks.{cds_register_effect, cds_copy_effect, cds_restore_effect, cds_delete_effect}
-use Rattle.tbl_core.specs.Called.{with_boot, Calls}
+use Rattle.store_requests.specs.Called.{with_boot, Calls}
 use Rattle.tbl_core.proofs.StoreRequests.{call_makes, call_meets, block_makes, block_meets}
 use Rattle.tbl_core.proofs.Restoring.{register_holds, copy_holds, restore_holds, delete_holds}
 use Rattle.tbl_core.specs.Service.{held_of, state_of}
-use Rattle.tbl_core.proofs.Both.{both, three}
+use Rattle.store_requests.proofs.Both.{both, three}
 use Rattle.tbl_core.proofs.parts.Parts.app_store_request.Goals as goal
 
 pub returns-in-CdsRegister-clause-makes : goal.returns-in-CdsRegister-clause-makes

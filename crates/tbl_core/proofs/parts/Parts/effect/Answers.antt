@@ -1,8 +1,8 @@
 use Rattle.std.proofs.Common.{None, arith, rules}
 use Rattle.std.proofs.lemmas.Result.{IfOk-weaker}
-use Rattle.tbl_core.specs.Asked.{asked_of, most_deeds}
+use Rattle.request_effects.specs.Asked.{asked_of, most_deeds}
 use Rattle.tbl_kinds.specs.declared.request.Actor.TheVariants.{Ground, App}
-use Rattle.tbl_core.proofs.Moments.{uncalled_leaves}
+use Rattle.store_requests.proofs.Moments.{uncalled_leaves}
 use Rattle.tbl_core.proofs.TableRequests.{table_makes, table_meets}
 use Rattle.tbl_core.proofs.Telling.{wider, owners_deeds, no_reset}
 use Rattle.tbl_core.proofs.parts.Parts.effect.Goals as goal

@@ -1,5 +1,5 @@
 use Rattle.std.proofs.Common.{refl, rules}
-use Rattle.tbl_core.proofs.Both.{both, three}
+use Rattle.store_requests.proofs.Both.{both, three}
 use Rattle.tbl_core.proofs.Doing.{plainly, quietly}
 use Rattle.tbl_core.proofs.Verdicts.{none_judged}
 use Rattle.tbl_core.proofs.parts.Parts.ground.Goals as goal

@@ -2,8 +2,8 @@ use Rattle.std.proofs.Common.{◌∙◌, refl, sym, ap, length, rules}
 use Rattle.tbl_model.specs.State.{Tables}
 use Rattle.tbl_model.specs.Tables.{table_at}
 use Rattle.tbl_model.specs.Given.{Given}
-use Rattle.tbl_core.proofs.Both.{both, five}
-use Rattle.tbl_core.proofs.Places.{some_is}
+use Rattle.store_requests.proofs.Both.{both, five}
+use Rattle.table_requests.proofs.Places.{some_is}
 use Rattle.tbl_core.proofs.Owners.{leaves_of}
 use Rattle.tbl_core.proofs.Verdicts.{none_judged, was_judged}
 use Rattle.tbl_core.proofs.parts.Parts.owned.Goals as goal

@@ -2,12 +2,12 @@ use Rattle.std.proofs.Common.{◌∙◌, length, ap, subst, false, is_some, rule
 use Rattle.tbl_model.specs.Tables.{table_at}
 use Rattle.cds_store.specs.Standing.{StoreParts, StandsFor}
 use Rattle.tbl_model.specs.Copies.{then_copy}
-use Rattle.tbl_core.specs.Called.{CallsBehind}
-use Rattle.tbl_core.specs.Copying.{IsCopyCall}
-use Rattle.tbl_core.specs.Asked.{owned_deeds}
+use Rattle.store_requests.specs.Called.{CallsBehind}
+use Rattle.store_requests.specs.Copying.{IsCopyCall}
+use Rattle.request_effects.specs.Asked.{owned_deeds}
 use Rattle.tbl_core.specs.Owned.{owned_at}
 use Rattle.tbl_core.specs.Service.{Does, held_of}
-use Rattle.tbl_core.proofs.Places.{some_is}
+use Rattle.table_requests.proofs.Places.{some_is}
 use Rattle.tbl_core.proofs.Owned.{stays_critical, few_deeds}
 use Rattle.tbl_core.proofs.parts.Parts.owned_and_copied.Goals as goal
 

@@ -4,15 +4,15 @@ use Rattle.tbl_model.specs.State.{Tables}
 use Rattle.tbl_model.specs.Tables.{table_at}
 use Rattle.tbl_model.specs.Dispatch.{app_effect}
 use Rattle.tbl_kinds.specs.declared.request.Actor.TheVariants.{App}
-use Rattle.tbl_core.specs.Asked.{activates, owned_deeds, most_deeds}
-use Rattle.tbl_core.specs.Effects.{given_of}
+use Rattle.request_effects.specs.Asked.{activates, owned_deeds, most_deeds}
+use Rattle.request_effects.specs.Effects.{given_of}
 use Rattle.tbl_core.specs.Owned.{owned_at}
 use Rattle.tbl_core.specs.Service.{Does, held_of}
-use Rattle.tbl_core.proofs.Moments.{uncalled_leaves}
+use Rattle.store_requests.proofs.Moments.{uncalled_leaves}
 use Rattle.tbl_core.proofs.TableRequests.{table_makes, table_meets}
 use Rattle.tbl_core.proofs.Telling.{wider, owner_resets, owned_fewer, copied_fewer}
 use Rattle.tbl_core.proofs.CopiedBehind.{copies_makes, copies_meets}
-use Rattle.tbl_core.proofs.Places.{some_is}
+use Rattle.table_requests.proofs.Places.{some_is}
 use Rattle.tbl_core.proofs.Owners.{refused, taken, is_copied, does_plainly}
 use Rattle.tbl_core.proofs.Verdicts.{none_judged}
 use Rattle.tbl_core.proofs.parts.Parts.owner.Goals as goal

@@ -2,7 +2,7 @@ use Rattle.std.proofs.Common.{refl, sym, ap, subst, ◌∙◌}
 use Rattle.tbl_model.specs.Dispatch.{effect_of}
 use Rattle.tbl_core.specs.Log.{Logged}
 use Rattle.tbl_core.specs.Service.{Held, Finishes, IsMade, held_of}
-use Rattle.tbl_core.specs.declared.effect.Effect.{Effect}
+use Rattle.request_effects.specs.declared.effect.Effect.{Effect}
 use Rattle.tbl_core.proofs.Behind.{is_made}
 use Rattle.tbl_core.proofs.Steps.{did_play, played}
 use Rattle.tbl_core.proofs.parts.Parts.play.Goals as goal

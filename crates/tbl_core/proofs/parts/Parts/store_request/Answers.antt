@@ -1,10 +1,10 @@
 use Rattle.std.proofs.Common.{refl, rules}
 use Rattle.std.proofs.lemmas.Result.{IfOk-weaker}
 use Rattle.tbl_model.specs.AppBlocks.{delete_cds_effect}
-use Rattle.tbl_core.specs.Called.{with_boot}
+use Rattle.store_requests.specs.Called.{with_boot}
 use Rattle.tbl_core.proofs.StoreRequests.{block_makes, block_meets, deletes}
 use Rattle.tbl_core.proofs.Restoring.{delete_cds_holds}
-use Rattle.tbl_core.proofs.Both.{both}
+use Rattle.store_requests.proofs.Both.{both}
 use Rattle.tbl_core.proofs.parts.Parts.store_request.Goals as goal
 
 pub returns-in-Reset-clause-meets : goal.returns-in-Reset-clause-meets

@@ -1,5 +1,5 @@
 use Rattle.std.proofs.Common.{◌≡◌, arith, ap, Bool, if◌then◌else◌}
-use Rattle.tbl_core.specs.Asked.{asked_of, asks_notice}
+use Rattle.request_effects.specs.Asked.{asked_of, asks_notice}
 use Rattle.tbl_core.specs.Finish.{notice_room}
 use Rattle.tbl_core.proofs.Few.{notice_owed, behind_events}
 use Rattle.tbl_core.proofs.parts.Parts.tell.Goals as goal

@@ -1,5 +1,5 @@
 use Rattle.std.proofs.Common.{refl, rules}
-use Rattle.tbl_core.proofs.Both.{both}
+use Rattle.store_requests.proofs.Both.{both}
 use Rattle.tbl_core.proofs.Doing.{quietly}
 use Rattle.tbl_core.proofs.Verdicts.{none_judged}
 use Rattle.tbl_core.proofs.parts.Parts.user.Goals as goal
