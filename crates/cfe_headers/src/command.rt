@@ -5,7 +5,7 @@ ghost use Rattle.std.specs.List.{fold};
 ghost use Rattle.tbl_kinds.specs.Packets.{packet_flaw, packet_id, packet_code, command_packet};
 ghost use Rattle.cfe_headers.specs.Faults.{flaw_of};
 
-use crate::primary::{LENGTH_LESS, put_primary};
+use crate::primary::{LENGTH_LESS, primary};
 use tbl_kinds::{Bytes, u16_at};
 use thiserror::Error;
 
@@ -77,7 +77,7 @@ pub fn write_cmd(out: &mut Bytes, id: u16, count: u16, code: u8, payload: &[u8])
     ensures len { length out.new.list ≡ length out.old.list + (8 + length payload.now) }
 {
     let start = out.bytes().len();
-    put_primary(out, id, count, 8 + payload.len() as u16);
+    out.append(primary(id, count, 8 + payload.len() as u16).as_slice());
     out.append(&[code]);
     let (_, front) = out.bytes().split_at(start);
     let sum = checksum_from(0xFF, front);

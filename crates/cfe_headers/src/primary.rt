@@ -1,9 +1,11 @@
 //! The primary header, six bytes that each packet begins with (CCSDS 133.0-B, "Packet Primary Header").
 
-ghost use Rattle.std.specs.Prelude.{◌≡◌, ◌+◌, ◌<◌, ◌≤◌, ◌++◌, length};
+ghost use Rattle.std.specs.Prelude.{◌≡◌, ◌<◌, ◌≤◌};
 ghost use Rattle.tbl_kinds.specs.Packets.{primary_header};
+ghost use Rattle.arrayvec.specs.ArrayVec.{array_vec_len};
 
-use tbl_kinds::Bytes;
+use arrayvec::ArrayVec;
+use field_bytes::put;
 
 /// What a packet has more bytes than its length field says.
 pub(crate) const LENGTH_LESS: u16 = 7;
@@ -11,16 +13,17 @@ pub(crate) const LENGTH_LESS: u16 = 7;
 /// Sequence flags 3: the packet is whole, and no segment of a longer one.
 const UNSEGMENTED: u16 = 0xC000;
 
-/// Appends the primary header of a packet of `len` bytes in all.
+/// The primary header of a packet of `len` bytes in all.
 #[tactic(auto, unfolding(tbl_kinds::specs::Packets::primary_header))]
-pub(crate) fn put_primary(out: &mut Bytes, id: u16, count: u16, len: u16)
-    requires room { 6 ≤ out.old.spare }
+pub(crate) fn primary(id: u16, count: u16, len: u16) -> ArrayVec<u8, 6>
     requires count { count < 16384 }
     requires len { 7 ≤ len }
-    ensures bytes { out.new.list ≡ out.old.list ++ primary_header id count len }
-    ensures room { out.old.spare ≤ out.new.spare + 6 }
+    ensures bytes { result.items ≡ primary_header id count len }
+    ensures len { array_vec_len result ≡ 6 }
 {
-    out.append(&id.to_be_bytes());
-    out.append(&(UNSEGMENTED + count).to_be_bytes());
-    out.append(&(len - LENGTH_LESS).to_be_bytes());
+    let mut header = ArrayVec::new();
+    put(&mut header, &id.to_be_bytes());
+    put(&mut header, &(UNSEGMENTED + count).to_be_bytes());
+    put(&mut header, &(len - LENGTH_LESS).to_be_bytes());
+    header
 }

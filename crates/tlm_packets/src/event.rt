@@ -5,9 +5,9 @@ ghost use Rattle.arrayvec.specs.ArrayVec.{array_vec_len};
 ghost use Rattle.tbl_kinds.specs.Packets.{telemetry_packet, event_id};
 ghost use Rattle.tbl_kinds.specs.Telemetry.{event_body};
 
-use crate::put::put;
 use arrayvec::ArrayVec;
 use cfe_headers::write_tlm;
+use field_bytes::put;
 use tbl_kinds::{Bytes, Event, TlmHead};
 
 /// The message id of event packets.

@@ -5,9 +5,9 @@ ghost use Rattle.arrayvec.specs.ArrayVec.{array_vec_len};
 ghost use Rattle.tbl_kinds.specs.Packets.{telemetry_packet, housekeeping_id};
 ghost use Rattle.tbl_kinds.specs.Telemetry.{housekeeping_body, commands_and_loads, last_validation, validations_and_buffers, last_update};
 
-use crate::put::put;
 use arrayvec::ArrayVec;
 use cfe_headers::write_tlm;
+use field_bytes::put;
 use tbl_kinds::{Bytes, Housekeeping, TlmHead};
 
 /// The message id of housekeeping packets.

@@ -6,7 +6,6 @@ mod event;
 mod housekeeping;
 mod laws;
 mod notice;
-mod put;
 mod reading;
 mod registry;
 

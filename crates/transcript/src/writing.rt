@@ -1,7 +1,26 @@
-ghost use Rattle.std.specs.Prelude.{◌≡◌, ◌+◌, ◌<◌, ◌≤◌, ◌^◌, ◌++◌, length, OnOk, OnErr};
+ghost use Rattle.std.specs.Prelude.{◌≡◌, ◌+◌, ◌<◌, ◌≤◌, ◌^◌, [], ◌∷◌, ◌++◌, length, OnOk, OnErr};
+ghost use Rattle.tbl_kinds.specs.Numbers.{four};
+ghost use Rattle.tbl_kinds.specs.Records.{actor_number};
 ghost use Rattle.tbl_kinds.specs.Transcript.{entry_bytes, end_bytes};
 
+use arrayvec::ArrayVec;
+use field_bytes::put;
 use tbl_kinds::{Bytes, Entry, Memory};
+
+/// What stands before the reply's bytes: place, actor, status, detail, and how many bytes the reply has.
+fn head_of(place: u32, entry: &Entry) -> ArrayVec<u8, 17>
+    requires { length entry.now.reply.bytes.list < 2 ^ 32 }
+    ensures { result.items ≡ four place ++ actor_number entry.now.actor ∷ [] ++ four entry.now.reply.status.0 ++ four entry.now.reply.detail ++ four (length entry.now.reply.bytes.list) }
+{
+    let count = entry.reply.bytes.bytes().len() as u32;
+    let mut head = ArrayVec::new();
+    put(&mut head, &place.to_be_bytes());
+    put(&mut head, &[entry.actor.number()]);
+    put(&mut head, &entry.reply.status.0.to_be_bytes());
+    put(&mut head, &entry.reply.detail.to_be_bytes());
+    put(&mut head, &count.to_be_bytes());
+    head
+}
 
 /// Appends the spelling of the entry that stands at this place of the history. Where memory runs out, nothing is
 /// changed.
@@ -12,14 +31,11 @@ pub fn write_entry(out: &mut Bytes, place: u32, entry: &Entry) -> Result<(), Mem
     ensures ok { OnOk result (out.new.list ≡ out.old.list ++ entry_bytes place entry.now) }
     ensures err { OnErr result (out.new ≡ out.old) }
 {
+    let head = head_of(place, entry);
     let bytes = entry.reply.bytes.bytes();
     let packets = entry.reply.packets.bytes();
     out.reserve(21 + bytes.len() + packets.len())?;
-    out.append(&place.to_be_bytes());
-    out.append(&[entry.actor.number()]);
-    out.append(&entry.reply.status.0.to_be_bytes());
-    out.append(&entry.reply.detail.to_be_bytes());
-    out.append(&(bytes.len() as u32).to_be_bytes());
+    out.append(head.as_slice());
     out.append(bytes);
     out.append(&(packets.len() as u32).to_be_bytes());
     out.append(packets);

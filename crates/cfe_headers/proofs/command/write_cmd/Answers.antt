@@ -8,12 +8,12 @@ use Rattle.cfe_headers.proofs.command.write_cmd.Goals as goal
 
 pub returns-clause-bytes : goal.returns-clause-bytes
 returns-clause-bytes c =
-    let out-is = c.append.ensures.bytes ∙ ap (λ (s : List ℕ). s ++ c.args.code ∷ []) c.put_primary.ensures.bytes in
-    let behind : drop (length c.bytes-start.result.now) c.bytes.result.now ≡ drop (length c.args.out.now.list) c.append.new.self.list = rw (c.bytes-start.ensures, c.bytes.ensures) in
+    let out-is = c.append-2.ensures.bytes ∙ ap (λ (s : List ℕ). s ++ c.args.code ∷ []) (c.append.ensures.bytes ∙ ap (λ (s : List ℕ). c.args.out.now.list ++ s) (c.as_slice.ensures.value ∙ c.primary.ensures.bytes)) in
+    let behind : drop (length c.bytes-start.result.now) c.bytes.result.now ≡ drop (length c.args.out.now.list) c.append-2.new.self.list = rw (c.bytes-start.ensures, c.bytes.ensures) in
     let front-is = c.checksum_from-sum.ensures ∙ ap (λ (s : List ℕ). fold bit_xor 0xFF s) (c.split_at.ensures.back ∙ behind) in
-    c.append-3.ensures.bytes
-    ∙ ap (λ (s : List ℕ). s ++ c.args.payload.now) c.append-2.ensures.bytes
-    ∙ packet_from_pieces c.args.out.now.list c.args.id c.args.count c.args.code c.args.payload.now c.append.new.self.list c.checksum_from-sum.result c.checksum_from.result out-is front-is c.checksum_from.ensures
+    c.append-4.ensures.bytes
+    ∙ ap (λ (s : List ℕ). s ++ c.args.payload.now) c.append-3.ensures.bytes
+    ∙ packet_from_pieces c.args.out.now.list c.args.id c.args.count c.args.code c.args.payload.now c.append-2.new.self.list c.checksum_from-sum.result c.checksum_from.result out-is front-is c.checksum_from.ensures
 
 pub returns-clause-len : goal.returns-clause-len
 returns-clause-len c =

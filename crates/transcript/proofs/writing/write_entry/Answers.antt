@@ -5,4 +5,4 @@ use Rattle.transcript.proofs.writing.write_entry.Goals as goal
 pub returns-clause-ok : goal.returns-clause-ok
 unfolding entry_spelling
 returns-clause-ok c =
-    rw (c.append-8.ensures.bytes, c.append-7.ensures.bytes, c.append-6.ensures.bytes, c.append-5.ensures.bytes, c.append-4.ensures.bytes, c.append-3.ensures.bytes, c.append-2.ensures.bytes, c.append.ensures.bytes, c.reserve.ensures.bytes, c.to_be_bytes.ensures, c.number.ensures, c.to_be_bytes-2.ensures, c.to_be_bytes-3.ensures, c.to_be_bytes-4.ensures, c.to_be_bytes-5.ensures, c.bytes-bytes.ensures, c.bytes-packets.ensures) (simp append_assoc)
+    rw (c.append-4.ensures.bytes, c.append-3.ensures.bytes, c.append-2.ensures.bytes, c.append.ensures.bytes, c.reserve.ensures.bytes, c.as_slice.ensures.value, c.head_of-head.ensures, c.to_be_bytes.ensures, c.bytes-bytes.ensures, c.bytes-packets.ensures) (simp append_assoc)
