@@ -1,8 +1,8 @@
-ghost use Rattle.std.specs.Prelude.{◌≡◌, ◌↔◌, ◌≤◌, [], length, take, IfOk, OnErr, IfSome, IsTrue, is_some, Ok};
+ghost use Rattle.std.specs.Prelude.{◌≡◌, ◌↔◌, ◌≤◌, [], length, take, IfOk, OnErr, IfSome, IsTrue, is_some, Ok, true, false};
 ghost use Rattle.tbl_kinds.specs.Numbers.{two};
 ghost use Rattle.tbl_kinds.specs.Records.{IsRecord, spelling};
 ghost use Rattle.tbl_kinds.specs.Heads.{IsShort, IsBad, is_name_field, has_name, has_name_last, is_reset_body, is_good_head, is_right_body};
-ghost use Rattle.session_records.specs.Reading.{IfItem, IsSpelledBy, is_handle_kind};
+ghost use Rattle.session_records.specs.Reading.{IfItem, IsSpelledBy, is_handle_kind, keeps_bytes};
 
 use crate::fields::{read_four, read_two, read_validator};
 use crate::head::{HEAD_LEN, Head, actor_of};
@@ -34,11 +34,12 @@ fn copy_of(alloc: Global, piece: &[u8]) -> Result<Bytes, Memory>
     Ok(bytes)
 }
 
-fn command(alloc: Global, body: &[u8]) -> Result<Request, Memory>
-    ensures { IfOk result (λ request. IsSpelledBy 0x01 body.now request) }
+fn command(alloc: Global, body: &[u8]) -> Result<Option<Request>, Memory>
+    ensures right { IfOk result (λ found. is_some found ≡ true) }
+    ensures spelled { IfOk result (λ found. IfSome found (λ request. IsSpelledBy 0x01 body.now request)) }
 {
     let bytes = copy_of(alloc, body)?;
-    Ok(Request::Command { bytes })
+    Ok(Some(Request::Command { bytes }))
 }
 
 fn file(alloc: Global, body: &[u8]) -> Result<Option<Request>, Memory>
@@ -113,13 +114,14 @@ fn share(body: &[u8]) -> Option<Request>
     Some(Request::Share { name })
 }
 
-fn load_image(alloc: Global, body: &[u8]) -> Result<Request, Memory>
+fn load_image(alloc: Global, body: &[u8]) -> Result<Option<Request>, Memory>
     requires { 2 ≤ length body.now }
-    ensures { IfOk result (λ request. IsSpelledBy 0x14 body.now request) }
+    ensures right { IfOk result (λ found. is_some found ≡ true) }
+    ensures spelled { IfOk result (λ found. IfSome found (λ request. IsSpelledBy 0x14 body.now request)) }
 {
     let (handle, rest) = read_two(body);
     let image = copy_of(alloc, rest)?;
-    Ok(Request::LoadImage { handle, image })
+    Ok(Some(Request::LoadImage { handle, image }))
 }
 
 fn load_file(body: &[u8]) -> Option<Request>
@@ -132,18 +134,19 @@ fn load_file(body: &[u8]) -> Option<Request>
     Some(Request::LoadFile { handle, name })
 }
 
-fn edit(alloc: Global, body: &[u8]) -> Result<Request, Memory>
+fn edit(alloc: Global, body: &[u8]) -> Result<Option<Request>, Memory>
     requires { 6 ≤ length body.now }
-    ensures { IfOk result (λ request. IsSpelledBy 0x1A body.now request) }
+    ensures right { IfOk result (λ found. is_some found ≡ true) }
+    ensures spelled { IfOk result (λ found. IfSome found (λ request. IsSpelledBy 0x1A body.now request)) }
 {
     let (handle, rest) = read_two(body);
     let (offset, rest) = read_four(rest);
     let bytes = copy_of(alloc, rest)?;
-    Ok(Request::Edit {
+    Ok(Some(Request::Edit {
         handle,
         offset,
         bytes,
-    })
+    }))
 }
 
 fn read(body: &[u8]) -> Request
@@ -196,13 +199,14 @@ fn cds_register(body: &[u8]) -> Option<Request>
     Some(Request::CdsRegister { name, size })
 }
 
-fn cds_copy(alloc: Global, body: &[u8]) -> Result<Request, Memory>
+fn cds_copy(alloc: Global, body: &[u8]) -> Result<Option<Request>, Memory>
     requires { 2 ≤ length body.now }
-    ensures { IfOk result (λ request. IsSpelledBy 0x31 body.now request) }
+    ensures right { IfOk result (λ found. is_some found ≡ true) }
+    ensures spelled { IfOk result (λ found. IfSome found (λ request. IsSpelledBy 0x31 body.now request)) }
 {
     let (slot, rest) = read_two(body);
     let image = copy_of(alloc, rest)?;
-    Ok(Request::CdsCopy { slot, image })
+    Ok(Some(Request::CdsCopy { slot, image }))
 }
 
 /// The handle or the slot that a body of two bytes is.
@@ -237,6 +241,35 @@ fn handle_request(head: Head, body: &[u8]) -> Request
     }
 }
 
+/// The request that a body of this kind spells, if it is of the right form, of the kinds whose requests keep no bytes of
+/// their own. It isn't inlined: its arms would clear their memory for each record of the other kinds.
+#[inline(never)]
+#[tactic(auto, unfolding(tbl_kinds::specs::Heads::is_right_body, tbl_kinds::specs::Heads::is_good_head))]
+fn plain_request(head: Head, body: &[u8]) -> Option<Request>
+    requires kind { keeps_bytes head.kind ≡ false }
+    requires good { IsTrue (is_good_head head.kind head.actor (length body.now)) }
+    ensures right { is_some result ≡ is_right_body head.kind body.now }
+    ensures spelled { IfSome result (λ request. IsSpelledBy head.kind body.now request) }
+{
+    match head.kind {
+        0x03 => Some(time(body)),
+        0x04 => reset(body),
+        0x10 => start(body),
+        0x11 => register(body),
+        0x12 => share(body),
+        0x15 => load_file(body),
+        0x1C => Some(read(body)),
+        0x1F => get_info(body),
+        0x20 => Some(notify(body)),
+        0x21 => Some(Request::Exit),
+        0x30 => cds_register(body),
+        0x13 | 0x16 | 0x17 | 0x18 | 0x19 | 0x1B | 0x1D | 0x1E | 0x32 | 0x33 => {
+            Some(handle_request(head, body))
+        }
+        _ => None,
+    }
+}
+
 /// The request that a body of this kind spells, if it is of the right form.
 #[tactic(auto, unfolding(tbl_kinds::specs::Heads::is_right_body, tbl_kinds::specs::Heads::is_good_head))]
 fn request_of(alloc: Global, head: Head, body: &[u8]) -> Result<Option<Request>, Memory>
@@ -246,26 +279,12 @@ fn request_of(alloc: Global, head: Head, body: &[u8]) -> Result<Option<Request>,
     ensures memory { OnErr result (IsTrue (is_right_body head.kind body.now)) }
 {
     match head.kind {
-        0x01 => Ok(Some(command(alloc, body)?)),
+        0x01 => command(alloc, body),
         0x02 => file(alloc, body),
-        0x03 => Ok(Some(time(body))),
-        0x04 => Ok(reset(body)),
-        0x10 => Ok(start(body)),
-        0x11 => Ok(register(body)),
-        0x12 => Ok(share(body)),
-        0x13 | 0x16 | 0x17 | 0x18 | 0x19 | 0x1B | 0x1D | 0x1E | 0x32 | 0x33 => {
-            Ok(Some(handle_request(head, body)))
-        }
-        0x14 => Ok(Some(load_image(alloc, body)?)),
-        0x15 => Ok(load_file(body)),
-        0x1A => Ok(Some(edit(alloc, body)?)),
-        0x1C => Ok(Some(read(body))),
-        0x1F => Ok(get_info(body)),
-        0x20 => Ok(Some(notify(body))),
-        0x21 => Ok(Some(Request::Exit)),
-        0x30 => Ok(cds_register(body)),
-        0x31 => Ok(Some(cds_copy(alloc, body)?)),
-        _ => Ok(None),
+        0x14 => load_image(alloc, body),
+        0x1A => edit(alloc, body),
+        0x31 => cds_copy(alloc, body),
+        _ => Ok(plain_request(head, body)),
     }
 }
 
