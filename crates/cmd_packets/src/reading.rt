@@ -1,6 +1,6 @@
 //! Reading a command.
 
-ghost use Rattle.std.specs.Prelude.{◌≡◌, ◌+◌, ◌≤◌, Some, length, slice_get, Result};
+ghost use Rattle.std.specs.Prelude.{◌≡◌, ◌+◌, ◌<◌, ◌≤◌, Some, length, slice_get, Result, OnOk, IfErr};
 ghost use Rattle.std.specs.Option.{option_map};
 ghost use Rattle.tbl_kinds.specs.Numbers.{two_at};
 ghost use Rattle.tbl_kinds.specs.GroundCommands.{forms, payload_len as len_of, name_at, table_of, file_of, is_named, with_names as names_tested, by_form, by_code as by_code_lem, by_id, housekeeping_form, command_in};
@@ -136,8 +136,10 @@ fn with_names(asked: Ground) -> Result<Ground, CmdFault>
     Ok(asked)
 }
 
-/// The command of a function code with its payload.
-fn by_code(code: u8, payload: &[u8]) -> Result<Ground, CmdFault>
+/// The command of a function code with its payload, by its form. It isn't inlined: a command without a payload would clear
+/// and copy the memory of names.
+#[inline(never)]
+fn by_form_of(code: u8, payload: &[u8]) -> Result<Ground, CmdFault>
     requires { length payload.now ≤ 65534 }
     ensures { Gives result (by_code_lem code (slice_get forms code) payload.now) }
 {
@@ -148,14 +150,43 @@ fn by_code(code: u8, payload: &[u8]) -> Result<Ground, CmdFault>
     }
 }
 
+/// Whether a payload is empty, or else why it is none of a command without one.
+fn empty(payload: &[u8]) -> Result<(), CmdFault>
+    requires { length payload.now ≤ 65534 }
+    ensures ok { OnOk result (length payload.now ≡ 0) }
+    ensures err { IfErr result (λ fault. (fault ≡ CmdFault.BadLength (length payload.now)) × (0 < length payload.now)) }
+{
+    if payload.is_empty() {
+        Ok(())
+    } else {
+        Err(CmdFault::BadLength(payload.len() as u32))
+    }
+}
+
+/// The command of a function code with its payload.
+fn by_code(code: u8, payload: &[u8]) -> Result<Ground, CmdFault>
+    requires { length payload.now ≤ 65534 }
+    ensures { Gives result (by_code_lem code (slice_get forms code) payload.now) }
+{
+    match code {
+        0 => {
+            empty(payload)?;
+            Ok(Ground::Noop)
+        }
+        1 => {
+            empty(payload)?;
+            Ok(Ground::ResetCounters)
+        }
+        _ => by_form_of(code, payload),
+    }
+}
+
 /// The request for housekeeping, whose payload is empty.
 fn housekeeping(payload: &[u8]) -> Result<Ground, CmdFault>
     requires { length payload.now ≤ 65534 }
     ensures { Gives result (by_form housekeeping_form payload.now) }
 {
-    if !payload.is_empty() {
-        return Err(CmdFault::BadLength(payload.len() as u32));
-    }
+    empty(payload)?;
     Ok(Ground::Housekeeping)
 }
 

@@ -3,7 +3,7 @@ use Rattle.tbl_kinds.specs.GroundCommands.{forms}
 use Rattle.tbl_kinds.specs.GroundCommands.{payload_len as len_of}
 use Rattle.cmd_packets.specs.Views.{command_of, Gives}
 use Rattle.cmd_packets.proofs.CodedForms.{of_length}
-use Rattle.cmd_packets.proofs.reading.by_code.Goals as goal
+use Rattle.cmd_packets.proofs.reading.by_form_of.Goals as goal
 
 pub returns-in-Some : goal.returns-in-Some
 returns-in-Some c =
