@@ -79,7 +79,7 @@ impl Bytes {
     {
         let items = match &self.items {
             Items::Few(few) => Items::Few(few.copy()),
-            Items::Many(many) => Items::Many(many.clone()?),
+            Items::Many(many) => Items::Many(copy_of(self.alloc, many.as_slice(), 0)?),
         };
         Ok(Bytes {
             alloc: self.alloc,
@@ -122,7 +122,7 @@ impl Bytes {
         match &mut self.items {
             Items::Few(few) => {
                 if !few.reserve(more) {
-                    let many = moved_out(self.alloc, few, more)?;
+                    let many = copy_of(self.alloc, few.bytes(), more)?;
                     self.items = Items::Many(many);
                 }
             }
@@ -144,11 +144,10 @@ impl Bytes {
 }
 
 /// The bytes in memory of their own, with reserved room for this many further ones.
-fn moved_out(alloc: Global, few: &Few, more: usize) -> Result<Vec<u8>, Memory>
-    ensures bytes { IfOk result (λ many. many.items ≡ few.now.list) }
-    ensures room { IfOk result (λ many. length few.now.list + more ≤ vec_capacity many) }
+fn copy_of(alloc: Global, bytes: &[u8], more: usize) -> Result<Vec<u8>, Memory>
+    ensures bytes { IfOk result (λ many. many.items ≡ bytes.now) }
+    ensures room { IfOk result (λ many. length bytes.now + more ≤ vec_capacity many) }
 {
-    let bytes = few.bytes();
     let Some(room) = bytes.len().checked_add(more) else {
         return Err(Memory);
     };
