@@ -124,32 +124,31 @@ impl<B: Bank, C: Validator> Parts<B, C> {
         Ok(noted(Answer::plain(status), empty, note))
     }
 
-    /// The effect of a request, behind which the service boots as after a reset of the processor where a call of the store
-    /// was stopped. What the request did before stays in the effect, and is told by no packet.
-    pub(crate) fn boot_if_stopped(&mut self, mut effect: Effect) -> Effect
-        requires fresh { effect.note.outcome ≡ Stopped → NoBoot effect.note }
-        requires live { effect.note.outcome ≡ Stopped → self.old.ended ≡ false }
-        ensures effect { result ≡ record effect { note = result.note } }
-        ensures note { Follows effect.note result.note }
-        ensures held { held_of self.new ≡ after_stop effect.note.outcome result.note self.new.store (held_of self.old) }
-        ensures booted { effect.note.outcome ≡ Stopped → self.new.store.booted ≡ not result.note.ended }
+    /// Boots as after a reset of the processor where a call of the store was stopped in the request of this effect. What the
+    /// request did before stays in the effect, and is told by no packet; the note tells how the boot went.
+    pub(crate) fn boot_if_stopped(&mut self, effect: &mut Effect)
+        requires fresh { effect.old.note.outcome ≡ Stopped → NoBoot effect.old.note }
+        requires live { effect.old.note.outcome ≡ Stopped → self.old.ended ≡ false }
+        ensures effect { effect.new ≡ record effect.old { note = effect.new.note } }
+        ensures note { Follows effect.old.note effect.new.note }
+        ensures held { held_of self.new ≡ after_stop effect.old.note.outcome effect.new.note self.new.store (held_of self.old) }
+        ensures booted { effect.old.note.outcome ≡ Stopped → self.new.store.booted ≡ not effect.new.note.ended }
         ensures boots { B.tells → (s : State) → HoldsAll B.tells B.now (held_of self.old) s
-            → HoldsAll B.tells B.now (held_of self.new) (boots_behind effect.note.outcome result.note s) }
-        ensures found { B.tells → (s : State) → HoldsAll B.tells B.now (held_of self.old) s → effect.note.outcome ≡ Stopped
-            → Boots (Some Processor) s.store result.note }
-        ensures trouble { Troubled B.faults B.stops self.old.store.bank self.new.store.bank (boot_only effect.note.outcome result.note) }
-        ensures moments { B.tells → (s : State) → HoldsAll B.tells B.now (held_of self.old) s → effect.note.outcome ≡ Stopped
+            → HoldsAll B.tells B.now (held_of self.new) (boots_behind effect.old.note.outcome effect.new.note s) }
+        ensures found { B.tells → (s : State) → HoldsAll B.tells B.now (held_of self.old) s → effect.old.note.outcome ≡ Stopped
+            → Boots (Some Processor) s.store effect.new.note }
+        ensures trouble { Troubled B.faults B.stops self.old.store.bank self.new.store.bank (boot_only effect.old.note.outcome effect.new.note) }
+        ensures moments { B.tells → (s : State) → HoldsAll B.tells B.now (held_of self.old) s → effect.old.note.outcome ≡ Stopped
             → Leaving B.tells_moments B.clock B.left_since self.old.store self.new.store (ShowsBlocks s.store) }
         ensures log { self.new.log ≡ self.old.log }
     {
         if effect.note.outcome() != Outcome::Stopped {
-            return effect;
+            return;
         }
         let Some(mut note) = mem::replace(&mut effect.note, Note::untouched()).taken() else {
             unreachable!();
         };
         self.boot(ResetKind::Processor, &mut note);
         effect.note = Note::of(note);
-        effect
     }
 }

@@ -154,10 +154,16 @@ impl<B: Bank, C: Validator> Parts<B, C> {
     {
         let asked = asked_in(&request);
         let clock = self.clock;
-        let Ok(Made { effect, packets }) = self.carry_out(actor, &request, &asked) else {
+        let Ok(
+            Made {
+                mut effect,
+                packets,
+            },
+        ) = self.carry_out(actor, &request, &asked)
+        else {
             return Err(StepFault::Memory);
         };
-        let effect = self.boot_if_stopped(effect);
+        self.boot_if_stopped(&mut effect);
         let end = session_end(&effect.note);
         self.finish(clock, actor, request, &asked, effect, packets);
         end

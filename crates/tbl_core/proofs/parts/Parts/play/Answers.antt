@@ -11,8 +11,8 @@ pub returns-clause-plays : goal.returns-clause-plays
 returns-clause-plays g c =
     let b = g.B.Bank in
     let v = g.C.Validator in
-    let boot = c.boot_if_stopped-effect in
-    let done = boot.result in
+    let boot = c.boot_if_stopped in
+    let done = boot.new.effect in
     let before = boot.new.self.log in
     let after = c.finish.new.self.log in
     let clock = c.args.self.now.clock in
