@@ -4,7 +4,7 @@ use std::fmt;
 use tbl_kinds::Memory;
 
 /// Why a row wasn't tried to its end, or how it failed.
-#[derive(Debug, Drop)]
+#[derive(Drop)]
 pub enum CaseFault {
     /// Memory ran out.
     Memory,

@@ -2,13 +2,15 @@
 //! come again. A program may rely on each row being tried once, in order, and on each that fails being told.
 #![tactic(auto)]
 
+mod answer;
 mod fault;
 mod number;
 mod piece;
 mod pieces;
 mod table;
 
+pub use answer::{kept, same_bytes, same_text};
 pub use fault::CaseFault;
-pub use number::{number_in, numbers_in};
+pub use number::{byte, count_of, number_in, numbers_in, short};
 pub use pieces::Pieces;
 pub use table::{Cases, Tally, play_table, row_in};

@@ -1,14 +1,14 @@
 use std::alloc::{AllocError, Global};
 
 /// Where a number stands that counts up.
-#[derive(Clone, Copy, Debug)]
+#[derive(Clone, Copy)]
 struct Place {
     from: usize,
     to: usize,
 }
 
 /// Bytes that can be repeated, with numbers in them that are one higher each time.
-#[derive(Debug, Drop)]
+#[derive(Drop)]
 pub(crate) struct Piece {
     bytes: Vec<u8>,
     counted: Vec<Place>,
@@ -32,8 +32,11 @@ impl Piece {
         }
     }
 
-    pub(crate) fn append(&mut self, bytes: &[u8]) -> Result<(), AllocError> {
-        self.bytes.extend_from_slice(bytes)?;
+    /// Puts bytes so many times behind those that are there.
+    pub(crate) fn append(&mut self, bytes: &[u8], count: u32) -> Result<(), AllocError> {
+        for _ in 0..count {
+            self.bytes.extend_from_slice(bytes)?;
+        }
         Ok(())
     }
 
@@ -54,7 +57,7 @@ impl Piece {
     }
 
     /// Puts the bytes so many times behind others.
-    pub(crate) fn repeat(mut self, count: u32, into: &mut Vec<u8>) -> Result<(), AllocError> {
+    pub(crate) fn repeat(&mut self, count: u32, into: &mut Vec<u8>) -> Result<(), AllocError> {
         for _ in 0..count {
             into.extend_from_slice(&self.bytes)?;
             self.count_all_up();

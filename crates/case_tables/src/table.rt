@@ -40,7 +40,7 @@ pub fn row_in<'l>(
 }
 
 /// How many cases were tried, and how many lines failed.
-#[derive(Debug, Drop)]
+#[derive(Drop)]
 pub struct Tally {
     count: u32,
     failed: u32,
@@ -97,6 +97,21 @@ fn try_line<C: Cases>(
     }
 }
 
+/// Tries the lines of a table, and counts them.
+fn play_lines<R: Print + AllocGlobal, C: Cases>(
+    rt: &R,
+    cases: &mut C,
+    table: &str,
+    tally: &mut Tally,
+) -> io::Result<()> {
+    let mut pieces = Pieces::make(rt.alloc());
+    for (place, line) in table.lines().enumerate() {
+        let tried = try_line(rt.alloc(), &mut pieces, cases, line);
+        tally.add(rt, place, tried)?;
+    }
+    Ok(())
+}
+
 /// Tries the table on standard input, and tells each line that fails and how many cases there were. The answer is whether
 /// none failed. A line with `|` is a row, whose cells have `|` between them. Each other one that isn't empty names a piece:
 /// `NAME = CELL`, as [`Pieces::bytes`] reads the cell. What stands behind `#` is a comment.
@@ -105,11 +120,7 @@ pub fn play_table<R: Input + Print + AllocGlobal, C: Cases>(
     cases: &mut C,
 ) -> io::Result<bool> {
     let table = io::read_to_string(rt.alloc(), rt.reader())?;
-    let mut pieces = Pieces::make(rt.alloc());
     let mut tally = Tally::make();
-    for (place, line) in table.lines().enumerate() {
-        let tried = try_line(rt.alloc(), &mut pieces, cases, line);
-        tally.add(rt, place, tried)?;
-    }
+    play_lines(rt, cases, &table, &mut tally)?;
     tally.end(rt)
 }

@@ -1,0 +1,32 @@
+ghost use Rattle.std.specs.Prelude.{◌≡◌, IfOk};
+
+use crate::fault::CaseFault;
+use std::alloc::Global;
+use tbl_kinds::{Bytes, Memory};
+
+/// Whether a text is the one that is wanted, but for spaces at its end.
+pub fn same_text(came: String, wanted: &str) -> Result<(), CaseFault> {
+    if came.trim_end() == wanted {
+        Ok(())
+    } else {
+        Err(CaseFault::Differs(came))
+    }
+}
+
+/// Whether bytes are those that are wanted.
+pub fn same_bytes(alloc: Global, came: &[u8], wanted: &[u8]) -> Result<(), CaseFault> {
+    if came == wanted {
+        Ok(())
+    } else {
+        Err(CaseFault::Differs(hex::encode(alloc, came)?))
+    }
+}
+
+/// The same bytes as the service keeps them.
+pub fn kept(alloc: Global, bytes: &[u8]) -> Result<Bytes, Memory>
+    ensures { IfOk result (λ kept. kept.list ≡ bytes.now) }
+{
+    let mut kept = Bytes::make(alloc, bytes.len())?;
+    kept.append(bytes);
+    Ok(kept)
+}
