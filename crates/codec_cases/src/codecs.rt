@@ -1,14 +1,14 @@
 //! The rows of the table.
 
 use crate::drawer::{empty_drawer, try_get, try_list, try_put, try_undone};
-use crate::files::{try_file, try_header, try_written as try_written_file};
+use crate::files::{try_file, try_header, try_written_cells};
 use crate::names::{try_actors, try_name};
 use crate::packets::{try_command, try_packet, try_written};
 use crate::records::{try_end, try_entry, try_record};
 use crate::telemetry::{
     try_event, try_housekeeping, try_notice, try_read_event, try_registry, try_telemetry,
 };
-use case_tables::{CaseFault, Cases, Pieces, number_in, numbers_in};
+use case_tables::{CaseFault, Cases, Pieces, byte, number_in, numbers_in, short};
 use file_drawer::Drawer;
 use std::alloc::Global;
 use tbl_kinds::{Event, Status, TlmHead};
@@ -20,20 +20,56 @@ pub(crate) struct Codecs {
     drawer: Drawer,
 }
 
-fn short(number: u32) -> Result<u16, CaseFault> {
-    u16::try_from(number).map_err(|_| CaseFault::Unreadable)
-}
-
-fn byte(number: u32) -> Result<u8, CaseFault> {
-    u8::try_from(number).map_err(|_| CaseFault::Unreadable)
-}
-
 fn head_of(count: u32, seconds: u32, sub: u32) -> Result<TlmHead, CaseFault> {
     Ok(TlmHead {
         count: short(count)?,
         seconds,
         sub: short(sub)?,
     })
+}
+
+/// A packet with these numbers and this body is written.
+fn try_packet_of(
+    alloc: Global,
+    writer: &str,
+    numbers: &[u32],
+    body: &[u8],
+    wanted: &[u8],
+) -> Result<(), CaseFault> {
+    match (writer, numbers) {
+        ("write-command", [id, count, code]) => {
+            let (id, count, code) = (short(*id)?, short(*count)?, byte(*code)?);
+            try_written(alloc, id, count, code, body, wanted)
+        }
+        ("write-telemetry", [id, count, seconds, sub]) => {
+            let head = head_of(*count, *seconds, *sub)?;
+            try_telemetry(alloc, short(*id)?, head, body, wanted)
+        }
+        _ => Err(CaseFault::Unreadable),
+    }
+}
+
+/// An event packet with these numbers is written.
+fn try_event_of(alloc: Global, numbers: &[u32], wanted: &[u8]) -> Result<(), CaseFault> {
+    let [count, seconds, sub, number, status, row, detail] = numbers else {
+        return Err(CaseFault::Unreadable);
+    };
+    let event = Event {
+        number: short(*number)?,
+        status: Status(*status),
+        row: short(*row)?,
+        detail: *detail,
+    };
+    try_event(alloc, head_of(*count, *seconds, *sub)?, &event, wanted)
+}
+
+/// A notice with these numbers is written.
+fn try_notice_of(alloc: Global, numbers: &[u32], wanted: &[u8]) -> Result<(), CaseFault> {
+    let [count, msg, code, parameter] = numbers else {
+        return Err(CaseFault::Unreadable);
+    };
+    let (count, msg, code) = (short(*count)?, short(*msg)?, byte(*code)?);
+    try_notice(alloc, count, msg, code, *parameter, wanted)
 }
 
 impl Codecs {
@@ -63,53 +99,80 @@ impl Codecs {
         }
     }
 
-    /// A packet with these numbers and this body is written.
-    fn try_writer(
+    /// A packet that has no body beside its numbers is written.
+    fn try_numbers(
         &self,
+        pieces: &Pieces,
         writer: &str,
         numbers: &str,
-        body: &[u8],
-        wanted: &[u8],
+        wanted: &str,
     ) -> Result<(), CaseFault> {
         let numbers = numbers_in(self.alloc, numbers)?;
-        match (writer, numbers.as_slice()) {
-            ("write-command", [id, count, code]) => {
-                let (id, count, code) = (short(*id)?, short(*count)?, byte(*code)?);
-                try_written(self.alloc, id, count, code, body, wanted)
-            }
-            ("write-telemetry", [id, count, seconds, sub]) => {
-                let head = head_of(*count, *seconds, *sub)?;
-                try_telemetry(self.alloc, short(*id)?, head, body, wanted)
-            }
-            _ => Err(CaseFault::Unreadable),
+        let wanted = pieces.bytes(wanted)?;
+        if writer == "write-event" {
+            try_event_of(self.alloc, &numbers, &wanted)
+        } else {
+            try_notice_of(self.alloc, &numbers, &wanted)
         }
     }
 
-    /// An event packet with these numbers is written.
-    fn try_event(&self, numbers: &str, wanted: &[u8]) -> Result<(), CaseFault> {
-        match numbers_in(self.alloc, numbers)?.as_slice() {
-            [count, seconds, sub, number, status, row, detail] => {
-                let event = Event {
-                    number: short(*number)?,
-                    status: Status(*status),
-                    row: short(*row)?,
-                    detail: *detail,
-                };
-                let head = head_of(*count, *seconds, *sub)?;
-                try_event(self.alloc, head, &event, wanted)
-            }
-            _ => Err(CaseFault::Unreadable),
-        }
+    fn try_bytes(
+        &self,
+        pieces: &Pieces,
+        reader: &str,
+        bytes: &str,
+        wanted: &str,
+    ) -> Result<(), CaseFault> {
+        let bytes = pieces.bytes(bytes)?;
+        self.try_reader(reader, &bytes, wanted)
     }
 
-    /// A notice with these numbers is written.
-    fn try_notice(&self, numbers: &str, wanted: &[u8]) -> Result<(), CaseFault> {
-        match numbers_in(self.alloc, numbers)?.as_slice() {
-            [count, msg, code, parameter] => {
-                let (count, msg, code) = (short(*count)?, short(*msg)?, byte(*code)?);
-                try_notice(self.alloc, count, msg, code, *parameter, wanted)
-            }
-            _ => Err(CaseFault::Unreadable),
+    fn try_undone(&mut self, pieces: &Pieces, name: &str, bytes: &str) -> Result<(), CaseFault> {
+        let name = pieces.bytes(name)?;
+        let contents = pieces.bytes(bytes)?;
+        try_undone(self.alloc, &mut self.drawer, &name, &contents)
+    }
+
+    fn try_put(
+        &mut self,
+        pieces: &Pieces,
+        name: &str,
+        bytes: &str,
+        wanted: &str,
+    ) -> Result<(), CaseFault> {
+        let name = pieces.bytes(name)?;
+        let contents = pieces.bytes(bytes)?;
+        try_put(self.alloc, &mut self.drawer, &name, &contents, wanted)
+    }
+
+    fn try_writer(
+        &self,
+        pieces: &Pieces,
+        writer: &str,
+        given: [&str; 2],
+        wanted: &str,
+    ) -> Result<(), CaseFault> {
+        let [numbers, body] = given;
+        let numbers = numbers_in(self.alloc, numbers)?;
+        let body = pieces.bytes(body)?;
+        let wanted = pieces.bytes(wanted)?;
+        try_packet_of(self.alloc, writer, &numbers, &body, &wanted)
+    }
+
+    /// A row that has one cell between what is called and what has to come.
+    fn try_one(
+        &mut self,
+        pieces: &Pieces,
+        called: &str,
+        given: &str,
+        wanted: &str,
+    ) -> Result<(), CaseFault> {
+        match called {
+            "list" => try_list(self.alloc, &self.drawer, number_in(given)?, wanted),
+            "actors" => try_actors(self.alloc, given, wanted),
+            "undone" => self.try_undone(pieces, given, wanted),
+            "write-event" | "write-notice" => self.try_numbers(pieces, called, given, wanted),
+            _ => self.try_bytes(pieces, called, given, wanted),
         }
     }
 
@@ -119,33 +182,14 @@ impl Codecs {
                 self.drawer.clear();
                 Ok(())
             }
-            ["list", place, wanted] => {
-                try_list(self.alloc, &self.drawer, number_in(place)?, wanted)
-            }
-            ["actors", request, wanted] => try_actors(self.alloc, request, wanted),
-            ["undone", name, contents] => {
-                let (name, contents) = (pieces.bytes(name)?, pieces.bytes(contents)?);
-                try_undone(self.alloc, &mut self.drawer, &name, &contents)
-            }
-            ["put", name, contents, wanted] => {
-                let (name, contents) = (pieces.bytes(name)?, pieces.bytes(contents)?);
-                try_put(self.alloc, &mut self.drawer, &name, &contents, wanted)
-            }
-            ["write-event", numbers, wanted] => self.try_event(numbers, &pieces.bytes(wanted)?),
-            ["write-notice", numbers, wanted] => self.try_notice(numbers, &pieces.bytes(wanted)?),
-            ["write-file", header, offset, name, image, wanted] => try_written_file(
-                self.alloc,
-                &pieces.bytes(header)?,
-                number_in(offset)?,
-                &pieces.bytes(name)?,
-                &pieces.bytes(image)?,
-                &pieces.bytes(wanted)?,
-            ),
+            [called, given, wanted] => self.try_one(pieces, called, given, wanted),
+            ["put", name, bytes, wanted] => self.try_put(pieces, name, bytes, wanted),
             [writer, numbers, body, wanted] => {
-                let (body, wanted) = (pieces.bytes(body)?, pieces.bytes(wanted)?);
-                self.try_writer(writer, numbers, &body, &wanted)
+                self.try_writer(pieces, writer, [numbers, body], wanted)
             }
-            [reader, bytes, wanted] => self.try_reader(reader, &pieces.bytes(bytes)?, wanted),
+            ["write-file", header, offset, name, image, wanted] => {
+                try_written_cells(self.alloc, pieces, [header, offset, name, image], wanted)
+            }
             _ => Err(CaseFault::Unreadable),
         }
     }

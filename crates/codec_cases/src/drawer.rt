@@ -1,7 +1,7 @@
 //! The drawer of files.
 
-use crate::answer::{kept, same_text, text_of};
-use case_tables::CaseFault;
+use crate::answer::text_of;
+use case_tables::{CaseFault, kept, same_text};
 use file_drawer::{Drawer, PutFault};
 use std::alloc::{AllocError, Global};
 use tbl_kinds::{Bytes, Name, Name64};
@@ -21,7 +21,7 @@ fn name_in(field: &[u8]) -> Result<Name64, CaseFault> {
 fn text_of_contents(alloc: Global, contents: Option<&[u8]>) -> Result<String, AllocError> {
     match contents {
         Some(bytes) => hex::encode_upper(alloc, bytes),
-        None => format!(in alloc; "none"),
+        None => "none".to_string(alloc),
     }
 }
 
@@ -29,7 +29,7 @@ fn text_of_contents(alloc: Global, contents: Option<&[u8]>) -> Result<String, Al
 fn text_of_put(alloc: Global, put: Result<Option<Bytes>, PutFault>) -> Result<String, CaseFault> {
     match put {
         Ok(old) => Ok(text_of_contents(alloc, old.as_ref().map(|bytes| bytes.bytes()))?),
-        Err(PutFault::Full) => Ok(format!(in alloc; "full")?),
+        Err(PutFault::Full) => Ok("full".to_string(alloc)?),
         Err(PutFault::Memory) => Err(CaseFault::Memory),
     }
 }
@@ -46,6 +46,19 @@ pub(crate) fn try_put(
     same_text(text_of_put(alloc, put)?, wanted)
 }
 
+/// Puts a file into the drawer and takes it back. The answer is whether it was found there in between.
+fn put_and_undo(
+    drawer: &mut Drawer,
+    name: &Name64,
+    file: Bytes,
+    contents: &[u8],
+) -> Result<bool, PutFault> {
+    let old = drawer.put(name, file)?;
+    let is_there = drawer.get(name) == Some(contents);
+    drawer.undo(name, old);
+    Ok(is_there)
+}
+
 /// A file is put into the drawer, found there, and taken back.
 pub(crate) fn try_undone(
     alloc: Global,
@@ -54,17 +67,10 @@ pub(crate) fn try_undone(
     contents: &[u8],
 ) -> Result<(), CaseFault> {
     let name = name_in(name)?;
-    match drawer.put(&name, kept(alloc, contents)?) {
-        Ok(old) => {
-            let is_there = drawer.get(&name) == Some(contents);
-            drawer.undo(&name, old);
-            if is_there {
-                Ok(())
-            } else {
-                Err(CaseFault::Unreadable)
-            }
-        }
-        Err(_) => Err(CaseFault::Unreadable),
+    let file = kept(alloc, contents)?;
+    match put_and_undo(drawer, &name, file, contents) {
+        Ok(true) => Ok(()),
+        _ => Err(CaseFault::Unreadable),
     }
 }
 
@@ -86,11 +92,11 @@ pub(crate) fn try_list(
     place: u32,
     wanted: &str,
 ) -> Result<(), CaseFault> {
-    let came = match drawer.list(place) {
-        Some(name) => format!(in alloc; "{}", text_of(name.bytes()))?,
-        None => format!(in alloc; "none")?,
+    let name = match drawer.list(place) {
+        Some(name) => text_of(name.bytes()),
+        None => "none",
     };
-    same_text(came, wanted)
+    same_text(name.to_string(alloc)?, wanted)
 }
 
 /// A drawer without files.

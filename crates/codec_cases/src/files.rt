@@ -1,11 +1,11 @@
 //! File headers and table files.
 
-use crate::answer::{room_for, same_bytes, same_text, text_of};
-use case_tables::CaseFault;
+use crate::answer::{room_for, text_of};
+use case_tables::{CaseFault, Pieces, count_of, number_in, same_bytes, same_text};
 use cfe_headers::{FileHeader, read_file_header, write_file_header};
 use std::alloc::{AllocError, Global};
 use table_files::{IMAGE_PLACE, TableFile, read_table_file, write_table_file};
-use tbl_kinds::Name;
+use tbl_kinds::{Name, Name40};
 
 /// How many bytes the file header has.
 const HEADER_LENGTH: usize = 64;
@@ -33,14 +33,21 @@ fn text_of_header(alloc: Global, header: &FileHeader) -> Result<String, AllocErr
     )
 }
 
+/// A file header is written again.
+fn rewrite_header(alloc: Global, header: &FileHeader, bytes: &[u8]) -> Result<(), CaseFault> {
+    let Some(front) = bytes.get(..HEADER_LENGTH) else {
+        return Err(CaseFault::Unreadable);
+    };
+    let mut out = room_for(alloc, HEADER_LENGTH)?;
+    write_file_header(&mut out, header);
+    same_bytes(alloc, out.bytes(), front)
+}
+
 /// A file header is read, and one that is right is written again.
 pub(crate) fn try_header(alloc: Global, bytes: &[u8], wanted: &str) -> Result<(), CaseFault> {
     match read_file_header(bytes) {
         Ok(header) => {
-            let mut out = room_for(alloc, HEADER_LENGTH)?;
-            write_file_header(&mut out, &header);
-            let front = bytes.get(..HEADER_LENGTH).ok_or(CaseFault::Unreadable)?;
-            same_bytes(alloc, out.bytes(), front)?;
+            rewrite_header(alloc, &header, bytes)?;
             same_text(text_of_header(alloc, &header)?, wanted)
         }
         Err(fault) => same_text(format!(in alloc; "{fault:?}")?, wanted),
@@ -62,26 +69,59 @@ pub(crate) fn try_file(alloc: Global, bytes: &[u8], wanted: &str) -> Result<(), 
     same_text(came, wanted)
 }
 
-/// A table file is written, behind the header that bytes begin with.
-pub(crate) fn try_written(
+/// The header that the bytes of a cell begin with.
+fn header_in(pieces: &Pieces, cell: &str) -> Result<FileHeader, CaseFault> {
+    let bytes = pieces.bytes(cell)?;
+    match read_file_header(&bytes) {
+        Ok(header) => Ok(header),
+        Err(_) => Err(CaseFault::Unreadable),
+    }
+}
+
+/// The table's name that the bytes of a cell are.
+fn name_in(pieces: &Pieces, cell: &str) -> Result<Name40, CaseFault> {
+    let bytes = pieces.bytes(cell)?;
+    if bytes.len() > TABLE_NAME {
+        return Err(CaseFault::Unreadable);
+    }
+    Ok(Name::of(&bytes))
+}
+
+/// A table file is written, behind this header.
+fn try_written(
     alloc: Global,
-    header: &[u8],
+    header: &FileHeader,
     offset: u32,
-    name: &[u8],
+    name: Name40,
     image: &[u8],
     wanted: &[u8],
 ) -> Result<(), CaseFault> {
-    let header = read_file_header(header).map_err(|_| CaseFault::Unreadable)?;
-    let count = u32::try_from(image.len()).map_err(|_| CaseFault::Unreadable)?;
-    if header.subtype != TABLE_SUBTYPE || name.len() > TABLE_NAME {
+    let count = count_of(image)?;
+    if header.subtype != TABLE_SUBTYPE {
         return Err(CaseFault::Unreadable);
     }
     let file = TableFile {
         offset,
         count,
-        name: Name::of(name),
+        name,
     };
     let mut out = room_for(alloc, IMAGE_PLACE + image.len())?;
-    write_table_file(&mut out, &header, &file, image);
+    write_table_file(&mut out, header, &file, image);
     same_bytes(alloc, out.bytes(), wanted)
+}
+
+/// A table file is written, behind the header that the first cell begins with: header, offset, name and image.
+pub(crate) fn try_written_cells(
+    alloc: Global,
+    pieces: &Pieces,
+    cells: [&str; 4],
+    wanted: &str,
+) -> Result<(), CaseFault> {
+    let [header, offset, name, image] = cells;
+    let header = header_in(pieces, header)?;
+    let offset = number_in(offset)?;
+    let name = name_in(pieces, name)?;
+    let image = pieces.bytes(image)?;
+    let wanted = pieces.bytes(wanted)?;
+    try_written(alloc, &header, offset, name, &image, &wanted)
 }

@@ -1,7 +1,7 @@
 //! Names in their fields, and who may make a request.
 
-use crate::answer::{room_for, same_text, text_of};
-use case_tables::CaseFault;
+use crate::answer::{room_for, text_of};
+use case_tables::{CaseFault, same_text};
 use std::alloc::Global;
 use tbl_kinds::{Actor, Name, Name20, Request, ResetKind, fits};
 
@@ -82,5 +82,5 @@ fn actors_of(request: &Request) -> &'static str {
 /// Of all numbers, those of the actors that may make a request.
 pub(crate) fn try_actors(alloc: Global, word: &str, wanted: &str) -> Result<(), CaseFault> {
     let request = request_named(alloc, word)?;
-    same_text(format!(in alloc; "{}", actors_of(&request))?, wanted)
+    same_text(actors_of(&request).to_string(alloc)?, wanted)
 }

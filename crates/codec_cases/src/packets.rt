@@ -1,7 +1,7 @@
 //! Command packets.
 
-use crate::answer::{room_for, same_bytes, same_text, text_of};
-use case_tables::CaseFault;
+use crate::answer::{room_for, text_of, with_name};
+use case_tables::{CaseFault, same_bytes, same_text};
 use cfe_headers::{read_packet, write_cmd};
 use cmd_packets::{Ground, read_command};
 use std::alloc::{AllocError, Global};
@@ -9,10 +9,10 @@ use std::alloc::{AllocError, Global};
 /// What a command asks, as text.
 fn text_of_command(alloc: Global, command: &Ground) -> Result<String, AllocError> {
     match command {
-        Ground::Housekeeping => format!(in alloc; "Housekeeping"),
-        Ground::Noop => format!(in alloc; "Noop"),
-        Ground::ResetCounters => format!(in alloc; "ResetCounters"),
-        Ground::Load { file } => format!(in alloc; "Load {}", text_of(file.bytes())),
+        Ground::Housekeeping => "Housekeeping".to_string(alloc),
+        Ground::Noop => "Noop".to_string(alloc),
+        Ground::ResetCounters => "ResetCounters".to_string(alloc),
+        Ground::Load { file } => with_name(alloc, "Load", file.bytes()),
         Ground::Dump {
             select,
             table,
@@ -24,15 +24,11 @@ fn text_of_command(alloc: Global, command: &Ground) -> Result<String, AllocError
         Ground::Validate { select, table } => {
             format!(in alloc; "Validate {select} {}", text_of(table.bytes()))
         }
-        Ground::Activate { table } => format!(in alloc; "Activate {}", text_of(table.bytes())),
-        Ground::DumpRegistry { file } => {
-            format!(in alloc; "DumpRegistry {}", text_of(file.bytes()))
-        }
-        Ground::SendRegistry { table } => {
-            format!(in alloc; "SendRegistry {}", text_of(table.bytes()))
-        }
-        Ground::DeleteCds { table } => format!(in alloc; "DeleteCds {}", text_of(table.bytes())),
-        Ground::Abort { table } => format!(in alloc; "Abort {}", text_of(table.bytes())),
+        Ground::Activate { table } => with_name(alloc, "Activate", table.bytes()),
+        Ground::DumpRegistry { file } => with_name(alloc, "DumpRegistry", file.bytes()),
+        Ground::SendRegistry { table } => with_name(alloc, "SendRegistry", table.bytes()),
+        Ground::DeleteCds { table } => with_name(alloc, "DeleteCds", table.bytes()),
+        Ground::Abort { table } => with_name(alloc, "Abort", table.bytes()),
     }
 }
 

@@ -2,8 +2,8 @@
 
 ghost use Rattle.std.specs.Prelude.{◌<◌, IfOk};
 
-use crate::answer::{room_for, same_bytes, same_text, text_of};
-use case_tables::CaseFault;
+use crate::answer::{room_for, text_of};
+use case_tables::{CaseFault, same_bytes, same_text};
 use cfe_headers::write_tlm;
 use std::alloc::{AllocError, Global};
 use tbl_kinds::{Event, Housekeeping, RegistryRow, TlmHead, u16_at, u32_at};
@@ -88,24 +88,33 @@ fn head_in(packet: &[u8]) -> Result<TlmHead, CaseFault>
     })
 }
 
-/// An event packet is read, and one that is right is written again.
-pub(crate) fn try_read_event(alloc: Global, bytes: &[u8], wanted: &str) -> Result<(), CaseFault> {
-    let Some(event) = read_event(bytes) else {
-        return same_text(format!(in alloc; "none")?, wanted);
-    };
+/// An event packet is written again.
+fn rewrite_event(alloc: Global, event: &Event, packet: &[u8]) -> Result<(), CaseFault> {
+    let head = head_in(packet)?;
     let mut out = room_for(alloc, 24)?;
-    write_event(&mut out, &head_in(bytes)?, &event);
-    same_bytes(alloc, out.bytes(), bytes)?;
+    write_event(&mut out, &head, event);
+    same_bytes(alloc, out.bytes(), packet)
+}
+
+fn text_of_event(alloc: Global, event: &Event) -> Result<String, AllocError> {
     let Event {
         number,
         status,
         row,
         detail,
     } = event;
-    same_text(
-        format!(in alloc; "{number} {} {row} {detail}", status.0)?,
-        wanted,
-    )
+    format!(in alloc; "{number} {} {row} {detail}", status.0)
+}
+
+/// An event packet is read, and one that is right is written again.
+pub(crate) fn try_read_event(alloc: Global, bytes: &[u8], wanted: &str) -> Result<(), CaseFault> {
+    match read_event(bytes) {
+        Some(event) => {
+            rewrite_event(alloc, &event, bytes)?;
+            same_text(text_of_event(alloc, &event)?, wanted)
+        }
+        None => same_text("none".to_string(alloc)?, wanted),
+    }
 }
 
 /// The numbers of a housekeeping packet as text, in the order of its fields.
@@ -147,19 +156,33 @@ fn text_of_names(alloc: Global, state: &Housekeeping) -> Result<String, AllocErr
     )
 }
 
+/// A housekeeping packet is written again.
+fn rewrite_housekeeping(
+    alloc: Global,
+    state: &Housekeeping,
+    packet: &[u8],
+) -> Result<(), CaseFault> {
+    let head = head_in(packet)?;
+    let mut out = room_for(alloc, 290)?;
+    write_housekeeping(&mut out, &head, state);
+    same_bytes(alloc, out.bytes(), packet)
+}
+
+fn text_of_state(alloc: Global, state: &Housekeeping) -> Result<String, AllocError> {
+    let numbers = text_of_numbers(alloc, state)?;
+    let names = text_of_names(alloc, state)?;
+    format!(in alloc; "{numbers} {names}")
+}
+
 /// A housekeeping packet is read, and one that is right is written again.
 pub(crate) fn try_housekeeping(alloc: Global, bytes: &[u8], wanted: &str) -> Result<(), CaseFault> {
-    let Some(state) = read_housekeeping(bytes) else {
-        return same_text(format!(in alloc; "none")?, wanted);
-    };
-    let mut out = room_for(alloc, 290)?;
-    write_housekeeping(&mut out, &head_in(bytes)?, &state);
-    same_bytes(alloc, out.bytes(), bytes)?;
-    let (numbers, names) = (
-        text_of_numbers(alloc, &state)?,
-        text_of_names(alloc, &state)?,
-    );
-    same_text(format!(in alloc; "{numbers} {names}")?, wanted)
+    match read_housekeeping(bytes) {
+        Some(state) => {
+            rewrite_housekeeping(alloc, &state, bytes)?;
+            same_text(text_of_state(alloc, &state)?, wanted)
+        }
+        None => same_text("none".to_string(alloc)?, wanted),
+    }
 }
 
 fn text_of_row(alloc: Global, row: &RegistryRow) -> Result<String, AllocError> {
@@ -185,17 +208,32 @@ fn text_of_row(alloc: Global, row: &RegistryRow) -> Result<String, AllocError> {
     )
 }
 
+/// A registry packet is written again.
+fn rewrite_registry(alloc: Global, row: &RegistryRow, packet: &[u8]) -> Result<(), CaseFault> {
+    let head = head_in(packet)?;
+    let mut out = room_for(alloc, 156)?;
+    write_registry(&mut out, &head, row);
+    same_bytes(alloc, out.bytes(), packet)
+}
+
+/// The record of a registry packet is written alone.
+fn rewrite_row(alloc: Global, row: &RegistryRow, packet: &[u8]) -> Result<(), CaseFault> {
+    let Some(record) = packet.get(HEAD_LENGTH..) else {
+        return Err(CaseFault::Unreadable);
+    };
+    let mut out = room_for(alloc, 144)?;
+    registry_bytes(&mut out, row);
+    same_bytes(alloc, out.bytes(), record)
+}
+
 /// A registry packet is read, and one that is right is written again, its record alone too.
 pub(crate) fn try_registry(alloc: Global, bytes: &[u8], wanted: &str) -> Result<(), CaseFault> {
-    let Some(row) = read_registry(bytes) else {
-        return same_text(format!(in alloc; "none")?, wanted);
-    };
-    let mut out = room_for(alloc, 156)?;
-    write_registry(&mut out, &head_in(bytes)?, &row);
-    same_bytes(alloc, out.bytes(), bytes)?;
-    let mut record = room_for(alloc, 144)?;
-    registry_bytes(&mut record, &row);
-    let body = bytes.get(HEAD_LENGTH..).ok_or(CaseFault::Unreadable)?;
-    same_bytes(alloc, record.bytes(), body)?;
-    same_text(text_of_row(alloc, &row)?, wanted)
+    match read_registry(bytes) {
+        Some(row) => {
+            rewrite_registry(alloc, &row, bytes)?;
+            rewrite_row(alloc, &row, bytes)?;
+            same_text(text_of_row(alloc, &row)?, wanted)
+        }
+        None => same_text("none".to_string(alloc)?, wanted),
+    }
 }
