@@ -7,7 +7,7 @@ use std::alloc::Global;
 use std::fmt;
 
 /// What a call of the store answered.
-#[derive(Debug, PartialEq, Eq, Drop)]
+#[derive(PartialEq, Eq, Drop)]
 pub(crate) enum Answer {
     /// A copy or a deletion is done.
     Done,
@@ -38,60 +38,51 @@ pub(crate) enum Answer {
     NotMade,
 }
 
-/// Whether a byte stands for yes or no.
-fn flag(byte: u8) -> Option<bool> {
-    match byte {
-        0 => Some(false),
-        1 => Some(true),
-        _ => None,
+/// A byte that stands for yes or no.
+fn flag_in(table: &mut Reader) -> Result<bool, ScriptFault> {
+    match table.byte()? {
+        0 => Ok(false),
+        1 => Ok(true),
+        _ => Err(ScriptFault::Table),
     }
 }
 
-fn torn_in(table: &mut Reader) -> Option<Answer> {
-    Some(Answer::Torn {
+fn torn_in(table: &mut Reader) -> Result<Answer, ScriptFault> {
+    Ok(Answer::Torn {
         length: table.long()?,
         kept: table.short()?,
         found: table.short()?,
     })
 }
 
-fn broken_in(table: &mut Reader) -> Option<Answer> {
-    Some(Answer::Broken {
-        stopped: flag(table.byte()?)?,
-        gate: flag(table.byte()?)?,
-        old: flag(table.byte()?)?,
+fn broken_in(table: &mut Reader) -> Result<Answer, ScriptFault> {
+    Ok(Answer::Broken {
+        stopped: flag_in(table)?,
+        gate: flag_in(table)?,
+        old: flag_in(table)?,
     })
 }
 
-fn slot_in(table: &mut Reader) -> Option<Answer> {
-    Some(Answer::Slot(table.byte()?))
-}
-
-/// An answer that owns no memory.
-fn plain_in(code: u8, table: &mut Reader) -> Option<Answer> {
-    match code {
-        b'o' => Some(Answer::Done),
-        b's' => slot_in(table),
-        b'n' => Some(Answer::NoRoom),
-        b't' => torn_in(table),
-        b'b' => broken_in(table),
-        b'F' => Some(Answer::Fault),
-        b'S' => Some(Answer::Stopped),
-        b'y' => Some(Answer::Room(true)),
-        b'x' => Some(Answer::Room(false)),
-        _ => None,
-    }
+fn found_in(alloc: Global, table: &mut Reader) -> Result<Answer, ScriptFault> {
+    let slots = table.short_piece()?;
+    Ok(Answer::Found(slots.to_vec(alloc)?))
 }
 
 /// The answer that the table states next.
 pub(crate) fn answer_in(alloc: Global, table: &mut Reader) -> Result<Answer, ScriptFault> {
-    match table.byte().ok_or(ScriptFault::Table)? {
-        b'f' => {
-            let slots = table.short_piece().ok_or(ScriptFault::Table)?;
-            Ok(Answer::Found(slots.to_vec(alloc)?))
-        }
+    match table.byte()? {
+        b'f' => found_in(alloc, table),
         b'i' => Ok(Answer::Image(expand(alloc, table)?)),
-        code => plain_in(code, table).ok_or(ScriptFault::Table),
+        b'o' => Ok(Answer::Done),
+        b's' => Ok(Answer::Slot(table.byte()?)),
+        b'n' => Ok(Answer::NoRoom),
+        b't' => torn_in(table),
+        b'b' => broken_in(table),
+        b'F' => Ok(Answer::Fault),
+        b'S' => Ok(Answer::Stopped),
+        b'y' => Ok(Answer::Room(true)),
+        b'x' => Ok(Answer::Room(false)),
+        _ => Err(ScriptFault::Table),
     }
 }
 

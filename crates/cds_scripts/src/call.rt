@@ -10,7 +10,7 @@ use tbl_kinds::{BlockKind, Name, Name40, ResetKind};
 const MOST_NAME: usize = 40;
 
 /// A call of the store.
-#[derive(Debug, Drop)]
+#[derive(Drop)]
 pub(crate) enum Call {
     Boot(ResetKind),
     Room(u32),
@@ -27,57 +27,54 @@ pub(crate) enum Call {
     Delete(u8),
 }
 
-fn boot_in(table: &mut Reader) -> Option<Call> {
+fn reset_in(table: &mut Reader) -> Result<ResetKind, ScriptFault> {
     match table.byte()? {
-        b'P' => Some(Call::Boot(ResetKind::Processor)),
-        b'O' => Some(Call::Boot(ResetKind::PowerOn)),
-        _ => None,
+        b'P' => Ok(ResetKind::Processor),
+        b'O' => Ok(ResetKind::PowerOn),
+        _ => Err(ScriptFault::Table),
     }
 }
 
-fn kind_in(table: &mut Reader) -> Option<BlockKind> {
+fn kind_in(table: &mut Reader) -> Result<BlockKind, ScriptFault> {
     match table.byte()? {
-        b'T' => Some(BlockKind::Table),
-        b'A' => Some(BlockKind::App),
-        _ => None,
+        b'T' => Ok(BlockKind::Table),
+        b'A' => Ok(BlockKind::App),
+        _ => Err(ScriptFault::Table),
     }
 }
 
-fn name_in(table: &mut Reader) -> Option<Name40> {
+fn name_in(table: &mut Reader) -> Result<Name40, ScriptFault> {
     let bytes = table.short_piece()?;
     if MOST_NAME < bytes.len() {
-        return None;
+        return Err(ScriptFault::Table);
     }
-    Some(Name::of(bytes))
+    Ok(Name::of(bytes))
 }
 
-fn reserve_in(table: &mut Reader) -> Option<Call> {
-    Some(Call::Reserve {
+fn reserve_in(table: &mut Reader) -> Result<Call, ScriptFault> {
+    Ok(Call::Reserve {
         kind: kind_in(table)?,
         name: name_in(table)?,
         size: table.long()?,
     })
 }
 
-/// A call that owns no memory.
-fn plain_in(code: u8, table: &mut Reader) -> Option<Call> {
-    match code {
-        b'b' => boot_in(table),
-        b'm' => Some(Call::Room(table.long()?)),
-        b'r' => reserve_in(table),
-        b's' => Some(Call::Restore(table.byte()?)),
-        b'd' => Some(Call::Delete(table.byte()?)),
-        _ => None,
-    }
+fn copy_in(alloc: Global, table: &mut Reader) -> Result<Call, ScriptFault> {
+    Ok(Call::Copy {
+        slot: table.byte()?,
+        image: expand(alloc, table)?,
+    })
 }
 
 /// The call that the table states next.
 pub(crate) fn call_in(alloc: Global, table: &mut Reader) -> Result<Call, ScriptFault> {
-    match table.byte().ok_or(ScriptFault::Table)? {
-        b'c' => Ok(Call::Copy {
-            slot: table.byte().ok_or(ScriptFault::Table)?,
-            image: expand(alloc, table)?,
-        }),
-        code => plain_in(code, table).ok_or(ScriptFault::Table),
+    match table.byte()? {
+        b'b' => Ok(Call::Boot(reset_in(table)?)),
+        b'm' => Ok(Call::Room(table.long()?)),
+        b'r' => reserve_in(table),
+        b'c' => copy_in(alloc, table),
+        b's' => Ok(Call::Restore(table.byte()?)),
+        b'd' => Ok(Call::Delete(table.byte()?)),
+        _ => Err(ScriptFault::Table),
     }
 }

@@ -6,14 +6,14 @@ use tbl_fakes::Span;
 pub(crate) type Look = Option<Vec<u8>>;
 
 /// A look that gave something else than was wanted.
-#[derive(Debug, Drop)]
+#[derive(Drop)]
 pub(crate) struct Looks {
     pub(crate) came: Look,
     pub(crate) wanted: Look,
 }
 
 /// What came in a script where something else was wanted.
-#[derive(Debug, Drop)]
+#[derive(Drop)]
 pub(crate) enum Difference {
     /// Of a call, counted from 1.
     Answer {

@@ -2,7 +2,7 @@ use std::alloc::{AllocError, AllocFailed};
 use tbl_kinds::Memory;
 
 /// Why a script wasn't played to its end.
-#[derive(Clone, Copy, Debug, PartialEq, Eq)]
+#[derive(Clone, Copy)]
 pub(crate) enum ScriptFault {
     /// Memory ran out.
     Memory,

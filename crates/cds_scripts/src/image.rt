@@ -21,33 +21,40 @@ fn repeat(alloc: Global, pattern: &[u8], len: usize) -> Result<Vec<u8>, AllocErr
 
 /// An image: the bytes that are repeated, and how many there are in all.
 pub(crate) fn expand(alloc: Global, table: &mut Reader) -> Result<Vec<u8>, ScriptFault> {
-    let pattern = table.middle_piece().ok_or(ScriptFault::Table)?;
-    let len = table.long().ok_or(ScriptFault::Table)?;
+    let pattern = table.middle_piece()?;
+    let len = table.long()?;
     if pattern.is_empty() || MOST_IMAGE < len {
         return Err(ScriptFault::Table);
     }
     Ok(repeat(alloc, pattern, len as usize)?)
 }
 
-/// Writes a patch over the bytes of a bank: where it begins, and its bytes.
-fn patch(bytes: &mut [u8], table: &mut Reader) -> Option<()>
+/// Writes a piece over bytes from a place on, where it lies inside.
+fn write_over(bytes: &mut [u8], from: usize, piece: &[u8]) -> Option<()>
     ensures { length bytes.new ≡ length bytes.old }
 {
-    let from = table.long()? as usize;
-    let piece = table.long_piece()?;
     let into = bytes.get_mut(from..)?.get_mut(..piece.len())?;
     into.copy_from_slice(piece);
     Some(())
 }
 
-fn patch_all(bytes: &mut [u8], table: &mut Reader) -> Option<()>
+/// Writes a patch over the bytes of a bank: where it begins, and its bytes.
+fn patch(bytes: &mut [u8], table: &mut Reader) -> Result<(), ScriptFault>
+    ensures { length bytes.new ≡ length bytes.old }
+{
+    let from = table.long()? as usize;
+    let piece = table.long_piece()?;
+    write_over(bytes, from, piece).ok_or(ScriptFault::Table)
+}
+
+fn patch_all(bytes: &mut [u8], table: &mut Reader) -> Result<(), ScriptFault>
     ensures { length bytes.new ≡ length bytes.old }
 {
     let count = table.short()?;
     for _ in 0..count {
         patch(bytes, table)?;
     }
-    Some(())
+    Ok(())
 }
 
 fn zeros(alloc: Global) -> Result<Vec<u8>, AllocError>
@@ -61,7 +68,7 @@ pub(crate) fn bank_bytes(alloc: Global, table: &mut Reader) -> Result<Vec<u8>, S
     ensures { IfOk result (λ v. length v.items ≡ 131072) }
 {
     let mut bytes = zeros(alloc)?;
-    patch_all(&mut bytes, table).ok_or(ScriptFault::Table)?;
+    patch_all(&mut bytes, table)?;
     Ok(bytes)
 }
 

@@ -19,7 +19,7 @@ use std::process::ExitCode;
 /// Plays a script, and says where it differs. The answer is whether it doesn't.
 fn play_one<R: Print + AllocGlobal>(rt: &R, script: &[u8]) -> io::Result<bool> {
     let mut table = Reader::of(script);
-    let Some(name) = table.short_piece() else {
+    let Ok(name) = table.short_piece() else {
         println!(rt; "a script has no name")?;
         return Ok(false);
     };
@@ -42,7 +42,7 @@ fn play_part<R: Print + AllocGlobal>(rt: &R, kind: &str, bytes: &[u8]) -> io::Re
         if table.is_at_end() {
             break;
         }
-        let Some(script) = table.long_piece() else {
+        let Ok(script) = table.long_piece() else {
             println!(rt; "the table is cut")?;
             return Ok(false);
         };
@@ -56,8 +56,8 @@ fn play_part<R: Print + AllocGlobal>(rt: &R, kind: &str, bytes: &[u8]) -> io::Re
 }
 
 /// What scripts are called, and the scripts.
-fn part_in<'a>(table: &mut Reader<'a>) -> Option<(&'a [u8], &'a [u8])> {
-    Some((table.short_piece()?, table.long_piece()?))
+fn part_in<'a>(table: &mut Reader<'a>) -> Result<(&'a [u8], &'a [u8]), ScriptFault> {
+    Ok((table.short_piece()?, table.long_piece()?))
 }
 
 /// Plays the scripts of a table. The answer is whether none differs.
@@ -68,7 +68,7 @@ fn play_all<R: Print + AllocGlobal>(rt: &R, bytes: &[u8]) -> io::Result<bool> {
         if table.is_at_end() {
             break;
         }
-        let Some((kind, scripts)) = part_in(&mut table) else {
+        let Ok((kind, scripts)) = part_in(&mut table) else {
             println!(rt; "the table is cut")?;
             return Ok(false);
         };

@@ -1,9 +1,11 @@
 //! Reading from the front of bytes.
 
-ghost use Rattle.std.specs.Prelude.{◌≡◌, length, IfSome};
+ghost use Rattle.std.specs.Prelude.{◌≡◌, length, IfOk};
+
+use crate::fault::ScriptFault;
 
 /// Bytes that are read from the front. All numbers have the high byte first.
-#[derive(Debug, Drop)]
+#[derive(Drop)]
 pub(crate) struct Reader<'a> {
     left: &'a [u8],
 }
@@ -18,55 +20,55 @@ impl<'a> Reader<'a> {
     }
 
     /// A piece of this length.
-    pub(crate) fn piece(&mut self, len: usize) -> Option<&'a [u8]>
-        ensures { IfSome result (λ piece. length piece.now ≡ len) }
+    fn piece(&mut self, len: usize) -> Result<&'a [u8], ScriptFault>
+        ensures { IfOk result (λ piece. length piece.now ≡ len) }
     {
         if self.left.len() < len {
-            return None;
+            return Err(ScriptFault::Table);
         }
         let (piece, left) = self.left.split_at(len);
         self.left = left;
-        Some(piece)
+        Ok(piece)
     }
 
     /// A number of one byte.
-    pub(crate) fn byte(&mut self) -> Option<u8> {
+    pub(crate) fn byte(&mut self) -> Result<u8, ScriptFault> {
         match self.piece(1)? {
-            [a] => Some(*a),
-            _ => None,
+            [a] => Ok(*a),
+            _ => Err(ScriptFault::Table),
         }
     }
 
     /// A number of two bytes.
-    pub(crate) fn short(&mut self) -> Option<u16> {
+    pub(crate) fn short(&mut self) -> Result<u16, ScriptFault> {
         match self.piece(2)? {
-            [a, b] => Some(u16::from_be_bytes([*a, *b])),
-            _ => None,
+            [a, b] => Ok(u16::from_be_bytes([*a, *b])),
+            _ => Err(ScriptFault::Table),
         }
     }
 
     /// A number of four bytes.
-    pub(crate) fn long(&mut self) -> Option<u32> {
+    pub(crate) fn long(&mut self) -> Result<u32, ScriptFault> {
         match self.piece(4)? {
-            [a, b, c, d] => Some(u32::from_be_bytes([*a, *b, *c, *d])),
-            _ => None,
+            [a, b, c, d] => Ok(u32::from_be_bytes([*a, *b, *c, *d])),
+            _ => Err(ScriptFault::Table),
         }
     }
 
     /// A piece behind its length of one byte.
-    pub(crate) fn short_piece(&mut self) -> Option<&'a [u8]> {
+    pub(crate) fn short_piece(&mut self) -> Result<&'a [u8], ScriptFault> {
         let len = self.byte()?;
         self.piece(usize::from(len))
     }
 
     /// A piece behind its length of two bytes.
-    pub(crate) fn middle_piece(&mut self) -> Option<&'a [u8]> {
+    pub(crate) fn middle_piece(&mut self) -> Result<&'a [u8], ScriptFault> {
         let len = self.short()?;
         self.piece(usize::from(len))
     }
 
     /// A piece behind its length of four bytes.
-    pub(crate) fn long_piece(&mut self) -> Option<&'a [u8]> {
+    pub(crate) fn long_piece(&mut self) -> Result<&'a [u8], ScriptFault> {
         let len = self.long()?;
         self.piece(len as usize)
     }
