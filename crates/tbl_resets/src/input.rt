@@ -11,7 +11,7 @@ const MOST_RECORDS: u32 = 32_768;
 const PIECE: usize = 4_096;
 
 /// How an input ended.
-#[derive(Clone, Copy, Debug, PartialEq, Eq)]
+#[derive(Clone, Copy)]
 pub(crate) enum End {
     /// Behind its last record.
     Whole,
@@ -86,6 +86,40 @@ impl Reading {
     }
 }
 
+/// Reads once, and takes the records that came. The answer is how the input ended, or none where it goes on.
+fn read_on<S: Source>(
+    alloc: Global,
+    source: &mut S,
+    piece: &mut [u8; PIECE],
+    reading: &mut Reading,
+) -> Result<Option<End>, Memory> {
+    match source.read(piece.as_mut_slice()) {
+        Ok(0) => return Ok(Some(End::Whole)),
+        Ok(count) => reading.bytes.extend_from_slice(&piece[..count])?,
+        Err(Failed) => return Ok(Some(End::ReadFailed)),
+    }
+    if reading.take_records(alloc)? {
+        Ok(None)
+    } else {
+        Ok(Some(End::BadRecord))
+    }
+}
+
+/// Reads to the end of the input, and says how it ended.
+fn read_all<S: Source>(
+    alloc: Global,
+    source: &mut S,
+    reading: &mut Reading,
+) -> Result<End, Memory> {
+    let mut piece = [0; PIECE];
+    for _ in 0..u64::MAX {
+        if let Some(end) = read_on(alloc, source, &mut piece, reading)? {
+            return Ok(end);
+        }
+    }
+    Ok(End::Whole)
+}
+
 /// Reads a session to its end.
 pub(crate) fn read_session<S: Source>(alloc: Global, source: &mut S) -> Result<Session, Memory> {
     let mut reading = Reading {
@@ -93,16 +127,6 @@ pub(crate) fn read_session<S: Source>(alloc: Global, source: &mut S) -> Result<S
         whole: 0,
         count: 0,
     };
-    let mut piece = [0; PIECE];
-    for _ in 0..u64::MAX {
-        match source.read(&mut piece) {
-            Ok(0) => return Ok(reading.ended(End::Whole)),
-            Ok(count) => reading.bytes.extend_from_slice(&piece[..count])?,
-            Err(Failed) => return Ok(reading.ended(End::ReadFailed)),
-        }
-        if !reading.take_records(alloc)? {
-            return Ok(reading.ended(End::BadRecord));
-        }
-    }
-    Ok(reading.ended(End::Whole))
+    let end = read_all(alloc, source, &mut reading)?;
+    Ok(reading.ended(end))
 }

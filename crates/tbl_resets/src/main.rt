@@ -16,6 +16,7 @@ use plan::plan_of;
 use play::Fault;
 use std::process::ExitCode;
 use tbl_adapters::{StandardInput, StandardOutput};
+use tbl_fakes::Span;
 use tbl_outside::Sink;
 use text::{tell_write, whole_text};
 use tries::{Counts, Trial, try_write};
@@ -38,6 +39,50 @@ It ends with one of these statuses:
 6  the input goes on after 32,768 records, or has too many to ask the service for more
 ";
 
+/// Tries a write, which stands at this place among those of the session, and tells what came back. `maker` says how many
+/// requests had been made by the write before, and the answer how many by this one.
+fn tell_tried<R: Eprint>(
+    rt: &R,
+    trial: &Trial<'_>,
+    at: usize,
+    span: Span,
+    maker: Option<usize>,
+    lines: &mut String,
+    counts: &mut Counts,
+) -> Result<usize, Fault> {
+    let Ok(number) = u32::try_from(at.saturating_add(1)) else {
+        return Err(Fault::Full);
+    };
+    let tried = try_write(rt, trial, number, span, counts)?;
+    let is_first = maker != Some(tried.played);
+    tell_write(lines, trial.plan, number, span, &tried, is_first)?;
+    Ok(tried.played)
+}
+
+/// Tries all writes of a session, and tells what came back.
+fn tell_all<R: Eprint>(
+    rt: &R,
+    trial: &Trial<'_>,
+    lines: &mut String,
+    counts: &mut Counts,
+) -> Result<(), Fault> {
+    let mut maker = None;
+    for (at, span) in trial.plan.writes.iter().enumerate() {
+        let played = tell_tried(rt, trial, at, *span, maker, lines, counts)?;
+        maker = Some(played);
+    }
+    Ok(())
+}
+
+/// The text for a session whose writes are known, and whether a mix came back.
+fn tried_with<R: Eprint>(rt: &R, trial: &Trial<'_>) -> Result<(String, bool), Fault> {
+    let mut counts = Counts::zero();
+    let mut lines = String::new(trial.alloc);
+    tell_all(rt, trial, &mut lines, &mut counts)?;
+    let text = whole_text(trial.alloc, trial.plan, trial.every, &lines, &counts)?;
+    Ok((text, counts.mixed > 0))
+}
+
 /// The text for a session, and whether a mix came back.
 fn tried<R: Eprint + AllocGlobal>(
     rt: &R,
@@ -53,18 +98,7 @@ fn tried<R: Eprint + AllocGlobal>(
         plan: &plan,
         every,
     };
-    let mut counts = Counts::zero();
-    let mut lines = String::new(alloc);
-    let mut maker = None;
-    for (at, span) in plan.writes.iter().enumerate() {
-        let number = u32::try_from(at.saturating_add(1)).map_err(|_| Fault::Full)?;
-        let tried = try_write(rt, &trial, number, *span, &mut counts)?;
-        let is_first = maker != Some(tried.played);
-        maker = Some(tried.played);
-        tell_write(&mut lines, &plan, number, *span, &tried, is_first).map_err(|_| Fault::Memory)?;
-    }
-    let text = whole_text(alloc, &plan, every, &lines, &counts)?;
-    Ok((text, counts.mixed > 0))
+    tried_with(rt, &trial)
 }
 
 /// The status for how an input ended.

@@ -4,11 +4,11 @@ use crate::recovery::read_image;
 use crate::tables::{Change, Event, Image, Registration, Table};
 use bitflags::Flags;
 use check_word::check16;
-use std::alloc::Global;
+use std::alloc::{AllocError, Global};
 use std::collections::BTreeMap;
 use tbl_fakes::{MemBank, Span};
 use tbl_kinds::{
-    Actor, Entry, Name16, Name20, Name40, Options, Outcome, Request, ResetKind, Status,
+    Actor, Bytes, Entry, Name16, Name20, Name40, Options, Outcome, Request, ResetKind, Status,
 };
 
 /// What is known of a session before a reset is tried.
@@ -35,7 +35,7 @@ struct Finder<'a> {
 }
 
 /// A full name: application, dot, short name.
-fn full_name(alloc: Global, app: &Name20, name: &Name16) -> Result<String, Fault> {
+fn full_name(alloc: Global, app: &Name20, name: &Name16) -> Result<String, AllocError> {
     let mut text = String::new(alloc);
     for byte in app.bytes() {
         text.push(char::from(*byte))?;
@@ -52,32 +52,102 @@ fn is_critical(flags: u16) -> bool {
     Options::from_bits_retain(flags).contains(Options::CRITICAL)
 }
 
-impl Finder<'_> {
+/// How a request registered a critical table; none where it did something else.
+fn registration_of(entry: &Entry, app: &Name20) -> Option<Registration> {
+    let Request::Register {
+        name,
+        size,
+        flags,
+        validator,
+    } = &entry.request
+    else {
+        return None;
+    };
+    let status = entry.reply.status;
+    if status != Status::SUCCESS && status != Status::INFO_RECOVERED_TBL || !is_critical(*flags) {
+        return None;
+    }
+    Some(Registration {
+        actor: entry.actor,
+        app: app.copy(),
+        name: name.copy(),
+        size: *size,
+        flags: *flags,
+        validator: *validator,
+    })
+}
+
+/// The image that a handle's table has.
+fn image_of(core: &mut Service, actor: Actor, handle: u16, size: u32) -> Result<Bytes, Fault> {
+    match read_image(core, actor, handle, size)? {
+        Some(bytes) => Ok(bytes),
+        None => Err(Fault::Full),
+    }
+}
+
+/// The image that a handle's table has behind the request at a place.
+fn image_behind(
+    alloc: Global,
+    records: &[u8],
+    room: Room,
+    place: usize,
+    actor: Actor,
+    handle: u16,
+    size: u32,
+) -> Result<Bytes, Fault> {
+    let mut core = behind(alloc, records, place.saturating_add(1), room)?;
+    image_of(&mut core, actor, handle, size)
+}
+
+impl<'a> Finder<'a> {
+    fn make(alloc: Global, records: &'a [u8], room: Room) -> Finder<'a> {
+        Finder {
+            alloc,
+            records,
+            room,
+            running: BTreeMap::new(alloc),
+            handles: BTreeMap::new(alloc),
+            tables: Vec::new(alloc),
+        }
+    }
+
     /// The place of a table among those that are known.
     fn place_of(&self, name: &[u8]) -> Option<usize> {
-        self.tables
-            .iter()
-            .position(|table| table.name.as_bytes() == name)
+        for (place, table) in self.tables.iter().enumerate() {
+            if table.name.as_bytes() == name {
+                return Some(place);
+            }
+        }
+        None
     }
 
     /// Adds a change of a table.
-    fn add(&mut self, table: usize, place: usize, change: Change) -> Result<(), Fault> {
-        if let Some(table) = self.tables.as_mut_slice().get_mut(table) {
-            table.events.push(Event { place, change })?;
+    fn add(&mut self, table: usize, place: usize, change: Change) -> Result<(), AllocError> {
+        match self.tables.as_mut_slice().get_mut(table) {
+            Some(table) => table.add(place, change),
+            None => Ok(()),
+        }
+    }
+
+    /// The block of each table is gone.
+    fn empty_all(&mut self, place: usize) -> Result<(), AllocError> {
+        for table in &mut self.tables {
+            table.add(place, Change::Emptied)?;
         }
         Ok(())
     }
 
-    /// The block of each table is gone, or of the one of this name.
-    fn empty(&mut self, place: usize, name: Option<&[u8]>) -> Result<(), Fault> {
-        for table in &mut self.tables {
-            if name.is_none_or(|name| table.name.as_bytes() == name) {
-                table.events.push(Event {
-                    place,
-                    change: Change::Emptied,
-                })?;
-            }
+    /// The block of the table of this name is gone.
+    fn empty(&mut self, place: usize, name: &[u8]) -> Result<(), AllocError> {
+        match self.place_of(name) {
+            Some(table) => self.add(table, place, Change::Emptied),
+            None => Ok(()),
         }
+    }
+
+    /// An application runs under this name.
+    fn start(&mut self, actor: Actor, name: &Name20) -> Result<(), Fault> {
+        self.running.insert(actor.number(), name.copy())?;
         Ok(())
     }
 
@@ -94,79 +164,85 @@ impl Finder<'_> {
         Ok(())
     }
 
+    /// The place of a table of this name, which is added where none is known.
+    fn known(&mut self, name: &str) -> Result<usize, AllocError> {
+        if let Some(table) = self.place_of(name.as_bytes()) {
+            return Ok(table);
+        }
+        let name = name.to_string(self.alloc)?;
+        self.tables.push(Table::make(self.alloc, name))?;
+        Ok(self.tables.len().saturating_sub(1))
+    }
+
     /// A table was registered as a critical one.
     fn register(
         &mut self,
         place: usize,
-        name: String,
+        name: &str,
         registration: Registration,
         status: Status,
-    ) -> Result<(), Fault> {
-        let table = match self.place_of(name.as_bytes()) {
-            Some(table) => table,
-            None => {
-                self.tables.push(Table::make(self.alloc, name))?;
-                self.tables.len().saturating_sub(1)
-            }
-        };
+    ) -> Result<(), AllocError> {
+        let table = self.known(name)?;
         if status == Status::SUCCESS {
             self.add(table, place, Change::Emptied)?;
         }
         self.add(table, place, Change::Registered(registration))
     }
 
-    /// A table was registered, critical or not.
-    fn see_register(&mut self, place: usize, entry: &Entry) -> Result<(), Fault> {
-        let Request::Register {
-            name,
-            size,
-            flags,
-            validator,
-        } = &entry.request
-        else {
-            return Ok(());
-        };
-        let status = entry.reply.status;
+    /// A table was registered under its full name, critical or not.
+    fn see_named(
+        &mut self,
+        place: usize,
+        entry: &Entry,
+        app: &Name20,
+        full: &str,
+    ) -> Result<(), Fault> {
+        if let Some(registration) = registration_of(entry, app) {
+            self.register(place, full, registration, entry.reply.status)?;
+        }
+        self.give(entry.reply.detail, full.as_bytes())
+    }
+
+    /// A table was registered by an application, critical or not.
+    fn see_register(&mut self, place: usize, entry: &Entry, name: &Name16) -> Result<(), Fault> {
         let Some(app) = self.running.get(&entry.actor.number()) else {
             return Ok(());
         };
         let app = app.copy();
         let full = full_name(self.alloc, &app, name)?;
-        if is_critical(*flags)
-            && (status == Status::SUCCESS || status == Status::INFO_RECOVERED_TBL)
-        {
-            let registration = Registration {
-                actor: entry.actor,
-                app,
-                name: name.copy(),
-                size: *size,
-                flags: *flags,
-                validator: *validator,
-            };
-            let known = full.clone()?;
-            self.register(place, known, registration, status)?;
-        }
-        self.give(entry.reply.detail, full.as_bytes())
+        self.see_named(place, entry, &app, &full)
+    }
+
+    /// The number of the next image of a table, and how many bytes the table has.
+    fn next_image(&self, table: usize, place: usize) -> Option<(u32, u32)> {
+        let table = self.tables.get(table)?;
+        let registration = table.registration(place)?;
+        Some((table.image_count().saturating_add(1), registration.size))
     }
 
     /// An image of a table was copied into its block.
     fn see_copy(&mut self, place: usize, actor: Actor, handle: u16) -> Result<(), Fault> {
-        let Some(at) = self.handles.get(&u32::from(handle)) else {
+        let Some(table) = self.handles.get(&u32::from(handle)) else {
             return Ok(());
         };
-        let at = *at;
-        let Some(table) = self.tables.get(at) else {
+        let table = *table;
+        let Some((number, size)) = self.next_image(table, place) else {
             return Ok(());
         };
-        let Some(registration) = table.registration(place) else {
-            return Ok(());
-        };
-        let number = table.image_count().saturating_add(1);
-        let size = registration.size;
-        let mut core = behind(self.alloc, self.records, place.saturating_add(1), self.room)?;
-        let bytes = read_image(&mut core, actor, handle, size)?.ok_or(Fault::Full)?;
+        let (alloc, records, room) = (self.alloc, self.records, self.room);
+        let bytes = image_behind(alloc, records, room, place, actor, handle, size)?;
         let crc = check16(bytes.bytes());
-        self.add(at, place, Change::Copied(Image { number, crc, bytes }))
+        self.add(table, place, Change::Copied(Image { number, crc, bytes }))?;
+        Ok(())
+    }
+
+    /// A command called the store: it deleted the block of the table that it names.
+    fn see_command(&mut self, place: usize, packet: &[u8]) -> Result<(), AllocError> {
+        let Some(field) = packet.get(8..48) else {
+            return Ok(());
+        };
+        let name = Name40::of(field);
+        self.empty(place, name.bytes())
     }
 
     /// A request called the store, and each of its calls was done.
@@ -176,13 +252,7 @@ impl Finder<'_> {
             | Request::LoadFile { handle, .. }
             | Request::Update { handle }
             | Request::Manage { handle } => self.see_copy(place, entry.actor, *handle),
-            Request::Command { bytes } => match bytes.bytes().get(8..48) {
-                Some(field) => {
-                    let name = Name40::of(field);
-                    self.empty(place, Some(name.bytes()))
-                }
-                None => Ok(()),
-            },
+            Request::Command { bytes } => Ok(self.see_command(place, bytes.bytes())?),
             _ => Ok(()),
         }
     }
@@ -191,19 +261,26 @@ impl Finder<'_> {
     fn see(&mut self, place: usize, entry: &Entry) -> Result<(), Fault> {
         match &entry.request {
             Request::Start { name } if entry.reply.status == Status::SUCCESS => {
-                self.running.insert(entry.actor.number(), name.copy())?;
-                Ok(())
+                self.start(entry.actor, name)
             }
-            Request::Register { .. } => self.see_register(place, entry),
+            Request::Register { name, .. } => self.see_register(place, entry, name),
             Request::Share { name } if entry.reply.status == Status::SUCCESS => {
                 self.give(entry.reply.detail, name.bytes())
             }
             Request::Reset {
                 kind: ResetKind::PowerOn,
-            } => self.empty(place, None),
+            } => Ok(self.empty_all(place)?),
             _ if entry.note.outcome() == Outcome::Done => self.see_call(place, entry),
             _ => Ok(()),
         }
+    }
+
+    /// Takes note of all entries of the session.
+    fn see_all(&mut self, entries: &[Entry]) -> Result<(), Fault> {
+        for (place, entry) in entries.iter().enumerate() {
+            self.see(place, entry)?;
+        }
+        Ok(())
     }
 }
 
@@ -214,17 +291,8 @@ fn tables_of(
     room: Room,
     core: &Service,
 ) -> Result<Vec<Table>, Fault> {
-    let mut finder = Finder {
-        alloc,
-        records,
-        room,
-        running: BTreeMap::new(alloc),
-        handles: BTreeMap::new(alloc),
-        tables: Vec::new(alloc),
-    };
-    for (place, entry) in core.history().iter().enumerate() {
-        finder.see(place, entry)?;
-    }
+    let mut finder = Finder::make(alloc, records, room);
+    finder.see_all(core.history())?;
     Ok(finder.tables)
 }
 
@@ -237,13 +305,32 @@ const FIRST_ROOM: Room = Room {
 /// How often the room is doubled before it is given up.
 const DOUBLINGS: u32 = 11;
 
+/// The ranges of all writes of a bank; none where it had no room for its record of them.
+fn spans_of(alloc: Global, bank: &MemBank) -> Result<Option<Vec<Span>>, Fault> {
+    if bank.faults() == 0 {
+        Ok(Some(bank.spans().to_vec(alloc)?))
+    } else {
+        Ok(None)
+    }
+}
+
+/// The ranges of all writes of a session; none where its bank had no room for its record of them.
+fn writes_in(
+    alloc: Global,
+    records: &[u8],
+    count: usize,
+    room: Room,
+) -> Result<Option<Vec<Span>>, Fault> {
+    let bank = behind(alloc, records, count, room)?.end();
+    spans_of(alloc, &bank)
+}
+
 /// A room in which a bank keeps a record of all writes of a session, and the ranges of these.
 fn writes_of(alloc: Global, records: &[u8], count: usize) -> Result<(Room, Vec<Span>), Fault> {
     let mut room = FIRST_ROOM;
     for _ in 0..DOUBLINGS {
-        let bank: MemBank = behind(alloc, records, count, room)?.end();
-        if bank.faults() == 0 {
-            return Ok((room, bank.spans().to_vec(alloc)?));
+        if let Some(writes) = writes_in(alloc, records, count, room)? {
+            return Ok((room, writes));
         }
         room = Room {
             writes: room.writes.saturating_mul(2),

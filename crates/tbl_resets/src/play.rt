@@ -27,7 +27,7 @@ const MOST_ENTRIES: usize = 32_768;
 pub(crate) type Service = Core<MemBank, Shipped>;
 
 /// Why something wasn't tried to its end.
-#[derive(Clone, Copy, Debug, PartialEq, Eq)]
+#[derive(Clone, Copy)]
 pub(crate) enum Fault {
     /// Memory ran out.
     Memory,
@@ -61,7 +61,7 @@ pub(crate) struct Room {
 }
 
 /// Whether the service goes on behind a request.
-#[derive(Clone, Copy, Debug, PartialEq, Eq)]
+#[derive(Clone, Copy, PartialEq, Eq)]
 pub(crate) enum Progress {
     Played,
     /// The processor was reset in it.
@@ -91,12 +91,12 @@ pub(crate) enum Started {
     Stopped(MemBank),
 }
 
-/// Starts the service over a bank of these bytes, whose writes break off where the list says so.
-fn start(alloc: Global, image: &[u8], breaks: &[Break], room: Room) -> Result<Started, Fault>
-    requires { length image.now ≡ 131072 }
+/// Starts the service over a bank.
+fn start_over(alloc: Global, bank: MemBank, kit: Kit<Shipped>) -> Result<Started, Fault>
+    requires bank { bank_size ≤ length bank.bytes }
+    requires kit { AskedBelow asked_of 1 kit }
 {
-    let bank = bank_of(alloc, image, breaks, room)?;
-    match Core::start(alloc, bank, shipped(alloc)?) {
+    match Core::start(alloc, bank, kit) {
         Ok(core) => Ok(Started::Runs(core)),
         Err(
             Back {
@@ -108,9 +108,27 @@ fn start(alloc: Global, image: &[u8], breaks: &[Break], room: Room) -> Result<St
     }
 }
 
+/// Starts the service over a bank of these bytes, whose writes break off where the list says so.
+fn start(alloc: Global, image: &[u8], breaks: &[Break], room: Room) -> Result<Started, Fault>
+    requires { length image.now ≡ 131072 }
+{
+    let kit = shipped(alloc)?;
+    let bank = bank_of(alloc, image, breaks, room)?;
+    start_over(alloc, bank, kit)
+}
+
 /// The entry of the request that was played last.
 pub(crate) fn last_entry(core: &Service) -> Result<&Entry, Fault> {
     core.history().last().ok_or(Fault::Full)
+}
+
+/// Whether the service goes on behind the request that was played last.
+fn last_progress(core: &Service) -> Result<Progress, Fault> {
+    if last_entry(core)?.reply.status == Status::INFO_STOPPED {
+        Ok(Progress::Stopped)
+    } else {
+        Ok(Progress::Played)
+    }
 }
 
 /// Plays a request.
@@ -122,8 +140,7 @@ fn step(core: &mut Service, actor: Actor, request: Request) -> Result<Progress, 
         return Err(Fault::Full);
     }
     match core.step(actor, request) {
-        Ok(()) if last_entry(core)?.reply.status == Status::INFO_STOPPED => Ok(Progress::Stopped),
-        Ok(()) => Ok(Progress::Played),
+        Ok(()) => last_progress(core),
         Err(StepFault::BootFault | StepFault::BootStopped) => Ok(Progress::Stopped),
         Err(StepFault::Memory) => Err(Fault::Memory),
     }
@@ -172,6 +189,17 @@ fn step_all(
     Ok(Progress::Played)
 }
 
+/// The service behind so many records more.
+fn played_on(
+    alloc: Global,
+    mut core: Service,
+    records: &[u8],
+    most: usize,
+) -> Result<Service, Fault> {
+    step_all(alloc, &mut core, records, most)?;
+    Ok(core)
+}
+
 /// The service behind the first so many records of a session, over a bank that nothing was written to.
 pub(crate) fn behind(
     alloc: Global,
@@ -180,10 +208,7 @@ pub(crate) fn behind(
     room: Room,
 ) -> Result<Service, Fault> {
     match start(alloc, &ZEROS, &[], room)? {
-        Started::Runs(mut core) => {
-            step_all(alloc, &mut core, records, most)?;
-            Ok(core)
-        }
+        Started::Runs(core) => played_on(alloc, core, records, most),
         Started::Stopped(_) => Err(Fault::Full),
     }
 }
@@ -196,6 +221,25 @@ pub(crate) struct Left {
     pub(crate) bank: MemBank,
 }
 
+/// A write in which the processor is reset after so many bytes.
+fn stop_in(write: u32, after: u32) -> Break {
+    Break {
+        write,
+        after,
+        stop: true,
+    }
+}
+
+/// Plays a session up to the request in which the processor is reset.
+fn played_to_stop(alloc: Global, mut core: Service, records: &[u8]) -> Result<Left, Fault> {
+    step_all(alloc, &mut core, records, MOST_ENTRIES)?;
+    let played = core.history().len();
+    Ok(Left {
+        played,
+        bank: core.end(),
+    })
+}
+
 /// Plays a session up to a write, in which the processor is reset after so many bytes. The boot behind the reset is stopped
 /// before its first write, so that the bank has what the reset left.
 pub(crate) fn with_stop(
@@ -205,28 +249,9 @@ pub(crate) fn with_stop(
     after: u32,
     room: Room,
 ) -> Result<Left, Fault> {
-    let boot = write.saturating_add(1);
-    let breaks = [
-        Break {
-            write,
-            after,
-            stop: true,
-        },
-        Break {
-            write: boot,
-            after: 0,
-            stop: true,
-        },
-    ];
+    let breaks = [stop_in(write, after), stop_in(write.saturating_add(1), 0)];
     match start(alloc, &ZEROS, &breaks, room)? {
-        Started::Runs(mut core) => {
-            step_all(alloc, &mut core, records, MOST_ENTRIES)?;
-            let played = core.history().len();
-            Ok(Left {
-                played,
-                bank: core.end(),
-            })
-        }
+        Started::Runs(core) => played_to_stop(alloc, core, records),
         Started::Stopped(bank) => Ok(Left { played: 0, bank }),
     }
 }

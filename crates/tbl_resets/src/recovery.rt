@@ -5,6 +5,31 @@ use check_word::check16;
 use std::alloc::Global;
 use tbl_kinds::{Actor, Bytes, Request, Status};
 
+/// Makes a request, and gives its status.
+fn status_of(core: &mut Service, actor: Actor, request: Request) -> Result<Status, Fault> {
+    Ok(ask(core, actor, request)?.reply.status)
+}
+
+/// The bytes of a table that its owner has got; none where the read is refused.
+fn read_bytes(
+    core: &mut Service,
+    actor: Actor,
+    handle: u16,
+    len: u32,
+) -> Result<Option<Bytes>, Fault> {
+    let request = Request::Read {
+        handle,
+        offset: 0,
+        len,
+    };
+    let reply = &ask(core, actor, request)?.reply;
+    if reply.status == Status::SUCCESS {
+        Ok(Some(reply.bytes.copy()?))
+    } else {
+        Ok(None)
+    }
+}
+
 /// The last image of a table, read by its owner through its handle; none where it has none.
 pub(crate) fn read_image(
     core: &mut Service,
@@ -12,24 +37,13 @@ pub(crate) fn read_image(
     handle: u16,
     size: u32,
 ) -> Result<Option<Bytes>, Fault> {
-    ask(core, actor, Request::Release { handle })?;
-    let got = ask(core, actor, Request::Get { handle })?.reply.status;
-    if got != Status::SUCCESS && got != Status::INFO_UPDATED {
-        return Ok(None);
+    status_of(core, actor, Request::Release { handle })?;
+    let got = status_of(core, actor, Request::Get { handle })?;
+    if got == Status::SUCCESS || got == Status::INFO_UPDATED {
+        read_bytes(core, actor, handle, size)
+    } else {
+        Ok(None)
     }
-    let entry = ask(
-        core,
-        actor,
-        Request::Read {
-            handle,
-            offset: 0,
-            len: size,
-        },
-    )?;
-    if entry.reply.status != Status::SUCCESS {
-        return Ok(None);
-    }
-    Ok(Some(entry.reply.bytes.copy()?))
 }
 
 /// Lets the application of a table run under its name. Another table of the same application may have been registered before.
@@ -38,42 +52,32 @@ fn start_app(
     wanted: &Registration,
     before: Option<&Registration>,
 ) -> Result<(), Fault> {
-    if let Some(before) = before {
-        if before.app == wanted.app {
-            return Ok(());
+    match before {
+        Some(before) if before.app == wanted.app => return Ok(()),
+        Some(_) => {
+            status_of(core, wanted.actor, Request::Exit)?;
         }
-        ask(core, wanted.actor, Request::Exit)?;
+        None => (),
     }
-    ask(
-        core,
-        wanted.actor,
-        Request::Start {
-            name: wanted.app.copy(),
-        },
-    )?;
+    let name = wanted.app.copy();
+    status_of(core, wanted.actor, Request::Start { name })?;
     Ok(())
 }
 
 /// The registration of the last of some tables that the same application registers.
 fn last_of<'a>(tables: &'a [Table], actor: Actor, played: usize) -> Option<&'a Registration> {
-    let mut found = None;
-    for table in tables {
+    for table in tables.iter().rev() {
         if let Some(registration) = table.registration(played) {
             if registration.actor == actor {
-                found = Some(registration);
+                return Some(registration);
             }
         }
     }
-    found
+    None
 }
 
-/// Registers a table anew, and says what came back.
-fn register(
-    core: &mut Service,
-    table: &Table,
-    wanted: &Registration,
-    played: usize,
-) -> Result<Back, Fault> {
+/// What a request to register a table anew is answered: the status and the detail.
+fn register(core: &mut Service, wanted: &Registration) -> Result<(Status, u32), Fault> {
     let request = Request::Register {
         name: wanted.name.copy(),
         size: wanted.size,
@@ -81,15 +85,60 @@ fn register(
         validator: wanted.validator,
     };
     let reply = &ask(core, wanted.actor, request)?.reply;
-    let status = reply.status;
+    Ok((reply.status, reply.detail))
+}
+
+/// The handle of a number.
+fn handle_of(detail: u32) -> Result<u16, Fault> {
+    match u16::try_from(detail) {
+        Ok(handle) => Ok(handle),
+        Err(_) => Err(Fault::Full),
+    }
+}
+
+/// Registers a table anew, and says what came back.
+fn back_of(
+    core: &mut Service,
+    table: &Table,
+    wanted: &Registration,
+    played: usize,
+) -> Result<Back, Fault> {
+    let (status, detail) = register(core, wanted)?;
     if status != Status::SUCCESS && status != Status::INFO_RECOVERED_TBL {
         return Ok(Back::Refused { status: status.0 });
     }
-    let handle = u16::try_from(reply.detail).map_err(|_| Fault::Full)?;
-    match read_image(core, wanted.actor, handle, wanted.size)? {
+    match read_image(core, wanted.actor, handle_of(detail)?, wanted.size)? {
         None => Ok(Back::None),
         Some(image) => Ok(table.judge(played, image.bytes(), check16(image.bytes()))),
     }
+}
+
+/// Lets the application of the table at a place run, and says what came back in that table.
+fn come_back_at(
+    core: &mut Service,
+    tables: &[Table],
+    at: usize,
+    table: &Table,
+    played: usize,
+) -> Result<Back, Fault> {
+    let wanted = table.registration(played).ok_or(Fault::Full)?;
+    let earlier = tables.get(..at).ok_or(Fault::Full)?;
+    start_app(core, wanted, last_of(earlier, wanted.actor, played))?;
+    back_of(core, table, wanted, played)
+}
+
+/// What comes back in each table, registered anew in a service that was just started.
+fn come_back_in(
+    alloc: Global,
+    core: &mut Service,
+    tables: &[Table],
+    played: usize,
+) -> Result<Vec<Back>, Fault> {
+    let mut backs = Vec::new(alloc);
+    for (at, table) in tables.iter().enumerate() {
+        backs.push(come_back_at(core, tables, at, table, played)?)?;
+    }
+    Ok(backs)
 }
 
 /// What comes back in each table behind a reset that left these bytes in the bank, in the last of so many requests.
@@ -100,12 +149,5 @@ pub(crate) fn come_back(
     played: usize,
 ) -> Result<Vec<Back>, Fault> {
     let mut core = anew(alloc, image)?;
-    let mut backs = Vec::new(alloc);
-    for (at, table) in tables.iter().enumerate() {
-        let wanted = table.registration(played).ok_or(Fault::Full)?;
-        let before = last_of(tables.get(..at).ok_or(Fault::Full)?, wanted.actor, played);
-        start_app(&mut core, wanted, before)?;
-        backs.push(register(&mut core, table, wanted, played)?)?;
-    }
-    Ok(backs)
+    come_back_in(alloc, &mut core, tables, played)
 }

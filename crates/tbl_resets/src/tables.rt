@@ -1,5 +1,5 @@
 // The critical tables of a session, and what its requests did to their blocks.
-use std::alloc::Global;
+use std::alloc::{AllocError, Global};
 use tbl_kinds::{Actor, Bytes, Name16, Name20};
 
 /// How a critical table was registered.
@@ -47,7 +47,7 @@ pub(crate) struct Table {
 }
 
 /// What came back in a table, registered anew behind a reset.
-#[derive(Clone, Copy, Debug, PartialEq, Eq)]
+#[derive(Clone, Copy, PartialEq, Eq)]
 pub(crate) enum Back {
     /// No image.
     None,
@@ -69,6 +69,12 @@ impl Table {
         }
     }
 
+    /// Adds a change that the request at a place made.
+    pub(crate) fn add(&mut self, place: usize, change: Change) -> Result<(), AllocError> {
+        self.events.push(Event { place, change })?;
+        Ok(())
+    }
+
     /// How many images of it were copied.
     pub(crate) fn image_count(&self) -> u32 {
         let mut count = 0u32;
@@ -80,32 +86,47 @@ impl Table {
         count
     }
 
-    /// The registration that was in force when so many requests had come; the first one where none had come before.
-    pub(crate) fn registration(&self, played: usize) -> Option<&Registration> {
-        let mut found = None;
-        for event in &self.events {
+    /// The last registration before so many requests had come.
+    fn last_registration(&self, played: usize) -> Option<&Registration> {
+        for event in self.events.iter().rev() {
             if let Change::Registered(registration) = &event.change {
-                if found.is_none() || event.place < played {
-                    found = Some(registration);
+                if event.place < played {
+                    return Some(registration);
                 }
             }
         }
-        found
+        None
+    }
+
+    fn first_registration(&self) -> Option<&Registration> {
+        for event in &self.events {
+            if let Change::Registered(registration) = &event.change {
+                return Some(registration);
+            }
+        }
+        None
+    }
+
+    /// The registration that was in force when so many requests had come; the first one where none had come before.
+    pub(crate) fn registration(&self, played: usize) -> Option<&Registration> {
+        match self.last_registration(played) {
+            Some(registration) => Some(registration),
+            None => self.first_registration(),
+        }
     }
 
     /// The last image whose copy was completed before the last of so many requests, where its block still had it then.
     fn completed(&self, played: usize) -> Option<&Image> {
-        let mut found = None;
-        for event in &self.events {
+        for event in self.events.iter().rev() {
             if event.place.saturating_add(1) < played {
                 match &event.change {
                     Change::Registered(_) => (),
-                    Change::Copied(image) => found = Some(image),
-                    Change::Emptied => found = None,
+                    Change::Copied(image) => return Some(image),
+                    Change::Emptied => return None,
                 }
             }
         }
-        found
+        None
     }
 
     /// The image that the last of so many requests copies.

@@ -1,9 +1,9 @@
 // The table as text.
 use crate::plan::Plan;
-use crate::tables::{Back, Change, Table};
+use crate::tables::{Back, Change, Event, Table};
 use crate::tries::{Counts, Run, SHORT_WRITE, Tried};
 use std::alloc::{AllocError, Global};
-use std::fmt::{self, Write};
+use std::fmt::Write;
 use tbl_fakes::Span;
 use tbl_kinds::{Actor, Entry, Request};
 
@@ -32,12 +32,18 @@ fn after_at(plan: &Plan) -> usize {
 }
 
 /// Appends blanks up to a column, one at least, of the line that begins at this place of the text.
-fn blanks_to(text: &mut String, line: usize, column: usize) -> fmt::Result {
-    text.write_str(" ")?;
+fn blanks_to(text: &mut String, line: usize, column: usize) -> Result<(), AllocError> {
+    text.push_str(" ")?;
     for _ in text.len().saturating_sub(line)..column {
-        text.write_str(" ")?;
+        text.push_str(" ")?;
     }
     Ok(())
+}
+
+/// Appends a text in a column of the line that begins at this place.
+fn tell_at(text: &mut String, line: usize, column: usize, what: &str) -> Result<(), AllocError> {
+    blanks_to(text, line, column)?;
+    text.push_str(what)
 }
 
 /// The request's name in docs/FORMATS.md. The one command that writes to the bank is DELETE_CDS.
@@ -58,19 +64,18 @@ fn request_name(request: &Request) -> &'static str {
 }
 
 /// Writes a request: its place, who makes it, and its name.
-fn tell_request(text: &mut String, place: usize, entry: &Entry) -> fmt::Result {
+fn tell_request(text: &mut String, place: usize, entry: &Entry) -> Result<(), AllocError> {
     let name = request_name(&entry.request);
     match entry.actor {
-        Actor::Ground => write!(text, "{place} ground {name}")?,
-        Actor::App(number) => write!(text, "{place} app {number} {name}")?,
+        Actor::Ground => write!(text, "{place} ground {name}"),
+        Actor::App(number) => write!(text, "{place} app {number} {name}"),
     }
-    Ok(())
 }
 
 /// Writes the request in which a write is made.
-fn tell_maker(text: &mut String, plan: &Plan, played: usize) -> fmt::Result {
+fn tell_maker(text: &mut String, plan: &Plan, played: usize) -> Result<(), AllocError> {
     let Some(place) = played.checked_sub(1) else {
-        return text.write_str("boot at the start");
+        return text.push_str("boot at the start");
     };
     match plan.core.history().get(place) {
         Some(entry) => tell_request(text, place, entry),
@@ -79,16 +84,15 @@ fn tell_maker(text: &mut String, plan: &Plan, played: usize) -> fmt::Result {
 }
 
 /// Writes the image that a request copies.
-fn tell_copied(text: &mut String, plan: &Plan, played: usize) -> fmt::Result {
+fn tell_copied(text: &mut String, plan: &Plan, played: usize) -> Result<(), AllocError> {
     for table in &plan.tables {
         if let Some(image) = table.under_way(played) {
             let number = image.number;
             let name = table.name.as_str();
-            write!(text, "image {number} of {name}")?;
-            return Ok(());
+            return write!(text, "image {number} of {name}");
         }
     }
-    text.write_str("image of an application block")
+    text.push_str("image of an application block")
 }
 
 /// Whether a request copies an image into a block.
@@ -124,54 +128,87 @@ fn tell_piece(
     played: usize,
     span: Span,
     is_first: bool,
-) -> fmt::Result {
+) -> Result<(), AllocError> {
     let at = span.at;
     if at >= BLOCKS_AT {
         if is_first && is_copy(plan, played) {
             return tell_copied(text, plan, played);
         }
-        write!(text, "head of the block at {at}")?;
-        return Ok(());
+        return write!(text, "head of the block at {at}");
     }
     let Some(place) = at.checked_sub(DIRECTORY_AT) else {
-        return text.write_str(if at == 0 { "live byte" } else { "letters" });
+        return text.push_str(if at == 0 { "live byte" } else { "letters" });
     };
     let slot = place / ENTRY_LEN;
     if span.length > ENTRY_LEN {
-        return text.write_str("directory");
+        return text.push_str("directory");
     }
     let part = if place % ENTRY_LEN == 0 {
         "gate"
     } else {
         "entry"
     };
-    write!(text, "{part} of slot {slot}")?;
-    Ok(())
+    write!(text, "{part} of slot {slot}")
 }
 
 /// Writes what came back.
-fn tell_back(text: &mut String, back: Back) -> fmt::Result {
+fn tell_back(text: &mut String, back: Back) -> Result<(), AllocError> {
     match back {
-        Back::None => text.write_str("none")?,
-        Back::Refused { status } => write!(text, "none (Register was answered with {status})")?,
-        Back::Completed { number, crc } => {
-            write!(
-                text,
-                "recovered: image {number} (crc 0x{crc:04X}), the last that was copied"
-            )?;
-        }
-        Back::Broken { number, crc } => {
-            write!(
-                text,
-                "recovered: image {number} (crc 0x{crc:04X}), whose copy broke off"
-            )?;
-        }
+        Back::None => text.push_str("none"),
+        Back::Refused { status } => write!(text, "none (Register was answered with {status})"),
+        Back::Completed { number, crc } => write!(
+            text,
+            "recovered: image {number} (crc 0x{crc:04X}), the last that was copied"
+        ),
+        Back::Broken { number, crc } => write!(
+            text,
+            "recovered: image {number} (crc 0x{crc:04X}), whose copy broke off"
+        ),
         Back::Mixed { crc } => write!(
             text,
             "A MIX: other bytes than of any image (crc 0x{crc:04X})"
-        )?,
+        ),
     }
-    Ok(())
+}
+
+/// Writes what is known of a write: its number and bytes, its request, and what it has.
+fn tell_head(
+    text: &mut String,
+    plan: &Plan,
+    number: u32,
+    span: Span,
+    played: usize,
+    is_first: bool,
+) -> Result<(), AllocError> {
+    let length = span.length;
+    let line = text.len();
+    write!(text, "{number}")?;
+    blanks_to(text, line, BYTES_AT)?;
+    write!(text, "{length}")?;
+    blanks_to(text, line, REQUEST_AT)?;
+    tell_maker(text, plan, played)?;
+    blanks_to(text, line, WRITES_AT)?;
+    tell_piece(text, plan, played, span, is_first)
+}
+
+/// Writes the ranges of the table at a place, the first behind what stands in the line. The answer is where the next line
+/// begins.
+fn tell_runs(
+    text: &mut String,
+    line: usize,
+    after: usize,
+    at: usize,
+    table: &Table,
+    runs: &[Run],
+) -> Result<usize, AllocError> {
+    let mut line = line;
+    for run in runs {
+        if run.table == at {
+            tell_run(text, line, after, table, *run)?;
+            line = text.len();
+        }
+    }
+    Ok(line)
 }
 
 /// Writes the lines of a write: one for each range of numbers of bytes and each table.
@@ -182,33 +219,28 @@ pub(crate) fn tell_write(
     span: Span,
     tried: &Tried,
     is_first: bool,
-) -> fmt::Result {
-    let length = span.length;
+) -> Result<(), AllocError> {
     let after = after_at(plan);
     let mut line = text.len();
-    write!(text, "{number}")?;
-    blanks_to(text, line, BYTES_AT)?;
-    write!(text, "{length}")?;
-    blanks_to(text, line, REQUEST_AT)?;
-    tell_maker(text, plan, tried.played)?;
-    blanks_to(text, line, WRITES_AT)?;
-    tell_piece(text, plan, tried.played, span, is_first)?;
+    tell_head(text, plan, number, span, tried.played, is_first)?;
     for (at, table) in plan.tables.iter().enumerate() {
-        for run in &tried.runs {
-            if run.table == at {
-                tell_run(text, line, after, table, *run)?;
-                line = text.len();
-            }
-        }
+        line = tell_runs(text, line, after, at, table, &tried.runs)?;
     }
-    if line != text.len() {
-        text.write_str("\n")?;
+    if line == text.len() {
+        Ok(())
+    } else {
+        text.push_str("\n")
     }
-    Ok(())
 }
 
 /// Writes a range, the table and what came back, behind what stands in the line.
-fn tell_run(text: &mut String, line: usize, after: usize, table: &Table, run: Run) -> fmt::Result {
+fn tell_run(
+    text: &mut String,
+    line: usize,
+    after: usize,
+    table: &Table,
+    run: Run,
+) -> Result<(), AllocError> {
     let (from, to) = (run.from, run.to);
     let name = table.name.as_str();
     blanks_to(text, line, after)?;
@@ -220,40 +252,50 @@ fn tell_run(text: &mut String, line: usize, after: usize, table: &Table, run: Ru
     blanks_to(text, line, after.saturating_add(RANGE_LEN))?;
     write!(text, "{name}: ")?;
     tell_back(text, run.back)?;
-    text.write_str("\n")
+    text.push_str("\n")
+}
+
+/// Writes a registration or an image of a table.
+fn tell_event(text: &mut String, event: &Event) -> Result<(), AllocError> {
+    let place = event.place;
+    match &event.change {
+        Change::Registered(registration) => {
+            let size = registration.size;
+            let app = registration.actor.number();
+            writeln!(
+                text,
+                "  request {place}: app {app} registers it, {size} bytes"
+            )
+        }
+        Change::Copied(image) => {
+            let number = image.number;
+            let crc = image.crc;
+            writeln!(
+                text,
+                "  request {place}: image {number} (crc 0x{crc:04X}) is copied"
+            )
+        }
+        Change::Emptied => Ok(()),
+    }
 }
 
 /// Writes a table's registrations and images.
-fn tell_table(text: &mut String, table: &Table) -> fmt::Result {
+fn tell_table(text: &mut String, table: &Table) -> Result<(), AllocError> {
     let name = table.name.as_str();
     writeln!(text, "{name}")?;
     for event in &table.events {
-        let place = event.place;
-        match &event.change {
-            Change::Registered(registration) => {
-                let size = registration.size;
-                let app = registration.actor.number();
-                writeln!(
-                    text,
-                    "  request {place}: app {app} registers it, {size} bytes"
-                )?;
-            }
-            Change::Copied(image) => {
-                let number = image.number;
-                let crc = image.crc;
-                writeln!(
-                    text,
-                    "  request {place}: image {number} (crc 0x{crc:04X}) is copied"
-                )?;
-            }
-            Change::Emptied => (),
-        }
+        tell_event(text, event)?;
     }
     Ok(())
 }
 
 /// Writes how many resets were tried, and which.
-fn tell_count(text: &mut String, plan: &Plan, every: u32, counts: &Counts) -> fmt::Result {
+fn tell_count(
+    text: &mut String,
+    plan: &Plan,
+    every: u32,
+    counts: &Counts,
+) -> Result<(), AllocError> {
     let writes = plan.writes.len();
     let (stops, starts) = (counts.stops, counts.starts);
     write!(
@@ -269,40 +311,40 @@ fn tell_count(text: &mut String, plan: &Plan, every: u32, counts: &Counts) -> fm
     writeln!(
         text,
         ".\nThe service was started anew {starts} times: not once more where a byte of a write changes nothing in the bank."
-    )?;
-    Ok(())
+    )
 }
 
-/// Writes the critical tables, and the heads of the columns.
-fn tell_tables(text: &mut String, plan: &Plan) -> fmt::Result {
-    writeln!(
-        text,
-        "The number of a request is its place in the session, from 0.\n"
-    )?;
+/// Writes the critical tables.
+fn tell_tables(text: &mut String, plan: &Plan) -> Result<(), AllocError> {
+    text.push_str("The number of a request is its place in the session, from 0.\n\n")?;
     if plan.tables.is_empty() {
-        writeln!(text, "The session registers no critical table.")?;
+        text.push_str("The session registers no critical table.\n")?;
     }
     for table in &plan.tables {
         tell_table(text, table)?;
     }
+    text.push_str("\n")
+}
+
+/// Writes the heads of the columns.
+fn tell_columns(text: &mut String, plan: &Plan) -> Result<(), AllocError> {
     let after = after_at(plan);
-    text.write_str("\n")?;
     let line = text.len();
-    text.write_str("write")?;
-    blanks_to(text, line, BYTES_AT)?;
-    text.write_str("bytes")?;
-    blanks_to(text, line, REQUEST_AT)?;
-    text.write_str("in request")?;
-    blanks_to(text, line, WRITES_AT)?;
-    text.write_str("what is written")?;
-    blanks_to(text, line, after)?;
-    text.write_str("reset after")?;
-    blanks_to(text, line, after.saturating_add(RANGE_LEN))?;
-    text.write_str("what comes back\n")
+    text.push_str("write")?;
+    tell_at(text, line, BYTES_AT, "bytes")?;
+    tell_at(text, line, REQUEST_AT, "in request")?;
+    tell_at(text, line, WRITES_AT, "what is written")?;
+    tell_at(text, line, after, "reset after")?;
+    tell_at(
+        text,
+        line,
+        after.saturating_add(RANGE_LEN),
+        "what comes back\n",
+    )
 }
 
 /// Writes the last line.
-fn tell_end(text: &mut String, counts: &Counts) -> fmt::Result {
+fn tell_end(text: &mut String, counts: &Counts) -> Result<(), AllocError> {
     let (completed, broken, none, mixed) = (
         counts.completed,
         counts.broken,
@@ -312,8 +354,19 @@ fn tell_end(text: &mut String, counts: &Counts) -> fmt::Result {
     writeln!(
         text,
         "\nCame back: the last image that was copied: {completed}; one whose copy broke off: {broken}; none: {none}; a mix: {mixed}."
-    )?;
-    Ok(())
+    )
+}
+
+/// Writes what stands before the lines of the writes.
+fn tell_front(
+    text: &mut String,
+    plan: &Plan,
+    every: u32,
+    counts: &Counts,
+) -> Result<(), AllocError> {
+    tell_count(text, plan, every, counts)?;
+    tell_tables(text, plan)?;
+    tell_columns(text, plan)
 }
 
 /// The whole text, of which the lines of the writes are made already.
@@ -325,9 +378,8 @@ pub(crate) fn whole_text(
     counts: &Counts,
 ) -> Result<String, AllocError> {
     let mut text = String::new(alloc);
-    tell_count(&mut text, plan, every, counts).map_err(|_| AllocError)?;
-    tell_tables(&mut text, plan).map_err(|_| AllocError)?;
+    tell_front(&mut text, plan, every, counts)?;
     text.push_str(lines)?;
-    tell_end(&mut text, counts).map_err(|_| AllocError)?;
+    tell_end(&mut text, counts)?;
     Ok(text)
 }

@@ -5,7 +5,7 @@ use crate::plan::Plan;
 use crate::play::{Fault, Left, with_stop};
 use crate::recovery::come_back;
 use crate::tables::Back;
-use std::alloc::Global;
+use std::alloc::{AllocError, Global};
 use tbl_fakes::Span;
 use tbl_kinds::Bytes;
 
@@ -48,17 +48,21 @@ impl Counts {
         }
     }
 
+    /// Counts what came back in a table.
+    fn add_back(&mut self, back: Back) {
+        match back {
+            Back::Completed { .. } => self.completed = self.completed.saturating_add(1),
+            Back::Broken { .. } => self.broken = self.broken.saturating_add(1),
+            Back::None | Back::Refused { .. } => self.none = self.none.saturating_add(1),
+            Back::Mixed { .. } => self.mixed = self.mixed.saturating_add(1),
+        }
+    }
+
     /// Counts a reset and what came back behind it.
     fn add(&mut self, backs: &[Back]) {
         self.stops = self.stops.saturating_add(1);
         for back in backs {
-            let counter = match back {
-                Back::Completed { .. } => &mut self.completed,
-                Back::Broken { .. } => &mut self.broken,
-                Back::None | Back::Refused { .. } => &mut self.none,
-                Back::Mixed { .. } => &mut self.mixed,
-            };
-            *counter = counter.saturating_add(1);
+            self.add_back(*back);
         }
     }
 }
@@ -70,39 +74,55 @@ struct Ranges {
     open: Vec<Run>,
 }
 
+/// For each table a range that begins with no byte.
+fn first_runs(alloc: Global, backs: &[Back]) -> Result<Vec<Run>, AllocError> {
+    let mut open = Vec::new(alloc);
+    for (table, back) in backs.iter().enumerate() {
+        open.push(Run {
+            table,
+            from: 0,
+            to: 0,
+            back: *back,
+        })?;
+    }
+    Ok(open)
+}
+
+/// Goes on with the range of a table, or ends it and begins the next where something else came back.
+fn extend_run(
+    run: &mut Run,
+    ended: &mut Vec<Run>,
+    after: u32,
+    back: Back,
+) -> Result<(), AllocError> {
+    if run.back != back {
+        ended.push(*run)?;
+        run.from = after;
+        run.back = back;
+    }
+    run.to = after;
+    Ok(())
+}
+
 impl Ranges {
     /// The first number of bytes, 0.
-    fn make(alloc: Global, backs: &[Back]) -> Result<Ranges, Fault> {
-        let mut open = Vec::new(alloc);
-        for (table, back) in backs.iter().enumerate() {
-            open.push(Run {
-                table,
-                from: 0,
-                to: 0,
-                back: *back,
-            })?;
-        }
+    fn make(alloc: Global, backs: &[Back]) -> Result<Ranges, AllocError> {
         Ok(Ranges {
             ended: Vec::new(alloc),
-            open,
+            open: first_runs(alloc, backs)?,
         })
     }
 
     /// A further number of bytes.
-    fn extend(&mut self, after: u32, backs: &[Back]) -> Result<(), Fault> {
+    fn extend(&mut self, after: u32, backs: &[Back]) -> Result<(), AllocError> {
         for (run, back) in self.open.iter_mut().zip(backs) {
-            if run.back != *back {
-                self.ended.push(*run)?;
-                run.from = after;
-                run.back = *back;
-            }
-            run.to = after;
+            extend_run(run, &mut self.ended, after, *back)?;
         }
         Ok(())
     }
 
     /// All ranges.
-    fn all(mut self) -> Result<Vec<Run>, Fault> {
+    fn all(mut self) -> Result<Vec<Run>, AllocError> {
         self.ended.extend_from_slice(&self.open)?;
         Ok(self.ended)
     }
@@ -251,6 +271,22 @@ fn try_byte<R: Eprint>(
     Ok(())
 }
 
+/// Writes each byte of a write, and tries a reset behind it.
+fn try_bytes<R: Eprint>(
+    rt: &R,
+    trial: &Trial<'_>,
+    number: u32,
+    span: Span,
+    bytes: &[u8],
+    sweep: &mut Sweep,
+    counts: &mut Counts,
+) -> Result<(), Fault> {
+    for place in 0..span.length {
+        try_byte(rt, trial, number, span, place, bytes, sweep, counts)?;
+    }
+    Ok(())
+}
+
 /// Tries a reset after each number of bytes of a write, which has this number, from 1. What is left after no byte and after
 /// all of them comes from the session played up to there. Between these two the bank has a front of the write: it is
 /// made from both. Where a byte of the write changes nothing, what the reset leaves is the same as one byte before, and
@@ -266,18 +302,8 @@ pub(crate) fn try_write<R: Eprint>(
     let before = with_stop(alloc, trial.records, number, 0, plan.room)?;
     let behind = with_stop(alloc, trial.records, number, span.length, plan.room)?;
     let mut sweep = Sweep::begin(alloc, plan, &before, counts)?;
-    for place in 0..span.length {
-        try_byte(
-            rt,
-            trial,
-            number,
-            span,
-            place,
-            behind.bank.bytes(),
-            &mut sweep,
-            counts,
-        )?;
-    }
+    let bytes = behind.bank.bytes();
+    try_bytes(rt, trial, number, span, bytes, &mut sweep, counts)?;
     sweep.end()
 }
 

@@ -4,7 +4,7 @@ use std::io::ErrorKind;
 use std::rt::Env;
 
 /// What is asked for.
-#[derive(Clone, Copy, Debug, PartialEq, Eq)]
+#[derive(Clone, Copy)]
 pub(crate) enum Words {
     Help,
     /// To try the resets: inside long writes each number of bytes that this one divides.
