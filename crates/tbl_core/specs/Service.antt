@@ -1,5 +1,5 @@
 -- What the core keeps, and which histories it stands for.
-use Rattle.std.specs.Prelude.{◌≡◌, ◌⊎◌, ℕ, suc, ◌+◌, ◌-◌, ◌*◌, ◌^◌, ◌<◌, List, [], ◌∷◌, ◌++◌, length, Bool, true, false, not, Option, Some, None, Result}
+use Rattle.std.specs.Prelude.{◌≡◌, ◌⊎◌, ℕ, suc, ◌+◌, ◌*◌, ◌^◌, ◌<◌, List, [], ◌∷◌, ◌++◌, length, Bool, true, false, not, Option, Some, None, Result}
 use Rattle.std.specs.Option.{ForSome}
 use Rattle.std.proofs.Common.{ℤ}
 use Rattle.tbl_model.specs.State.{State, Tables, no_tables}

@@ -43,13 +43,6 @@ pub(crate) struct Parts<B: Bank, C: Validator> {
     pub ended: bool,
 }
 
-/// What a request did, and room for the packets that tell it.
-#[derive(Drop)]
-struct Made {
-    effect: Effect,
-    packets: Bytes,
-}
-
 /// What the parts take from memory beside the store.
 #[derive(Drop)]
 struct Room {
@@ -67,6 +60,24 @@ impl Room {
             drawer: Drawer::make(alloc)?,
         })
     }
+}
+
+/// Takes the memory for the entry of a request, and for the packets of its reply.
+fn room_for_entry(
+    alloc: Global,
+    log: &mut Log,
+    request: &Request,
+    asked: &Asked,
+) -> Result<Bytes, Memory>
+    requires asked { asked_of asked.now ≡ asked_in request.now }
+    ensures no_packets { IfOk result (λ packets. packets.list ≡ []) }
+    ensures packets { IfOk result (λ packets. packets_room request.now (asked_of asked.now) ≤ packets.spare) }
+    ensures spare { OnOk result (0 < log.new.spare) }
+    ensures entries { log.new.entries ≡ log.old.entries }
+    ensures counts { log.new.counts ≡ log.old.counts }
+{
+    log.reserve()?;
+    Bytes::make(alloc, packets_room(request, asked))
 }
 
 impl<B: Bank, C: Validator> Parts<B, C> {
@@ -119,28 +130,6 @@ impl<B: Bank, C: Validator> Parts<B, C> {
         !self.ended
     }
 
-    /// Takes the memory for the reply and the entry of a request, and does what it asks. If memory runs out, nothing is changed.
-    fn carry_out(&mut self, actor: Actor, request: &Request, asked: &Asked) -> Result<Made, Memory>
-        requires fits { Fits actor request.now }
-        requires asked { asked_of asked.now ≡ asked_in request.now }
-        requires room { length self.old.log.entries < record_limit }
-        requires ready { IsReady C.asked (view_of self.old) }
-        requires live { self.old.ended ≡ false }
-        ensures makes { IfOk result (λ made. Makes C.asked C.verdict B.faults B.stops (most_deeds request.now (asked_of asked.now)) (shown_room (asked_of asked.now)) (asks_notice (asked_of asked.now)) (held_of self.old) (held_of self.new) made.effect) }
-        ensures meets { IfOk result (λ made. Meets B.tells B.now B.tells_moments B.clock B.left_since C.verdict C.asked (held_of self.old) (held_of self.new) request.now (λ s given. effect_of s actor request.now given) made.effect) }
-        ensures no_packets { IfOk result (λ made. made.packets.list ≡ []) }
-        ensures packets { IfOk result (λ made. packets_room request.now (asked_of asked.now) ≤ made.packets.spare) }
-        ensures spare { OnOk result (0 < self.new.log.spare) }
-        ensures entries { self.new.log.entries ≡ self.old.log.entries }
-        ensures counts { self.new.log.counts ≡ self.old.log.counts }
-        ensures err { OnErr result (held_of self.new ≡ held_of self.old) }
-    {
-        self.log.reserve()?;
-        let packets = Bytes::make(self.alloc, packets_room(request, asked))?;
-        let effect = self.effect(actor, request, asked)?;
-        Ok(Made { effect, packets })
-    }
-
     /// Plays a request: takes the memory for its reply and its entry, does what it asks, and enters what came of it.
     /// If memory runs out, nothing is changed. Where the service boots in the request and that boot fails or is stopped, the
     /// entry is the last one.
@@ -154,13 +143,10 @@ impl<B: Bank, C: Validator> Parts<B, C> {
     {
         let asked = asked_in(&request);
         let clock = self.clock;
-        let Ok(
-            Made {
-                mut effect,
-                packets,
-            },
-        ) = self.carry_out(actor, &request, &asked)
-        else {
+        let Ok(packets) = room_for_entry(self.alloc, &mut self.log, &request, &asked) else {
+            return Err(StepFault::Memory);
+        };
+        let Ok(mut effect) = self.effect(actor, &request, &asked) else {
             return Err(StepFault::Memory);
         };
         self.boot_if_stopped(&mut effect);

@@ -17,8 +17,8 @@ returns-clause-plays g c =
     let after = c.finish.new.self.log in
     let clock = c.args.self.now.clock in
     let old = held_of c.args.self.now in
-    let left = is_made b.tells b.now b.tells_moments b.clock b.left_since b.faults b.stops v.verdict v.asked _ _ _ old (held_of c.carry_out.new.self) (held_of boot.new.self) c.args.request (λ s given. effect_of s c.args.actor c.args.request given) c.in-Ok.field-0.effect done.note
-    c.in-Ok.ensures.makes c.in-Ok.ensures.meets boot.ensures.note boot.ensures.held boot.ensures.boots boot.ensures.found boot.ensures.moments boot.ensures.trouble boot.ensures.booted in
+    let left = is_made b.tells b.now b.tells_moments b.clock b.left_since b.faults b.stops v.verdict v.asked _ _ _ old (held_of c.effect.new.self) (held_of boot.new.self) c.args.request (λ s given. effect_of s c.args.actor c.args.request given) c.in-Ok-effect.effect done.note
+    c.in-Ok-effect.ensures.makes c.in-Ok-effect.ensures.meets boot.ensures.note boot.ensures.held boot.ensures.boots boot.ensures.found boot.ensures.moments boot.ensures.trouble boot.ensures.booted in
     let told = subst (λ (e : Effect). IsMade b.tells b.now b.tells_moments b.clock b.left_since b.faults b.stops v.verdict v.asked old (held_of boot.new.self) c.args.request (λ s given. effect_of s c.args.actor c.args.request given) e) (sym boot.ensures.effect) left in
     let made = subst (λ (h : Held _ _). IsMade b.tells b.now b.tells_moments b.clock b.left_since b.faults b.stops v.verdict v.asked old h c.args.request (λ s given. effect_of s c.args.actor c.args.request given) done) (sym c.finish.ensures.stays) told in
     played c.session_end-end.result
@@ -32,8 +32,8 @@ returns-clause-plays g c =
       made = made;
       before = before;
       after = after;
-      entries = ap (λ (l : Logged). l.entries) boot.ensures.log ∙ c.in-Ok.ensures.entries;
-      counts = ap (λ (l : Logged). l.counts) boot.ensures.log ∙ c.in-Ok.ensures.counts;
+      entries = ap (λ (l : Logged). l.entries) boot.ensures.log ∙ ap (λ (l : Logged). l.entries) c.effect.ensures.log ∙ c.room_for_entry.ensures.entries;
+      counts = ap (λ (l : Logged). l.counts) boot.ensures.log ∙ ap (λ (l : Logged). l.counts) c.effect.ensures.log ∙ c.room_for_entry.ensures.counts;
       entered = refl;
       counted = refl;
       finishes = subst (λ (h : Held _ _). Finishes before after clock h.tables c.args.actor c.args.request done) (sym c.finish.ensures.stays) c.finish.ensures.finishes;
