@@ -4,14 +4,20 @@ ghost use Rattle.std.specs.Prelude.{◌≡◌, ◌≤◌, true, length, IfSome};
 ghost use Rattle.tbl_kinds.specs.Places.{bank_size};
 ghost use Rattle.cds_store.specs.Sound.{slot_at, IsOpenOf};
 
-use crate::answer::Answer;
-use crate::call::Call;
+use crate::words::Words;
 use cds_layout::MOST_IMAGE;
-use cds_store::{BankFault, ReserveFault, RestoreFault, Store};
+use cds_store::{BankFault, Store};
 use std::alloc::Global;
+use std::io;
 use tbl_fakes::MemBank;
-use tbl_kinds::{BlockKind, Memory, Name40, ResetKind};
+use tbl_kinds::{BlockKind, Memory, Name, Name40, ResetKind};
 use tbl_outside::Back;
+
+/// How many bytes a name has at most.
+const MOST_NAME: usize = 40;
+
+/// What is told of a call that the store doesn't serve as it is.
+const NOT_MADE: &str = "no call, which the store would not have served";
 
 /// A store in a bank in memory, and whether it was booted.
 #[derive(Drop)]
@@ -21,19 +27,28 @@ pub(crate) struct Served {
     ghost knows: { booted ≡ true → store.booted ≡ true },
 }
 
-fn broken(fault: BankFault) -> Answer {
-    match fault {
-        BankFault::Fault { gate, old } => Answer::Broken {
-            stopped: false,
-            gate,
-            old,
-        },
-        BankFault::Stopped { gate, old } => Answer::Broken {
-            stopped: true,
-            gate,
-            old,
-        },
+fn reset_in(words: &mut Words) -> ResetKind {
+    if words.next() == "processor" {
+        ResetKind::Processor
+    } else {
+        ResetKind::PowerOn
     }
+}
+
+fn kind_in(words: &mut Words) -> BlockKind {
+    if words.next() == "T" {
+        BlockKind::Table
+    } else {
+        BlockKind::App
+    }
+}
+
+fn name_in(words: &mut Words) -> Option<Name40> {
+    let word = words.next().as_bytes();
+    if MOST_NAME < word.len() {
+        return None;
+    }
+    Some(Name::of(word))
 }
 
 impl Served {
@@ -57,30 +72,34 @@ impl Served {
         self.store.end()
     }
 
-    fn boot(&mut self, alloc: Global, kind: ResetKind) -> Result<Answer, Memory> {
+    /// `boot KIND`
+    fn boot<R: Print>(&mut self, rt: &R, kind: ResetKind) -> io::Result<()> {
         self.booted = false;
         match self.store.boot(kind) {
             Ok(found) => {
                 self.booted = true;
-                Ok(Answer::Found(found.list().to_vec(alloc)?))
+                println!(rt; "ok {:?}", found.list())
             }
-            Err(BankFault::Fault { .. }) => Ok(Answer::Fault),
-            Err(BankFault::Stopped { .. }) => Ok(Answer::Stopped),
+            Err(BankFault::Fault { .. }) => println!(rt; "fault"),
+            Err(BankFault::Stopped { .. }) => println!(rt; "stopped"),
         }
     }
 
-    fn reserve(&mut self, kind: BlockKind, name: &Name40, size: u32) -> Answer {
+    /// `reserve KIND NAME SIZE`
+    fn reserve<R: Print>(
+        &mut self,
+        rt: &R,
+        kind: BlockKind,
+        name: &Name40,
+        size: u32,
+    ) -> io::Result<()> {
         if !self.booted || size == 0 || MOST_IMAGE < size {
-            return Answer::NotMade;
+            return println!(rt; "{NOT_MADE}");
         }
         if !name.is_name() || self.store.find(kind, name).is_some() {
-            return Answer::NotMade;
+            return println!(rt; "{NOT_MADE}");
         }
-        match self.store.reserve_block(kind, name, size) {
-            Ok(slot) => Answer::Slot(slot),
-            Err(ReserveFault::NoRoom) => Answer::NoRoom,
-            Err(ReserveFault::Bank(fault)) => broken(fault),
-        }
+        println!(rt; "{:?}", self.store.reserve_block(kind, name, size))
     }
 
     /// The size of the open block in a slot.
@@ -95,64 +114,61 @@ impl Served {
         }
     }
 
-    fn copy(&mut self, slot: u8, image: &[u8]) -> Answer {
-        if !self.booted {
-            return Answer::NotMade;
-        }
+    /// `copy SLOT IMAGE`
+    fn copy<R: Print>(&mut self, rt: &R, slot: u8, image: &[u8]) -> io::Result<()> {
         match self.open_size(slot) {
-            Some(size) if size as usize == image.len() => {}
-            _ => return Answer::NotMade,
-        }
-        match self.store.copy(slot, image) {
-            Ok(()) => Answer::Done,
-            Err(fault) => broken(fault),
+            Some(size) if self.booted && size as usize == image.len() => {
+                println!(rt; "{:?}", self.store.copy(slot, image))
+            }
+            _ => println!(rt; "{NOT_MADE}"),
         }
     }
 
-    fn restore(&mut self, alloc: Global, slot: u8) -> Result<Answer, Memory> {
-        if !self.booted {
-            return Ok(Answer::NotMade);
-        }
-        let Some(size) = self.open_size(slot) else {
-            return Ok(Answer::NotMade);
-        };
-        let mut image = vec![in alloc; 0; size as usize]?;
-        match self.store.restore(slot, &mut image) {
-            Ok(()) => Ok(Answer::Image(image)),
-            Err(
-                RestoreFault::Torn {
-                    length,
-                    kept,
-                    found,
-                },
-            ) => Ok(Answer::Torn {
-                length,
-                kept,
-                found,
-            }),
-            Err(RestoreFault::Fault) => Ok(Answer::Fault),
+    /// `restore SLOT`
+    fn restore<R: Print + AllocGlobal>(&mut self, rt: &R, slot: u8) -> io::Result<()> {
+        match self.open_size(slot) {
+            Some(size) if self.booted => {
+                let mut image = vec![in rt.alloc(); 0; size as usize]?;
+                match self.store.restore(slot, &mut image) {
+                    Ok(()) => println!(rt; "image {}", hex::encode(rt.alloc(), &image)?.as_str()),
+                    Err(fault) => println!(rt; "{fault:?}"),
+                }
+            }
+            _ => println!(rt; "{NOT_MADE}"),
         }
     }
 
-    fn delete(&mut self, slot: u8) -> Answer {
+    /// `delete SLOT`
+    fn delete<R: Print>(&mut self, rt: &R, slot: u8) -> io::Result<()> {
         if !self.booted || self.store.block(slot).is_none() {
-            return Answer::NotMade;
+            return println!(rt; "{NOT_MADE}");
         }
-        match self.store.delete_block(slot) {
-            Ok(()) => Answer::Done,
-            Err(fault) => broken(fault),
-        }
+        println!(rt; "{:?}", self.store.delete_block(slot))
     }
 
-    /// Makes a call, where the store is in a state for it.
-    pub(crate) fn call(&mut self, alloc: Global, call: &Call) -> Result<Answer, Memory> {
-        match call {
-            Call::Boot(kind) => self.boot(alloc, *kind),
-            Call::Room(size) => Ok(Answer::Room(self.store.room(*size, None))),
-            Call::Reserve { kind, name, size } => Ok(self.reserve(*kind, name, *size)),
-            Call::Copy { slot, image } => Ok(self.copy(*slot, image)),
-            Call::Restore(slot) => self.restore(alloc, *slot),
-            Call::Delete(slot) => Ok(self.delete(*slot)),
+    /// Makes a call, where the store is in a state for it, and tells what it answered.
+    pub(crate) fn call<R: Print + AllocGlobal>(
+        &mut self,
+        rt: &R,
+        words: &mut Words,
+    ) -> io::Result<()> {
+        match words.next() {
+            "boot" => self.boot(rt, reset_in(words)),
+            "room" => println!(rt; "{}", self.store.room(words.number(), None)),
+            "reserve" => {
+                let kind = kind_in(words);
+                match name_in(words) {
+                    Some(name) => self.reserve(rt, kind, &name, words.number()),
+                    None => println!(rt; "{NOT_MADE}"),
+                }
+            }
+            "copy" => {
+                let slot = words.slot();
+                self.copy(rt, slot, &words.bytes(rt.alloc()))
+            }
+            "restore" => self.restore(rt, words.slot()),
+            "delete" => self.delete(rt, words.slot()),
+            _ => println!(rt; "no call"),
         }
     }
 }
