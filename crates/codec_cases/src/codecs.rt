@@ -1,31 +1,24 @@
 //! The rows of the table.
 
-use crate::drawer::{empty_drawer, try_get, try_list, try_put, try_undone};
-use crate::files::{try_file, try_header, try_written_cells};
-use crate::names::{try_actors, try_name};
-use crate::packets::{try_command, try_packet, try_written};
-use crate::records::{try_end, try_entry, try_record};
+use crate::drawer::{empty_drawer, name_in, tell_get, tell_list, tell_put, try_undone};
+use crate::files::{tell_file, tell_header, try_written_cells};
+use crate::line::Line;
+use crate::names::{tell_actors, tell_name};
+use crate::packets::{tell_command, tell_packet, try_written};
+use crate::records::{tell_end, tell_entry, tell_record};
 use crate::telemetry::{
-    try_event, try_housekeeping, try_notice, try_read_event, try_registry, try_telemetry,
+    tell_event, tell_housekeeping, tell_registry, try_event, try_notice, try_telemetry,
 };
-use case_tables::{CaseFault, Cases, Pieces, byte, number_in, numbers_in, short};
+use case_tables::{CaseFault, Cases, Pieces, kept, number_in, numbers_in};
 use file_drawer::Drawer;
 use std::alloc::Global;
-use tbl_kinds::{Event, Status, TlmHead};
 
 /// Tries rows, over one drawer.
 #[derive(Drop)]
 pub(crate) struct Codecs {
     alloc: Global,
     drawer: Drawer,
-}
-
-fn head_of(count: u32, seconds: u32, sub: u32) -> Result<TlmHead, CaseFault> {
-    Ok(TlmHead {
-        count: short(count)?,
-        seconds,
-        sub: short(sub)?,
-    })
+    line: Line,
 }
 
 /// A packet with these numbers and this body is written.
@@ -38,38 +31,20 @@ fn try_packet_of(
 ) -> Result<(), CaseFault> {
     match (writer, numbers) {
         ("write-command", [id, count, code]) => {
-            let (id, count, code) = (short(*id)?, short(*count)?, byte(*code)?);
-            try_written(alloc, id, count, code, body, wanted)
+            try_written(alloc, [*id, *count, *code], body, wanted)
         }
         ("write-telemetry", [id, count, seconds, sub]) => {
-            let head = head_of(*count, *seconds, *sub)?;
-            try_telemetry(alloc, short(*id)?, head, body, wanted)
+            try_telemetry(alloc, *id, [*count, *seconds, *sub], body, wanted)
+        }
+        ("write-event", [count, seconds, sub, number, status, row, detail]) => {
+            let fields = [*number, *status, *row, *detail];
+            try_event(alloc, [*count, *seconds, *sub], fields, wanted)
+        }
+        ("write-notice", [count, msg, code, parameter]) => {
+            try_notice(alloc, [*count, *msg, *code, *parameter], wanted)
         }
         _ => Err(CaseFault::Unreadable),
     }
-}
-
-/// An event packet with these numbers is written.
-fn try_event_of(alloc: Global, numbers: &[u32], wanted: &[u8]) -> Result<(), CaseFault> {
-    let [count, seconds, sub, number, status, row, detail] = numbers else {
-        return Err(CaseFault::Unreadable);
-    };
-    let event = Event {
-        number: short(*number)?,
-        status: Status(*status),
-        row: short(*row)?,
-        detail: *detail,
-    };
-    try_event(alloc, head_of(*count, *seconds, *sub)?, &event, wanted)
-}
-
-/// A notice with these numbers is written.
-fn try_notice_of(alloc: Global, numbers: &[u32], wanted: &[u8]) -> Result<(), CaseFault> {
-    let [count, msg, code, parameter] = numbers else {
-        return Err(CaseFault::Unreadable);
-    };
-    let (count, msg, code) = (short(*count)?, short(*msg)?, byte(*code)?);
-    try_notice(alloc, count, msg, code, *parameter, wanted)
 }
 
 impl Codecs {
@@ -77,54 +52,47 @@ impl Codecs {
         Ok(Codecs {
             alloc,
             drawer: empty_drawer(alloc)?,
+            line: Line::make(alloc),
         })
     }
 
-    /// Bytes are read.
-    fn try_reader(&self, reader: &str, bytes: &[u8], wanted: &str) -> Result<(), CaseFault> {
+    /// Tells what bytes are read as, by a reader that needs no memory.
+    fn tell_plain(&mut self, reader: &str, bytes: &[u8]) -> Result<(), CaseFault> {
         match reader {
-            "packet" => try_packet(self.alloc, bytes, wanted),
-            "command" => try_command(self.alloc, bytes, wanted),
-            "header" => try_header(self.alloc, bytes, wanted),
-            "file" => try_file(self.alloc, bytes, wanted),
-            "event" => try_read_event(self.alloc, bytes, wanted),
-            "housekeeping" => try_housekeeping(self.alloc, bytes, wanted),
-            "registry" => try_registry(self.alloc, bytes, wanted),
-            "record" => try_record(self.alloc, bytes, wanted),
-            "entry" => try_entry(self.alloc, bytes, wanted),
-            "end" => try_end(self.alloc, bytes, wanted),
-            "name" => try_name(self.alloc, bytes, wanted),
-            "get" => try_get(self.alloc, &self.drawer, bytes, wanted),
-            _ => Err(CaseFault::Unreadable),
+            "packet" => tell_packet(&mut self.line, bytes),
+            "command" => tell_command(&mut self.line, bytes),
+            "file" => tell_file(&mut self.line, bytes),
+            "entry" => tell_entry(&mut self.line, bytes),
+            "end" => tell_end(&mut self.line, bytes),
+            "name" => tell_name(&mut self.line, bytes),
+            _ => return Err(CaseFault::Unreadable),
         }
+        Ok(())
     }
 
-    /// A packet that has no body beside its numbers is written.
-    fn try_numbers(
-        &self,
-        pieces: &Pieces,
-        writer: &str,
-        numbers: &str,
-        wanted: &str,
-    ) -> Result<(), CaseFault> {
-        let numbers = numbers_in(self.alloc, numbers)?;
-        let wanted = pieces.bytes(wanted)?;
-        if writer == "write-event" {
-            try_event_of(self.alloc, &numbers, &wanted)
-        } else {
-            try_notice_of(self.alloc, &numbers, &wanted)
+    /// Tells what bytes are read as.
+    fn tell(&mut self, reader: &str, bytes: &[u8]) -> Result<(), CaseFault> {
+        match reader {
+            "header" => tell_header(self.alloc, &mut self.line, bytes),
+            "event" => tell_event(self.alloc, &mut self.line, bytes),
+            "housekeeping" => tell_housekeeping(self.alloc, &mut self.line, bytes),
+            "registry" => tell_registry(self.alloc, &mut self.line, bytes),
+            "record" => tell_record(self.alloc, &mut self.line, bytes),
+            "get" => tell_get(&mut self.line, &self.drawer, bytes),
+            _ => self.tell_plain(reader, bytes),
         }
     }
 
     fn try_bytes(
-        &self,
+        &mut self,
         pieces: &Pieces,
         reader: &str,
         bytes: &str,
         wanted: &str,
     ) -> Result<(), CaseFault> {
         let bytes = pieces.bytes(bytes)?;
-        self.try_reader(reader, &bytes, wanted)
+        self.tell(reader, &bytes)?;
+        self.line.same(self.alloc, wanted)
     }
 
     fn try_undone(&mut self, pieces: &Pieces, name: &str, bytes: &str) -> Result<(), CaseFault> {
@@ -140,9 +108,20 @@ impl Codecs {
         bytes: &str,
         wanted: &str,
     ) -> Result<(), CaseFault> {
-        let name = pieces.bytes(name)?;
-        let contents = pieces.bytes(bytes)?;
-        try_put(self.alloc, &mut self.drawer, &name, &contents, wanted)
+        let name = name_in(&pieces.bytes(name)?)?;
+        let file = kept(self.alloc, &pieces.bytes(bytes)?)?;
+        tell_put(&mut self.line, &self.drawer.put(&name, file));
+        self.line.same(self.alloc, wanted)
+    }
+
+    /// A row whose middle cell isn't bytes.
+    fn try_word(&mut self, called: &str, given: &str, wanted: &str) -> Result<(), CaseFault> {
+        if called == "list" {
+            tell_list(&mut self.line, &self.drawer, number_in(given)?);
+        } else {
+            tell_actors(self.alloc, &mut self.line, given)?;
+        }
+        self.line.same(self.alloc, wanted)
     }
 
     fn try_writer(
@@ -168,10 +147,8 @@ impl Codecs {
         wanted: &str,
     ) -> Result<(), CaseFault> {
         match called {
-            "list" => try_list(self.alloc, &self.drawer, number_in(given)?, wanted),
-            "actors" => try_actors(self.alloc, given, wanted),
+            "list" | "actors" => self.try_word(called, given, wanted),
             "undone" => self.try_undone(pieces, given, wanted),
-            "write-event" | "write-notice" => self.try_numbers(pieces, called, given, wanted),
             _ => self.try_bytes(pieces, called, given, wanted),
         }
     }
@@ -198,6 +175,7 @@ impl Codecs {
 impl Cases for Codecs {
     /// The first cell of a row names what is called, and the last one states what comes of it.
     fn try_row(&mut self, pieces: &Pieces, cells: &[&str]) -> Result<u32, CaseFault> {
+        self.line.clear();
         self.try_cells(pieces, cells)?;
         Ok(1)
     }

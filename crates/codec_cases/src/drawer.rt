@@ -1,15 +1,16 @@
 //! The drawer of files.
 
-use crate::answer::text_of;
-use case_tables::{CaseFault, kept, same_text};
+use crate::line::Line;
+use case_tables::{CaseFault, kept};
 use file_drawer::{Drawer, PutFault};
-use std::alloc::{AllocError, Global};
+use std::alloc::Global;
 use tbl_kinds::{Bytes, Name, Name64};
 
 /// How many bytes the field of a file's name has.
 const FIELD: usize = 64;
 
-fn name_in(field: &[u8]) -> Result<Name64, CaseFault> {
+/// The name that stands in a field.
+pub(crate) fn name_in(field: &[u8]) -> Result<Name64, CaseFault> {
     if field.len() > FIELD {
         Err(CaseFault::Unreadable)
     } else {
@@ -17,33 +18,14 @@ fn name_in(field: &[u8]) -> Result<Name64, CaseFault> {
     }
 }
 
-/// Contents as text.
-fn text_of_contents(alloc: Global, contents: Option<&[u8]>) -> Result<String, AllocError> {
-    match contents {
-        Some(bytes) => hex::encode_upper(alloc, bytes),
-        None => "none".to_string(alloc),
-    }
-}
-
-/// What a file replaced, as text.
-fn text_of_put(alloc: Global, put: Result<Option<Bytes>, PutFault>) -> Result<String, CaseFault> {
+/// What a file replaced when it was put into the drawer.
+pub(crate) fn tell_put(line: &mut Line, put: &Result<Option<Bytes>, PutFault>) {
     match put {
-        Ok(old) => Ok(text_of_contents(alloc, old.as_ref().map(|bytes| bytes.bytes()))?),
-        Err(PutFault::Full) => Ok("full".to_string(alloc)?),
-        Err(PutFault::Memory) => Err(CaseFault::Memory),
+        Ok(Some(old)) => line.bytes(old.bytes()),
+        Ok(None) => line.word("none"),
+        Err(PutFault::Full) => line.word("full"),
+        Err(PutFault::Memory) => line.word("out of memory"),
     }
-}
-
-/// A file is put into the drawer.
-pub(crate) fn try_put(
-    alloc: Global,
-    drawer: &mut Drawer,
-    name: &[u8],
-    contents: &[u8],
-    wanted: &str,
-) -> Result<(), CaseFault> {
-    let put = drawer.put(&name_in(name)?, kept(alloc, contents)?);
-    same_text(text_of_put(alloc, put)?, wanted)
 }
 
 /// Puts a file into the drawer and takes it back. The answer is whether it was found there in between.
@@ -75,28 +57,21 @@ pub(crate) fn try_undone(
 }
 
 /// The contents of a file.
-pub(crate) fn try_get(
-    alloc: Global,
-    drawer: &Drawer,
-    name: &[u8],
-    wanted: &str,
-) -> Result<(), CaseFault> {
+pub(crate) fn tell_get(line: &mut Line, drawer: &Drawer, name: &[u8]) -> Result<(), CaseFault> {
     let name = name_in(name)?;
-    same_text(text_of_contents(alloc, drawer.get(&name))?, wanted)
+    match drawer.get(&name) {
+        Some(contents) => line.bytes(contents),
+        None => line.word("none"),
+    }
+    Ok(())
 }
 
 /// The name at a place.
-pub(crate) fn try_list(
-    alloc: Global,
-    drawer: &Drawer,
-    place: u32,
-    wanted: &str,
-) -> Result<(), CaseFault> {
-    let name = match drawer.list(place) {
-        Some(name) => text_of(name.bytes()),
-        None => "none",
-    };
-    same_text(name.to_string(alloc)?, wanted)
+pub(crate) fn tell_list(line: &mut Line, drawer: &Drawer, place: u32) {
+    match drawer.list(place) {
+        Some(name) => line.name(name.bytes()),
+        None => line.word("none"),
+    }
 }
 
 /// A drawer without files.

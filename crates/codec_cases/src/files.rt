@@ -1,9 +1,9 @@
 //! File headers and table files.
 
-use crate::answer::{room_for, text_of};
-use case_tables::{CaseFault, Pieces, count_of, number_in, same_bytes, same_text};
+use crate::line::{Line, room_for};
+use case_tables::{CaseFault, Pieces, count_of, number_in, same_bytes};
 use cfe_headers::{FileHeader, read_file_header, write_file_header};
-use std::alloc::{AllocError, Global};
+use std::alloc::Global;
 use table_files::{IMAGE_PLACE, TableFile, read_table_file, write_table_file};
 use tbl_kinds::{Name, Name40};
 
@@ -16,21 +16,15 @@ const TABLE_SUBTYPE: u32 = 8;
 /// How many bytes the field of a table's name has.
 const TABLE_NAME: usize = 40;
 
-/// The fields of a header as text, without its description.
-fn text_of_header(alloc: Global, header: &FileHeader) -> Result<String, AllocError> {
-    let FileHeader {
-        subtype,
-        length,
-        spacecraft,
-        processor,
-        application,
-        seconds,
-        sub,
-        ..
-    } = header;
-    format!(in alloc;
-        "subtype {subtype} length {length} from {spacecraft} {processor} {application} at {seconds} {sub}"
-    )
+/// The fields of a header, without its description.
+fn tell_fields(line: &mut Line, header: &FileHeader) {
+    line.numbered("subtype", &[header.subtype]);
+    line.numbered("length", &[header.length]);
+    line.numbered(
+        "from",
+        &[header.spacecraft, header.processor, header.application],
+    );
+    line.numbered("at", &[header.seconds, header.sub]);
 }
 
 /// A file header is written again.
@@ -44,29 +38,29 @@ fn rewrite_header(alloc: Global, header: &FileHeader, bytes: &[u8]) -> Result<()
 }
 
 /// A file header is read, and one that is right is written again.
-pub(crate) fn try_header(alloc: Global, bytes: &[u8], wanted: &str) -> Result<(), CaseFault> {
+pub(crate) fn tell_header(alloc: Global, line: &mut Line, bytes: &[u8]) -> Result<(), CaseFault> {
     match read_file_header(bytes) {
         Ok(header) => {
-            rewrite_header(alloc, &header, bytes)?;
-            same_text(text_of_header(alloc, &header)?, wanted)
+            tell_fields(line, &header);
+            rewrite_header(alloc, &header, bytes)
         }
-        Err(fault) => same_text(format!(in alloc; "{fault:?}")?, wanted),
+        Err(fault) => Ok(line.shown(&fault)),
     }
 }
 
 /// A table file is read. A fault is told with the status of a LOAD from such a file.
-pub(crate) fn try_file(alloc: Global, bytes: &[u8], wanted: &str) -> Result<(), CaseFault> {
-    let came = match read_table_file(bytes) {
-        Ok(
-            TableFile {
-                offset,
-                count,
-                name,
-            },
-        ) => format!(in alloc; "offset {offset} count {count} {}", text_of(name.bytes()))?,
-        Err(fault) => format!(in alloc; "{fault:?} {}", fault.status().0)?,
-    };
-    same_text(came, wanted)
+pub(crate) fn tell_file(line: &mut Line, bytes: &[u8]) {
+    match read_table_file(bytes) {
+        Ok(file) => {
+            line.numbered("offset", &[file.offset]);
+            line.numbered("count", &[file.count]);
+            line.name(file.name.bytes());
+        }
+        Err(fault) => {
+            line.shown(&fault);
+            line.number(fault.status().0);
+        }
+    }
 }
 
 /// The header that the bytes of a cell begin with.

@@ -2,10 +2,10 @@
 //! states.
 #![tactic(auto)]
 
-mod answer;
 mod codecs;
 mod drawer;
 mod files;
+mod line;
 mod names;
 mod packets;
 mod records;

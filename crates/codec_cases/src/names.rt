@@ -1,7 +1,7 @@
 //! Names in their fields, and who may make a request.
 
-use crate::answer::{room_for, text_of};
-use case_tables::{CaseFault, same_text};
+use crate::line::{Line, room_for};
+use case_tables::CaseFault;
 use std::alloc::Global;
 use tbl_kinds::{Actor, Name, Name20, Request, ResetKind, fits};
 
@@ -9,46 +9,50 @@ use tbl_kinds::{Actor, Name, Name20, Request, ResetKind, fits};
 const FIELD: usize = 20;
 
 /// What the field of an application's name reads as, and whether that is a name.
-pub(crate) fn try_name(alloc: Global, field: &[u8], wanted: &str) -> Result<(), CaseFault> {
+pub(crate) fn tell_name(line: &mut Line, field: &[u8]) {
     if field.len() > FIELD {
-        return Err(CaseFault::Unreadable);
+        return line.word("too long");
     }
     let name: Name20 = Name::of(field);
-    let is_name = name.is_name();
-    let copy = name.copy();
-    if copy != name {
-        return Err(CaseFault::Unreadable);
+    line.shown(&name.is_name());
+    line.name(name.bytes());
+    if name.copy() != name {
+        line.word("copied otherwise");
     }
-    same_text(
-        format!(in alloc; "{is_name} {}", text_of(name.bytes()))?,
-        wanted,
-    )
+}
+
+fn command(alloc: Global) -> Result<Request, CaseFault> {
+    Ok(Request::Command {
+        bytes: room_for(alloc, 0)?,
+    })
+}
+
+fn file(alloc: Global) -> Result<Request, CaseFault> {
+    Ok(Request::File {
+        name: Name::of(b"/a"),
+        bytes: room_for(alloc, 0)?,
+    })
 }
 
 /// A request, by its name in the table.
 fn request_named(alloc: Global, word: &str) -> Result<Request, CaseFault> {
-    Ok(match word {
-        "command" => Request::Command {
-            bytes: room_for(alloc, 0)?,
-        },
-        "file" => Request::File {
-            name: Name::of(b"/a"),
-            bytes: room_for(alloc, 0)?,
-        },
-        "time" => Request::Time { seconds: 5, sub: 0 },
-        "reset" => Request::Reset {
+    match word {
+        "command" => command(alloc),
+        "file" => file(alloc),
+        "time" => Ok(Request::Time { seconds: 5, sub: 0 }),
+        "reset" => Ok(Request::Reset {
             kind: ResetKind::PowerOn,
-        },
-        "start" => Request::Start {
+        }),
+        "start" => Ok(Request::Start {
             name: Name::of(b"A"),
-        },
-        "register" => register(None),
-        "register-254" => register(Some(254)),
-        "register-255" => register(Some(255)),
-        "exit" => Request::Exit,
-        "delete" => Request::CdsDelete { slot: 0 },
-        _ => return Err(CaseFault::Unreadable),
-    })
+        }),
+        "register" => Ok(register(None)),
+        "register-254" => Ok(register(Some(254))),
+        "register-255" => Ok(register(Some(255))),
+        "exit" => Ok(Request::Exit),
+        "delete" => Ok(Request::CdsDelete { slot: 0 }),
+        _ => Err(CaseFault::Unreadable),
+    }
 }
 
 /// A request to register a table with a validator.
@@ -80,7 +84,8 @@ fn actors_of(request: &Request) -> &'static str {
 }
 
 /// Of all numbers, those of the actors that may make a request.
-pub(crate) fn try_actors(alloc: Global, word: &str, wanted: &str) -> Result<(), CaseFault> {
+pub(crate) fn tell_actors(alloc: Global, line: &mut Line, word: &str) -> Result<(), CaseFault> {
     let request = request_named(alloc, word)?;
-    same_text(actors_of(&request).to_string(alloc)?, wanted)
+    line.word(actors_of(&request));
+    Ok(())
 }

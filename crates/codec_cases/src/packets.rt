@@ -1,78 +1,86 @@
 //! Command packets.
 
-use crate::answer::{room_for, text_of, with_name};
-use case_tables::{CaseFault, same_bytes, same_text};
+use crate::line::{Line, room_for};
+use case_tables::{CaseFault, same_bytes};
 use cfe_headers::{read_packet, write_cmd};
 use cmd_packets::{Ground, read_command};
-use std::alloc::{AllocError, Global};
+use std::alloc::Global;
 
-/// What a command asks, as text.
-fn text_of_command(alloc: Global, command: &Ground) -> Result<String, AllocError> {
+/// What a command asks.
+fn tell_asked(line: &mut Line, command: &Ground) {
     match command {
-        Ground::Housekeeping => "Housekeeping".to_string(alloc),
-        Ground::Noop => "Noop".to_string(alloc),
-        Ground::ResetCounters => "ResetCounters".to_string(alloc),
-        Ground::Load { file } => with_name(alloc, "Load", file.bytes()),
+        Ground::Load { file } => line.named("Load", file.bytes()),
         Ground::Dump {
             select,
             table,
             file,
         } => {
-            let table = text_of(table.bytes());
-            format!(in alloc; "Dump {select} {table} {}", text_of(file.bytes()))
+            tell_selected(line, "Dump", *select, table.bytes());
+            line.name(file.bytes());
         }
         Ground::Validate { select, table } => {
-            format!(in alloc; "Validate {select} {}", text_of(table.bytes()))
+            tell_selected(line, "Validate", *select, table.bytes());
         }
-        Ground::Activate { table } => with_name(alloc, "Activate", table.bytes()),
-        Ground::DumpRegistry { file } => with_name(alloc, "DumpRegistry", file.bytes()),
-        Ground::SendRegistry { table } => with_name(alloc, "SendRegistry", table.bytes()),
-        Ground::DeleteCds { table } => with_name(alloc, "DeleteCds", table.bytes()),
-        Ground::Abort { table } => with_name(alloc, "Abort", table.bytes()),
+        Ground::Activate { table } => line.named("Activate", table.bytes()),
+        Ground::DumpRegistry { file } => line.named("DumpRegistry", file.bytes()),
+        Ground::SendRegistry { table } => line.named("SendRegistry", table.bytes()),
+        Ground::DeleteCds { table } => line.named("DeleteCds", table.bytes()),
+        Ground::Abort { table } => line.named("Abort", table.bytes()),
+        command => line.shown(command),
     }
+}
+
+fn tell_selected(line: &mut Line, word: &str, select: u16, table: &[u8]) {
+    line.word(word);
+    line.number(u32::from(select));
+    line.name(table);
 }
 
 /// A packet is read.
-pub(crate) fn try_packet(alloc: Global, bytes: &[u8], wanted: &str) -> Result<(), CaseFault> {
-    let came = match read_packet(bytes) {
-        Ok(packet) => format!(in alloc; "id {:04X} code {}", packet.id, packet.code)?,
-        Err(fault) => format!(in alloc; "{fault:?}")?,
-    };
-    same_text(came, wanted)
+pub(crate) fn tell_packet(line: &mut Line, bytes: &[u8]) {
+    match read_packet(bytes) {
+        Ok(packet) => {
+            line.word("id");
+            line.bytes(&packet.id.to_be_bytes());
+            line.word("code");
+            line.number(u32::from(packet.code));
+        }
+        Err(fault) => line.shown(&fault),
+    }
 }
 
 /// A command is read. One that is refused is told with the status and the detail of its answer.
-pub(crate) fn try_command(alloc: Global, bytes: &[u8], wanted: &str) -> Result<(), CaseFault> {
-    let came = match read_command(bytes) {
-        Ok(command) => text_of_command(alloc, &command)?,
+pub(crate) fn tell_command(line: &mut Line, bytes: &[u8]) {
+    match read_command(bytes) {
+        Ok(command) => tell_asked(line, &command),
         Err(fault) => {
             let answer = fault.answer();
-            format!(in alloc; "{fault:?} {} {}", answer.status.0, answer.detail)?
+            line.shown(&fault);
+            line.numbers(&[answer.status.0, answer.detail]);
         }
-    };
-    same_text(came, wanted)
+    }
 }
 
-/// The greatest payload, code and count of a packet that is written.
+/// The longest payload of a packet that is written, and the greatest number of two bytes, sequence count and code.
 const MOST_PAYLOAD: usize = 65_000;
 
-const MOST_CODE: u8 = 127;
+const MOST_SHORT: u32 = 65_535;
 
-const MOST_COUNT: u16 = 16_383;
+const MOST_COUNT: u32 = 16_383;
 
-/// A command packet is written.
+const MOST_CODE: u32 = 127;
+
+/// A command packet is written: its message id, sequence count and function code.
 pub(crate) fn try_written(
     alloc: Global,
-    id: u16,
-    count: u16,
-    code: u8,
+    [id, count, code]: [u32; 3],
     payload: &[u8],
     wanted: &[u8],
 ) -> Result<(), CaseFault> {
-    if payload.len() > MOST_PAYLOAD || code > MOST_CODE || count > MOST_COUNT {
+    if payload.len() > MOST_PAYLOAD || id > MOST_SHORT || count > MOST_COUNT || code > MOST_CODE {
         return Err(CaseFault::Unreadable);
     }
     let mut out = room_for(alloc, 8 + payload.len())?;
-    write_cmd(&mut out, id, count, code, payload);
+    write_cmd(&mut out, id as u16, count as u16, code as u8, payload);
     same_bytes(alloc, out.bytes(), wanted)
 }

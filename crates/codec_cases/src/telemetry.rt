@@ -2,75 +2,88 @@
 
 ghost use Rattle.std.specs.Prelude.{◌<◌, IfOk};
 
-use crate::answer::{room_for, text_of};
-use case_tables::{CaseFault, same_bytes, same_text};
+use crate::line::{Line, room_for};
+use case_tables::{CaseFault, same_bytes};
 use cfe_headers::write_tlm;
-use std::alloc::{AllocError, Global};
-use tbl_kinds::{Event, Housekeeping, RegistryRow, TlmHead, u16_at, u32_at};
+use std::alloc::Global;
+use tbl_kinds::{Event, Housekeeping, RegistryRow, Status, TlmHead, u16_at, u32_at};
 use tlm_packets::{
     read_event, read_housekeeping, read_registry, registry_bytes, write_event, write_housekeeping,
     write_notice, write_registry,
 };
 
-/// The greatest body and count of a packet that is written.
+/// The longest body of a packet that is written, and the greatest number of two bytes, sequence count and code.
 const MOST_BODY: usize = 65_000;
 
-const MOST_COUNT: u16 = 16_383;
+const MOST_SHORT: u32 = 65_535;
+
+const MOST_COUNT: u32 = 16_383;
+
+const MOST_CODE: u32 = 127;
 
 /// How many sequence counts there are.
 const COUNTS: u16 = 16_384;
 
-/// The greatest function code of a notice.
-const MOST_CODE: u8 = 127;
-
 /// The primary header and the time.
 const HEAD_LENGTH: usize = 12;
 
-/// A telemetry packet is written.
+/// A telemetry packet is written: its message id, and its sequence count and time.
 pub(crate) fn try_telemetry(
     alloc: Global,
-    id: u16,
-    head: TlmHead,
+    id: u32,
+    [count, seconds, sub]: [u32; 3],
     body: &[u8],
     wanted: &[u8],
 ) -> Result<(), CaseFault> {
-    if body.len() > MOST_BODY || head.count > MOST_COUNT {
+    if body.len() > MOST_BODY || id > MOST_SHORT || count > MOST_COUNT || sub > MOST_SHORT {
         return Err(CaseFault::Unreadable);
     }
     let mut out = room_for(alloc, 12 + body.len())?;
-    write_tlm(&mut out, id, head.count, head.seconds, head.sub, body);
+    write_tlm(&mut out, id as u16, count as u16, seconds, sub as u16, body);
     same_bytes(alloc, out.bytes(), wanted)
 }
 
-/// An event packet is written.
+/// An event packet is written: its sequence count and time, and the number, the status, the row and the detail.
 pub(crate) fn try_event(
     alloc: Global,
-    head: TlmHead,
-    event: &Event,
+    [count, seconds, sub]: [u32; 3],
+    [number, status, row, detail]: [u32; 4],
     wanted: &[u8],
 ) -> Result<(), CaseFault> {
-    if head.count > MOST_COUNT {
+    if count > MOST_COUNT || sub > MOST_SHORT || number > MOST_SHORT || row > MOST_SHORT {
         return Err(CaseFault::Unreadable);
     }
+    let (count, sub) = (count as u16, sub as u16);
+    let event = Event {
+        number: number as u16,
+        status: Status(status),
+        row: row as u16,
+        detail,
+    };
     let mut out = room_for(alloc, 24)?;
-    write_event(&mut out, &head, event);
+    write_event(
+        &mut out,
+        &TlmHead {
+            count,
+            seconds,
+            sub,
+        },
+        &event,
+    );
     same_bytes(alloc, out.bytes(), wanted)
 }
 
-/// A notice is written.
+/// A notice is written: its sequence count, message id, function code and parameter.
 pub(crate) fn try_notice(
     alloc: Global,
-    count: u16,
-    msg: u16,
-    code: u8,
-    parameter: u32,
+    [count, msg, code, parameter]: [u32; 4],
     wanted: &[u8],
 ) -> Result<(), CaseFault> {
-    if count > MOST_COUNT || code > MOST_CODE {
+    if count > MOST_COUNT || msg > MOST_SHORT || code > MOST_CODE {
         return Err(CaseFault::Unreadable);
     }
     let mut out = room_for(alloc, 12)?;
-    write_notice(&mut out, count, msg, code, parameter);
+    write_notice(&mut out, count as u16, msg as u16, code as u8, parameter);
     same_bytes(alloc, out.bytes(), wanted)
 }
 
@@ -96,64 +109,43 @@ fn rewrite_event(alloc: Global, event: &Event, packet: &[u8]) -> Result<(), Case
     same_bytes(alloc, out.bytes(), packet)
 }
 
-fn text_of_event(alloc: Global, event: &Event) -> Result<String, AllocError> {
-    let Event {
-        number,
-        status,
-        row,
-        detail,
-    } = event;
-    format!(in alloc; "{number} {} {row} {detail}", status.0)
-}
-
 /// An event packet is read, and one that is right is written again.
-pub(crate) fn try_read_event(alloc: Global, bytes: &[u8], wanted: &str) -> Result<(), CaseFault> {
+pub(crate) fn tell_event(alloc: Global, line: &mut Line, bytes: &[u8]) -> Result<(), CaseFault> {
     match read_event(bytes) {
         Some(event) => {
-            rewrite_event(alloc, &event, bytes)?;
-            same_text(text_of_event(alloc, &event)?, wanted)
+            let (number, row) = (u32::from(event.number), u32::from(event.row));
+            line.numbers(&[number, event.status.0, row, event.detail]);
+            rewrite_event(alloc, &event, bytes)
         }
-        None => same_text("none".to_string(alloc)?, wanted),
+        None => Ok(line.word("none")),
     }
 }
 
-/// The numbers of a housekeeping packet as text, in the order of its fields.
-fn text_of_numbers(alloc: Global, state: &Housekeeping) -> Result<String, AllocError> {
-    let Housekeeping {
-        accepted,
-        refused,
-        tables,
-        loads,
-        finished,
-        check,
-        verdict,
-        active,
-        ..
-    } = state;
-    let Housekeeping {
-        good,
-        bad,
-        requests,
-        free,
-        seconds,
-        sub,
-        ..
-    } = state;
-    format!(in alloc;
-        "{accepted} {refused} {tables} {loads} {finished} {check} {verdict} {active} {good} {bad} {requests} {free} {seconds} {sub}"
-    )
-}
-
-/// Its names.
-fn text_of_names(alloc: Global, state: &Housekeeping) -> Result<String, AllocError> {
-    format!(in alloc;
-        "[{}] [{}] [{}] [{}] [{}]",
-        text_of(state.validated.bytes()),
-        text_of(state.updated.bytes()),
-        text_of(state.loaded_file.bytes()),
-        text_of(state.dumped_file.bytes()),
-        text_of(state.loaded.bytes())
-    )
+/// The fields of a housekeeping packet, in their order.
+fn tell_state(line: &mut Line, state: &Housekeeping) {
+    line.numbers(&[
+        u32::from(state.accepted),
+        u32::from(state.refused),
+        u32::from(state.tables),
+        u32::from(state.loads),
+        u32::from(state.finished),
+        state.check,
+    ]);
+    line.shown(&state.verdict);
+    line.numbers(&[
+        u32::from(state.active),
+        u32::from(state.good),
+        u32::from(state.bad),
+        u32::from(state.requests),
+        u32::from(state.free),
+        state.seconds,
+        u32::from(state.sub),
+    ]);
+    line.field(state.validated.bytes());
+    line.field(state.updated.bytes());
+    line.field(state.loaded_file.bytes());
+    line.field(state.dumped_file.bytes());
+    line.field(state.loaded.bytes());
 }
 
 /// A housekeeping packet is written again.
@@ -168,44 +160,32 @@ fn rewrite_housekeeping(
     same_bytes(alloc, out.bytes(), packet)
 }
 
-fn text_of_state(alloc: Global, state: &Housekeeping) -> Result<String, AllocError> {
-    let numbers = text_of_numbers(alloc, state)?;
-    let names = text_of_names(alloc, state)?;
-    format!(in alloc; "{numbers} {names}")
-}
-
 /// A housekeeping packet is read, and one that is right is written again.
-pub(crate) fn try_housekeeping(alloc: Global, bytes: &[u8], wanted: &str) -> Result<(), CaseFault> {
+pub(crate) fn tell_housekeeping(
+    alloc: Global,
+    line: &mut Line,
+    bytes: &[u8],
+) -> Result<(), CaseFault> {
     match read_housekeeping(bytes) {
         Some(state) => {
-            rewrite_housekeeping(alloc, &state, bytes)?;
-            same_text(text_of_state(alloc, &state)?, wanted)
+            tell_state(line, &state);
+            rewrite_housekeeping(alloc, &state, bytes)
         }
-        None => same_text("none".to_string(alloc)?, wanted),
+        None => Ok(line.word("none")),
     }
 }
 
-fn text_of_row(alloc: Global, row: &RegistryRow) -> Result<String, AllocError> {
-    let RegistryRow {
-        size,
-        check,
-        count,
-        seconds,
-        sub,
-        bits,
-        validator,
-        name,
-        owner,
-        file,
-    } = row;
-    let (name, owner, file) = (
-        text_of(name.bytes()),
-        text_of(owner.bytes()),
-        text_of(file.bytes()),
-    );
-    format!(in alloc;
-        "{size} {check} {count} {seconds} {sub} {bits} {validator} [{name}] [{owner}] [{file}]"
-    )
+/// The fields of a row of the registry, in their order.
+fn tell_row(line: &mut Line, row: &RegistryRow) {
+    line.numbers(&[row.size, row.check, row.count, row.seconds]);
+    line.numbers(&[
+        u32::from(row.sub),
+        u32::from(row.bits),
+        u32::from(row.validator),
+    ]);
+    line.field(row.name.bytes());
+    line.field(row.owner.bytes());
+    line.field(row.file.bytes());
 }
 
 /// A registry packet is written again.
@@ -227,13 +207,13 @@ fn rewrite_row(alloc: Global, row: &RegistryRow, packet: &[u8]) -> Result<(), Ca
 }
 
 /// A registry packet is read, and one that is right is written again, its record alone too.
-pub(crate) fn try_registry(alloc: Global, bytes: &[u8], wanted: &str) -> Result<(), CaseFault> {
+pub(crate) fn tell_registry(alloc: Global, line: &mut Line, bytes: &[u8]) -> Result<(), CaseFault> {
     match read_registry(bytes) {
         Some(row) => {
+            tell_row(line, &row);
             rewrite_registry(alloc, &row, bytes)?;
-            rewrite_row(alloc, &row, bytes)?;
-            same_text(text_of_row(alloc, &row)?, wanted)
+            rewrite_row(alloc, &row, bytes)
         }
-        None => same_text("none".to_string(alloc)?, wanted),
+        None => Ok(line.word("none")),
     }
 }

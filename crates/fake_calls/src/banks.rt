@@ -1,9 +1,36 @@
 //! Calls of banks.
 
-use crate::words::{Words, text};
+use crate::streams::Shown;
+use crate::words::{Words, kept, made, text};
+use std::alloc::Global;
 use std::io;
-use tbl_fakes::{CalmBank, MemBank};
-use tbl_outside::{Bank, Written};
+use tbl_fakes::{Break, CalmBank, MemBank};
+use tbl_kinds::Memory;
+use tbl_outside::Bank;
+
+/// How many bytes a bank has at most.
+const MOST: usize = 64;
+
+impl Shown for MemBank {
+    /// Its bytes, counts and ranges.
+    fn show<R: Print>(&self, rt: &R, line: &str) -> io::Result<()> {
+        println!(rt;
+            "{line} -> {} faults {} stops {} writes {} ranges {:?}",
+            text(self.bytes()),
+            self.faults(),
+            self.stops(),
+            self.write_count(),
+            self.spans()
+        )
+    }
+}
+
+impl Shown for CalmBank {
+    /// Its bytes.
+    fn show<R: Print>(&self, rt: &R, line: &str) -> io::Result<()> {
+        println!(rt; "{line} -> {}", text(self.bytes()))
+    }
+}
 
 /// `read AT N`: reads into a piece of so many dots, where it lies inside.
 fn read_at<R: Print, B: Bank>(
@@ -19,10 +46,8 @@ fn read_at<R: Print, B: Bank>(
     if (bank.size() as usize) < at as usize + len {
         return println!(rt; "{line} -> outside");
     }
-    match bank.read_at(at, piece) {
-        Ok(()) => println!(rt; "{line} -> {}", text(piece)),
-        Err(_) => println!(rt; "{line} -> failed {}", text(piece)),
-    }
+    let came = bank.read_at(at, piece);
+    println!(rt; "{line} -> {came:?} {}", text(piece))
 }
 
 /// `write AT BYTES`, where they lie inside.
@@ -34,54 +59,66 @@ fn write_at<R: Print, B: Bank>(
 ) -> io::Result<()> {
     let at = words.number();
     let bytes = words.bytes();
-    if 64 < bytes.len() || (bank.size() as usize) < at as usize + bytes.len() {
+    if MOST < bytes.len() || (bank.size() as usize) < at as usize + bytes.len() {
         return println!(rt; "{line} -> outside");
     }
-    match bank.write_at(at, bytes) {
-        Written::Done => println!(rt; "{line} -> done"),
-        Written::Failed => println!(rt; "{line} -> failed"),
-        Written::Stopped => println!(rt; "{line} -> stopped"),
+    println!(rt; "{line} -> {:?}", bank.write_at(at, bytes))
+}
+
+/// A call of a bank: `read AT N`, `write AT BYTES`, or `show`.
+fn call<R: Print, B: Bank + Shown>(rt: &R, bank: &mut B, line: &str) -> io::Result<()> {
+    let mut words = Words::of(line);
+    match words.next() {
+        "read" => read_at(rt, bank, &mut words, line),
+        "write" => write_at(rt, bank, &mut words, line),
+        _ => bank.show(rt, line),
     }
 }
 
-fn show<R: Print>(rt: &R, bank: &MemBank, line: &str) -> io::Result<()> {
-    let (faults, stops, writes) = (bank.faults(), bank.stops(), bank.write_count());
-    print!(rt;
-        "{line} -> {} faults {faults} stops {stops} writes {writes} ranges",
-        text(bank.bytes())
-    )?;
-    for span in bank.spans() {
-        print!(rt; " {}+{}", span.at, span.length)?;
+fn play_bank<R: Print, B: Bank + Shown>(rt: &R, bank: &mut B, calls: &str) -> io::Result<()> {
+    for line in calls.lines() {
+        call(rt, bank, line)?;
     }
-    println!(rt)
+    Ok(())
 }
 
-/// `read AT N`, `write AT BYTES`, or `show`: its bytes, counts and ranges.
-pub(crate) fn call_bank<R: Print>(
+/// A bank that begins with these bytes, and never fails.
+fn calm_of(alloc: Global, word: &[u8]) -> Result<CalmBank, Memory> {
+    let bytes = kept(alloc, &word[..word.len().min(MOST)])?;
+    Ok(CalmBank::make(bytes))
+}
+
+/// A bank, by the words that state it.
+fn mem_of(alloc: Global, words: &mut Words) -> Result<MemBank, Memory> {
+    let word = words.bytes();
+    let bytes = kept(alloc, &word[..word.len().min(MOST)])?;
+    let writes = words.number();
+    let room = words.number();
+    let bad_read = words.number();
+    let broken = Break {
+        write: words.number(),
+        after: words.number(),
+        stop: words.next() == "stop",
+    };
+    MemBank::make(alloc, bytes, &[broken], &[bad_read], writes, room)
+}
+
+/// `bank BYTES WRITES ROOM BAD-READ WRITE AFTER HOW`: one read fails, and one write breaks off after so many bytes.
+pub(crate) fn bank<R: Print + AllocGlobal>(
     rt: &R,
-    bank: &mut MemBank,
-    call: &str,
     words: &mut Words,
-    line: &str,
+    calls: &str,
 ) -> io::Result<()> {
-    match call {
-        "read" => read_at(rt, bank, words, line),
-        "write" => write_at(rt, bank, words, line),
-        _ => show(rt, bank, line),
-    }
+    let mut bank = made(mem_of(rt.alloc(), words))?;
+    play_bank(rt, &mut bank, calls)
 }
 
-/// `read AT N`, `write AT BYTES`, or `show`: its bytes.
-pub(crate) fn call_calm_bank<R: Print>(
+/// `calm-bank BYTES`
+pub(crate) fn calm_bank<R: Print + AllocGlobal>(
     rt: &R,
-    bank: &mut CalmBank,
-    call: &str,
     words: &mut Words,
-    line: &str,
+    calls: &str,
 ) -> io::Result<()> {
-    match call {
-        "read" => read_at(rt, bank, words, line),
-        "write" => write_at(rt, bank, words, line),
-        _ => println!(rt; "{line} -> {}", text(bank.bytes())),
-    }
+    let mut bank = made(calm_of(rt.alloc(), words.bytes()))?;
+    play_bank(rt, &mut bank, calls)
 }

@@ -2,51 +2,33 @@
 #![tactic(auto)]
 
 mod banks;
-mod object;
 mod streams;
 mod words;
 
-use object::{Object, make};
 use std::io::{self, Read};
 use std::process::ExitCode;
+use tbl_fakes::CalmSink;
 use words::Words;
 
-/// A call of the object that was made last.
-fn call<R: Print + AllocGlobal>(rt: &R, object: &mut Object, line: &str) -> io::Result<()> {
-    let mut words = Words::of(line);
-    let call = words.next();
-    match object {
-        Object::Nothing => println!(rt; "{line} -> there is no object"),
-        Object::Source(source) => streams::call_source(rt, source, call, &mut words, line),
-        Object::CalmSource(source) => streams::call_calm_source(rt, source, call, &mut words, line),
-        Object::Sink(sink) => streams::call_sink(rt, sink, call, &mut words, line),
-        Object::CalmSink(sink) => streams::write_to(rt, sink, &mut words, line),
-        Object::Bank(bank) => banks::call_bank(rt, bank, call, &mut words, line),
-        Object::CalmBank(bank) => banks::call_calm_bank(rt, bank, call, &mut words, line),
-    }
-}
-
-/// Plays a line: it makes an object, or a call of the last one.
-fn play<R: Print + AllocGlobal>(rt: &R, object: &mut Object, line: &str) -> io::Result<()> {
-    if line.is_empty() {
-        return Ok(());
-    }
-    match make(rt.alloc(), line) {
-        Ok(Some(made)) => {
-            *object = made;
-            println!(rt; "{line}")
-        }
-        Ok(None) => call(rt, object, line),
-        Err(_) => println!(rt; "{line} -> out of memory"),
+/// Plays a script: its first line makes an object, and each further one is a call of it.
+fn play<R: Print + AllocGlobal>(rt: &R, script: &str) -> io::Result<()> {
+    let (first, calls) = script.split_once('\n').unwrap_or((script, ""));
+    println!(rt; "{first}")?;
+    let mut words = Words::of(first);
+    match words.next() {
+        "source" => streams::source(rt, &mut words, calls),
+        "calm-source" => streams::calm_source(rt, &mut words, calls),
+        "sink" => streams::sink(rt, &mut words, calls),
+        "calm-sink" => streams::play_sink(rt, &mut CalmSink::make(), calls),
+        "bank" => banks::bank(rt, &mut words, calls),
+        _ => banks::calm_bank(rt, &mut words, calls),
     }
 }
 
 fn run<R: Input + Print + AllocGlobal>(rt: &R) -> io::Result<()> {
-    let mut bytes = Vec::new(rt.alloc());
-    rt.reader().read_to_end(&mut bytes)?;
-    let mut object = Object::Nothing;
-    for line in bytes.split(|byte| *byte == b'\n') {
-        play(rt, &mut object, std::str::from_utf8(line).unwrap_or(""))?;
+    let scripts = io::read_to_string(rt.alloc(), rt.reader())?;
+    for script in scripts.split("\n\n") {
+        play(rt, script)?;
     }
     Ok(())
 }

@@ -1,11 +1,45 @@
 //! Calls of sources and sinks.
 
-use crate::words::{Words, text};
+use crate::words::{Words, kept, made, text};
 use std::io;
-use tbl_fakes::{CalmSource, MemSink, MemSource};
+use tbl_fakes::{CalmSink, CalmSource, MemSink, MemSource};
 use tbl_outside::{Sink, Source};
 
-/// `read N`: reads into a piece of so many dots, and writes how many bytes came, and the piece.
+/// What tells more than its calls answer.
+pub(crate) trait Shown {
+    /// Tells it behind this line.
+    fn show<R: Print>(&self, rt: &R, line: &str) -> io::Result<()>;
+}
+
+impl Shown for MemSource {
+    fn show<R: Print>(&self, rt: &R, line: &str) -> io::Result<()> {
+        println!(rt;
+            "{line} -> {} faults {}",
+            text(self.left_bytes()),
+            self.faults()
+        )
+    }
+}
+
+impl Shown for CalmSource {
+    fn show<R: Print>(&self, rt: &R, line: &str) -> io::Result<()> {
+        println!(rt; "{line} -> {}", text(self.left_bytes()))
+    }
+}
+
+impl Shown for MemSink {
+    fn show<R: Print>(&self, rt: &R, line: &str) -> io::Result<()> {
+        println!(rt; "{line} -> {} faults {}", text(self.taken()), self.faults())
+    }
+}
+
+impl Shown for CalmSink {
+    fn show<R: Print>(&self, rt: &R, line: &str) -> io::Result<()> {
+        println!(rt; "{line} -> nothing")
+    }
+}
+
+/// `read N`: reads into a piece of so many dots, and tells how many bytes came, and the piece.
 fn read_from<R: Print, S: Source>(
     rt: &R,
     source: &mut S,
@@ -15,67 +49,68 @@ fn read_from<R: Print, S: Source>(
     let mut dots = [b'.'; 8];
     let len = (words.number() as usize).min(8);
     let piece = &mut dots[..len];
-    match source.read(piece) {
-        Ok(count) => println!(rt; "{line} -> {count} {}", text(piece)),
-        Err(_) => println!(rt; "{line} -> failed {}", text(piece)),
-    }
+    let came = source.read(piece);
+    println!(rt; "{line} -> {came:?} {}", text(piece))
 }
 
-/// `write BYTES`
-pub(crate) fn write_to<R: Print, K: Sink>(
+/// Calls of a source: `read N`, or `left`: what is left, and how often a read failed.
+fn play_source<R: Print, S: Source + Shown>(rt: &R, source: &mut S, calls: &str) -> io::Result<()> {
+    for line in calls.lines() {
+        let mut words = Words::of(line);
+        if words.next() == "read" {
+            read_from(rt, source, &mut words, line)?;
+        } else {
+            source.show(rt, line)?;
+        }
+    }
+    Ok(())
+}
+
+/// Calls of a sink: `write BYTES`, or `taken`: what was taken, and how often a write failed.
+pub(crate) fn play_sink<R: Print, K: Sink + Shown>(
     rt: &R,
     sink: &mut K,
-    words: &mut Words,
-    line: &str,
+    calls: &str,
 ) -> io::Result<()> {
-    match sink.write(words.bytes()) {
-        Ok(()) => println!(rt; "{line} -> ok"),
-        Err(_) => println!(rt; "{line} -> failed"),
+    for line in calls.lines() {
+        let mut words = Words::of(line);
+        if words.next() == "write" {
+            println!(rt; "{line} -> {:?}", sink.write(words.bytes()))?;
+        } else {
+            sink.show(rt, line)?;
+        }
     }
+    Ok(())
 }
 
-/// `read N`, or `left`: what is left, and how often a read failed.
-pub(crate) fn call_source<R: Print>(
+/// `source BYTES FAILS`: FAILS is the number of the read that fails.
+pub(crate) fn source<R: Print + AllocGlobal>(
     rt: &R,
-    source: &mut MemSource,
-    call: &str,
     words: &mut Words,
-    line: &str,
+    calls: &str,
 ) -> io::Result<()> {
-    if call == "read" {
-        return read_from(rt, source, words, line);
-    }
-    println!(rt;
-        "{line} -> {} faults {}",
-        text(source.left_bytes()),
-        source.faults()
-    )
+    let bytes = made(kept(rt.alloc(), words.bytes()))?;
+    let mut source = made(MemSource::make(rt.alloc(), bytes, &[words.number(), 9]))?;
+    play_source(rt, &mut source, calls)
 }
 
-/// `read N`, or `left`
-pub(crate) fn call_calm_source<R: Print>(
+/// `calm-source BYTES`
+pub(crate) fn calm_source<R: Print + AllocGlobal>(
     rt: &R,
-    source: &mut CalmSource,
-    call: &str,
     words: &mut Words,
-    line: &str,
+    calls: &str,
 ) -> io::Result<()> {
-    if call == "read" {
-        return read_from(rt, source, words, line);
-    }
-    println!(rt; "{line} -> {}", text(source.left_bytes()))
+    let bytes = made(kept(rt.alloc(), words.bytes()))?;
+    play_source(rt, &mut CalmSource::make(bytes), calls)
 }
 
-/// `write BYTES`, or `taken`: what was taken, and how often a write failed.
-pub(crate) fn call_sink<R: Print>(
+/// `sink ROOM FAILS`: FAILS is the number of the write that fails.
+pub(crate) fn sink<R: Print + AllocGlobal>(
     rt: &R,
-    sink: &mut MemSink,
-    call: &str,
     words: &mut Words,
-    line: &str,
+    calls: &str,
 ) -> io::Result<()> {
-    if call == "write" {
-        return write_to(rt, sink, words, line);
-    }
-    println!(rt; "{line} -> {} faults {}", text(sink.taken()), sink.faults())
+    let room = words.number();
+    let mut sink = made(MemSink::make(rt.alloc(), room, &[words.number()]))?;
+    play_sink(rt, &mut sink, calls)
 }

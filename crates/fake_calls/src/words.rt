@@ -1,6 +1,11 @@
-//! The words of a line.
+//! The words of a line, and what is made of them.
 
+ghost use Rattle.std.specs.Prelude.{◌≡◌, IfOk};
+
+use std::alloc::Global;
+use std::io;
 use std::str::SplitWhitespace;
+use tbl_kinds::{Bytes, Memory};
 
 /// What is left of a line, word by word.
 #[derive(Drop)]
@@ -25,16 +30,30 @@ impl<'a> Words<'a> {
         self.next().parse::<u32>().unwrap_or(0)
     }
 
-    /// The next word as bytes; `-` stands for none.
+    /// The next word as bytes, or none.
     pub(crate) fn bytes(&mut self) -> &'a [u8] {
-        match self.next() {
-            "-" => b"",
-            word => word.as_bytes(),
-        }
+        self.next().as_bytes()
     }
 }
 
 /// Bytes as text.
 pub(crate) fn text(bytes: &[u8]) -> &str {
     std::str::from_utf8(bytes).unwrap_or("no text")
+}
+
+/// The same bytes as the service keeps them.
+pub(crate) fn kept(alloc: Global, list: &[u8]) -> Result<Bytes, Memory>
+    ensures { IfOk result (λ bytes. bytes.list ≡ list.now) }
+{
+    let mut bytes = Bytes::make(alloc, list.len())?;
+    bytes.append(list);
+    Ok(bytes)
+}
+
+/// What was made, or that memory ran out.
+pub(crate) fn made<T: Drop>(made: Result<T, Memory>) -> io::Result<T> {
+    match made {
+        Ok(it) => Ok(it),
+        Err(_) => Err(io::ErrorKind::OutOfMemory.into()),
+    }
 }
