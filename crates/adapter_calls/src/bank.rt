@@ -49,11 +49,12 @@ fn write_at(
     if MOST < bytes.len() || (bank.size() as usize) < at as usize + bytes.len() {
         return "outside".to_string(rt.alloc());
     }
-    match bank.write_at(at, bytes) {
-        Written::Done => "done".to_string(rt.alloc()),
-        Written::Failed => "failed".to_string(rt.alloc()),
-        Written::Stopped => "stopped".to_string(rt.alloc()),
-    }
+    let told = match bank.write_at(at, bytes) {
+        Written::Done => "done",
+        Written::Failed => "failed",
+        Written::Stopped => "stopped",
+    };
+    told.to_string(rt.alloc())
 }
 
 /// `open SIZE` opens the store file, and the other calls are of the one that was opened last: `read AT N`, `write AT BYTES`,

@@ -62,9 +62,9 @@ fn run(rt: &HostRuntime) -> io::Result<bool> {
     let Some(script) = read_all(rt.alloc(), &mut StandardInput::of(rt.stdin()))? else {
         return Ok(false);
     };
+    let script = std::str::from_utf8(&script).unwrap_or("the script is no text");
     let mut store = None;
-    for line in script.split(|byte| *byte == b'\n') {
-        let line = std::str::from_utf8(line).unwrap_or("");
+    for line in script.lines() {
         if !play(rt, &mut store, &mut output, line)? {
             return Ok(false);
         }
