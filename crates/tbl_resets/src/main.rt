@@ -12,14 +12,15 @@ mod tries;
 mod words;
 
 use input::{End, Session, read_session};
-use plan::plan_of;
-use play::Fault;
+use plan::{Plan, tables_of, writes_of};
+use play::{Fault, Room, behind, close};
 use std::process::ExitCode;
 use tbl_adapters::{StandardInput, StandardOutput};
 use tbl_fakes::Span;
+use tbl_kinds::Entry;
 use tbl_outside::Sink;
 use text::{tell_write, whole_text};
-use tries::{Counts, Trial, try_write};
+use tries::{Counts, Write, try_write};
 use words::{Words, given_words};
 
 /// What `--help` answers.
@@ -43,7 +44,7 @@ It ends with one of these statuses:
 /// requests had been made by the write before, and the answer how many by this one.
 fn tell_tried<R: Eprint>(
     rt: &R,
-    trial: &Trial<'_>,
+    plan: &Plan<'_>,
     at: usize,
     span: Span,
     maker: Option<usize>,
@@ -53,34 +54,58 @@ fn tell_tried<R: Eprint>(
     let Ok(number) = u32::try_from(at.saturating_add(1)) else {
         return Err(Fault::Full);
     };
-    let tried = try_write(rt, trial, number, span, counts)?;
+    let write = Write { number, span };
+    let tried = try_write(rt, plan, write, counts)?;
     let is_first = maker != Some(tried.played);
-    tell_write(lines, trial.plan, number, span, &tried, is_first)?;
+    tell_write(lines, plan, write, &tried, is_first)?;
     Ok(tried.played)
 }
 
 /// Tries all writes of a session, and tells what came back.
 fn tell_all<R: Eprint>(
     rt: &R,
-    trial: &Trial<'_>,
+    plan: &Plan<'_>,
     lines: &mut String,
     counts: &mut Counts,
 ) -> Result<(), Fault> {
     let mut maker = None;
-    for (at, span) in trial.plan.writes.iter().enumerate() {
-        let played = tell_tried(rt, trial, at, *span, maker, lines, counts)?;
+    for (at, span) in plan.writes.iter().enumerate() {
+        let played = tell_tried(rt, plan, at, *span, maker, lines, counts)?;
         maker = Some(played);
     }
     Ok(())
 }
 
-/// The text for a session whose writes are known, and whether a mix came back.
-fn tried_with<R: Eprint>(rt: &R, trial: &Trial<'_>) -> Result<(String, bool), Fault> {
+/// The text for a session whose tables are known, and whether a mix came back.
+fn tried_with<R: Eprint>(rt: &R, plan: &Plan<'_>) -> Result<(String, bool), Fault> {
     let mut counts = Counts::zero();
-    let mut lines = String::new(trial.alloc);
-    tell_all(rt, trial, &mut lines, &mut counts)?;
-    let text = whole_text(trial.alloc, trial.plan, trial.every, &lines, &counts)?;
+    let mut lines = String::new(plan.alloc);
+    tell_all(rt, plan, &mut lines, &mut counts)?;
+    let text = whole_text(plan, &lines, &counts)?;
     Ok((text, counts.mixed > 0))
+}
+
+/// The text for a session whose writes and history are known, and whether a mix came back.
+fn tried_behind<R: Eprint + AllocGlobal>(
+    rt: &R,
+    records: &[u8],
+    every: u32,
+    room: Room,
+    writes: &[Span],
+    history: &[Entry],
+) -> Result<(String, bool), Fault> {
+    let alloc = rt.alloc();
+    let tables = tables_of(alloc, records, room, history)?;
+    let plan = Plan {
+        alloc,
+        records,
+        every,
+        room,
+        writes,
+        history,
+        tables: &tables,
+    };
+    tried_with(rt, &plan)
 }
 
 /// The text for a session, and whether a mix came back.
@@ -91,14 +116,12 @@ fn tried<R: Eprint + AllocGlobal>(
 ) -> Result<(String, bool), Fault> {
     let alloc = rt.alloc();
     let records = session.bytes.as_slice();
-    let plan = plan_of(alloc, records, session.count as usize)?;
-    let trial = Trial {
-        alloc,
-        records,
-        plan: &plan,
-        every,
-    };
-    tried_with(rt, &trial)
+    let count = session.count as usize;
+    let (room, writes) = writes_of(alloc, records, count)?;
+    let core = behind(alloc, records, count, room)?;
+    let text = tried_behind(rt, records, every, room, &writes, core.history());
+    close(core);
+    text
 }
 
 /// The status for how an input ended.

@@ -1,5 +1,5 @@
 // The session without a reset: the writes of its bank, its critical tables, and their images.
-use crate::play::{Fault, Room, Service, behind};
+use crate::play::{Fault, Room, Service, behind, close};
 use crate::recovery::read_image;
 use crate::tables::{Change, Event, Image, Registration, Table};
 use bitflags::Flags;
@@ -13,12 +13,15 @@ use tbl_kinds::{
 
 /// What is known of a session before a reset is tried.
 #[derive(Drop)]
-pub(crate) struct Plan {
-    /// The service behind it.
-    pub(crate) core: Service,
-    pub(crate) writes: Vec<Span>,
-    pub(crate) tables: Vec<Table>,
+pub(crate) struct Plan<'a> {
+    pub(crate) alloc: Global,
+    pub(crate) records: &'a [u8],
+    /// Inside long writes each number of bytes is tried that this one divides.
+    pub(crate) every: u32,
     pub(crate) room: Room,
+    pub(crate) writes: &'a [Span],
+    pub(crate) history: &'a [Entry],
+    pub(crate) tables: &'a [Table],
 }
 
 /// What is known of a session up to a request of it.
@@ -96,7 +99,9 @@ fn image_behind(
     size: u32,
 ) -> Result<Bytes, Fault> {
     let mut core = behind(alloc, records, place.saturating_add(1), room)?;
-    image_of(&mut core, actor, handle, size)
+    let image = image_of(&mut core, actor, handle, size);
+    close(core);
+    image
 }
 
 impl<'a> Finder<'a> {
@@ -285,14 +290,14 @@ impl<'a> Finder<'a> {
 }
 
 /// The critical tables of a session that was played.
-fn tables_of(
+pub(crate) fn tables_of(
     alloc: Global,
     records: &[u8],
     room: Room,
-    core: &Service,
+    history: &[Entry],
 ) -> Result<Vec<Table>, Fault> {
     let mut finder = Finder::make(alloc, records, room);
-    finder.see_all(core.history())?;
+    finder.see_all(history)?;
     Ok(finder.tables)
 }
 
@@ -326,7 +331,11 @@ fn writes_in(
 }
 
 /// A room in which a bank keeps a record of all writes of a session, and the ranges of these.
-fn writes_of(alloc: Global, records: &[u8], count: usize) -> Result<(Room, Vec<Span>), Fault> {
+pub(crate) fn writes_of(
+    alloc: Global,
+    records: &[u8],
+    count: usize,
+) -> Result<(Room, Vec<Span>), Fault> {
     let mut room = FIRST_ROOM;
     for _ in 0..DOUBLINGS {
         if let Some(writes) = writes_in(alloc, records, count, room)? {
@@ -338,17 +347,4 @@ fn writes_of(alloc: Global, records: &[u8], count: usize) -> Result<(Room, Vec<S
         };
     }
     Err(Fault::Memory)
-}
-
-/// Plays a session without a reset.
-pub(crate) fn plan_of(alloc: Global, records: &[u8], count: usize) -> Result<Plan, Fault> {
-    let (room, writes) = writes_of(alloc, records, count)?;
-    let core = behind(alloc, records, count, room)?;
-    let tables = tables_of(alloc, records, room, &core)?;
-    Ok(Plan {
-        core,
-        writes,
-        tables,
-        room,
-    })
 }

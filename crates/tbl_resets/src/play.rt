@@ -91,6 +91,15 @@ pub(crate) enum Started {
     Stopped(MemBank),
 }
 
+/// The bank that a boot was stopped in.
+fn stopped_in(back: Back<StartFault, MemBank>) -> Result<Started, Fault> {
+    if back.cause == StartFault::Memory {
+        Err(Fault::Memory)
+    } else {
+        Ok(Started::Stopped(back.bank))
+    }
+}
+
 /// Starts the service over a bank.
 fn start_over(alloc: Global, bank: MemBank, kit: Kit<Shipped>) -> Result<Started, Fault>
     requires bank { bank_size ≤ length bank.bytes }
@@ -98,13 +107,7 @@ fn start_over(alloc: Global, bank: MemBank, kit: Kit<Shipped>) -> Result<Started
 {
     match Core::start(alloc, bank, kit) {
         Ok(core) => Ok(Started::Runs(core)),
-        Err(
-            Back {
-                cause: StartFault::Memory,
-                ..
-            },
-        ) => Err(Fault::Memory),
-        Err(Back { bank, .. }) => Ok(Started::Stopped(bank)),
+        Err(back) => stopped_in(back),
     }
 }
 
@@ -119,7 +122,10 @@ fn start(alloc: Global, image: &[u8], breaks: &[Break], room: Room) -> Result<St
 
 /// The entry of the request that was played last.
 pub(crate) fn last_entry(core: &Service) -> Result<&Entry, Fault> {
-    core.history().last().ok_or(Fault::Full)
+    match core.history().last() {
+        Some(entry) => Ok(entry),
+        None => Err(Fault::Full),
+    }
 }
 
 /// Whether the service goes on behind the request that was played last.
@@ -184,9 +190,17 @@ fn step_all(
         if used == 0 || how == Progress::Stopped {
             return Ok(how);
         }
-        rest = rest.get(used..).ok_or(Fault::Full)?;
+        let Some(behind) = rest.get(used..) else {
+            return Err(Fault::Full);
+        };
+        rest = behind;
     }
     Ok(Progress::Played)
+}
+
+/// Ends a service that nothing more is asked of.
+pub(crate) fn close(core: Service) {
+    let _bank = core.end();
 }
 
 /// The service behind so many records more.
@@ -196,8 +210,13 @@ fn played_on(
     records: &[u8],
     most: usize,
 ) -> Result<Service, Fault> {
-    step_all(alloc, &mut core, records, most)?;
-    Ok(core)
+    match step_all(alloc, &mut core, records, most) {
+        Ok(_) => Ok(core),
+        Err(fault) => {
+            close(core);
+            Err(fault)
+        }
+    }
 }
 
 /// The service behind the first so many records of a session, over a bank that nothing was written to.
@@ -213,12 +232,20 @@ pub(crate) fn behind(
     }
 }
 
-/// What a stop left: the bank, and how many requests were answered, that in which it came with them; none where it came in
-/// the boot at the start.
+/// What a stop left: the bytes of the bank, and how many requests were answered, that in which it came with them; none where
+/// it came in the boot at the start.
 #[derive(Drop)]
 pub(crate) struct Left {
     pub(crate) played: usize,
-    pub(crate) bank: MemBank,
+    pub(crate) image: Bytes,
+}
+
+/// What a stop left in a bank.
+fn left_in(alloc: Global, bank: &MemBank, played: usize) -> Result<Left, Fault> {
+    let bytes = bank.bytes();
+    let mut image = Bytes::make(alloc, bytes.len())?;
+    image.append(bytes);
+    Ok(Left { played, image })
 }
 
 /// A write in which the processor is reset after so many bytes.
@@ -231,13 +258,10 @@ fn stop_in(write: u32, after: u32) -> Break {
 }
 
 /// Plays a session up to the request in which the processor is reset.
-fn played_to_stop(alloc: Global, mut core: Service, records: &[u8]) -> Result<Left, Fault> {
-    step_all(alloc, &mut core, records, MOST_ENTRIES)?;
+fn played_to_stop(alloc: Global, core: Service, records: &[u8]) -> Result<Left, Fault> {
+    let core = played_on(alloc, core, records, MOST_ENTRIES)?;
     let played = core.history().len();
-    Ok(Left {
-        played,
-        bank: core.end(),
-    })
+    left_in(alloc, &core.end(), played)
 }
 
 /// Plays a session up to a write, in which the processor is reset after so many bytes. The boot behind the reset is stopped
@@ -252,7 +276,7 @@ pub(crate) fn with_stop(
     let breaks = [stop_in(write, after), stop_in(write.saturating_add(1), 0)];
     match start(alloc, &ZEROS, &breaks, room)? {
         Started::Runs(core) => played_to_stop(alloc, core, records),
-        Started::Stopped(bank) => Ok(Left { played: 0, bank }),
+        Started::Stopped(bank) => left_in(alloc, &bank, 0),
     }
 }
 

@@ -1,5 +1,5 @@
 // What comes back behind a reset: asked from the service that starts anew over the bank that was left.
-use crate::play::{Fault, Service, anew, ask};
+use crate::play::{Fault, Service, anew, ask, close};
 use crate::tables::{Back, Registration, Table};
 use check_word::check16;
 use std::alloc::Global;
@@ -149,5 +149,7 @@ pub(crate) fn come_back(
     played: usize,
 ) -> Result<Vec<Back>, Fault> {
     let mut core = anew(alloc, image)?;
-    come_back_in(alloc, &mut core, tables, played)
+    let backs = come_back_in(alloc, &mut core, tables, played);
+    close(core);
+    backs
 }

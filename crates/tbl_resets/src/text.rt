@@ -1,9 +1,9 @@
 // The table as text.
 use crate::plan::Plan;
 use crate::tables::{Back, Change, Event, Table};
-use crate::tries::{Counts, Run, SHORT_WRITE, Tried};
-use std::alloc::{AllocError, Global};
-use std::fmt::Write;
+use crate::tries::{Counts, Run, SHORT_WRITE, Tried, Write};
+use std::alloc::AllocError;
+use std::fmt::Write as _;
 use tbl_fakes::Span;
 use tbl_kinds::{Actor, Entry, Request};
 
@@ -23,9 +23,9 @@ const RANGE_LEN: usize = 14;
 const LEAST_NAME: usize = 16;
 
 /// Where the column begins that says after which bytes the reset came: behind the longest name of a table.
-fn after_at(plan: &Plan) -> usize {
+fn after_at(plan: &Plan<'_>) -> usize {
     let mut widest = LEAST_NAME;
-    for table in &plan.tables {
+    for table in plan.tables {
         widest = widest.max(table.name.len());
     }
     widest.saturating_add(WRITES_AT + COPY_LEN)
@@ -73,19 +73,19 @@ fn tell_request(text: &mut String, place: usize, entry: &Entry) -> Result<(), Al
 }
 
 /// Writes the request in which a write is made.
-fn tell_maker(text: &mut String, plan: &Plan, played: usize) -> Result<(), AllocError> {
+fn tell_maker(text: &mut String, plan: &Plan<'_>, played: usize) -> Result<(), AllocError> {
     let Some(place) = played.checked_sub(1) else {
         return text.push_str("boot at the start");
     };
-    match plan.core.history().get(place) {
+    match plan.history.get(place) {
         Some(entry) => tell_request(text, place, entry),
         None => Ok(()),
     }
 }
 
 /// Writes the image that a request copies.
-fn tell_copied(text: &mut String, plan: &Plan, played: usize) -> Result<(), AllocError> {
-    for table in &plan.tables {
+fn tell_copied(text: &mut String, plan: &Plan<'_>, played: usize) -> Result<(), AllocError> {
+    for table in plan.tables {
         if let Some(image) = table.under_way(played) {
             let number = image.number;
             let name = table.name.as_str();
@@ -96,11 +96,11 @@ fn tell_copied(text: &mut String, plan: &Plan, played: usize) -> Result<(), Allo
 }
 
 /// Whether a request copies an image into a block.
-fn is_copy(plan: &Plan, played: usize) -> bool {
+fn is_copy(plan: &Plan<'_>, played: usize) -> bool {
     let Some(place) = played.checked_sub(1) else {
         return false;
     };
-    match plan.core.history().get(place) {
+    match plan.history.get(place) {
         Some(entry) => matches!(
             &entry.request,
             Request::LoadImage { .. }
@@ -124,7 +124,7 @@ const BLOCKS_AT: u32 = 8_208;
 /// Writes what a write has, by its place in the bank (docs/STORE.md). A copy writes its image first, and then the head.
 fn tell_piece(
     text: &mut String,
-    plan: &Plan,
+    plan: &Plan<'_>,
     played: usize,
     span: Span,
     is_first: bool,
@@ -174,12 +174,12 @@ fn tell_back(text: &mut String, back: Back) -> Result<(), AllocError> {
 /// Writes what is known of a write: its number and bytes, its request, and what it has.
 fn tell_head(
     text: &mut String,
-    plan: &Plan,
-    number: u32,
-    span: Span,
+    plan: &Plan<'_>,
+    write: Write,
     played: usize,
     is_first: bool,
 ) -> Result<(), AllocError> {
+    let Write { number, span } = write;
     let length = span.length;
     let line = text.len();
     write!(text, "{number}")?;
@@ -214,15 +214,14 @@ fn tell_runs(
 /// Writes the lines of a write: one for each range of numbers of bytes and each table.
 pub(crate) fn tell_write(
     text: &mut String,
-    plan: &Plan,
-    number: u32,
-    span: Span,
+    plan: &Plan<'_>,
+    write: Write,
     tried: &Tried,
     is_first: bool,
 ) -> Result<(), AllocError> {
     let after = after_at(plan);
     let mut line = text.len();
-    tell_head(text, plan, number, span, tried.played, is_first)?;
+    tell_head(text, plan, write, tried.played, is_first)?;
     for (at, table) in plan.tables.iter().enumerate() {
         line = tell_runs(text, line, after, at, table, &tried.runs)?;
     }
@@ -289,25 +288,26 @@ fn tell_table(text: &mut String, table: &Table) -> Result<(), AllocError> {
     Ok(())
 }
 
+/// Writes which resets inside long writes were tried, where some were left out.
+fn tell_every(text: &mut String, every: u32) -> Result<(), AllocError> {
+    if every <= 1 {
+        return Ok(());
+    }
+    write!(
+        text,
+        ";\ninside writes of more than {SHORT_WRITE} bytes only after numbers of bytes that are multiples of {every} (--every {every})"
+    )
+}
+
 /// Writes how many resets were tried, and which.
-fn tell_count(
-    text: &mut String,
-    plan: &Plan,
-    every: u32,
-    counts: &Counts,
-) -> Result<(), AllocError> {
+fn tell_count(text: &mut String, plan: &Plan<'_>, counts: &Counts) -> Result<(), AllocError> {
     let writes = plan.writes.len();
     let (stops, starts) = (counts.stops, counts.starts);
     write!(
         text,
         "{writes} writes and {stops} resets were tried: after each number of bytes of each write, 0 and all of them too"
     )?;
-    if every > 1 {
-        write!(
-            text,
-            ";\ninside writes of more than {SHORT_WRITE} bytes only after numbers of bytes that are multiples of {every} (--every {every})"
-        )?;
-    }
+    tell_every(text, plan.every)?;
     writeln!(
         text,
         ".\nThe service was started anew {starts} times: not once more where a byte of a write changes nothing in the bank."
@@ -315,19 +315,19 @@ fn tell_count(
 }
 
 /// Writes the critical tables.
-fn tell_tables(text: &mut String, plan: &Plan) -> Result<(), AllocError> {
+fn tell_tables(text: &mut String, plan: &Plan<'_>) -> Result<(), AllocError> {
     text.push_str("The number of a request is its place in the session, from 0.\n\n")?;
     if plan.tables.is_empty() {
         text.push_str("The session registers no critical table.\n")?;
     }
-    for table in &plan.tables {
+    for table in plan.tables {
         tell_table(text, table)?;
     }
     text.push_str("\n")
 }
 
 /// Writes the heads of the columns.
-fn tell_columns(text: &mut String, plan: &Plan) -> Result<(), AllocError> {
+fn tell_columns(text: &mut String, plan: &Plan<'_>) -> Result<(), AllocError> {
     let after = after_at(plan);
     let line = text.len();
     text.push_str("write")?;
@@ -358,27 +358,20 @@ fn tell_end(text: &mut String, counts: &Counts) -> Result<(), AllocError> {
 }
 
 /// Writes what stands before the lines of the writes.
-fn tell_front(
-    text: &mut String,
-    plan: &Plan,
-    every: u32,
-    counts: &Counts,
-) -> Result<(), AllocError> {
-    tell_count(text, plan, every, counts)?;
+fn tell_front(text: &mut String, plan: &Plan<'_>, counts: &Counts) -> Result<(), AllocError> {
+    tell_count(text, plan, counts)?;
     tell_tables(text, plan)?;
     tell_columns(text, plan)
 }
 
 /// The whole text, of which the lines of the writes are made already.
 pub(crate) fn whole_text(
-    alloc: Global,
-    plan: &Plan,
-    every: u32,
+    plan: &Plan<'_>,
     lines: &str,
     counts: &Counts,
 ) -> Result<String, AllocError> {
-    let mut text = String::new(alloc);
-    tell_front(&mut text, plan, every, counts)?;
+    let mut text = String::new(plan.alloc);
+    tell_front(&mut text, plan, counts)?;
     text.push_str(lines)?;
     tell_end(&mut text, counts)?;
     Ok(text)

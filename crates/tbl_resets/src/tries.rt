@@ -1,11 +1,11 @@
 // The resets at one write of the bank, after each number of its bytes.
-ghost use Rattle.std.specs.Prelude.{◌≡◌, false, length, IsTrue, IfOk};
+ghost use Rattle.std.specs.Prelude.{◌≡◌, false, length, IsTrue};
 
 use crate::plan::Plan;
 use crate::play::{Fault, Left, with_stop};
 use crate::recovery::come_back;
 use crate::tables::Back;
-use std::alloc::{AllocError, Global};
+use std::alloc::AllocError;
 use tbl_fakes::Span;
 use tbl_kinds::Bytes;
 
@@ -14,6 +14,13 @@ pub(crate) const SHORT_WRITE: u32 = 64;
 
 /// Between two lines that tell how far the work is.
 const STARTS_TOLD: u64 = 1_024;
+
+/// A write of the session: its number, from 1, and its range.
+#[derive(Clone, Copy)]
+pub(crate) struct Write {
+    pub(crate) number: u32,
+    pub(crate) span: Span,
+}
 
 /// That the same came back in a table after these numbers of bytes.
 #[derive(Clone, Copy)]
@@ -58,74 +65,23 @@ impl Counts {
         }
     }
 
-    /// Counts a reset and what came back behind it.
-    fn add(&mut self, backs: &[Back]) {
+    /// Counts a reset, and what came back behind it in each table.
+    fn add(&mut self, open: &[Run]) {
         self.stops = self.stops.saturating_add(1);
-        for back in backs {
-            self.add_back(*back);
+        for run in open {
+            self.add_back(run.back);
         }
     }
 }
 
-/// What came back after the numbers of bytes so far: the ranges that ended, and for each table the one that goes on.
-#[derive(Drop)]
-struct Ranges {
-    ended: Vec<Run>,
-    open: Vec<Run>,
-}
-
-/// For each table a range that begins with no byte.
-fn first_runs(alloc: Global, backs: &[Back]) -> Result<Vec<Run>, AllocError> {
-    let mut open = Vec::new(alloc);
-    for (table, back) in backs.iter().enumerate() {
-        open.push(Run {
-            table,
-            from: 0,
-            to: 0,
-            back: *back,
-        })?;
-    }
-    Ok(open)
-}
-
-/// Goes on with the range of a table, or ends it and begins the next where something else came back.
-fn extend_run(
-    run: &mut Run,
-    ended: &mut Vec<Run>,
-    after: u32,
-    back: Back,
-) -> Result<(), AllocError> {
+/// Ends the range of a table, and begins the next, where something else came back.
+fn turn_run(run: &mut Run, ended: &mut Vec<Run>, after: u32, back: Back) -> Result<(), AllocError> {
     if run.back != back {
         ended.push(*run)?;
         run.from = after;
         run.back = back;
     }
-    run.to = after;
     Ok(())
-}
-
-impl Ranges {
-    /// The first number of bytes, 0.
-    fn make(alloc: Global, backs: &[Back]) -> Result<Ranges, AllocError> {
-        Ok(Ranges {
-            ended: Vec::new(alloc),
-            open: first_runs(alloc, backs)?,
-        })
-    }
-
-    /// A further number of bytes.
-    fn extend(&mut self, after: u32, backs: &[Back]) -> Result<(), AllocError> {
-        for (run, back) in self.open.iter_mut().zip(backs) {
-            extend_run(run, &mut self.ended, after, *back)?;
-        }
-        Ok(())
-    }
-
-    /// All ranges.
-    fn all(mut self) -> Result<Vec<Run>, AllocError> {
-        self.ended.extend_from_slice(&self.open)?;
-        Ok(self.ended)
-    }
 }
 
 /// Whether a number of bytes of a write is tried.
@@ -148,25 +104,6 @@ fn put(image: &mut Bytes, at: usize, byte: u8) -> bool
     true
 }
 
-/// The bytes of a bank, to be changed.
-fn copy_of(alloc: Global, left: &Left) -> Result<Bytes, Fault>
-    ensures { IfOk result (λ image. image.list ≡ left.now.bank.bytes) }
-{
-    let bytes = left.bank.bytes();
-    let mut image = Bytes::make(alloc, bytes.len())?;
-    image.append(bytes);
-    Ok(image)
-}
-
-/// What is the same for all writes of a session.
-#[derive(Drop)]
-pub(crate) struct Trial<'a> {
-    pub(crate) alloc: Global,
-    pub(crate) records: &'a [u8],
-    pub(crate) plan: &'a Plan,
-    pub(crate) every: u32,
-}
-
 /// The resets at a write: how many requests had been made by then, and what came back.
 #[derive(Drop)]
 pub(crate) struct Tried {
@@ -174,149 +111,161 @@ pub(crate) struct Tried {
     pub(crate) runs: Vec<Run>,
 }
 
-/// The bank after some number of bytes of a write, and what came back by then.
+/// What comes back in each table after no byte, as a range that goes on.
+fn first_runs(plan: &Plan<'_>, before: &Left) -> Result<Vec<Run>, Fault> {
+    let backs = come_back(plan.alloc, before.image.bytes(), plan.tables, before.played)?;
+    let mut open = Vec::new(plan.alloc);
+    for (table, back) in backs.iter().enumerate() {
+        open.push(Run {
+            table,
+            from: 0,
+            to: 0,
+            back: *back,
+        })?;
+    }
+    Ok(open)
+}
+
+/// The bank after some number of bytes of a write, and what came back by then: the ranges that ended, and for each table the
+/// one that goes on.
 #[derive(Drop)]
 struct Sweep {
     image: Bytes,
     /// How many requests had been made.
     played: usize,
-    backs: Vec<Back>,
-    ranges: Ranges,
+    ended: Vec<Run>,
+    open: Vec<Run>,
     /// Whether a byte changed the bank since what comes back was asked.
     is_changed: bool,
 }
 
 impl Sweep {
     /// After no byte.
-    fn begin(
-        alloc: Global,
-        plan: &Plan,
-        before: &Left,
-        counts: &mut Counts,
-    ) -> Result<Sweep, Fault> {
-        let image = copy_of(alloc, before)?;
-        let backs = come_back(alloc, image.bytes(), &plan.tables, before.played)?;
-        let ranges = Ranges::make(alloc, &backs)?;
-        counts.starts = counts.starts.saturating_add(1);
-        counts.add(&backs);
+    fn begin(plan: &Plan<'_>, before: Left) -> Result<Sweep, Fault> {
+        let open = first_runs(plan, &before)?;
         Ok(Sweep {
-            image,
+            image: before.image,
             played: before.played,
-            backs,
-            ranges,
+            ended: Vec::new(plan.alloc),
+            open,
             is_changed: false,
         })
     }
 
-    /// One byte more is written.
-    fn write(&mut self, at: usize, byte: u8) {
-        if put(&mut self.image, at, byte) {
-            self.is_changed = true;
+    /// Asks what comes back after so many bytes.
+    fn ask(&mut self, plan: &Plan<'_>, after: u32) -> Result<(), Fault> {
+        let backs = come_back(plan.alloc, self.image.bytes(), plan.tables, self.played)?;
+        for (run, back) in self.open.iter_mut().zip(&backs) {
+            turn_run(run, &mut self.ended, after, *back)?;
         }
+        self.is_changed = false;
+        Ok(())
     }
 
     /// A reset after so many bytes. The answer is whether the service was started anew: where the bank is still the one that
     /// was asked about before, the same comes back.
-    fn reset(
-        &mut self,
-        alloc: Global,
-        plan: &Plan,
-        after: u32,
-        counts: &mut Counts,
-    ) -> Result<bool, Fault> {
+    fn reset(&mut self, plan: &Plan<'_>, after: u32, counts: &mut Counts) -> Result<bool, Fault> {
         let starts = self.is_changed;
         if starts {
-            self.backs = come_back(alloc, self.image.bytes(), &plan.tables, self.played)?;
-            self.is_changed = false;
+            self.ask(plan, after)?;
             counts.starts = counts.starts.saturating_add(1);
         }
-        self.ranges.extend(after, &self.backs)?;
-        counts.add(&self.backs);
+        for run in &mut self.open {
+            run.to = after;
+        }
+        counts.add(&self.open);
         Ok(starts)
     }
 
+    /// Writes the byte of a write at this place, from 0, and tries a reset behind it. `bytes` are those of the bank once the
+    /// whole write is there. The answer is whether the service was started anew.
+    fn try_byte(
+        &mut self,
+        plan: &Plan<'_>,
+        span: Span,
+        place: u32,
+        bytes: &[u8],
+        counts: &mut Counts,
+    ) -> Result<bool, Fault> {
+        let after = place.saturating_add(1);
+        let at = span.at.saturating_add(place) as usize;
+        let Some(byte) = bytes.get(at) else {
+            return Err(Fault::Full);
+        };
+        if put(&mut self.image, at, *byte) {
+            self.is_changed = true;
+        }
+        if is_tried(after, span.length, plan.every) {
+            self.reset(plan, after, counts)
+        } else {
+            Ok(false)
+        }
+    }
+
     /// What came back after all numbers of bytes.
-    fn end(self) -> Result<Tried, Fault> {
+    fn end(mut self) -> Result<Tried, Fault> {
+        self.ended.extend_from_slice(&self.open)?;
         Ok(Tried {
             played: self.played,
-            runs: self.ranges.all()?,
+            runs: self.ended,
         })
     }
-}
-
-/// Writes the byte of a write at this place, from 0, and tries a reset behind it. `bytes` are those of the bank once the whole
-/// write is there.
-fn try_byte<R: Eprint>(
-    rt: &R,
-    trial: &Trial<'_>,
-    number: u32,
-    span: Span,
-    place: u32,
-    bytes: &[u8],
-    sweep: &mut Sweep,
-    counts: &mut Counts,
-) -> Result<(), Fault> {
-    let after = place.saturating_add(1);
-    let at = span.at.saturating_add(place) as usize;
-    let Some(byte) = bytes.get(at) else {
-        return Err(Fault::Full);
-    };
-    sweep.write(at, *byte);
-    if is_tried(after, span.length, trial.every)
-        && sweep.reset(trial.alloc, trial.plan, after, counts)?
-    {
-        let writes = trial.plan.writes.len();
-        tell_progress(rt, counts.starts, number, writes, after, span.length);
-    }
-    Ok(())
 }
 
 /// Writes each byte of a write, and tries a reset behind it.
 fn try_bytes<R: Eprint>(
     rt: &R,
-    trial: &Trial<'_>,
-    number: u32,
-    span: Span,
+    plan: &Plan<'_>,
+    write: Write,
     bytes: &[u8],
     sweep: &mut Sweep,
     counts: &mut Counts,
 ) -> Result<(), Fault> {
-    for place in 0..span.length {
-        try_byte(rt, trial, number, span, place, bytes, sweep, counts)?;
+    for place in 0..write.span.length {
+        if sweep.try_byte(plan, write.span, place, bytes, counts)? {
+            tell_progress(rt, plan, write, place.saturating_add(1), counts.starts);
+        }
     }
     Ok(())
 }
 
-/// Tries a reset after each number of bytes of a write, which has this number, from 1. What is left after no byte and after
-/// all of them comes from the session played up to there. Between these two the bank has a front of the write: it is
-/// made from both. Where a byte of the write changes nothing, what the reset leaves is the same as one byte before, and
-/// what comes back isn't asked once more.
-pub(crate) fn try_write<R: Eprint>(
+/// Tries a reset after each number of bytes of a write, where `bytes` are those of the bank once the whole write is there.
+fn try_between<R: Eprint>(
     rt: &R,
-    trial: &Trial<'_>,
-    number: u32,
-    span: Span,
+    plan: &Plan<'_>,
+    write: Write,
+    bytes: &[u8],
     counts: &mut Counts,
 ) -> Result<Tried, Fault> {
-    let (alloc, plan) = (trial.alloc, trial.plan);
-    let before = with_stop(alloc, trial.records, number, 0, plan.room)?;
-    let behind = with_stop(alloc, trial.records, number, span.length, plan.room)?;
-    let mut sweep = Sweep::begin(alloc, plan, &before, counts)?;
-    let bytes = behind.bank.bytes();
-    try_bytes(rt, trial, number, span, bytes, &mut sweep, counts)?;
+    let before = with_stop(plan.alloc, plan.records, write.number, 0, plan.room)?;
+    let mut sweep = Sweep::begin(plan, before)?;
+    counts.starts = counts.starts.saturating_add(1);
+    counts.add(&sweep.open);
+    try_bytes(rt, plan, write, bytes, &mut sweep, counts)?;
     sweep.end()
 }
 
-/// Says now and then on standard error how far the work is. Where that can't be written, it goes on.
-fn tell_progress<R: Eprint>(
+/// Tries a reset after each number of bytes of a write. What is left after no byte and after all of them comes from the
+/// session played up to there. Between these two the bank has a front of the write: it is made from both. Where a byte of
+/// the write changes nothing, what the reset leaves is the same as one byte before, and what comes back isn't asked once
+/// more.
+pub(crate) fn try_write<R: Eprint>(
     rt: &R,
-    starts: u64,
-    number: u32,
-    writes: usize,
-    after: u32,
-    length: u32,
-) {
+    plan: &Plan<'_>,
+    write: Write,
+    counts: &mut Counts,
+) -> Result<Tried, Fault> {
+    let Write { number, span } = write;
+    let behind = with_stop(plan.alloc, plan.records, number, span.length, plan.room)?;
+    try_between(rt, plan, write, behind.image.bytes(), counts)
+}
+
+/// Says now and then on standard error how far the work is. Where that can't be written, it goes on.
+fn tell_progress<R: Eprint>(rt: &R, plan: &Plan<'_>, write: Write, after: u32, starts: u64) {
     if starts % STARTS_TOLD == 0 {
+        let number = write.number;
+        let writes = plan.writes.len();
+        let length = write.span.length;
         let _ = eprintln!(rt;
             "resets: at write {number} of {writes}, after {after} of {length} bytes"
         );

@@ -1,4 +1,5 @@
 // The words of the command line.
+use std::alloc::AllocError;
 use std::env;
 use std::io::ErrorKind;
 use std::rt::Env;
@@ -23,25 +24,26 @@ fn try_every(word: &str) -> Words {
     }
 }
 
-/// What a word asks for, with those behind it.
-fn asked(word: &str, second: Option<String>, third: Option<String>) -> Words {
-    match second {
-        None if word == "--help" => Words::Help,
-        Some(number) if word == "--every" && third.is_none() => try_every(number.as_str()),
+/// What words ask for, of which the first one is the program's name.
+fn asked(words: &[String]) -> Words {
+    match words {
+        [] | [_] => Words::Try { every: 1 },
+        [_, word] if word.as_str() == "--help" => Words::Help,
+        [_, word, number] if word.as_str() == "--every" => try_every(number.as_str()),
         _ => Words::Unknown,
     }
 }
 
-/// What the words after the program's name ask for.
+/// What the words of the command line ask for.
 pub(crate) fn given_words<R: Env + AllocGlobal>(rt: &R) -> Words {
     let given = match env::args(rt) {
         Ok(given) => given,
         Err(error) if error.kind() == ErrorKind::OutOfMemory => return Words::Memory,
         Err(_) => return Words::Unknown,
     };
-    let mut words = given.skip(1);
-    match words.next() {
-        None => Words::Try { every: 1 },
-        Some(word) => asked(word.as_str(), words.next(), words.next()),
+    let words: Result<Vec<String>, AllocError> = given.collect(rt.alloc());
+    match words {
+        Ok(words) => asked(&words),
+        Err(_) => Words::Memory,
     }
 }
