@@ -9,7 +9,10 @@ use std::process::ExitCode;
 use steps::Steps;
 
 fn main(rt: HostRuntime) -> ExitCode {
-    match play_table(&rt, &mut Steps::make(rt.alloc())) {
+    let mut steps = Steps::make(rt.alloc());
+    let played = play_table(&rt, &mut steps);
+    steps.end();
+    match played {
         Ok(true) => ExitCode::from(0),
         _ => ExitCode::from(1),
     }

@@ -11,15 +11,14 @@ use tbl_fakes::CalmBank;
 use tbl_kinds::{Actor, Bytes, Memory, Outcome, Request};
 use transcript::write_entry;
 
+/// The service that rows are played on.
+pub(crate) type Service = Core<CalmBank, Shipped>;
+
 /// The most entries of a history.
 const MOST_ENTRIES: usize = 32_768;
 
 /// Appends the spelling of the entry at a place.
-fn tell_entry(
-    core: &Core<CalmBank, Shipped>,
-    place: usize,
-    out: &mut Bytes,
-) -> Result<(), CaseFault> {
+fn tell_entry(core: &Service, place: usize, out: &mut Bytes) -> Result<(), CaseFault> {
     let entries = core.history();
     if place >= MOST_ENTRIES || entries.len() <= place {
         return Err(CaseFault::Unreadable);
@@ -34,7 +33,7 @@ fn tell_entry(
 
 /// Plays a request, and appends the spelling of its entry.
 pub(crate) fn step(
-    core: &mut Core<CalmBank, Shipped>,
+    core: &mut Service,
     actor: Actor,
     request: Request,
     out: &mut Bytes,
@@ -55,7 +54,7 @@ pub(crate) fn step(
 /// Plays the record at the front of an input, and tells its length: 0 at the end of the input.
 fn step_front(
     alloc: Global,
-    core: &mut Core<CalmBank, Shipped>,
+    core: &mut Service,
     input: &[u8],
     out: &mut Bytes,
 ) -> Result<usize, CaseFault> {
@@ -79,7 +78,7 @@ fn step_front(
 /// Plays records that stand one behind the other, and tells how many there are.
 pub(crate) fn step_all(
     alloc: Global,
-    core: &mut Core<CalmBank, Shipped>,
+    core: &mut Service,
     records: &[u8],
     out: &mut Bytes,
 ) -> Result<u32, CaseFault> {

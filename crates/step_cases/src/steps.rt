@@ -4,14 +4,13 @@ ghost use Rattle.std.specs.Prelude.{IfOk};
 ghost use Rattle.shipped_kit.specs.Verdicts.{asked_of};
 ghost use Rattle.tbl_core.specs.Service.{AskedBelow};
 
-use crate::stepping::{step, step_all};
-use case_tables::{CaseFault, Cases, Pieces};
+use crate::stepping::{Service, step, step_all};
+use case_tables::{CaseFault, Cases, Pieces, kept, same_bytes};
 use shipped_kit::{Shipped, shipped_entries};
 use std::alloc::Global;
 use tbl_core::{Core, StartFault};
 use tbl_fakes::CalmBank;
-use tbl_kinds::{Actor, Bytes, Memory, Name, Request};
-use tbl_outside::Back;
+use tbl_kinds::{Actor, Bytes, Memory, Name64, Request};
 use validation::Kit;
 
 /// How many bytes the field of a file's name has.
@@ -24,26 +23,19 @@ const BANK_SIZE: u32 = 131_072;
 #[derive(Drop)]
 pub(crate) struct Steps {
     alloc: Global,
-    core: Option<Core<CalmBank, Shipped>>,
+    core: Option<Service>,
+}
+
+/// Ends a core that is played on no more.
+fn close(core: Option<Service>) {
+    if let Some(core) = core {
+        let _bank = core.end();
+    }
 }
 
 /// Gives a value on. It compiles only for a core that may be sent to a thread.
 fn sent<T: Send>(value: T) -> T {
     value
-}
-
-fn kept(alloc: Global, piece: &[u8]) -> Result<Bytes, Memory> {
-    let mut bytes = Bytes::make(alloc, piece.len())?;
-    bytes.append(piece);
-    Ok(bytes)
-}
-
-/// Whether the entries are those that are wanted.
-fn compare(alloc: Global, came: &Bytes, wanted: &[u8]) -> Result<(), CaseFault> {
-    if came.bytes() == wanted {
-        return Ok(());
-    }
-    Err(CaseFault::Differs(hex::encode(alloc, came.bytes())?))
 }
 
 /// The kit of the shipped program.
@@ -53,6 +45,73 @@ fn shipped(alloc: Global) -> Result<Kit<Shipped>, Memory>
     Kit::make(alloc, shipped_entries(alloc)?)
 }
 
+/// Why a row has no core.
+fn fault_of(cause: StartFault) -> CaseFault {
+    match cause {
+        StartFault::Memory => CaseFault::Memory,
+        StartFault::BootFault | StartFault::BootStopped => CaseFault::Unreadable,
+    }
+}
+
+/// A core at its start.
+fn started(alloc: Global) -> Result<Service, CaseFault> {
+    let kit = shipped(alloc)?;
+    let bank = CalmBank::of_zeros(alloc, BANK_SIZE)?;
+    match Core::start(alloc, bank, kit) {
+        Ok(core) => Ok(sent(core)),
+        Err(back) => Err(fault_of(back.cause)),
+    }
+}
+
+/// Plays the records of a cell, and tells how many there are.
+fn play_records(
+    alloc: Global,
+    core: &mut Service,
+    pieces: &Pieces,
+    records: &str,
+    out: &mut Bytes,
+) -> Result<u32, CaseFault> {
+    let records = pieces.bytes(records)?;
+    step_all(alloc, core, &records, out)
+}
+
+/// The file's name that is in a cell.
+fn name_in(pieces: &Pieces, cell: &str) -> Result<Name64, CaseFault> {
+    let name = pieces.bytes(cell)?;
+    if name.len() > NAME_FIELD {
+        return Err(CaseFault::Unreadable);
+    }
+    Ok(Name64::of(&name))
+}
+
+/// The bytes of a cell, as a file has them.
+fn contents_in(alloc: Global, pieces: &Pieces, cell: &str) -> Result<Bytes, CaseFault> {
+    let contents = pieces.bytes(cell)?;
+    Ok(kept(alloc, &contents)?)
+}
+
+/// Uplinks a file, for which a record may have no room.
+fn uplink_file(
+    alloc: Global,
+    core: &mut Service,
+    pieces: &Pieces,
+    name: &str,
+    contents: &str,
+    out: &mut Bytes,
+) -> Result<(), CaseFault> {
+    let file = Request::File {
+        name: name_in(pieces, name)?,
+        bytes: contents_in(alloc, pieces, contents)?,
+    };
+    step(core, Actor::Ground, file, out)
+}
+
+/// Whether the entries are those of a cell.
+fn compare(alloc: Global, pieces: &Pieces, came: &Bytes, cell: &str) -> Result<(), CaseFault> {
+    let wanted = pieces.bytes(cell)?;
+    same_bytes(alloc, came.bytes(), &wanted)
+}
+
 impl Steps {
     /// Before the first core.
     pub(crate) fn make(alloc: Global) -> Steps {
@@ -60,45 +119,45 @@ impl Steps {
     }
 
     fn start(&mut self) -> Result<u32, CaseFault> {
-        let kit = shipped(self.alloc)?;
-        let bank = CalmBank::of_zeros(self.alloc, BANK_SIZE)?;
-        match Core::start(self.alloc, bank, kit) {
-            Ok(core) => {
-                self.core = Some(sent(core));
-                Ok(0)
-            }
-            Err(
-                Back {
-                    cause: StartFault::Memory,
-                    ..
-                },
-            ) => Err(CaseFault::Memory),
-            Err(_) => Err(CaseFault::Unreadable),
+        let core = started(self.alloc)?;
+        close(self.core.replace(core));
+        Ok(0)
+    }
+
+    /// Behind the last row.
+    pub(crate) fn end(self) {
+        close(self.core);
+    }
+
+    /// The core that was started last.
+    fn core(&mut self) -> Result<&mut Service, CaseFault> {
+        match &mut self.core {
+            Some(core) => Ok(core),
+            None => Err(CaseFault::Unreadable),
         }
     }
 
-    /// Plays records.
-    fn play(&mut self, records: &[u8], wanted: &[u8]) -> Result<u32, CaseFault> {
-        let core = self.core.as_mut().ok_or(CaseFault::Unreadable)?;
-        let mut out = Bytes::make(self.alloc, 0)?;
-        let count = step_all(self.alloc, core, records, &mut out)?;
-        compare(self.alloc, &out, wanted)?;
+    /// Plays records, and compares the entries that they add.
+    fn play(&mut self, pieces: &Pieces, records: &str, entries: &str) -> Result<u32, CaseFault> {
+        let alloc = self.alloc;
+        let mut out = Bytes::make(alloc, 0)?;
+        let count = play_records(alloc, self.core()?, pieces, records, &mut out)?;
+        compare(alloc, pieces, &out, entries)?;
         Ok(count)
     }
 
-    /// Uplinks a file, for which a record may have no room.
-    fn uplink(&mut self, name: &[u8], contents: &[u8], wanted: &[u8]) -> Result<u32, CaseFault> {
-        let core = self.core.as_mut().ok_or(CaseFault::Unreadable)?;
-        let mut out = Bytes::make(self.alloc, 0)?;
-        if name.len() > NAME_FIELD {
-            return Err(CaseFault::Unreadable);
-        }
-        let file = Request::File {
-            name: Name::of(name),
-            bytes: kept(self.alloc, contents)?,
-        };
-        step(core, Actor::Ground, file, &mut out)?;
-        compare(self.alloc, &out, wanted)?;
+    /// Uplinks a file, and compares the entry that it adds.
+    fn uplink(
+        &mut self,
+        pieces: &Pieces,
+        name: &str,
+        contents: &str,
+        entry: &str,
+    ) -> Result<u32, CaseFault> {
+        let alloc = self.alloc;
+        let mut out = Bytes::make(alloc, 0)?;
+        uplink_file(alloc, self.core()?, pieces, name, contents, &mut out)?;
+        compare(alloc, pieces, &out, entry)?;
         Ok(1)
     }
 }
@@ -109,14 +168,8 @@ impl Cases for Steps {
     fn try_row(&mut self, pieces: &Pieces, cells: &[&str]) -> Result<u32, CaseFault> {
         match cells {
             ["core", _] => self.start(),
-            ["play", records, entries] => {
-                self.play(&pieces.bytes(records)?, &pieces.bytes(entries)?)
-            }
-            ["file", name, contents, entry] => self.uplink(
-                &pieces.bytes(name)?,
-                &pieces.bytes(contents)?,
-                &pieces.bytes(entry)?,
-            ),
+            ["play", records, entries] => self.play(pieces, records, entries),
+            ["file", name, contents, entry] => self.uplink(pieces, name, contents, entry),
             _ => Err(CaseFault::Unreadable),
         }
     }
