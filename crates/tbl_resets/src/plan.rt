@@ -1,7 +1,7 @@
 // The session without a reset: the writes of its bank, its critical tables, and their images.
 use crate::play::{Fault, Room, Service, behind, close};
 use crate::recovery::read_image;
-use crate::tables::{Change, Event, Image, Registration, Table};
+use crate::tables::{Change, Image, Registration, Table};
 use bitflags::Flags;
 use check_word::check16;
 use std::alloc::{AllocError, Global};

@@ -241,7 +241,10 @@ pub(crate) struct Left {
 }
 
 /// What a stop left in a bank.
-fn left_in(alloc: Global, bank: &MemBank, played: usize) -> Result<Left, Fault> {
+fn left_in(alloc: Global, bank: &MemBank, played: usize) -> Result<Left, Fault>
+    ensures image { IfOk result (λ left. left.image.list ≡ bank.now.bytes) }
+    ensures played { IfOk result (λ left. left.played ≡ played) }
+{
     let bytes = bank.bytes();
     let mut image = Bytes::make(alloc, bytes.len())?;
     image.append(bytes);
