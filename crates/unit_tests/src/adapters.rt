@@ -85,7 +85,7 @@ impl RandomAccess for OneByteFile {
     }
 }
 
-// A file that begins as `abcd`.
+/// A file that begins as `abcd`.
 fn one_byte_file(alloc: Global, bad: u32) -> Result<OneByteFile, Memory> {
     let mut bytes = Bytes::make(alloc, 4)?;
     bytes.append(b"abcd");
@@ -99,59 +99,67 @@ fn one_byte_file(alloc: Global, bad: u32) -> Result<OneByteFile, Memory> {
 /// Compiles only where a value may be sent to a thread.
 fn sent<T: Send>(_value: &T) {}
 
-// A write and a read at the front of a bank, through the bound, where the bank has so many bytes.
-fn write_and_read<B: Bank>(bank: &mut B, bytes: &[u8], into: &mut [u8]) -> Option<(Written, bool)> {
+/// A store file of 12 bytes over one that begins as `abcd`.
+fn store_over(alloc: Global, bad: u32) -> Result<StoreFile<OneByteFile>, Fail> {
+    let file = one_byte_file(alloc, bad)?;
+    Ok(StoreFile::over(file, 12)?)
+}
+
+/// Writes and then reads at the front of a bank, through the bound. It answers how the write ended, and nothing where the
+/// bank hasn't so many bytes or the read fails.
+fn write_and_read<B: Bank>(bank: &mut B, bytes: &[u8], into: &mut [u8]) -> Option<Written> {
     let size = bank.size() as usize;
-    if bytes.len() <= size && into.len() <= size {
-        return Some((bank.write_at(0, bytes), bank.read_at(0, into).is_ok()));
+    if size < bytes.len() || size < into.len() {
+        return None;
     }
-    None
+    let written = bank.write_at(0, bytes);
+    match bank.read_at(0, into) {
+        Ok(()) => Some(written),
+        Err(_) => None,
+    }
 }
 
 #[test]
 fn a_file_that_moves_one_byte_at_a_time(rt: HostRuntime) -> Result<(), Fail> {
-    let mut store = StoreFile::over(one_byte_file(rt.alloc(), 0)?, 12)?;
+    let mut store = store_over(rt.alloc(), 0)?;
     let mut piece = [b'?'; 12];
-    assert_eq!(rt;
-        write_and_read(&mut store, b"ABC", &mut piece),
-        Some((Written::Done, true))
+    let told = write_and_read(&mut store, b"ABC", &mut piece);
+    assert!(rt;
+        told == Some(Written::Done) && piece == *b"ABCd\0\0\0\0\0\0\0\0" && store.faults() == 0
     );
-    assert_eq!(rt; piece, *b"ABCd\0\0\0\0\0\0\0\0");
-    assert_eq!(rt; store.faults(), 0);
     Ok(())
 }
 
 #[test]
 fn a_write_that_fails_in_the_midst(rt: HostRuntime) -> Result<(), Fail> {
     // Eight calls make the file longer, so the tenth writes the second byte.
-    let mut store = StoreFile::over(one_byte_file(rt.alloc(), 10)?, 12)?;
+    let mut store = store_over(rt.alloc(), 10)?;
     let mut piece = [b'?'; 5];
-    assert_eq!(rt;
-        write_and_read(&mut store, b"ABC", &mut piece),
-        Some((Written::Failed, true))
-    );
-    assert_eq!(rt; piece, *b"Abcd\0");
-    assert_eq!(rt; store.faults(), 1);
+    let told = write_and_read(&mut store, b"ABC", &mut piece);
+    assert!(rt; told == Some(Written::Failed) && piece == *b"Abcd\0" && store.faults() == 1);
     Ok(())
 }
 
 #[test]
 fn a_file_that_cant_be_made_longer(rt: HostRuntime) -> Result<(), Fail> {
     let file = one_byte_file(rt.alloc(), 2)?;
-    assert!(rt; matches!(StoreFile::over(file, 12), Err(OpenFault::Lengthen(_))));
+    let opened = StoreFile::over(file, 12);
+    assert!(rt; matches!(&opened, Err(OpenFault::Lengthen(_))));
     Ok(())
+}
+
+/// Writes into the store file, and says whether the bytes came back behind it.
+fn is_kept(store: &mut StoreFile) -> bool {
+    sent(store);
+    let mut piece = [b'?'; 8];
+    let told = write_and_read(store, b"abc", &mut piece);
+    told == Some(Written::Done) && piece == *b"abc\0\0\0\0\0"
 }
 
 #[test]
 fn the_store_file(rt: HostRuntime) -> Result<(), Fail> {
     let mut store = StoreFile::open(&rt, 8)?;
-    sent(&store);
-    let mut piece = [b'?'; 8];
-    assert_eq!(rt;
-        write_and_read(&mut store, b"abc", &mut piece),
-        Some((Written::Done, true))
-    );
-    assert_eq!(rt; piece, *b"abc\0\0\0\0\0");
+    assert!(rt; is_kept(&mut store));
     fs::remove_file(&rt, "cds.store")?;
     Ok(())
 }
@@ -160,6 +168,5 @@ fn the_store_file(rt: HostRuntime) -> Result<(), Fail> {
 fn the_streams(rt: HostRuntime) {
     let input = StandardInput::of(rt.stdin());
     let mut output = StandardOutput::of(rt.stdout());
-    assert!(rt; output.write(b"").is_ok());
-    assert_eq!(rt; [input.faults(), output.faults()], [0, 0]);
+    assert!(rt; output.write(b"").is_ok() && input.faults() == 0 && output.faults() == 0);
 }
