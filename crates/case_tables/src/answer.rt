@@ -30,3 +30,9 @@ pub fn kept(alloc: Global, bytes: &[u8]) -> Result<Bytes, Memory>
     kept.append(bytes);
     Ok(kept)
 }
+
+/// One word, as a program is given words.
+pub fn one_word(alloc: Global, word: &str) -> Result<Vec<Bytes>, CaseFault> {
+    let word = kept(alloc, word.as_bytes())?;
+    Ok(vec![in alloc; word]?)
+}

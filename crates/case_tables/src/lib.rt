@@ -7,10 +7,14 @@ mod fault;
 mod number;
 mod piece;
 mod pieces;
+mod row;
 mod table;
+mod threads;
 
-pub use answer::{kept, same_bytes, same_text};
+pub use answer::{kept, one_word, same_bytes, same_text};
 pub use fault::CaseFault;
 pub use number::{byte, count_of, number_in, numbers_in, short};
 pub use pieces::Pieces;
+pub use row::Row;
 pub use table::{Cases, Tally, play_table, row_in};
+pub use threads::{ThreadCases, play_rows};

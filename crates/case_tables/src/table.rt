@@ -10,7 +10,7 @@ pub trait Cases {
 }
 
 /// A line without its comment, which `#` begins.
-fn without_comment(line: &str) -> &str {
+pub(crate) fn without_comment(line: &str) -> &str {
     match line.split_once('#') {
         Some((front, _)) => front.trim(),
         None => line.trim(),

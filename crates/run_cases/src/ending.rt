@@ -1,122 +1,131 @@
 //! A run, and how it ended.
 
-ghost use Rattle.std.specs.Prelude.{◌≡◌, length, IfOk};
+ghost use Rattle.std.specs.Prelude.{◌≡◌, ◌≤◌, length, IfOk};
 
-use case_tables::CaseFault;
+use case_tables::{CaseFault, Row};
 use std::alloc::Global;
 use std::sync::Wait;
 use std::thread::Threads;
-use tbl_fakes::{CalmBank, CalmSink, CalmSource, MemSink, MemSource, OpenGate};
+use tbl_fakes::{CalmBank, MemSink, MemSource, OpenGate};
 use tbl_kinds::{Bytes, Memory};
+use tbl_outside::{Sink, Source};
 use tbl_top::run;
 
-/// What a run is given.
-#[derive(Drop)]
-pub(crate) struct Given {
-    pub(crate) words: Vec<Bytes>,
-    pub(crate) input: Vec<u8>,
-    /// The numbers of the reads that fail, from 1.
-    pub(crate) bad_reads: Vec<u32>,
-    /// The numbers of the writes that fail, from 1.
-    pub(crate) bad_writes: Vec<u32>,
-}
+/// How many bytes the bank has.
+const BANK_SIZE: u32 = 131_072;
+
+/// The status of a run whose sink fails.
+const WRITE_FAILED: u8 = 4;
 
 /// How a run ended.
-#[derive(Debug, PartialEq, Eq, Drop)]
-pub(crate) struct Ending {
-    pub(crate) status: u8,
-    pub(crate) read_faults: u64,
-    pub(crate) write_faults: u64,
-    /// How many bytes of the input weren't read.
-    pub(crate) left: usize,
-    pub(crate) output: Vec<u8>,
+#[derive(Drop)]
+struct Ending {
+    status: u8,
+    source: MemSource,
+    sink: MemSink,
 }
-
-/// The same bytes as the service keeps them.
-pub(crate) fn kept(alloc: Global, piece: &[u8]) -> Result<Bytes, Memory> {
-    let mut bytes = Bytes::make(alloc, piece.len())?;
-    bytes.append(piece);
-    Ok(bytes)
-}
-
-/// How many bytes the bank has.
-pub(crate) const BANK_SIZE: u32 = 131_072;
 
 /// A bank of zeros.
-pub(crate) fn bank(alloc: Global, size: u32) -> Result<CalmBank, Memory>
-    ensures { IfOk result (λ bank. length bank ≡ size) }
+pub(crate) fn bank(alloc: Global) -> Result<CalmBank, Memory>
+    ensures { IfOk result (λ bank. length bank ≡ 131072) }
 {
-    CalmBank::of_zeros(alloc, size)
+    CalmBank::of_zeros(alloc, BANK_SIZE)
 }
 
-fn source_of(alloc: Global, given: &Given) -> Result<MemSource, Memory> {
-    MemSource::make(alloc, kept(alloc, &given.input)?, &given.bad_reads)
-}
-
-/// Runs, with room for so many bytes in the sink.
-pub(crate) fn run_in<R: Threads + Wait + Sync>(
+/// Runs over a bank of zeros, without validation functions, and gives the status.
+pub(crate) fn status_of<R: Threads + Wait + Sync, S: Source, K: Sink>(
     rt: &R,
     alloc: Global,
-    given: &Given,
-    room: u32,
-) -> Result<Ending, CaseFault> {
-    let mut source = source_of(alloc, given)?;
-    let mut sink = MemSink::make(alloc, room, &given.bad_writes)?;
-    let bank = bank(alloc, BANK_SIZE)?;
+    words: &[Bytes],
+    source: &mut S,
+    sink: &mut K,
+) -> Result<u8, Memory> {
+    let bank = bank(alloc)?;
     let kit = Vec::new(alloc);
-    let (status, _bank) = run(
-        rt,
-        alloc,
-        &given.words,
-        &mut source,
-        &mut sink,
-        bank,
-        kit,
-        &OpenGate,
-    );
+    let (status, _bank) = run(rt, alloc, words, source, sink, bank, kit, &OpenGate);
+    Ok(status)
+}
+
+/// The source of a row: its input stands in a cell, and the numbers of the reads that fail, from 1, in the next one.
+fn source_in(row: &Row, at: usize) -> Result<MemSource, CaseFault>
+    requires { at ≤ 2 }
+{
+    let bad_reads = row.numbers(at + 1)?;
+    Ok(MemSource::make(row.alloc(), row.kept(at)?, &bad_reads)?)
+}
+
+/// A sink with room for so many bytes. The numbers of the writes that fail, from 1, stand in a cell of a row.
+fn sink_in(row: &Row, at: usize, room: u32) -> Result<MemSink, CaseFault> {
+    let bad_writes = row.numbers(at)?;
+    Ok(MemSink::make(row.alloc(), room, &bad_writes)?)
+}
+
+/// Runs with these words, the input that stands in a cell of a row, and the failures in the cells behind it.
+fn run_row<R: Threads + Wait + Sync>(
+    rt: &R,
+    row: &Row,
+    words: &[Bytes],
+    input: usize,
+    room: u32,
+) -> Result<Ending, CaseFault>
+    requires { input ≤ 2 }
+{
+    let mut source = source_in(row, input)?;
+    let mut sink = sink_in(row, input + 2, room)?;
+    let status = status_of(rt, row.alloc(), words, &mut source, &mut sink)?;
     Ok(Ending {
         status,
-        read_faults: source.faults(),
-        write_faults: sink.faults(),
-        left: source.left_bytes().len(),
-        output: sink.taken().to_vec(alloc)?,
+        source,
+        sink,
     })
 }
 
-/// Runs between a source and a sink that never fail. The status, and how many bytes of the input weren't read.
-pub(crate) fn run_calm<R: Threads + Wait + Sync>(
-    rt: &R,
-    alloc: Global,
-    given: &Given,
-) -> Result<(u8, usize), CaseFault> {
-    let mut source = CalmSource::make(kept(alloc, &given.input)?);
-    let (status, _bank) = run(
-        rt,
-        alloc,
-        &given.words,
-        &mut source,
-        &mut CalmSink::make(),
-        bank(alloc, BANK_SIZE)?,
-        Vec::new(alloc),
-        &OpenGate,
-    );
-    Ok((status, source.left_bytes().len()))
+/// Whether a run ended as a row states from a cell on: its status, how often reading and writing failed, how many bytes of
+/// the input weren't read, and the output.
+fn compare(row: &Row, at: usize, came: &Ending) -> Result<(), CaseFault>
+    requires { at ≤ 6 }
+{
+    row.same_number(at, u64::from(came.status))?;
+    row.same_number(at + 1, came.source.faults())?;
+    row.same_number(at + 2, came.sink.faults())?;
+    row.same_number(at + 3, came.source.left_bytes().len() as u64)?;
+    row.same_bytes(at + 4, came.sink.taken())
 }
 
-/// Whether a run ended so.
-pub(crate) fn compare(alloc: Global, came: &Ending, wanted: &Ending) -> Result<(), CaseFault> {
-    if came == wanted {
+/// Whether a run ended with a failed write, and so many bytes of the output that stands in a cell of a row.
+fn compare_front(row: &Row, at: usize, room: u32, came: &Ending) -> Result<(), CaseFault> {
+    let output = row.bytes(at)?;
+    let taken = came.sink.taken();
+    if came.status == WRITE_FAILED && output.get(..room as usize) == Some(taken) {
         return Ok(());
     }
-    let Ending {
-        status,
-        read_faults,
-        write_faults,
-        left,
-        ..
-    } = came;
-    let output = hex::encode(alloc, &came.output)?;
-    Err(CaseFault::Differs(format!(in alloc;
-        "status {status}, faults {read_faults} and {write_faults}, left {left}, output {output}"
-    )?))
+    Err(CaseFault::Differs(hex::encode(row.alloc(), taken)?))
+}
+
+/// Runs with these words and the input that stands in a cell of a row, and compares how that ends with what the row states
+/// from another cell on.
+pub(crate) fn try_ending<R: Threads + Wait + Sync>(
+    rt: &R,
+    row: &Row,
+    words: &[Bytes],
+    input: usize,
+    wanted: usize,
+    room: u32,
+) -> Result<(), CaseFault>
+    requires input { input ≤ 2 }
+    requires wanted { wanted ≤ 6 }
+{
+    let came = run_row(rt, row, words, input, room)?;
+    compare(row, wanted, &came)
+}
+
+/// Runs with these words and less room than for the output of a row, whose front is to be there then.
+pub(crate) fn try_front<R: Threads + Wait + Sync>(
+    rt: &R,
+    row: &Row,
+    words: &[Bytes],
+    room: u32,
+) -> Result<(), CaseFault> {
+    let came = run_row(rt, row, words, 2, room)?;
+    compare_front(row, 9, room, &came)
 }

@@ -1,44 +1,33 @@
 //! A session that is fed in pieces.
 
-ghost use Rattle.std.specs.Prelude.{◌≡◌, ◌<◌, IfOk, IsTrue};
+ghost use Rattle.std.specs.Prelude.{◌≡◌, ◌<◌, IfOk};
 ghost use Rattle.tbl_top.specs.declared.playback.Standing.TheVariants.{Open};
 
-use crate::ending::{BANK_SIZE, bank};
-use case_tables::CaseFault;
+use crate::ending::bank;
+use case_tables::{CaseFault, Row, count_of};
 use std::alloc::Global;
 use tbl_core::Core;
 use tbl_fakes::{CalmBank, FirstByte, MemSink};
 use tbl_top::{Fed, Player};
 use validation::Kit;
 
-/// How a session that was fed ended.
-#[derive(PartialEq, Eq, Drop)]
-pub(crate) struct Told {
-    /// How many bytes the sink had taken between the two parts of the input.
-    pub(crate) between: usize,
-    pub(crate) status: u8,
-    /// How many entries the history has.
-    pub(crate) entries: usize,
-    pub(crate) output: Vec<u8>,
-}
-
-/// Feeds bytes in pieces of so many, and answers whether the session is open then.
+/// Feeds bytes in pieces of so many. The session stays open.
 fn feed_each(
     player: &mut Player<CalmBank, FirstByte>,
     bytes: &[u8],
     each: usize,
     sink: &mut MemSink,
-) -> bool
+) -> Result<(), CaseFault>
     requires some { 0 < each }
     requires is_open { player.old.standing ≡ Open }
-    ensures is_open { IsTrue result → player.new.standing ≡ Open }
+    ensures is_open { IfOk result (λ _. player.new.standing ≡ Open) }
 {
     'pieces: for piece in bytes.chunks(each) {
         if player.feed(piece, sink) != Fed::More {
-            return false;
+            return Err(CaseFault::Unreadable);
         }
     }
-    true
+    Ok(())
 }
 
 /// A session over a service without validation functions.
@@ -46,7 +35,7 @@ fn player(alloc: Global) -> Result<Player<CalmBank, FirstByte>, CaseFault>
     ensures { IfOk result (λ p. p.standing ≡ Open) }
 {
     let kit = Kit::make(alloc, Vec::new(alloc))?;
-    let bank = bank(alloc, BANK_SIZE)?;
+    let bank = bank(alloc)?;
     let Ok(core) = Core::start(alloc, bank, kit) else {
         return Err(CaseFault::Memory);
     };
@@ -56,56 +45,57 @@ fn player(alloc: Global) -> Result<Player<CalmBank, FirstByte>, CaseFault>
     }
 }
 
-/// Feeds two parts of an input in pieces of so many bytes, and tells how many bytes the sink had taken between them; none where
-/// the session was over before the end.
-fn feed_both(
+/// Feeds the two parts of a row in pieces of so many bytes, and compares how many bytes the sink has between them, and how
+/// the session ends.
+fn feed_row(
     player: &mut Player<CalmBank, FirstByte>,
-    parts: [&[u8]; 2],
+    row: &Row,
     each: usize,
     sink: &mut MemSink,
-) -> Option<usize>
+) -> Result<(), CaseFault>
     requires some { 0 < each }
     requires is_open { player.old.standing ≡ Open }
 {
-    let [first, second] = parts;
-    if !feed_each(player, first, each, sink) {
-        return None;
-    }
-    let between = sink.taken().len();
-    if !feed_each(player, second, each, sink) {
-        return None;
-    }
-    Some(between)
+    feed_each(player, &row.bytes(1)?, each, sink)?;
+    row.same_number(4, sink.taken().len() as u64)?;
+    feed_each(player, &row.bytes(2)?, each, sink)?;
+    row.same_number(5, u64::from(player.finish(false, sink)))?;
+    row.same_bytes(7, sink.taken())
 }
 
 /// How many entries a session has at its end.
-fn count_of(player: Player<CalmBank, FirstByte>) -> usize {
+fn count_entries(player: Player<CalmBank, FirstByte>) -> usize {
     let core = player.end();
     core.history().len()
 }
 
-/// Feeds the two parts of an input, each in pieces of so many bytes, with room for so many in the sink.
-pub(crate) fn feed_parts(
-    alloc: Global,
-    parts: [&[u8]; 2],
-    each: usize,
-    room: u32,
-) -> Result<Told, CaseFault> {
+/// Feeds a session from its start, and compares how many entries its history has, too.
+fn feed_through(row: &Row, each: usize, sink: &mut MemSink) -> Result<(), CaseFault>
+    requires some { 0 < each }
+{
+    let mut player = player(row.alloc())?;
+    let fed = feed_row(&mut player, row, each, sink);
+    let entries = count_entries(player);
+    fed?;
+    row.same_number(6, entries as u64)
+}
+
+/// Feeds a session in pieces of so many bytes, with room for the output of a row.
+fn try_length(row: &Row, each: u32) -> Result<(), CaseFault> {
     if each == 0 {
         return Err(CaseFault::Unreadable);
     }
-    let mut player = player(alloc)?;
-    let mut sink = MemSink::make(alloc, room, &[])?;
-    let Some(between) = feed_both(&mut player, parts, each, &mut sink) else {
-        return Err(CaseFault::Unreadable);
-    };
-    let status = player.finish(false, &mut sink);
-    let entries = count_of(player);
-    let output = sink.taken().to_vec(alloc)?;
-    Ok(Told {
-        between,
-        status,
-        entries,
-        output,
-    })
+    let room = count_of(&row.bytes(7)?)?;
+    let mut sink = MemSink::make(row.alloc(), room, &[])?;
+    feed_through(row, each as usize, &mut sink)
+}
+
+/// Feeds the two parts of a row in pieces of each of the lengths that it has.
+pub(crate) fn try_lengths(row: &Row) -> Result<u32, CaseFault> {
+    let mut count = 0u32;
+    for each in &row.numbers(3)? {
+        try_length(row, *each)?;
+        count = count.saturating_add(1);
+    }
+    Ok(count)
 }

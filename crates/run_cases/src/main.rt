@@ -5,11 +5,12 @@ mod ending;
 mod feeding;
 mod runs;
 
-use runs::play_runs;
+use case_tables::play_rows;
+use runs::Runs;
 use std::process::ExitCode;
 
 fn main(rt: HostRuntime) -> ExitCode {
-    match play_runs(&rt) {
+    match play_rows(&rt, &Runs) {
         Ok(true) => ExitCode::from(0),
         _ => ExitCode::from(1),
     }
