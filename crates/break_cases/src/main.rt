@@ -2,16 +2,17 @@
 //! otherwise than it states.
 #![tactic(auto)]
 
-mod cells;
+mod banks;
 mod notes;
 mod second_runs;
 mod sessions;
 
-use sessions::play_sessions;
+use case_tables::play_rows;
+use sessions::Sessions;
 use std::process::ExitCode;
 
 fn main(rt: HostRuntime) -> ExitCode {
-    match play_sessions(&rt) {
+    match play_rows(&rt, &Sessions) {
         Ok(true) => ExitCode::from(0),
         _ => ExitCode::from(1),
     }

@@ -144,18 +144,45 @@ fn step_all(
     Ok(())
 }
 
+/// A core at its start over a bank.
+fn start(alloc: Global, bank: MemBank) -> Result<Core<MemBank, Shipped>, CaseFault>
+    requires { bank_size ≤ length bank.bytes }
+{
+    let kit = shipped(alloc)?;
+    match Core::start(alloc, bank, kit) {
+        Ok(core) => Ok(core),
+        Err(_) => Err(CaseFault::Unreadable),
+    }
+}
+
+/// Writes the statuses and notes of entries, with blanks behind them.
+fn tell_entries(told: &mut String, entries: &[Entry]) -> fmt::Result {
+    for entry in entries {
+        tell_entry(told, entry)?;
+    }
+    Ok(())
+}
+
+/// Plays records, and tells the statuses and notes of all entries.
+fn play_notes(
+    alloc: Global,
+    core: &mut Core<MemBank, Shipped>,
+    records: &[u8],
+) -> Result<String, CaseFault> {
+    step_all(alloc, core, records)?;
+    let mut told = String::new(alloc);
+    match tell_entries(&mut told, core.history()) {
+        Ok(()) => Ok(told),
+        Err(_) => Err(CaseFault::Memory),
+    }
+}
+
 /// The statuses and notes of a session over a bank, with blanks behind them.
 pub(crate) fn notes_of(alloc: Global, records: &[u8], bank: MemBank) -> Result<String, CaseFault>
     requires { bank_size ≤ length bank.bytes }
 {
-    let kit = shipped(alloc)?;
-    let Ok(mut core) = Core::start(alloc, bank, kit) else {
-        return Err(CaseFault::Unreadable);
-    };
-    step_all(alloc, &mut core, records)?;
-    let mut told = String::new(alloc);
-    for entry in core.history() {
-        tell_entry(&mut told, entry).map_err(|_| CaseFault::Memory)?;
-    }
-    Ok(told)
+    let mut core = start(alloc, bank)?;
+    let told = play_notes(alloc, &mut core, records);
+    let _bank = core.end();
+    told
 }

@@ -1,304 +1,130 @@
 //! Sessions as a table states them.
 
-ghost use Rattle.std.specs.Prelude.{◌≡◌, ◌≤◌, length, IfOk};
+ghost use Rattle.std.specs.Prelude.{◌≤◌, length};
 ghost use Rattle.tbl_kinds.specs.Places.{bank_size};
 
-use crate::cells::{Run, bank_of, bank_over, breaks_in, end_of, first_unlike, runs_in, spans_in};
+use crate::banks::{bank_in, same_bank, same_writes};
 use crate::notes::notes_of;
-use crate::second_runs::{Both, Told, try_all};
-use case_tables::{CaseFault, Pieces, Tally, number_in, numbers_in, row_in};
+use crate::second_runs::try_again;
+use case_tables::{CaseFault, Row, ThreadCases, count_of, one_word, same_text};
 use shipped_kit::shipped_entries;
 use std::alloc::Global;
-use std::io::{self, Read};
 use std::sync::Wait;
 use std::thread::Threads;
-use tbl_fakes::{MemBank, MemSink, MemSource, OpenGate, Span};
+use tbl_fakes::{MemBank, MemSink, MemSource, OpenGate};
 use tbl_kinds::{Bytes, Memory};
 use tbl_top::run_with;
 
 /// For how many bytes the sink has room beside those that are wanted.
-const MORE_OUTPUT: u32 = 65_536;
+const MORE_OUTPUT: u32 = 512;
 
-/// How a session is to end.
+/// What a session is given beside its bank.
 #[derive(Drop)]
-struct Wanted {
-    status: u8,
-    output: Vec<u8>,
-    writes: Vec<Span>,
-    bank: Vec<Run>,
-    /// Behind this place the bank is to have zeros before and behind the session, and no write.
-    end: usize,
+struct Session {
+    words: Vec<Bytes>,
+    source: MemSource,
+    sink: MemSink,
 }
 
-/// How a session ended.
-#[derive(Drop)]
-pub(crate) struct Came {
-    pub(crate) status: u8,
-    pub(crate) sink: MemSink,
-    pub(crate) bank: MemBank,
-}
+impl Session {
+    /// A session with a word, whose input stands in a cell of a row, and the output that is wanted in another one.
+    fn make(row: &Row, word: &str, input: usize, output: usize) -> Result<Session, CaseFault> {
+        let room = count_of(&row.bytes(output)?)?;
+        Ok(Session {
+            words: one_word(row.alloc(), word)?,
+            source: MemSource::make(row.alloc(), row.kept(input)?, &[])?,
+            sink: MemSink::make(row.alloc(), room.saturating_add(MORE_OUTPUT), &[])?,
+        })
+    }
 
-/// What a session is given.
-#[derive(Drop)]
-struct Given {
-    input: Vec<u8>,
-    /// What the bank holds before it.
-    before: Vec<Run>,
-    bank: MemBank,
-}
+    /// Plays it over a bank. The status, and the bank behind it.
+    fn play<R: Threads + Wait + Sync>(
+        &mut self,
+        rt: &R,
+        alloc: Global,
+        bank: MemBank,
+    ) -> Result<(u8, MemBank), Memory>
+        requires { bank_size ≤ length bank.bytes }
+    {
+        let kit = shipped_entries(alloc)?;
+        Ok(run_with(
+            rt,
+            alloc,
+            &self.words,
+            &mut self.source,
+            &mut self.sink,
+            bank,
+            kit,
+            &OpenGate,
+        ))
+    }
 
-/// Plays sessions.
-#[derive(Drop)]
-pub(crate) struct Sessions<'r, R> {
-    rt: &'r R,
-    alloc: Global,
-}
-
-/// The same bytes as the service keeps them.
-pub(crate) fn kept(alloc: Global, bytes: &[u8]) -> Result<Bytes, Memory>
-    ensures { IfOk result (λ b. b.list ≡ bytes.now) }
-{
-    let mut kept = Bytes::make(alloc, bytes.len())?;
-    kept.append(bytes);
-    Ok(kept)
-}
-
-/// A bank of these bytes, with the cells that tell which of its writes break off and which of its reads fail.
-fn broken_bank(
-    alloc: Global,
-    bytes: Bytes,
-    breaks: &str,
-    bad_reads: &str,
-) -> Result<MemBank, CaseFault>
-    requires { length bytes.list ≡ 131072 }
-    ensures { IfOk result (λ bank. length bank.bytes ≡ 131072) }
-{
-    let breaks = breaks_in(alloc, breaks)?;
-    let bad_reads = numbers_in(alloc, bad_reads)?;
-    match bank_over(alloc, bytes, &breaks, &bad_reads) {
-        Ok(bank) => Ok(bank),
-        Err(Memory) => Err(CaseFault::Memory),
+    /// Compares a status with a cell of a row, and the output with the next one.
+    fn compare(&self, row: &Row, at: usize, status: u8) -> Result<(), CaseFault>
+        requires { at ≤ 7 }
+    {
+        row.same_number(at, u64::from(status))?;
+        row.same_bytes(at + 1, self.sink.taken())
     }
 }
 
-/// The words of a session, of which there is one.
-fn words_of(alloc: Global, word: &str) -> Result<Vec<Bytes>, Memory> {
-    let word = kept(alloc, word.as_bytes())?;
-    Ok(vec![in alloc; word]?)
-}
-
-/// Plays a session over a bank.
+/// Plays a session with a word over a bank, which comes back. Its input stands in a cell of a row, and the status and the
+/// output, which are compared, in two others.
 pub(crate) fn play<R: Threads + Wait + Sync>(
     rt: &R,
-    alloc: Global,
+    row: &Row,
     word: &str,
-    input: &[u8],
+    input: usize,
+    wanted: usize,
     bank: MemBank,
-    room: u32,
-) -> Result<Came, CaseFault>
-    requires { bank_size ≤ length bank.bytes }
+) -> Result<MemBank, CaseFault>
+    requires room { bank_size ≤ length bank.bytes }
+    requires cells { wanted ≤ 7 }
 {
-    let words = words_of(alloc, word)?;
-    let mut source = MemSource::make(alloc, kept(alloc, input)?, &[])?;
-    let mut sink = MemSink::make(alloc, room, &[])?;
-    let kit = shipped_entries(alloc)?;
-    let (status, bank) = run_with(
-        rt,
-        alloc,
-        &words,
-        &mut source,
-        &mut sink,
-        bank,
-        kit,
-        &OpenGate,
-    );
-    Ok(Came { status, sink, bank })
+    let mut session = Session::make(row, word, input, wanted + 1)?;
+    let (status, bank) = session.play(rt, row.alloc(), bank)?;
+    session.compare(row, wanted, status)?;
+    Ok(bank)
 }
 
-/// The first place at which bytes differ, or where the shorter end.
-fn first_difference(came: &[u8], wanted: &[u8]) -> usize {
-    came.iter()
-        .zip(wanted)
-        .take_while(|(came, wanted)| came == wanted)
-        .count()
+/// Compares a bank's writes and what it holds behind a session.
+fn compare_bank(row: &Row, bank: &MemBank) -> Result<(), CaseFault> {
+    same_writes(row, 8, bank.spans())?;
+    same_bank(row, 9, bank.bytes())
 }
 
-/// Whether a session ended so.
-fn compare(alloc: Global, came: &Came, wanted: &Wanted) -> Result<(), CaseFault> {
-    let output = came.sink.taken();
-    if came.status != wanted.status || output != wanted.output.as_slice() {
-        let at = first_difference(output, &wanted.output);
-        let status = came.status;
-        let output = hex::encode(alloc, output)?;
-        return Err(CaseFault::Differs(format!(in alloc;
-            "status {status}, and from byte {at} on output {output}"
-        )?));
-    }
-    let writes = came.bank.spans();
-    if writes != wanted.writes.as_slice() {
-        let count = writes.len();
-        return Err(CaseFault::Differs(format!(in alloc; "{count} writes, or others")?));
-    }
-    if let Some(at) = first_unlike(came.bank.bytes(), &wanted.bank, wanted.end) {
-        return Err(CaseFault::Differs(format!(in alloc; "the bank behind byte {at}")?));
-    }
-    Ok(())
+/// Plays a session, and compares how it ends.
+fn try_session<R: Threads + Wait + Sync>(rt: &R, row: &Row) -> Result<u32, CaseFault> {
+    let bank = bank_in(row)?;
+    let bank = play(rt, row, row.text(0)?, 2, 6, bank)?;
+    compare_bank(row, &bank)?;
+    Ok(1)
 }
 
-impl<'r, R: Threads + Wait + Sync> Sessions<'r, R> {
-    pub(crate) fn make(rt: &'r R, alloc: Global) -> Sessions<'r, R> {
-        Sessions { rt, alloc }
-    }
-
-    /// The bank with which a session begins.
-    fn bank(&self, runs: &[Run], breaks: &str, bad_reads: &str) -> Result<MemBank, CaseFault>
-        ensures { IfOk result (λ bank. length bank.bytes ≡ 131072) }
-    {
-        let bytes = bank_of(self.alloc, runs)?;
-        broken_bank(self.alloc, bytes, breaks, bad_reads)
-    }
-
-    fn given(&self, pieces: &Pieces, cells: [&str; 4]) -> Result<Given, CaseFault>
-        ensures { IfOk result (λ given. length given.bank.bytes ≡ 131072) }
-    {
-        let [input, bank, breaks, bad_reads] = cells;
-        let before = runs_in(self.alloc, bank)?;
-        let bank = self.bank(&before, breaks, bad_reads)?;
-        Ok(Given {
-            input: pieces.bytes(input)?,
-            before,
-            bank,
-        })
-    }
-
-    fn wanted(
-        &self,
-        pieces: &Pieces,
-        cells: [&str; 4],
-        before: &[Run],
-    ) -> Result<Wanted, CaseFault> {
-        let [status, output, writes, bank] = cells;
-        let writes = spans_in(self.alloc, writes)?;
-        let end = end_of(before, &writes);
-        Ok(Wanted {
-            status: status_in(status)?,
-            output: pieces.bytes(output)?,
-            writes,
-            bank: runs_in(self.alloc, bank)?,
-            end,
-        })
-    }
-
-    fn told(&self, pieces: &Pieces, status: &str, output: &str) -> Result<Told, CaseFault> {
-        Ok(Told {
-            status: status_in(status)?,
-            output: pieces.bytes(output)?,
-        })
-    }
-
-    /// Plays a session, and compares how it ends.
-    fn try_session(
-        &self,
-        pieces: &Pieces,
-        word: &str,
-        given: [&str; 4],
-        wanted: [&str; 4],
-    ) -> Result<u32, CaseFault> {
-        let Given {
-            input,
-            before,
-            bank,
-        } = self.given(pieces, given)?;
-        let wanted = self.wanted(pieces, wanted, &before)?;
-        let room = u32::try_from(wanted.output.len()).map_err(|_| CaseFault::Unreadable)?;
-        let room = room.saturating_add(MORE_OUTPUT);
-        let came = play(self.rt, self.alloc, word, &input, bank, room)?;
-        compare(self.alloc, &came, &wanted)?;
-        Ok(1)
-    }
-
-    /// Plays a session, and compares the statuses and notes of its entries.
-    fn try_notes(&self, pieces: &Pieces, given: [&str; 4], wanted: &str) -> Result<u32, CaseFault> {
-        let Given { input, bank, .. } = self.given(pieces, given)?;
-        let came = notes_of(self.alloc, &input, bank)?;
-        compare_notes(self.alloc, &came, wanted)?;
-        Ok(1)
-    }
-
-    /// Plays two sessions, the first with a stop at each of these places.
-    fn try_again(
-        &self,
-        pieces: &Pieces,
-        inputs: [&str; 2],
-        stops: &str,
-        wanted: [&str; 4],
-    ) -> Result<u32, CaseFault> {
-        let [first, second] = inputs;
-        let [p, q, r, s] = wanted;
-        let wanted = [self.told(pieces, p, q)?, self.told(pieces, r, s)?];
-        let both = Both {
-            inputs: [pieces.bytes(first)?, pieces.bytes(second)?],
-            wanted,
-        };
-        try_all(self.rt, self.alloc, &both, stops)
-    }
+/// Plays a session, and compares the statuses and notes of its entries.
+fn try_notes(row: &Row) -> Result<u32, CaseFault> {
+    let records = row.bytes(2)?;
+    let told = notes_of(row.alloc(), &records, bank_in(row)?)?;
+    same_text(told, row.text(6)?)?;
+    Ok(1)
 }
 
-fn status_in(cell: &str) -> Result<u8, CaseFault> {
-    u8::try_from(number_in(cell)?).map_err(|_| CaseFault::Unreadable)
-}
+/// Tries sessions.
+pub(crate) struct Sessions;
 
-/// Whether the notes of a session are these.
-fn compare_notes(alloc: Global, came: &str, wanted: &str) -> Result<(), CaseFault> {
-    if came.trim() == wanted {
-        return Ok(());
-    }
-    Err(CaseFault::Differs(format!(in alloc; "{came}")?))
-}
-
-impl<'r, R: Threads + Wait + Sync> Sessions<'r, R> {
+impl ThreadCases for Sessions {
     /// A row is `play | NAME | INPUT | BANK | BREAKS | BAD READS | STATUS | OUTPUT | WRITES | BANK`: a session, the bank
     /// before it, which of the bank's writes break off and which of its reads fail, and then how it ends, with the
     /// ranges of all writes and the bank behind it. With `crew` in the place of `play` it is played with a thread for each
     /// actor. `notes | NAME | INPUT | BANK | BREAKS | BAD READS | NOTES` is one of whose entries the statuses and notes are
     /// told. `again | NAME | INPUT | INPUT | STOPS | STATUS | OUTPUT | STATUS | OUTPUT` is a session over a bank of zeros with
     /// a stop at each of these places, and then a second one over the bank that the first gave back, with how each ends.
-    fn try_row(&self, pieces: &Pieces, cells: &[&str]) -> Result<u32, CaseFault> {
-        match cells {
-            ["notes", _, a, b, c, d, notes] => self.try_notes(pieces, [a, b, c, d], notes),
-            ["again", _, first, second, stops, p, q, r, s] => {
-                self.try_again(pieces, [first, second], stops, [p, q, r, s])
-            }
-            [word, _, a, b, c, d, p, q, r, s] => {
-                self.try_session(pieces, word, [a, b, c, d], [p, q, r, s])
-            }
+    fn try_row<R: Threads + Wait + Sync>(&self, rt: &R, row: &Row) -> Result<u32, CaseFault> {
+        match (row.text(0)?, row.len()) {
+            ("notes", 7) => try_notes(row),
+            ("again", 9) => try_again(rt, row),
+            (_, 10) => try_session(rt, row),
             _ => Err(CaseFault::Unreadable),
         }
     }
-}
-
-/// Tries the cases of a line, and tells how many there are.
-fn try_line<R: Threads + Wait + Sync>(
-    rt: &R,
-    alloc: Global,
-    pieces: &mut Pieces,
-    line: &str,
-) -> Result<u32, CaseFault> {
-    match row_in(alloc, pieces, line)? {
-        Some(cells) => Sessions::make(rt, alloc).try_row(pieces, &cells),
-        None => Ok(0),
-    }
-}
-
-/// Tries the table on standard input. The answer is whether no line failed.
-pub(crate) fn play_sessions<R: Input + Print + AllocGlobal + Threads + Wait + Sync>(
-    rt: &R,
-) -> io::Result<bool> {
-    let table = io::read_to_string(rt.alloc(), rt.reader())?;
-    let mut pieces = Pieces::make(rt.alloc());
-    let mut tally = Tally::make();
-    for (place, line) in table.lines().enumerate() {
-        tally.add(rt, place, try_line(rt, rt.alloc(), &mut pieces, line))?;
-    }
-    tally.end(rt)
 }

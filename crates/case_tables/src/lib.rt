@@ -16,5 +16,5 @@ pub use fault::CaseFault;
 pub use number::{byte, count_of, number_in, numbers_in, short};
 pub use pieces::Pieces;
 pub use row::Row;
-pub use table::{Cases, Tally, play_table, row_in};
+pub use table::{Cases, play_table};
 pub use threads::{ThreadCases, play_rows};

@@ -23,7 +23,7 @@ fn cells_of(alloc: Global, row: &str) -> Result<Vec<&str>, AllocError> {
 }
 
 /// The cells of a line that is a row; none where it names a piece, which is kept then, or is empty.
-pub fn row_in<'l>(
+fn row_in<'l>(
     alloc: Global,
     pieces: &mut Pieces,
     line: &'l str,
@@ -41,14 +41,14 @@ pub fn row_in<'l>(
 
 /// How many cases were tried, and how many lines failed.
 #[derive(Drop)]
-pub struct Tally {
+pub(crate) struct Tally {
     count: u32,
     failed: u32,
 }
 
 impl Tally {
     /// Before the first line.
-    pub fn make() -> Tally {
+    pub(crate) fn make() -> Tally {
         Tally {
             count: 0,
             failed: 0,
@@ -56,7 +56,7 @@ impl Tally {
     }
 
     /// Counts the cases of the line at a place, or tells why it failed.
-    pub fn add<R: Print>(
+    pub(crate) fn add<R: Print>(
         &mut self,
         rt: &R,
         place: usize,
@@ -76,7 +76,7 @@ impl Tally {
     }
 
     /// Tells how many cases there were and how many lines failed. The answer is whether none did.
-    pub fn end<R: Print>(&self, rt: &R) -> io::Result<bool> {
+    pub(crate) fn end<R: Print>(&self, rt: &R) -> io::Result<bool> {
         let count = self.count;
         let failed = self.failed;
         println!(rt; "{count} cases, {failed} lines that fail")?;

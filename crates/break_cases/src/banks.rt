@@ -1,0 +1,154 @@
+//! Banks as the cells of a row state them: what they hold, and which of their writes break off.
+
+ghost use Rattle.std.specs.Prelude.{◌≡◌, length, IfOk};
+
+use case_tables::{CaseFault, Row, number_in, same_text};
+use std::alloc::Global;
+use std::fmt::{self, Write};
+use tbl_fakes::{Break, MemBank, Span};
+use tbl_kinds::{Bytes, Memory};
+
+/// For how many writes a bank has room in its record.
+const MOST_WRITES: u32 = 512;
+
+/// For how many bytes of all its writes a bank has room in its record.
+const MOST_WRITTEN: u32 = 65_536;
+
+/// How many bytes a bank has.
+pub(crate) const BANK_SIZE: usize = 131_072;
+
+/// A bank that nothing was written to. Copies of it take a build that checks each access far less time than loops over
+/// single bytes.
+static ZEROS: [u8; BANK_SIZE] = [0; BANK_SIZE];
+
+/// The bytes of a bank that nothing was written to.
+pub(crate) fn zeros(alloc: Global) -> Result<Bytes, Memory>
+    ensures { IfOk result (λ b. length b.list ≡ 131072) }
+{
+    let mut bytes = Bytes::make(alloc, BANK_SIZE)?;
+    bytes.append(&ZEROS);
+    Ok(bytes)
+}
+
+/// Writes bytes over those of a bank from a place on, where they lie inside.
+fn patch(bytes: &mut Bytes, at: usize, content: &[u8]) -> Result<(), CaseFault>
+    ensures { length bytes.new.list ≡ length bytes.old.list }
+{
+    let size = bytes.bytes().len();
+    if at <= size && content.len() <= size - at {
+        bytes.write_over(at, content);
+        return Ok(());
+    }
+    Err(CaseFault::Unreadable)
+}
+
+/// Writes over the bytes of a bank what two words say: a place, and what stands there.
+fn patch_pair(alloc: Global, bytes: &mut Bytes, pair: &[&str]) -> Result<(), CaseFault>
+    ensures { length bytes.new.list ≡ length bytes.old.list }
+{
+    match pair {
+        [at, content] => {
+            let content = hex::decode(alloc, content)?;
+            patch(bytes, number_in(at)? as usize, &content)
+        }
+        _ => Err(CaseFault::Unreadable),
+    }
+}
+
+/// The bytes of a bank: zeros, over which stands what a cell has, as `0 43445331 16 A5`.
+fn bank_of(row: &Row, at: usize) -> Result<Bytes, CaseFault>
+    ensures { IfOk result (λ b. length b.list ≡ 131072) }
+{
+    let words: Vec<&str> = row.text(at)?.split_ascii_whitespace().collect(row.alloc())?;
+    let mut bytes = zeros(row.alloc())?;
+    'runs: for pair in words.chunks(2) {
+        patch_pair(row.alloc(), &mut bytes, pair)?;
+    }
+    Ok(bytes)
+}
+
+/// A bank of these bytes, whose writes break off and whose reads fail as it is told.
+pub(crate) fn bank_over(
+    alloc: Global,
+    bytes: Bytes,
+    breaks: &[Break],
+    bad_reads: &[u32],
+) -> Result<MemBank, CaseFault>
+    requires { length bytes.list ≡ 131072 }
+    ensures { IfOk result (λ bank. length bank.bytes ≡ 131072) }
+{
+    match MemBank::make(alloc, bytes, breaks, bad_reads, MOST_WRITES, MOST_WRITTEN) {
+        Ok(bank) => Ok(bank),
+        Err(Memory) => Err(CaseFault::Memory),
+    }
+}
+
+/// A write that breaks off, as `3/15/stop`: its number, after how many bytes, and how.
+fn break_in(word: &str) -> Result<Break, CaseFault> {
+    if let Some((write, rest)) = word.split_once('/') {
+        if let Some((after, how)) = rest.split_once('/') {
+            return Ok(Break {
+                write: number_in(write)?,
+                after: number_in(after)?,
+                stop: how == "stop",
+            });
+        }
+    }
+    Err(CaseFault::Unreadable)
+}
+
+/// The writes that break off.
+fn breaks_in(alloc: Global, cell: &str) -> Result<Vec<Break>, CaseFault> {
+    let mut breaks = Vec::new(alloc);
+    for word in cell.split_ascii_whitespace() {
+        breaks.push(break_in(word)?)?;
+    }
+    Ok(breaks)
+}
+
+/// A bank of these bytes. Which of its writes break off and which of its reads fail stands in two cells.
+fn broken_bank(row: &Row, bytes: Bytes) -> Result<MemBank, CaseFault>
+    requires { length bytes.list ≡ 131072 }
+    ensures { IfOk result (λ bank. length bank.bytes ≡ 131072) }
+{
+    let breaks = breaks_in(row.alloc(), row.text(4)?)?;
+    let bad_reads = row.numbers(5)?;
+    bank_over(row.alloc(), bytes, &breaks, &bad_reads)
+}
+
+/// The bank before a session.
+pub(crate) fn bank_in(row: &Row) -> Result<MemBank, CaseFault>
+    ensures { IfOk result (λ bank. length bank.bytes ≡ 131072) }
+{
+    let bytes = bank_of(row, 3)?;
+    broken_bank(row, bytes)
+}
+
+/// Writes where each write begins, and its length.
+fn tell_writes(told: &mut String, writes: &[Span]) -> fmt::Result {
+    for write in writes {
+        let at = write.at;
+        let length = write.length;
+        write!(told, "{at}/{length} ")?;
+    }
+    Ok(())
+}
+
+/// Whether the writes are those of a cell, each as `8208/8`: where it begins, and its length.
+pub(crate) fn same_writes(row: &Row, at: usize, writes: &[Span]) -> Result<(), CaseFault> {
+    let mut told = String::new(row.alloc());
+    if tell_writes(&mut told, writes).is_err() {
+        return Err(CaseFault::Memory);
+    }
+    same_text(told, row.text(at)?)
+}
+
+/// Whether a bank holds what a cell has, and zeros elsewhere.
+pub(crate) fn same_bank(row: &Row, at: usize, bank: &[u8]) -> Result<(), CaseFault> {
+    let wanted = bank_of(row, at)?;
+    if bank == wanted.bytes() {
+        return Ok(());
+    }
+    let text = String::from_str(row.alloc(), "another bank behind it")?;
+    Err(CaseFault::Differs(text))
+}
