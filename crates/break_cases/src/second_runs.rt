@@ -65,23 +65,23 @@ fn play_first<R: Threads + Wait + Sync>(
     play(rt, row, PLAY, 2, 5, bank)
 }
 
-/// Plays the second session over what a bank holds, compares how it ends, and gives its bank back.
+/// Plays the second session over what a bank holds, and compares how it ends.
 fn play_second<R: Threads + Wait + Sync>(
     rt: &R,
     row: &Row,
     bank: &MemBank,
-) -> Result<MemBank, CaseFault> {
+) -> Result<(), CaseFault> {
     let bank = next_bank(row.alloc(), bank)?;
-    play(rt, row, PLAY, 3, 7, bank)
+    match play(rt, row, PLAY, 3, 7, bank) {
+        Ok(_bank) => Ok(()),
+        Err(fault) => Err(fault),
+    }
 }
 
 /// Plays both sessions with a stop in one place.
 fn try_stop<R: Threads + Wait + Sync>(rt: &R, row: &Row, stop: Break) -> Result<(), CaseFault> {
     let bank = play_first(rt, row, stop)?;
-    match play_second(rt, row, &bank) {
-        Ok(_) => Ok(()),
-        Err(fault) => Err(fault),
-    }
+    play_second(rt, row, &bank)
 }
 
 /// Plays both with a stop in each of the places of a word, and tells how many there are.

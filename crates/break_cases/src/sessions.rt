@@ -95,8 +95,8 @@ fn compare_bank(row: &Row, bank: &MemBank) -> Result<(), CaseFault> {
 
 /// Plays a session, and compares how it ends.
 fn try_session<R: Threads + Wait + Sync>(rt: &R, row: &Row) -> Result<u32, CaseFault> {
-    let bank = bank_in(row)?;
-    let bank = play(rt, row, row.text(0)?, 2, 6, bank)?;
+    let word = row.text(0)?;
+    let bank = play(rt, row, word, 2, 6, bank_in(row)?)?;
     compare_bank(row, &bank)?;
     Ok(1)
 }
