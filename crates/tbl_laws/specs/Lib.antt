@@ -3,3 +3,4 @@ pub mod Backed
 pub mod Crashes
 pub mod Completed
 pub mod Recovery
+pub mod StoreVectors

@@ -36,4 +36,3 @@ pub mod History
 pub mod Whole
 pub mod Vouched
 pub mod Vectors
-pub mod StoreVectors
