@@ -13,7 +13,7 @@ use tbl_kinds::Memory;
 const PLACES: usize = 256;
 
 /// The 256 places for handles: what stands at place n is handle n.
-#[derive(Debug, Drop)]
+#[derive(Drop)]
 pub struct Handles {
     places: Vec<Option<HandleView>>,
     /// How many of the handles pin an image of the table in each row.

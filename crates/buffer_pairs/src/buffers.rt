@@ -7,7 +7,7 @@ use std::marker::Model;
 
 /// A table's images: the last one, and in a table with two buffers the one before it (`CFE_TBL_OPT_SNGL_BUFFER`,
 /// `CFE_TBL_OPT_DBL_BUFFER`).
-#[derive(Debug, Drop)]
+#[derive(Drop)]
 pub struct Buffers {
     last: Option<Image>,
     before: Option<Image>,
@@ -16,7 +16,7 @@ pub struct Buffers {
 }
 
 /// Where the image is that is kept whatever comes.
-#[derive(Debug, Drop)]
+#[derive(Drop)]
 enum Kept {
     Nothing,
     /// It is the last one.

@@ -8,7 +8,7 @@ use std::sync::Arc;
 use tbl_kinds::Memory;
 
 /// An image of a table: bytes with one owner or several, in any threads. Once it has a second owner, nobody can change it.
-#[derive(Debug, Drop)]
+#[derive(Drop)]
 pub struct Image {
     bytes: Arc<Vec<u8>, Global>,
 }

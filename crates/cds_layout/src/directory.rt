@@ -18,7 +18,7 @@ use tbl_kinds::{Block, BlockKind, Memory};
 const SLOT_COUNT: usize = SLOTS as usize;
 
 /// The open blocks, each in the slot of its entry.
-#[derive(Debug, Drop)]
+#[derive(Drop)]
 pub struct Directory {
     blocks: Vec<Option<Block>>,
 }

@@ -1,7 +1,7 @@
 use tbl_kinds::Block;
 
 /// A directory slot that is taken.
-#[derive(Debug, Drop)]
+#[derive(Drop)]
 pub struct Slot {
     pub block: Block,
     /// Whether a write of its gate byte broke off, so that only a boot can tell whether it is open.

@@ -10,7 +10,7 @@ use tbl_kinds::{Bytes, u16_at};
 use thiserror::Error;
 
 /// What a command packet carries in its headers (CCSDS 133.0-B; cFE's `CFE_MSG_CommandSecondaryHeader`). The payload is the bytes from place 8.
-#[derive(Clone, Copy, Debug, PartialEq, Eq)]
+#[derive(Clone, Copy, PartialEq, Eq)]
 pub struct CmdPacket {
     /// The message id: the first 16 bits.
     pub id: u16,

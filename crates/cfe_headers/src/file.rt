@@ -15,7 +15,7 @@ const CONTENT_TYPE: u32 = 0x6346_4531;
 pub const HEADER_LENGTH: usize = 64;
 
 /// The file header of cFE (`CFE_FS_Header_t`), without its content type, which is always the same.
-#[derive(Clone, Copy, Debug, PartialEq, Eq)]
+#[derive(Clone, Copy, PartialEq, Eq)]
 pub struct FileHeader {
     /// What kind of file it is: 8 for a table file.
     pub subtype: u32,

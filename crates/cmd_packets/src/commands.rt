@@ -13,7 +13,7 @@ use thiserror::Error;
 /// What the ground asks (as the commands of cFE's table services do; the message ids, function codes and layouts are this
 /// service's own). A payload begins at place 8 of the packet, and its fields stand in the order named: a selector of 2
 /// bytes, the high byte first, a table's full name in 40 bytes, and a file's name in 64.
-#[derive(Debug, PartialEq, Eq, Drop)]
+#[derive(PartialEq, Eq, Drop)]
 pub enum Ground {
     /// Send a housekeeping packet. It has a message id of its own, 0x180C, any code, and no payload.
     Housekeeping,

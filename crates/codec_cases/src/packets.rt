@@ -26,7 +26,9 @@ fn tell_asked(line: &mut Line, command: &Ground) {
         Ground::SendRegistry { table } => line.named("SendRegistry", table.bytes()),
         Ground::DeleteCds { table } => line.named("DeleteCds", table.bytes()),
         Ground::Abort { table } => line.named("Abort", table.bytes()),
-        command => line.shown(command),
+        Ground::Housekeeping => line.word("Housekeeping"),
+        Ground::Noop => line.word("Noop"),
+        _ => line.word("ResetCounters"),
     }
 }
 

@@ -11,6 +11,41 @@ use std::alloc::Global;
 use tbl_kinds::{Actor, Request};
 use transcript::{read_end, read_entry};
 
+/// The time, a reset, or the end of an application.
+fn tell_short(line: &mut Line, request: &Request) {
+    match request {
+        Request::Time { seconds, sub } => line.numbered("Time", &[*seconds, u32::from(*sub)]),
+        Request::Reset { kind } => {
+            line.word("Reset");
+            line.shown(kind);
+        }
+        _ => line.word("Exit"),
+    }
+}
+
+/// A word, and a number behind it.
+fn tell_number(line: &mut Line, word: &str, number: u16) {
+    line.word(word);
+    line.number(u32::from(number));
+}
+
+/// A request of an application that has a handle or a slot, and nothing else.
+fn tell_numbered(line: &mut Line, request: &Request) {
+    match request {
+        Request::Unregister { handle } => tell_number(line, "Unregister", *handle),
+        Request::Update { handle } => tell_number(line, "Update", *handle),
+        Request::Validate { handle } => tell_number(line, "Validate", *handle),
+        Request::Manage { handle } => tell_number(line, "Manage", *handle),
+        Request::DumpToBuffer { handle } => tell_number(line, "DumpToBuffer", *handle),
+        Request::Get { handle } => tell_number(line, "Get", *handle),
+        Request::Release { handle } => tell_number(line, "Release", *handle),
+        Request::GetStatus { handle } => tell_number(line, "GetStatus", *handle),
+        Request::CdsRestore { slot } => tell_number(line, "CdsRestore", *slot),
+        Request::CdsDelete { slot } => tell_number(line, "CdsDelete", *slot),
+        request => tell_short(line, request),
+    }
+}
+
 /// A request of an application that names a table by its handle, and has more than that.
 fn tell_handled(line: &mut Line, request: &Request) {
     match request {
@@ -35,7 +70,16 @@ fn tell_handled(line: &mut Line, request: &Request) {
             offset,
             len,
         } => line.numbered("Read", &[u32::from(*handle), *offset, *len]),
-        request => line.shown(request),
+        Request::Notify {
+            handle,
+            msg,
+            code,
+            parameter,
+        } => {
+            line.numbered("Notify", &[u32::from(*handle), u32::from(*msg)]);
+            line.numbers(&[u32::from(*code), *parameter]);
+        }
+        request => tell_numbered(line, request),
     }
 }
 

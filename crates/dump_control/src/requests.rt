@@ -16,7 +16,7 @@ use tbl_kinds::{Answer, Name64, Options, Status};
 use tbl_registry::{Dump, Tables};
 
 /// What the ground gets that asks for a dump of a table.
-#[derive(Clone, Copy, Debug, PartialEq, Eq)]
+#[derive(Clone, Copy, PartialEq, Eq)]
 #[must_use]
 pub enum DumpAnswer {
     /// The file is to be written now: of the table's last image (`active`), else of that of its open load.

@@ -24,7 +24,7 @@ pub enum PutFault {
 
 /// The uplinked files, at most 64, in order of the first uplink of their names. They stand for the file system that tables are loaded from and
 /// dumped to (cFE User's Guide, Table Services). How many bytes a file may have is the caller's rule.
-#[derive(Debug, Drop)]
+#[derive(Drop)]
 pub struct Drawer {
     files: IndexMap<Name64, Bytes>,
 }

@@ -27,7 +27,7 @@ use tbl_registry::Tables;
 use validation::Kit;
 
 /// What a load of a table's owner is answered, and the verdict of the table's validation function, if it was asked.
-#[derive(Clone, Copy, Debug, PartialEq, Eq)]
+#[derive(Clone, Copy, PartialEq, Eq)]
 #[must_use]
 pub struct Loaded {
     pub answer: Answer,

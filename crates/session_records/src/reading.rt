@@ -10,7 +10,7 @@ use std::alloc::Global;
 use tbl_kinds::{Actor, Bytes, Memory, Name, Request, ResetKind};
 
 /// What stands at the front of an input.
-#[derive(Debug, Drop)]
+#[derive(Drop)]
 pub enum Next {
     /// A record of so many bytes.
     Item {

@@ -13,7 +13,7 @@ use std::marker::Model;
 use tbl_kinds::{Name, Name16, Name20, Name40, Status};
 
 /// The names of the sixteen applications: the name of application a stands at place a - 1. Each of them is a name.
-#[derive(Debug, Drop)]
+#[derive(Drop)]
 pub struct Apps {
     names: [Option<Name20>; 16],
 }

@@ -10,7 +10,7 @@ use tbl_outside::{KitEntry, Validator};
 pub const FUNCTIONS: u8 = 32;
 
 /// A validation function of the shipped program.
-#[derive(Debug, Drop)]
+#[derive(Drop)]
 pub enum Shipped {
     First(FirstByte),
     Last(LastXor),

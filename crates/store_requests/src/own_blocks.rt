@@ -27,7 +27,7 @@ use tbl_kinds::{Answer, BankNote, BlockKind, Bytes, Memory, Name20, Name40, Stat
 use tbl_outside::Bank;
 
 /// An application's own block: its slot, and the size of its image.
-#[derive(Clone, Copy, Debug)]
+#[derive(Clone, Copy)]
 struct Own {
     slot: u8,
     size: u32,

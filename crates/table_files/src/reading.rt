@@ -19,7 +19,7 @@ pub const IMAGE_PLACE: usize = 116;
 /// What a table file tells beside its image bytes, which stand from place 116. Behind the file header of 64 bytes stands
 /// the table file header of 52 (cFE's `CFE_TBL_File_Hdr_t`, cfe_tbl_extern_typedefs.h): four reserved bytes, the offset
 /// and the number of image bytes in four bytes each, the high byte first, and the table's full name in 40.
-#[derive(Debug, PartialEq, Eq, Drop)]
+#[derive(PartialEq, Eq, Drop)]
 pub struct TableFile {
     /// Where in the table's image the file's bytes belong, in bytes from its front.
     pub offset: u32,

@@ -18,7 +18,7 @@ use tbl_registry::Tables;
 use validation::{Kit, Pending};
 
 /// A validation that came to its end.
-#[derive(Clone, Copy, Debug, PartialEq, Eq)]
+#[derive(Clone, Copy, PartialEq, Eq)]
 pub struct Judgement {
     /// Whether the table's last image was judged, else that of its open load.
     pub active: bool,

@@ -20,7 +20,7 @@ use tbl_registry::{Dump, Tables};
 use validation::{Kit, Pending};
 
 /// What was done of all that was pending for a table.
-#[derive(Clone, Copy, Debug, PartialEq, Eq)]
+#[derive(Clone, Copy, PartialEq, Eq)]
 #[must_use]
 pub struct Managed {
     pub answer: Answer,

@@ -22,7 +22,7 @@ use tbl_registry::Tables;
 use validation::{Kit, PendFault, Pending};
 
 /// What the ground gets that asks for a validation.
-#[derive(Clone, Copy, Debug, PartialEq, Eq)]
+#[derive(Clone, Copy, PartialEq, Eq)]
 #[must_use]
 pub enum Requested {
     /// It isn't asked.
@@ -34,7 +34,7 @@ pub enum Requested {
 }
 
 /// What an owner gets that has a validation done.
-#[derive(Clone, Copy, Debug, PartialEq, Eq)]
+#[derive(Clone, Copy, PartialEq, Eq)]
 #[must_use]
 pub struct Validated {
     pub answer: Answer,

@@ -14,7 +14,7 @@ use tbl_model::Deed;
 use telemetry::{Counters, Tally};
 
 /// The entries in their order, the running numbers of telemetry, and reserved room for further entries.
-#[derive(Debug, Drop)]
+#[derive(Drop)]
 pub(crate) struct Log {
     entries: Vec<Entry>,
     counters: Counters,

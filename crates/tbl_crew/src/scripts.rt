@@ -16,7 +16,7 @@ pub(crate) const ACTOR_COUNT: usize = 17;
 const RECORD_LIMIT: usize = 32_768;
 
 /// The requests of one actor that weren't played yet. Contracts see them as a list.
-#[derive(Debug, Drop)]
+#[derive(Drop)]
 struct Script {
     requests: VecDeque<Request>,
 }
@@ -66,7 +66,7 @@ impl Script {
 
 /// The requests of each actor, in order: of the ground, and of the applications from 1 to 16. Contracts see them as 17
 /// lists of requests.
-#[derive(Debug, Drop)]
+#[derive(Drop)]
 pub struct Scripts {
     scripts: Vec<Script>,
 }

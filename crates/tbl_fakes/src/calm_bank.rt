@@ -9,7 +9,7 @@ use tbl_outside::{Bank, Failed, Written};
 
 /// Preserved memory that never fails and is never stopped. It keeps no record, so it tells its bytes, and
 /// neither its moments nor what it was asked.
-#[derive(Debug, Drop)]
+#[derive(Drop)]
 pub struct CalmBank {
     bytes: Bytes,
 }

@@ -5,7 +5,7 @@ use std::thread;
 use tbl_outside::Gate;
 
 /// A gate that returns at once.
-#[derive(Clone, Copy, Debug)]
+#[derive(Clone, Copy)]
 pub struct OpenGate;
 
 impl Gate for OpenGate {

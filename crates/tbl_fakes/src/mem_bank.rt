@@ -23,7 +23,7 @@ const READS_NOTED: usize = 4_096;
 
 /// Preserved memory whose writes break off, and whose reads fail, where their number says so. It keeps a record of its
 /// writes with what stood before them, from which its moments are told, and one of the calls that it was asked for.
-#[derive(Debug, Drop)]
+#[derive(Drop)]
 pub struct MemBank {
     bytes: Bytes,
     past: Past,

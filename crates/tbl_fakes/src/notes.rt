@@ -8,7 +8,7 @@ use std::marker::Model;
 use tbl_kinds::{Bytes, Memory};
 
 /// A call: where it begins, and how many bytes it has.
-#[derive(Clone, Copy, Debug)]
+#[derive(Clone, Copy)]
 pub(crate) enum NotedCall {
     Read(u32, u32),
     Write(u32, u32),
@@ -16,7 +16,7 @@ pub(crate) enum NotedCall {
 
 /// The calls so far, oldest first, the bytes of the writes one behind the other, the room that is left for both, and
 /// whether a call was left out for want of room.
-#[derive(Debug, Drop)]
+#[derive(Drop)]
 pub(crate) struct Notes {
     calls: Vec<NotedCall>,
     bytes: Bytes,

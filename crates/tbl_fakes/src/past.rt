@@ -15,7 +15,7 @@ pub struct Span {
 
 /// The ranges written, oldest first, and the bytes that stood in each before, one after another; besides the room that is
 /// left for further writes and their bytes.
-#[derive(Debug, Drop)]
+#[derive(Drop)]
 pub(crate) struct Past {
     spans: Vec<Span>,
     olds: Bytes,

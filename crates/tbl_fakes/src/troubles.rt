@@ -10,7 +10,7 @@ use tbl_outside::Written;
 
 /// A write of a `MemBank` that breaks off: its number, counted from 1, after how many of its bytes, and whether the bank
 /// is stopped or fails. A number of bytes above the piece's means the whole piece.
-#[derive(Clone, Copy, Debug, PartialEq, Eq)]
+#[derive(Clone, Copy, PartialEq, Eq)]
 pub struct Break {
     pub write: u32,
     pub after: u32,
@@ -19,7 +19,7 @@ pub struct Break {
 
 /// The writes that break off and the reads that fail, how many of both were made, and how often the bank failed and was
 /// stopped. Each count stands still at 2^64 - 1.
-#[derive(Debug, Drop)]
+#[derive(Drop)]
 pub(crate) struct Troubles {
     breaks: Vec<Break>,
     bad_reads: Vec<u32>,

@@ -5,7 +5,7 @@ ghost use Rattle.tbl_fakes.specs.Verdicts.{first_byte, last_xor, xor_of};
 use tbl_outside::Validator;
 
 /// A validation function whose verdict is 0 where the image's first byte isn't 0, and else -5.
-#[derive(Debug, Drop)]
+#[derive(Drop)]
 pub struct FirstByte {
     asked: u64,
 }
@@ -34,7 +34,7 @@ impl Validator for FirstByte {
 }
 
 /// A validation function whose verdict is 0 where the image's last byte is the exclusive or of all bytes before it, and else -7.
-#[derive(Debug, Drop)]
+#[derive(Drop)]
 pub struct LastXor {
     asked: u64,
 }

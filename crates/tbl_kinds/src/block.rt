@@ -1,7 +1,7 @@
 use crate::name::Name40;
 
 /// Whom a block of the Critical Data Store serves (cFE User's Guide, Executive Services, "Critical Data Store").
-#[derive(Clone, Copy, Debug, PartialEq, Eq)]
+#[derive(Clone, Copy, PartialEq, Eq)]
 pub enum BlockKind {
     /// It keeps the image of a critical table.
     Table,
@@ -10,7 +10,7 @@ pub enum BlockKind {
 }
 
 /// A block of the Critical Data Store, as its directory entry tells it.
-#[derive(Debug, PartialEq, Eq, Drop)]
+#[derive(PartialEq, Eq, Drop)]
 pub struct Block {
     pub kind: BlockKind,
     /// Where its head begins in the bank.

@@ -21,14 +21,14 @@ impl<T: Drop> From<AllocFailed<T>> for Memory {
 }
 
 /// Where bytes stand: few of them in the value itself, more of them in memory of their own.
-#[derive(Debug, Drop)]
+#[derive(Drop)]
 enum Items {
     Few(Few),
     Many(Vec<u8>),
 }
 
 /// Bytes in memory, with reserved room after them.
-#[derive(Debug, Drop)]
+#[derive(Drop)]
 pub struct Bytes {
     alloc: Global,
     items: Items,

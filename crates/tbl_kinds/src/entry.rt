@@ -6,7 +6,7 @@ use crate::request::{Actor, Request};
 use crate::status::Status;
 
 /// What a request is answered with.
-#[derive(Debug, Drop)]
+#[derive(Drop)]
 pub struct Reply {
     pub status: Status,
     /// What the status is about: a handle, a verdict, a function code. 0 where nothing is named.
@@ -18,7 +18,7 @@ pub struct Reply {
 }
 
 /// One event of the service: a request, and all that came of it.
-#[derive(Debug, Drop)]
+#[derive(Drop)]
 pub struct Entry {
     pub actor: Actor,
     pub request: Request,
@@ -29,7 +29,7 @@ pub struct Entry {
 }
 
 /// A status with its detail.
-#[derive(Clone, Copy, Debug, PartialEq, Eq)]
+#[derive(Clone, Copy, PartialEq, Eq)]
 pub struct Answer {
     pub status: Status,
     pub detail: u32,

@@ -6,7 +6,7 @@ use std::marker::Model;
 pub(crate) const FEW: usize = 24;
 
 /// Up to 24 bytes in the value itself, with reserved room after them.
-#[derive(Debug, Drop)]
+#[derive(Drop)]
 pub(crate) struct Few {
     len: u8,
     /// How many bytes there is room for, with those that are there.

@@ -9,7 +9,7 @@ use arrayvec::ArrayVec;
 use std::marker::Model;
 
 /// A name of at most `N` bytes, none of them zero, as a field of `N` bytes holds it.
-#[derive(Debug, PartialEq, Eq, Hash, Drop)]
+#[derive(PartialEq, Eq, Hash, Drop)]
 pub struct Name<const N: usize> {
     items: ArrayVec<u8, N>,
 }

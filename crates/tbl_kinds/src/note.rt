@@ -6,7 +6,7 @@ use crate::slots::Slots;
 use std::marker::Model;
 
 /// How a request's calls of the store went, before any boot in it.
-#[derive(Clone, Copy, Debug, PartialEq, Eq)]
+#[derive(Clone, Copy, PartialEq, Eq)]
 pub enum Outcome {
     /// There was no call.
     Untouched,
@@ -19,7 +19,7 @@ pub enum Outcome {
 }
 
 /// What a request did to the Critical Data Store.
-#[derive(Debug, Drop)]
+#[derive(Drop)]
 pub struct BankNote {
     pub outcome: Outcome,
     /// How many calls of the store were done.
@@ -60,7 +60,7 @@ impl BankNote {
 }
 
 /// The note of an entry. Nearly every request makes no call of the store, and its note takes no memory of its own.
-#[derive(Debug, Drop)]
+#[derive(Drop)]
 pub struct Note {
     touched: Option<Box<BankNote>>,
 }

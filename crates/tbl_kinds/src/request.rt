@@ -6,7 +6,7 @@ use crate::bytes::Bytes;
 use crate::name::{Name16, Name20, Name40, Name64};
 
 /// Who makes a request.
-#[derive(Clone, Copy, Debug, PartialEq, Eq)]
+#[derive(Clone, Copy, PartialEq, Eq)]
 pub enum Actor {
     /// The ground system.
     Ground,
@@ -36,7 +36,7 @@ pub enum ResetKind {
 }
 
 /// One request of one actor. The first four come from the ground, the others from an application.
-#[derive(Debug, Drop)]
+#[derive(Drop)]
 pub enum Request {
     /// A telecommand, as the bytes of its packet.
     Command {

@@ -4,7 +4,7 @@ use arrayvec::ArrayVec;
 use std::marker::Model;
 
 /// A list of at most 128 directory slots of the Critical Data Store.
-#[derive(Debug, Drop)]
+#[derive(Drop)]
 pub struct Slots {
     slots: ArrayVec<u8, 128>,
 }

@@ -2,7 +2,7 @@ use crate::name::{Name20, Name40, Name64};
 use crate::status::Status;
 
 /// What a telemetry packet's headers carry beside its message id.
-#[derive(Clone, Copy, Debug, PartialEq, Eq)]
+#[derive(Clone, Copy, PartialEq, Eq)]
 pub struct TlmHead {
     /// The sequence count, below 16,384.
     pub count: u16,
@@ -12,7 +12,7 @@ pub struct TlmHead {
 }
 
 /// The body of an event packet.
-#[derive(Clone, Copy, Debug, PartialEq, Eq)]
+#[derive(Clone, Copy, PartialEq, Eq)]
 pub struct Event {
     pub number: u16,
     pub status: Status,
@@ -22,7 +22,7 @@ pub struct Event {
 }
 
 /// The body of a housekeeping packet (cFE's `CFE_TBL_HousekeepingTlm_Payload`), in the order of its fields.
-#[derive(Debug, PartialEq, Eq, Drop)]
+#[derive(PartialEq, Eq, Drop)]
 pub struct Housekeeping {
     /// Commands accepted.
     pub accepted: u8,
@@ -64,7 +64,7 @@ pub struct Housekeeping {
 }
 
 /// A table's record in the registry (cFE's `CFE_TBL_TblRegPacket_Payload`), in the order of its fields.
-#[derive(Debug, PartialEq, Eq, Drop)]
+#[derive(PartialEq, Eq, Drop)]
 pub struct RegistryRow {
     pub size: u32,
     /// Check word of the last image, 0 where there is none.

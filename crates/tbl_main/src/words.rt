@@ -6,7 +6,7 @@ use std::rt::Env;
 use tbl_kinds::{Bytes, Memory};
 
 /// Why the words can't be told.
-#[derive(Clone, Copy, Debug, PartialEq, Eq)]
+#[derive(Clone, Copy, PartialEq, Eq)]
 pub(crate) enum WordsFault {
     /// Memory ran out.
     Memory,

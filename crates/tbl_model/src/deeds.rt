@@ -3,14 +3,14 @@
 use tbl_kinds::{Name40, Name64};
 
 /// A table, by its row in the registry and its full name.
-#[derive(Debug, Drop)]
+#[derive(Drop)]
 pub struct Named {
     pub row: u8,
     pub name: Name40,
 }
 
 /// The command packet that tells a table's owner of pending work (`CFE_TBL_NotifyByMessage`).
-#[derive(Clone, Copy, Debug, PartialEq, Eq)]
+#[derive(Clone, Copy, PartialEq, Eq)]
 pub struct Notice {
     /// The packet's message id.
     pub msg: u16,
@@ -21,7 +21,7 @@ pub struct Notice {
 }
 
 /// What telemetry tells of one thing that a request did: its event, and what housekeeping counts. Rows are those of the registry.
-#[derive(Debug, Drop)]
+#[derive(Drop)]
 pub enum Deed {
     /// A pending validation came to its end, of the last image (`active`) or of the open load's: the check word of the
     /// image, and the verdict, 0 for a good one.
@@ -61,7 +61,7 @@ pub enum Deed {
 }
 
 /// The packet that follows the events of a request.
-#[derive(Clone, Copy, Debug, PartialEq, Eq)]
+#[derive(Clone, Copy, PartialEq, Eq)]
 pub enum Shown {
     Nothing,
     /// Housekeeping.

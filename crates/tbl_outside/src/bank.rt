@@ -110,7 +110,7 @@ pub trait Bank: Drop {
 }
 
 /// A bank that is handed back, beside the cause.
-#[derive(Debug, Drop)]
+#[derive(Drop)]
 pub struct Back<E, B> {
     pub cause: E,
     pub bank: B,

@@ -18,7 +18,7 @@ use tbl_model::Notice;
 mod info;
 
 /// What a table is registered with (`CFE_TBL_Register`).
-#[derive(Debug, Drop)]
+#[derive(Drop)]
 pub struct NewTable {
     /// Its full name: application, dot, short name.
     pub name: Name40,
@@ -32,7 +32,7 @@ pub struct NewTable {
 }
 
 /// How far a dump of a dump-only table has come.
-#[derive(Clone, Copy, Debug, PartialEq, Eq)]
+#[derive(Clone, Copy, PartialEq, Eq)]
 pub enum Dump {
     /// None is asked.
     Quiet,
@@ -43,7 +43,7 @@ pub enum Dump {
 }
 
 /// What can be seen of a registered table.
-#[derive(Clone, Copy, Debug, PartialEq, Eq)]
+#[derive(Clone, Copy, PartialEq, Eq)]
 pub struct RowView {
     /// The application that registered it, from 1 to 16.
     pub owner: u8,
@@ -68,7 +68,7 @@ pub struct RowView {
 }
 
 /// An open load: the image that is being put together.
-#[derive(Debug, Drop)]
+#[derive(Drop)]
 struct OpenLoad {
     image: Image,
     /// Whether it was validated since its last change.
@@ -84,7 +84,7 @@ impl Model for OpenLoad {
 }
 
 /// A dump, with the name of its file. The image of a filled one is what the buffers keep.
-#[derive(Debug, Drop)]
+#[derive(Drop)]
 enum DumpFile {
     Quiet,
     Asked(Name64),
@@ -92,7 +92,7 @@ enum DumpFile {
 }
 
 /// A registered table.
-#[derive(Debug, Drop)]
+#[derive(Drop)]
 pub(crate) struct Row {
     name: Name40,
     owner: u8,

@@ -43,7 +43,7 @@ pub enum AddFault {
 }
 
 /// The registered tables, the handles on them, and who has the shared working buffers.
-#[derive(Debug, Drop)]
+#[derive(Drop)]
 pub struct Tables {
     rows: Vec<Option<Row>>,
     handles: Handles,

@@ -42,7 +42,7 @@ const HEAD_LENGTH: usize = 4;
 pub(crate) const END_LENGTH: usize = 13;
 
 /// How a session stands after a piece of the input.
-#[derive(Clone, Copy, Debug, PartialEq, Eq)]
+#[derive(Clone, Copy, PartialEq, Eq)]
 pub(crate) enum Standing {
     /// All whole records were played. What is left is the beginning of a further one, or nothing.
     Open,

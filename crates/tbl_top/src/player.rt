@@ -28,7 +28,7 @@ use tbl_core::Core;
 use tbl_outside::{Bank, Sink, Validator};
 
 /// What a session answers to a piece of its input.
-#[derive(Clone, Copy, Debug, PartialEq, Eq)]
+#[derive(Clone, Copy, PartialEq, Eq)]
 pub enum Fed {
     /// All records that are whole were played and told.
     More,

@@ -15,7 +15,7 @@ use tbl_model::Deed;
 pub(crate) const SEQUENCE_COUNTS: u16 = 16_384;
 
 /// An image that went active: when, and of which table.
-#[derive(Debug, Drop)]
+#[derive(Drop)]
 pub struct Update {
     pub seconds: u32,
     pub sub: u16,
@@ -23,7 +23,7 @@ pub struct Update {
 }
 
 /// A validation that came to its end.
-#[derive(Debug, Drop)]
+#[derive(Drop)]
 pub struct Validation {
     /// The check word of its image.
     pub check: u16,
@@ -73,7 +73,7 @@ impl Validation {
 }
 
 /// How much an entry adds to the running numbers.
-#[derive(Clone, Copy, Debug)]
+#[derive(Clone, Copy)]
 pub struct Tally {
     /// The service began anew.
     pub restarted: bool,
@@ -137,7 +137,7 @@ fn renew_name<const N: usize>(known: &mut Name<N>, newer: Option<&Name<N>>)
 
 /// How many commands were accepted and refused, and how many validations asked and finished, since the counters were
 /// cleared; how many packets of each kind were sent since the service began, and what was the latest of each kind.
-#[derive(Debug, Drop)]
+#[derive(Drop)]
 pub struct Counters {
     pub accepted: u8,
     pub refused: u8,

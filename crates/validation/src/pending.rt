@@ -20,7 +20,7 @@ pub enum PendFault {
 
 /// The validations that the ground asked for and that the owners haven't done: the table's row, and whether its active image
 /// is to be judged or that of its open load.
-#[derive(Debug, Drop)]
+#[derive(Drop)]
 pub struct Pending {
     pairs: ArrayVec<(u8, bool), MOST>,
 }

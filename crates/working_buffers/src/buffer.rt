@@ -7,7 +7,7 @@ use std::marker::Model;
 const BUFFER_SIZE: usize = 16_384;
 
 /// One working buffer, and the registry row that has it.
-#[derive(Debug, Drop)]
+#[derive(Drop)]
 pub(crate) struct Buffer {
     row: Option<u8>,
     bytes: Vec<u8>,

@@ -11,7 +11,7 @@ use tbl_kinds::Memory;
 /// The four working buffers that single-buffered tables share for their loads (cFE User's Guide, Table Services;
 /// `CFE_PLATFORM_TBL_MAX_SIMULTANEOUS_LOADS`), numbered from 0 to 3. Each is free, or out: then a registry row has it.
 /// What the bytes of a free buffer are isn't said.
-#[derive(Debug, Drop)]
+#[derive(Drop)]
 pub struct Working {
     buffers: Vec<Buffer>,
 }
