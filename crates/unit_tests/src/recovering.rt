@@ -46,7 +46,7 @@ fn writes_of_recovery(alloc: Global) -> Result<Option<u64>, Fail> {
     }
 }
 
-// All other calls of the store are played by the program cds_scripts.
+// All other calls of the store are played by the program call_scripts.
 #[test]
 fn nothing_comes_back_of_zeros(rt: HostRuntime) -> Result<(), Fail> {
     assert_eq!(rt; writes_of_recovery(rt.alloc())?, Some(3));

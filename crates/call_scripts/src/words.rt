@@ -30,24 +30,32 @@ impl<'a> Words<'a> {
         self.next().parse::<u32>().unwrap_or(0)
     }
 
-    /// The next word as bytes, or none.
-    pub(crate) fn bytes(&mut self) -> &'a [u8] {
+    /// The next word as a slot, or 0.
+    pub(crate) fn slot(&mut self) -> u8 {
+        self.next().parse::<u8>().unwrap_or(0)
+    }
+
+    /// The letters of the next word as bytes, or none.
+    pub(crate) fn letters(&mut self) -> &'a [u8] {
         self.next().as_bytes()
+    }
+
+    /// The next word as bytes in hexadecimal, or none.
+    pub(crate) fn bytes(&mut self, alloc: Global) -> Vec<u8> {
+        match hex::decode(alloc, self.next()) {
+            Ok(bytes) => bytes,
+            Err(_) => Vec::new(alloc),
+        }
     }
 }
 
-/// Bytes as text.
-pub(crate) fn text(bytes: &[u8]) -> &str {
-    std::str::from_utf8(bytes).unwrap_or("no text")
-}
-
 /// The same bytes as the service keeps them.
-pub(crate) fn kept(alloc: Global, list: &[u8]) -> Result<Bytes, Memory>
-    ensures { IfOk result (λ bytes. bytes.list ≡ list.now) }
+pub(crate) fn kept(alloc: Global, bytes: &[u8]) -> Result<Bytes, Memory>
+    ensures { IfOk result (λ b. b.list ≡ bytes.now) }
 {
-    let mut bytes = Bytes::make(alloc, list.len())?;
-    bytes.append(list);
-    Ok(bytes)
+    let mut kept = Bytes::make(alloc, bytes.len())?;
+    kept.append(bytes);
+    Ok(kept)
 }
 
 /// What was made, or that memory ran out.
@@ -56,4 +64,9 @@ pub(crate) fn made<T: Drop>(made: Result<T, Memory>) -> io::Result<T> {
         Ok(it) => Ok(it),
         Err(_) => Err(io::ErrorKind::OutOfMemory.into()),
     }
+}
+
+/// Bytes as text.
+pub(crate) fn text(bytes: &[u8]) -> &str {
+    std::str::from_utf8(bytes).unwrap_or("no text")
 }

@@ -1,11 +1,11 @@
-//! A script is played, and what comes is told.
+//! A script of the store is played over a bank in memory, and what comes is told.
 
 ghost use Rattle.std.specs.Prelude.{◌≡◌, ◌≤◌, length};
 ghost use Rattle.tbl_kinds.specs.Places.{bank_size};
 
 use crate::served::Served;
 use crate::setup::bank_in;
-use crate::words::Words;
+use crate::words::{Words, text};
 use cds_layout::{TextFault, store_text};
 use std::io;
 use tbl_fakes::{MemBank, Span};
@@ -19,10 +19,7 @@ fn look<R: Print + AllocGlobal>(rt: &R, bank: &mut MemBank) -> io::Result<()>
     ensures { length bank.new.bytes ≡ length bank.old.bytes }
 {
     match store_text(rt.alloc(), bank) {
-        Ok(text) => {
-            let text = std::str::from_utf8(text.bytes()).unwrap_or("what is no text");
-            print!(rt; "{text}")
-        }
+        Ok(told) => print!(rt; "{}", text(told.bytes())),
         Err(TextFault::Fault) => println!(rt; "fault"),
         Err(TextFault::Memory) => println!(rt; "out of memory"),
     }
@@ -81,9 +78,12 @@ fn show_end<R: Print + AllocGlobal>(rt: &R, script: &str, bank: &mut MemBank) ->
 }
 
 /// Plays a script over a bank.
-fn play_over<R: Print + AllocGlobal>(rt: &R, script: &str, bank: MemBank) -> io::Result<()>
+fn play_over<R: Print + AllocGlobal>(rt: &R, script: &str, mut bank: MemBank) -> io::Result<()>
     requires { bank_size ≤ length bank.bytes }
 {
+    if has_line(script, "text-before") {
+        look(rt, &mut bank)?;
+    }
     match Served::make(rt.alloc(), bank) {
         Ok(mut store) => {
             play_calls(rt, script, &mut store)?;
@@ -95,10 +95,8 @@ fn play_over<R: Print + AllocGlobal>(rt: &R, script: &str, bank: MemBank) -> io:
 
 /// Plays a script, and tells what came.
 pub(crate) fn play<R: Print + AllocGlobal>(rt: &R, script: &str) -> io::Result<()> {
-    println!(rt; "{}", script.lines().next().unwrap_or(""))?;
-    let mut bank = bank_in(rt.alloc(), script)?;
-    if has_line(script, "text-before") {
-        look(rt, &mut bank)?;
+    match bank_in(rt.alloc(), script) {
+        Ok(bank) => play_over(rt, script, bank),
+        Err(_) => println!(rt; "out of memory"),
     }
-    play_over(rt, script, bank)
 }

@@ -1,7 +1,11 @@
-//! Makes calls of the outside in memory, a line each, and writes what came: a program for tests alone.
+//! Plays scripts, each of calls of the store over a bank in memory or of a source, sink or bank in memory, and tells what came of
+//! them: a program for tests alone.
 #![tactic(auto)]
 
 mod banks;
+mod playing;
+mod served;
+mod setup;
 mod streams;
 mod words;
 
@@ -10,7 +14,7 @@ use std::process::ExitCode;
 use tbl_fakes::CalmSink;
 use words::Words;
 
-/// Plays a script: its first line makes an object, and each further one is a call of it.
+/// Plays a script: its first line makes an object and each further one is a call of it, or it is one of the store.
 fn play<R: Print + AllocGlobal>(rt: &R, script: &str) -> io::Result<()> {
     let (first, calls) = script.split_once('\n').unwrap_or((script, ""));
     println!(rt; "{first}")?;
@@ -21,7 +25,8 @@ fn play<R: Print + AllocGlobal>(rt: &R, script: &str) -> io::Result<()> {
         "sink" => streams::sink(rt, &mut words, calls),
         "calm-sink" => streams::play_sink(rt, &mut CalmSink::make(), calls),
         "bank" => banks::bank(rt, &mut words, calls),
-        _ => banks::calm_bank(rt, &mut words, calls),
+        "calm-bank" => banks::calm_bank(rt, &mut words, calls),
+        _ => playing::play(rt, calls),
     }
 }
 

@@ -75,7 +75,7 @@ pub(crate) fn play_sink<R: Print, K: Sink + Shown>(
     for line in calls.lines() {
         let mut words = Words::of(line);
         if words.next() == "write" {
-            println!(rt; "{line} -> {:?}", sink.write(words.bytes()))?;
+            println!(rt; "{line} -> {:?}", sink.write(words.letters()))?;
         } else {
             sink.show(rt, line)?;
         }
@@ -89,7 +89,7 @@ pub(crate) fn source<R: Print + AllocGlobal>(
     words: &mut Words,
     calls: &str,
 ) -> io::Result<()> {
-    let bytes = made(kept(rt.alloc(), words.bytes()))?;
+    let bytes = made(kept(rt.alloc(), words.letters()))?;
     let mut source = made(MemSource::make(rt.alloc(), bytes, &[words.number(), 9]))?;
     play_source(rt, &mut source, calls)
 }
@@ -100,7 +100,7 @@ pub(crate) fn calm_source<R: Print + AllocGlobal>(
     words: &mut Words,
     calls: &str,
 ) -> io::Result<()> {
-    let bytes = made(kept(rt.alloc(), words.bytes()))?;
+    let bytes = made(kept(rt.alloc(), words.letters()))?;
     play_source(rt, &mut CalmSource::make(bytes), calls)
 }
 

@@ -3,12 +3,11 @@
 ghost use Rattle.std.specs.Prelude.{◌≡◌, ◌≤◌, length, IfOk};
 ghost use Rattle.tbl_kinds.specs.Places.{bank_size};
 
-use crate::words::Words;
+use crate::words::{Words, kept};
 use cds_layout::BANK_SIZE;
 use std::alloc::{AllocError, Global};
-use std::io;
 use tbl_fakes::{Break, MemBank};
-use tbl_kinds::{Bytes, Memory};
+use tbl_kinds::Memory;
 
 /// For how many writes a bank has room in its record.
 const MOST_WRITES: u32 = 2_048;
@@ -44,24 +43,29 @@ fn patch_all(alloc: Global, bytes: &mut [u8], script: &str)
     }
 }
 
-/// `break WRITE AFTER HOW`: the writes that break off, each after how many of its bytes, and whether it is stopped.
-fn breaks_in(alloc: Global, script: &str) -> io::Result<Vec<Break>> {
+/// `WRITE AFTER HOW`: a write that breaks off, after how many of its bytes, and whether it is stopped.
+pub(crate) fn break_in(words: &mut Words) -> Break {
+    Break {
+        write: words.number(),
+        after: words.number(),
+        stop: words.next() == "stop",
+    }
+}
+
+/// `break WRITE AFTER HOW`: the writes that break off.
+fn breaks_in(alloc: Global, script: &str) -> Result<Vec<Break>, Memory> {
     let mut breaks = Vec::new(alloc);
     for line in script.lines() {
         let mut words = Words::of(line);
         if words.next() == "break" {
-            breaks.push(Break {
-                write: words.number(),
-                after: words.number(),
-                stop: words.next() == "stop",
-            })?;
+            breaks.push(break_in(&mut words))?;
         }
     }
     Ok(breaks)
 }
 
 /// `bad-read READ`: the reads that fail.
-fn bad_reads_in(alloc: Global, script: &str) -> io::Result<Vec<u32>> {
+fn bad_reads_in(alloc: Global, script: &str) -> Result<Vec<u32>, Memory> {
     let mut reads = Vec::new(alloc);
     for line in script.lines() {
         let mut words = Words::of(line);
@@ -70,15 +74,6 @@ fn bad_reads_in(alloc: Global, script: &str) -> io::Result<Vec<u32>> {
         }
     }
     Ok(reads)
-}
-
-/// The same bytes as the service keeps them.
-fn kept(alloc: Global, bytes: &[u8]) -> Result<Bytes, Memory>
-    ensures { IfOk result (λ b. b.list ≡ bytes.now) }
-{
-    let mut kept = Bytes::make(alloc, bytes.len())?;
-    kept.append(bytes);
-    Ok(kept)
 }
 
 /// A bank of these bytes.
@@ -96,15 +91,12 @@ fn bank_over(
 }
 
 /// The bank with which a script begins.
-pub(crate) fn bank_in(alloc: Global, script: &str) -> io::Result<MemBank>
+pub(crate) fn bank_in(alloc: Global, script: &str) -> Result<MemBank, Memory>
     ensures { IfOk result (λ bank. bank_size ≤ length bank.bytes) }
 {
     let mut bytes = zeros(alloc)?;
     patch_all(alloc, &mut bytes, script);
     let breaks = breaks_in(alloc, script)?;
     let bad_reads = bad_reads_in(alloc, script)?;
-    match bank_over(alloc, &bytes, &breaks, &bad_reads) {
-        Ok(bank) => Ok(bank),
-        Err(_) => Err(io::ErrorKind::OutOfMemory.into()),
-    }
+    bank_over(alloc, &bytes, &breaks, &bad_reads)
 }

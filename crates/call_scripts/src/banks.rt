@@ -1,10 +1,11 @@
 //! Calls of banks.
 
+use crate::setup::break_in;
 use crate::streams::Shown;
 use crate::words::{Words, kept, made, text};
 use std::alloc::Global;
 use std::io;
-use tbl_fakes::{Break, CalmBank, MemBank};
+use tbl_fakes::{CalmBank, MemBank};
 use tbl_kinds::Memory;
 use tbl_outside::Bank;
 
@@ -58,7 +59,7 @@ fn write_at<R: Print, B: Bank>(
     line: &str,
 ) -> io::Result<()> {
     let at = words.number();
-    let bytes = words.bytes();
+    let bytes = words.letters();
     if MOST < bytes.len() || (bank.size() as usize) < at as usize + bytes.len() {
         return println!(rt; "{line} -> outside");
     }
@@ -90,17 +91,12 @@ fn calm_of(alloc: Global, word: &[u8]) -> Result<CalmBank, Memory> {
 
 /// A bank, by the words that state it.
 fn mem_of(alloc: Global, words: &mut Words) -> Result<MemBank, Memory> {
-    let word = words.bytes();
+    let word = words.letters();
     let bytes = kept(alloc, &word[..word.len().min(MOST)])?;
     let writes = words.number();
     let room = words.number();
     let bad_read = words.number();
-    let broken = Break {
-        write: words.number(),
-        after: words.number(),
-        stop: words.next() == "stop",
-    };
-    MemBank::make(alloc, bytes, &[broken], &[bad_read], writes, room)
+    MemBank::make(alloc, bytes, &[break_in(words)], &[bad_read], writes, room)
 }
 
 /// `bank BYTES WRITES ROOM BAD-READ WRITE AFTER HOW`: one read fails, and one write breaks off after so many bytes.
@@ -119,6 +115,6 @@ pub(crate) fn calm_bank<R: Print + AllocGlobal>(
     words: &mut Words,
     calls: &str,
 ) -> io::Result<()> {
-    let mut bank = made(calm_of(rt.alloc(), words.bytes()))?;
+    let mut bank = made(calm_of(rt.alloc(), words.letters()))?;
     play_bank(rt, &mut bank, calls)
 }

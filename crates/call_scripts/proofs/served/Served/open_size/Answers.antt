@@ -1,7 +1,7 @@
 use Rattle.std.proofs.Common.{rules, ◌≡◌, Some, sym}
 use Rattle.cds_store.specs.Slots.{open_slot}
-use Rattle.cds_scripts.proofs.Opens.{found_open}
-use Rattle.cds_scripts.proofs.served.Served.open_size.Goals as goal
+use Rattle.call_scripts.proofs.Opens.{found_open}
+use Rattle.call_scripts.proofs.served.Served.open_size.Goals as goal
 
 pub returns-then-eq : goal.returns-then-eq
 returns-then-eq c =
