@@ -2,7 +2,7 @@
 
 use crate::setup::break_in;
 use crate::streams::Shown;
-use crate::words::{Words, kept, made, text};
+use crate::words::{Words, kept, no_memory, text};
 use std::alloc::Global;
 use std::io;
 use tbl_fakes::{CalmBank, MemBank};
@@ -105,8 +105,10 @@ pub(crate) fn bank<R: Print + AllocGlobal>(
     words: &mut Words,
     calls: &str,
 ) -> io::Result<()> {
-    let mut bank = made(mem_of(rt.alloc(), words))?;
-    play_bank(rt, &mut bank, calls)
+    match mem_of(rt.alloc(), words) {
+        Ok(mut bank) => play_bank(rt, &mut bank, calls),
+        Err(_) => no_memory(rt),
+    }
 }
 
 /// `calm-bank BYTES`
@@ -115,6 +117,8 @@ pub(crate) fn calm_bank<R: Print + AllocGlobal>(
     words: &mut Words,
     calls: &str,
 ) -> io::Result<()> {
-    let mut bank = made(calm_of(rt.alloc(), words.letters()))?;
-    play_bank(rt, &mut bank, calls)
+    match calm_of(rt.alloc(), words.letters()) {
+        Ok(mut bank) => play_bank(rt, &mut bank, calls),
+        Err(_) => no_memory(rt),
+    }
 }

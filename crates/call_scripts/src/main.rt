@@ -11,7 +11,6 @@ mod words;
 
 use std::io::{self, Read};
 use std::process::ExitCode;
-use tbl_fakes::CalmSink;
 use words::Words;
 
 /// Plays a script: its first line makes an object and each further one is a call of it, or it is one of the store.
@@ -23,19 +22,23 @@ fn play<R: Print + AllocGlobal>(rt: &R, script: &str) -> io::Result<()> {
         "source" => streams::source(rt, &mut words, calls),
         "calm-source" => streams::calm_source(rt, &mut words, calls),
         "sink" => streams::sink(rt, &mut words, calls),
-        "calm-sink" => streams::play_sink(rt, &mut CalmSink::make(), calls),
+        "calm-sink" => streams::calm_sink(rt, calls),
         "bank" => banks::bank(rt, &mut words, calls),
         "calm-bank" => banks::calm_bank(rt, &mut words, calls),
         _ => playing::play(rt, calls),
     }
 }
 
-fn run<R: Input + Print + AllocGlobal>(rt: &R) -> io::Result<()> {
-    let scripts = io::read_to_string(rt.alloc(), rt.reader())?;
+fn play_all<R: Print + AllocGlobal>(rt: &R, scripts: &str) -> io::Result<()> {
     for script in scripts.split("\n\n") {
         play(rt, script)?;
     }
     Ok(())
+}
+
+fn run<R: Input + Print + AllocGlobal>(rt: &R) -> io::Result<()> {
+    let scripts = io::read_to_string(rt.alloc(), rt.reader())?;
+    play_all(rt, &scripts)
 }
 
 fn main(rt: HostRuntime) -> ExitCode {

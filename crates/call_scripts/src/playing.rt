@@ -5,7 +5,7 @@ ghost use Rattle.tbl_kinds.specs.Places.{bank_size};
 
 use crate::served::Served;
 use crate::setup::bank_in;
-use crate::words::{Words, text};
+use crate::words::{Words, no_memory, text};
 use cds_layout::{TextFault, store_text};
 use std::io;
 use tbl_fakes::{MemBank, Span};
@@ -21,7 +21,7 @@ fn look<R: Print + AllocGlobal>(rt: &R, bank: &mut MemBank) -> io::Result<()>
     match store_text(rt.alloc(), bank) {
         Ok(told) => print!(rt; "{}", text(told.bytes())),
         Err(TextFault::Fault) => println!(rt; "fault"),
-        Err(TextFault::Memory) => println!(rt; "out of memory"),
+        Err(TextFault::Memory) => no_memory(rt),
     }
 }
 
@@ -77,26 +77,41 @@ fn show_end<R: Print + AllocGlobal>(rt: &R, script: &str, bank: &mut MemBank) ->
     show_bytes(rt, bank.bytes())
 }
 
-/// Plays a script over a bank.
-fn play_over<R: Print + AllocGlobal>(rt: &R, script: &str, mut bank: MemBank) -> io::Result<()>
+/// Makes the calls of a script over a bank, and tells what it holds behind them.
+fn play_over<R: Print + AllocGlobal>(rt: &R, script: &str, bank: MemBank) -> io::Result<()>
     requires { bank_size ≤ length bank.bytes }
 {
-    if has_line(script, "text-before") {
-        look(rt, &mut bank)?;
-    }
     match Served::make(rt.alloc(), bank) {
         Ok(mut store) => {
-            play_calls(rt, script, &mut store)?;
-            show_end(rt, script, &mut store.end())
+            let played = play_calls(rt, script, &mut store);
+            let shown = show_end(rt, script, &mut store.end());
+            played?;
+            shown
         }
-        Err(_) => println!(rt; "out of memory"),
+        Err(_) => no_memory(rt),
     }
+}
+
+/// Tells what a bank holds before the calls, where a script asks for it.
+fn show_begin<R: Print + AllocGlobal>(rt: &R, script: &str, bank: &mut MemBank) -> io::Result<()>
+    requires { bank_size ≤ length bank.old.bytes }
+    ensures { length bank.new.bytes ≡ length bank.old.bytes }
+{
+    if has_line(script, "text-before") {
+        return look(rt, bank);
+    }
+    Ok(())
 }
 
 /// Plays a script, and tells what came.
 pub(crate) fn play<R: Print + AllocGlobal>(rt: &R, script: &str) -> io::Result<()> {
     match bank_in(rt.alloc(), script) {
-        Ok(bank) => play_over(rt, script, bank),
-        Err(_) => println!(rt; "out of memory"),
+        Ok(mut bank) => {
+            let shown = show_begin(rt, script, &mut bank);
+            let played = play_over(rt, script, bank);
+            shown?;
+            played
+        }
+        Err(_) => no_memory(rt),
     }
 }

@@ -30,15 +30,22 @@ fn write_over(bytes: &mut [u8], from: usize, piece: &[u8]) -> Option<()>
     Some(())
 }
 
-/// `bank AT BYTES`: what the bank holds there at first.
+/// `AT BYTES`: what a bank holds there at first.
+fn patch(alloc: Global, bytes: &mut [u8], words: &mut Words)
+    ensures { length bytes.new ≡ length bytes.old }
+{
+    let from = words.number() as usize;
+    let _ = write_over(bytes, from, &words.bytes(alloc));
+}
+
+/// `bank AT BYTES`: the pieces with which the bank begins.
 fn patch_all(alloc: Global, bytes: &mut [u8], script: &str)
     ensures { length bytes.new ≡ length bytes.old }
 {
     for line in script.lines() {
         let mut words = Words::of(line);
         if words.next() == "bank" {
-            let from = words.number() as usize;
-            let _ = write_over(bytes, from, &words.bytes(alloc));
+            patch(alloc, bytes, &mut words);
         }
     }
 }

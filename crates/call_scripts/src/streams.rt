@@ -1,8 +1,10 @@
 //! Calls of sources and sinks.
 
-use crate::words::{Words, kept, made, text};
+use crate::words::{Words, kept, no_memory, text};
+use std::alloc::Global;
 use std::io;
 use tbl_fakes::{CalmSink, CalmSource, MemSink, MemSource};
+use tbl_kinds::Memory;
 use tbl_outside::{Sink, Source};
 
 /// What tells more than its calls answer.
@@ -66,16 +68,23 @@ fn play_source<R: Print, S: Source + Shown>(rt: &R, source: &mut S, calls: &str)
     Ok(())
 }
 
-/// Calls of a sink: `write BYTES`, or `taken`: what was taken, and how often a write failed.
-pub(crate) fn play_sink<R: Print, K: Sink + Shown>(
+/// `write BYTES`: writes them, and tells whether they were taken.
+fn write_to<R: Print, K: Sink>(
     rt: &R,
     sink: &mut K,
-    calls: &str,
+    words: &mut Words,
+    line: &str,
 ) -> io::Result<()> {
+    let came = sink.write(words.letters());
+    println!(rt; "{line} -> {came:?}")
+}
+
+/// Calls of a sink: `write BYTES`, or `taken`: what was taken, and how often a write failed.
+fn play_sink<R: Print, K: Sink + Shown>(rt: &R, sink: &mut K, calls: &str) -> io::Result<()> {
     for line in calls.lines() {
         let mut words = Words::of(line);
         if words.next() == "write" {
-            println!(rt; "{line} -> {:?}", sink.write(words.letters()))?;
+            write_to(rt, sink, &mut words, line)?;
         } else {
             sink.show(rt, line)?;
         }
@@ -83,15 +92,27 @@ pub(crate) fn play_sink<R: Print, K: Sink + Shown>(
     Ok(())
 }
 
-/// `source BYTES FAILS`: FAILS is the number of the read that fails.
+/// `calm-sink`
+pub(crate) fn calm_sink<R: Print>(rt: &R, calls: &str) -> io::Result<()> {
+    play_sink(rt, &mut CalmSink::make(), calls)
+}
+
+/// A source, by the words that state it.
+fn source_of(alloc: Global, words: &mut Words) -> Result<MemSource, Memory> {
+    let bytes = kept(alloc, words.letters())?;
+    MemSource::make(alloc, bytes, &[words.number(), 9])
+}
+
+/// `source BYTES FAILS`: FAILS is the number of a read that fails, as the ninth does.
 pub(crate) fn source<R: Print + AllocGlobal>(
     rt: &R,
     words: &mut Words,
     calls: &str,
 ) -> io::Result<()> {
-    let bytes = made(kept(rt.alloc(), words.letters()))?;
-    let mut source = made(MemSource::make(rt.alloc(), bytes, &[words.number(), 9]))?;
-    play_source(rt, &mut source, calls)
+    match source_of(rt.alloc(), words) {
+        Ok(mut source) => play_source(rt, &mut source, calls),
+        Err(_) => no_memory(rt),
+    }
 }
 
 /// `calm-source BYTES`
@@ -100,8 +121,10 @@ pub(crate) fn calm_source<R: Print + AllocGlobal>(
     words: &mut Words,
     calls: &str,
 ) -> io::Result<()> {
-    let bytes = made(kept(rt.alloc(), words.letters()))?;
-    play_source(rt, &mut CalmSource::make(bytes), calls)
+    match kept(rt.alloc(), words.letters()) {
+        Ok(bytes) => play_source(rt, &mut CalmSource::make(bytes), calls),
+        Err(_) => no_memory(rt),
+    }
 }
 
 /// `sink ROOM FAILS`: FAILS is the number of the write that fails.
@@ -111,6 +134,8 @@ pub(crate) fn sink<R: Print + AllocGlobal>(
     calls: &str,
 ) -> io::Result<()> {
     let room = words.number();
-    let mut sink = made(MemSink::make(rt.alloc(), room, &[words.number()]))?;
-    play_sink(rt, &mut sink, calls)
+    match MemSink::make(rt.alloc(), room, &[words.number()]) {
+        Ok(mut sink) => play_sink(rt, &mut sink, calls),
+        Err(_) => no_memory(rt),
+    }
 }

@@ -1,4 +1,4 @@
-//! The words of a line, and what is made of them.
+//! The words of a line, what is made of them, and what any script may tell.
 
 ghost use Rattle.std.specs.Prelude.{◌≡◌, IfOk};
 
@@ -58,15 +58,12 @@ pub(crate) fn kept(alloc: Global, bytes: &[u8]) -> Result<Bytes, Memory>
     Ok(kept)
 }
 
-/// What was made, or that memory ran out.
-pub(crate) fn made<T: Drop>(made: Result<T, Memory>) -> io::Result<T> {
-    match made {
-        Ok(it) => Ok(it),
-        Err(_) => Err(io::ErrorKind::OutOfMemory.into()),
-    }
-}
-
 /// Bytes as text.
 pub(crate) fn text(bytes: &[u8]) -> &str {
     std::str::from_utf8(bytes).unwrap_or("no text")
+}
+
+/// Tells that memory ran out.
+pub(crate) fn no_memory<R: Print>(rt: &R) -> io::Result<()> {
+    println!(rt; "out of memory")
 }
