@@ -23,23 +23,30 @@ pub(crate) enum End {
     TooLong,
 }
 
-/// The whole records at the front of an input, and how that ended.
+/// What was read of an input: the whole records at its front, what stands behind them, and how it ended.
 #[derive(Drop)]
 pub(crate) struct Session {
     pub(crate) bytes: Vec<u8>,
+    /// How many of the bytes are whole records.
+    whole: usize,
     pub(crate) count: u32,
     pub(crate) end: End,
 }
 
-/// Bytes that were read, and how many of them are whole records.
-#[derive(Drop)]
-struct Reading {
-    bytes: Vec<u8>,
-    whole: usize,
-    count: u32,
-}
+impl Session {
+    /// Counts what stands behind the whole records, if it is one more. None where it is no part of a record.
+    fn count(&mut self, next: &Next) -> Option<bool> {
+        match next {
+            Next::Item { used, .. } => {
+                self.whole = self.whole.saturating_add(*used);
+                self.count = self.count.saturating_add(1);
+                Some(true)
+            }
+            Next::Bad => None,
+            Next::Short | Next::End => Some(false),
+        }
+    }
 
-impl Reading {
     /// Takes the next record, if there is a whole one. None where the bytes behind the records are no part of one, or where
     /// no further record is taken.
     fn take_record(&mut self, alloc: Global) -> Result<Option<bool>, Memory> {
@@ -49,15 +56,8 @@ impl Reading {
         if self.count >= MOST_RECORDS && !rest.is_empty() {
             return Ok(None);
         }
-        match next_record(alloc, rest)? {
-            Next::Item { used, .. } => {
-                self.whole = self.whole.saturating_add(used);
-                self.count = self.count.saturating_add(1);
-                Ok(Some(true))
-            }
-            Next::Bad => Ok(None),
-            Next::Short | Next::End => Ok(Some(false)),
-        }
+        let next = next_record(alloc, rest)?;
+        Ok(self.count(&next))
     }
 
     /// Takes all whole records that there are. The answer is whether more bytes may bring more records.
@@ -72,17 +72,13 @@ impl Reading {
         Ok(true)
     }
 
-    fn ended(self, end: End) -> Session {
-        let end = match end {
+    /// Takes down how the session ended, where the input ended so.
+    fn close(&mut self, end: End) {
+        self.end = match end {
             End::Whole if self.whole < self.bytes.len() => End::BadRecord,
             End::BadRecord if self.count >= MOST_RECORDS => End::TooLong,
             _ => end,
         };
-        Session {
-            bytes: self.bytes,
-            count: self.count,
-            end,
-        }
     }
 }
 
@@ -91,14 +87,14 @@ fn read_on<S: Source>(
     alloc: Global,
     source: &mut S,
     piece: &mut [u8; PIECE],
-    reading: &mut Reading,
+    session: &mut Session,
 ) -> Result<Option<End>, Memory> {
     match source.read(piece.as_mut_slice()) {
         Ok(0) => return Ok(Some(End::Whole)),
-        Ok(count) => reading.bytes.extend_from_slice(&piece[..count])?,
+        Ok(count) => session.bytes.extend_from_slice(&piece[..count])?,
         Err(Failed) => return Ok(Some(End::ReadFailed)),
     }
-    if reading.take_records(alloc)? {
+    if session.take_records(alloc)? {
         Ok(None)
     } else {
         Ok(Some(End::BadRecord))
@@ -109,11 +105,11 @@ fn read_on<S: Source>(
 fn read_all<S: Source>(
     alloc: Global,
     source: &mut S,
-    reading: &mut Reading,
+    session: &mut Session,
 ) -> Result<End, Memory> {
     let mut piece = [0; PIECE];
     for _ in 0..u64::MAX {
-        if let Some(end) = read_on(alloc, source, &mut piece, reading)? {
+        if let Some(end) = read_on(alloc, source, &mut piece, session)? {
             return Ok(end);
         }
     }
@@ -122,11 +118,13 @@ fn read_all<S: Source>(
 
 /// Reads a session to its end.
 pub(crate) fn read_session<S: Source>(alloc: Global, source: &mut S) -> Result<Session, Memory> {
-    let mut reading = Reading {
+    let mut session = Session {
         bytes: Vec::new(alloc),
         whole: 0,
         count: 0,
+        end: End::Whole,
     };
-    let end = read_all(alloc, source, &mut reading)?;
-    Ok(reading.ended(end))
+    let end = read_all(alloc, source, &mut session)?;
+    session.close(end);
+    Ok(session)
 }

@@ -19,8 +19,8 @@ use tbl_adapters::{StandardInput, StandardOutput};
 use tbl_fakes::Span;
 use tbl_kinds::Entry;
 use tbl_outside::Sink;
-use text::{tell_write, whole_text};
-use tries::{Counts, Write, try_write};
+use text::{tell_whole, tell_write};
+use tries::{Counts, Sweep, Write, try_write};
 use words::{Words, given_words};
 
 /// What `--help` answers.
@@ -40,61 +40,66 @@ It ends with one of these statuses:
 6  the input goes on after 32,768 records, or has too many to ask the service for more
 ";
 
-/// Tries a write, which stands at this place among those of the session, and tells what came back. `maker` says how many
-/// requests had been made by the write before, and the answer how many by this one.
+/// What is told of a session: the lines of the writes that were tried, and the whole text behind the last of them.
+#[derive(Drop)]
+struct Told {
+    lines: String,
+    text: String,
+    counts: Counts,
+    /// How many requests had been made by the last write.
+    played: Option<usize>,
+}
+
+/// Tries a write, and tells what came back.
 fn tell_tried<R: Eprint>(
+    rt: &R,
+    plan: &Plan<'_>,
+    write: Write,
+    sweep: &mut Sweep,
+    told: &mut Told,
+) -> Result<(), Fault> {
+    try_write(rt, plan, write, sweep, &mut told.counts)?;
+    let is_first = told.played != Some(sweep.played);
+    told.played = Some(sweep.played);
+    Ok(tell_write(&mut told.lines, plan, write, sweep, is_first)?)
+}
+
+/// Tries the write at this place among those of the session, and tells what came back.
+fn tell_at_place<R: Eprint>(
     rt: &R,
     plan: &Plan<'_>,
     at: usize,
     span: Span,
-    maker: Option<usize>,
-    lines: &mut String,
-    counts: &mut Counts,
-) -> Result<usize, Fault> {
+    told: &mut Told,
+) -> Result<(), Fault> {
     let Ok(number) = u32::try_from(at.saturating_add(1)) else {
         return Err(Fault::Full);
     };
     let write = Write { number, span };
-    let tried = try_write(rt, plan, write, counts)?;
-    let is_first = maker != Some(tried.played);
-    tell_write(lines, plan, write, &tried, is_first)?;
-    Ok(tried.played)
+    let mut sweep = Sweep::begin(plan, write)?;
+    tell_tried(rt, plan, write, &mut sweep, told)
 }
 
 /// Tries all writes of a session, and tells what came back.
-fn tell_all<R: Eprint>(
-    rt: &R,
-    plan: &Plan<'_>,
-    lines: &mut String,
-    counts: &mut Counts,
-) -> Result<(), Fault> {
-    let mut maker = None;
+fn tell_all<R: Eprint>(rt: &R, plan: &Plan<'_>, told: &mut Told) -> Result<(), Fault> {
     for (at, span) in plan.writes.iter().enumerate() {
-        let played = tell_tried(rt, plan, at, *span, maker, lines, counts)?;
-        maker = Some(played);
+        tell_at_place(rt, plan, at, *span, told)?;
     }
-    Ok(())
+    Ok(tell_whole(&mut told.text, plan, &told.lines, &told.counts)?)
 }
 
-/// The text for a session whose tables are known, and whether a mix came back.
-fn tried_with<R: Eprint>(rt: &R, plan: &Plan<'_>) -> Result<(String, bool), Fault> {
-    let mut counts = Counts::zero();
-    let mut lines = String::new(plan.alloc);
-    tell_all(rt, plan, &mut lines, &mut counts)?;
-    let text = whole_text(plan, &lines, &counts)?;
-    Ok((text, counts.mixed > 0))
-}
-
-/// The text for a session whose writes and history are known, and whether a mix came back.
+/// Tries a session whose writes and history are known.
 fn tried_behind<R: Eprint + AllocGlobal>(
     rt: &R,
-    records: &[u8],
+    session: &Session,
     every: u32,
     room: Room,
     writes: &[Span],
     history: &[Entry],
-) -> Result<(String, bool), Fault> {
+    told: &mut Told,
+) -> Result<(), Fault> {
     let alloc = rt.alloc();
+    let records = session.bytes.as_slice();
     let tables = tables_of(alloc, records, room, history)?;
     let plan = Plan {
         alloc,
@@ -105,23 +110,24 @@ fn tried_behind<R: Eprint + AllocGlobal>(
         history,
         tables: &tables,
     };
-    tried_with(rt, &plan)
+    tell_all(rt, &plan, told)
 }
 
-/// The text for a session, and whether a mix came back.
+/// Tries a session.
 fn tried<R: Eprint + AllocGlobal>(
     rt: &R,
     session: &Session,
     every: u32,
-) -> Result<(String, bool), Fault> {
+    told: &mut Told,
+) -> Result<(), Fault> {
     let alloc = rt.alloc();
     let records = session.bytes.as_slice();
     let count = session.count as usize;
     let (room, writes) = writes_of(alloc, records, count)?;
     let core = behind(alloc, records, count, room)?;
-    let text = tried_behind(rt, records, every, room, &writes, core.history());
+    let done = tried_behind(rt, session, every, room, &writes, core.history(), told);
     close(core);
-    text
+    done
 }
 
 /// The status for how an input ended.
@@ -134,34 +140,56 @@ fn status_of(end: End) -> u8 {
     }
 }
 
+/// Writes what was told of a session that was tried, and gives the status.
+fn write_told(told: &Told, end: End, sink: &mut StandardOutput) -> u8 {
+    if sink.write(told.text.as_bytes()).is_err() {
+        4
+    } else if told.counts.mixed > 0 {
+        1
+    } else {
+        status_of(end)
+    }
+}
+
 /// Tries a session, and gives the status for that.
 fn try_session<R: Eprint + AllocGlobal>(
     rt: &R,
     session: &Session,
     every: u32,
+    told: &mut Told,
     sink: &mut StandardOutput,
 ) -> u8 {
-    match tried(rt, session, every) {
+    match tried(rt, session, every, told) {
+        Ok(()) => write_told(told, session.end, sink),
         Err(Fault::Memory) => 1,
         Err(Fault::Full) => 6,
-        Ok((text, _)) if sink.write(text.as_bytes()).is_err() => 4,
-        Ok((_, true)) => 1,
-        Ok((_, false)) => status_of(session.end),
     }
+}
+
+/// Reads a session, tries it, and gives the status for that.
+fn try_input(rt: &HostRuntime, every: u32, sink: &mut StandardOutput) -> u8 {
+    let alloc = rt.alloc();
+    let mut source = StandardInput::of(rt.stdin());
+    let Ok(session) = read_session(alloc, &mut source) else {
+        return 1;
+    };
+    let mut told = Told {
+        lines: String::new(alloc),
+        text: String::new(alloc),
+        counts: Counts::zero(),
+        played: None,
+    };
+    try_session(rt, &session, every, &mut told, sink)
 }
 
 fn main(rt: HostRuntime) -> ExitCode {
     let mut sink = StandardOutput::of(rt.stdout());
-    let every = match given_words(&rt) {
-        Words::Try { every } => every,
-        Words::Help if sink.write(HELP.as_bytes()).is_ok() => return ExitCode::from(0),
-        Words::Help => return ExitCode::from(4),
-        Words::Unknown => return ExitCode::from(2),
-        Words::Memory => return ExitCode::from(1),
+    let status = match given_words(&rt) {
+        Words::Try { every } => try_input(&rt, every, &mut sink),
+        Words::Help if sink.write(HELP.as_bytes()).is_ok() => 0,
+        Words::Help => 4,
+        Words::Unknown => 2,
+        Words::Memory => 1,
     };
-    let mut source = StandardInput::of(rt.stdin());
-    match read_session(rt.alloc(), &mut source) {
-        Ok(session) => ExitCode::from(try_session(&rt, &session, every, &mut sink)),
-        Err(_) => ExitCode::from(1),
-    }
+    ExitCode::from(status)
 }

@@ -1,7 +1,6 @@
 // One session over banks in memory: whole, up to a record, or up to the write in which the processor is reset.
 ghost use Rattle.std.specs.Prelude.{◌≡◌, ◌≤◌, ◌+◌, length, IfOk};
 ghost use Rattle.tbl_kinds.specs.Places.{bank_size};
-ghost use Rattle.tbl_kinds.specs.Requests.{Fits};
 ghost use Rattle.tbl_core.specs.Service.{AskedBelow};
 ghost use Rattle.shipped_kit.specs.Verdicts.{asked_of};
 
@@ -60,14 +59,6 @@ pub(crate) struct Room {
     pub(crate) bytes: u32,
 }
 
-/// Whether the service goes on behind a request.
-#[derive(Clone, Copy, PartialEq, Eq)]
-pub(crate) enum Progress {
-    Played,
-    /// The processor was reset in it.
-    Stopped,
-}
-
 /// The validation functions of the shipped program.
 fn shipped(alloc: Global) -> Result<Kit<Shipped>, Memory>
     ensures { IfOk result (AskedBelow asked_of 1) }
@@ -85,19 +76,37 @@ fn bank_of(alloc: Global, image: &[u8], breaks: &[Break], room: Room) -> Result<
     MemBank::make(alloc, bytes, breaks, &[], room.writes, room.bytes)
 }
 
-/// The service that starts over a bank, or that bank where it was stopped in the boot.
-pub(crate) enum Started {
-    Runs(Service),
-    Stopped(MemBank),
+/// What a stop left: the bytes of the bank, and how many requests were answered, that in which it came with them; none where
+/// it came in the boot at the start.
+#[derive(Drop)]
+pub(crate) struct Left {
+    pub(crate) played: usize,
+    pub(crate) image: Bytes,
 }
 
-/// The bank that a boot was stopped in.
-fn stopped_in(back: Back<StartFault, MemBank>) -> Result<Started, Fault> {
+/// What a stop left in a bank.
+fn left_in(alloc: Global, bank: &MemBank, played: usize) -> Result<Left, Fault>
+    ensures image { IfOk result (λ left. left.image.list ≡ bank.now.bytes) }
+    ensures played { IfOk result (λ left. left.played ≡ played) }
+{
+    let bytes = bank.bytes();
+    let mut image = Bytes::make(alloc, bytes.len())?;
+    image.append(bytes);
+    Ok(Left { played, image })
+}
+
+/// The service that starts over a bank, or what is left in the bank where it was stopped in the boot.
+pub(crate) enum Started {
+    Runs(Service),
+    Stopped(Left),
+}
+
+/// What a boot left that was stopped.
+fn stopped_in(alloc: Global, back: &Back<StartFault, MemBank>) -> Result<Started, Fault> {
     if back.cause == StartFault::Memory {
-        Err(Fault::Memory)
-    } else {
-        Ok(Started::Stopped(back.bank))
+        return Err(Fault::Memory);
     }
+    Ok(Started::Stopped(left_in(alloc, &back.bank, 0)?))
 }
 
 /// Starts the service over a bank.
@@ -107,7 +116,7 @@ fn start_over(alloc: Global, bank: MemBank, kit: Kit<Shipped>) -> Result<Started
 {
     match Core::start(alloc, bank, kit) {
         Ok(core) => Ok(Started::Runs(core)),
-        Err(back) => stopped_in(back),
+        Err(back) => stopped_in(alloc, &back),
     }
 }
 
@@ -128,74 +137,53 @@ pub(crate) fn last_entry(core: &Service) -> Result<&Entry, Fault> {
     }
 }
 
-/// Whether the service goes on behind the request that was played last.
-fn last_progress(core: &Service) -> Result<Progress, Fault> {
-    if last_entry(core)?.reply.status == Status::INFO_STOPPED {
-        Ok(Progress::Stopped)
-    } else {
-        Ok(Progress::Played)
-    }
-}
-
-/// Plays a request.
-fn step(core: &mut Service, actor: Actor, request: Request) -> Result<Progress, Fault>
-    requires fits { Fits actor request }
+/// Plays a request. The answer is whether the service goes on behind it: not where the processor was reset in it.
+fn step(core: &mut Service, actor: Actor, request: Request) -> Result<bool, Fault>
     ensures added { IfOk result (λ _. length core.new.entries ≡ length core.old.entries + 1) }
 {
-    if !core.is_live() || core.history().len() >= MOST_ENTRIES {
+    if !fits(actor, &request) || !core.is_live() || core.history().len() >= MOST_ENTRIES {
         return Err(Fault::Full);
     }
     match core.step(actor, request) {
-        Ok(()) => last_progress(core),
-        Err(StepFault::BootFault | StepFault::BootStopped) => Ok(Progress::Stopped),
+        Ok(()) => Ok(last_entry(core)?.reply.status != Status::INFO_STOPPED),
+        Err(StepFault::BootFault | StepFault::BootStopped) => Ok(false),
         Err(StepFault::Memory) => Err(Fault::Memory),
     }
 }
 
 /// Makes a request that isn't in the session, and gives its entry.
 pub(crate) fn ask(core: &mut Service, actor: Actor, request: Request) -> Result<&Entry, Fault> {
-    if !fits(actor, &request) {
-        return Err(Fault::Full);
-    }
     step(core, actor, request)?;
     last_entry(core)
 }
 
-/// Plays the record at the front of some bytes, and gives its length, 0 where there is none, and whether the service goes on.
-fn step_front(
-    alloc: Global,
-    core: &mut Service,
-    records: &[u8],
-) -> Result<(usize, Progress), Fault> {
+/// Plays the record at the front of some bytes, and gives its length: 0 where there is none, or where the processor was reset
+/// in it.
+fn step_front(alloc: Global, core: &mut Service, records: &[u8]) -> Result<usize, Fault> {
     match next_record(alloc, records)? {
         Next::Item {
             actor,
             request,
             used,
-        } => Ok((used, step(core, actor, request)?)),
-        _ => Ok((0, Progress::Played)),
+        } => Ok(if step(core, actor, request)? { used } else { 0 }),
+        _ => Ok(0),
     }
 }
 
 /// Plays so many records, or those up to the one in which the processor is reset.
-fn step_all(
-    alloc: Global,
-    core: &mut Service,
-    records: &[u8],
-    most: usize,
-) -> Result<Progress, Fault> {
-    let mut rest = records;
+fn step_all(alloc: Global, core: &mut Service, records: &[u8], most: usize) -> Result<(), Fault> {
+    let mut at = 0usize;
     for _ in 0..most {
-        let (used, how) = step_front(alloc, core, rest)?;
-        if used == 0 || how == Progress::Stopped {
-            return Ok(how);
-        }
-        let Some(behind) = rest.get(used..) else {
+        let Some(rest) = records.get(at..) else {
             return Err(Fault::Full);
         };
-        rest = behind;
+        let used = step_front(alloc, core, rest)?;
+        if used == 0 {
+            return Ok(());
+        }
+        at = at.saturating_add(used);
     }
-    Ok(Progress::Played)
+    Ok(())
 }
 
 /// Ends a service that nothing more is asked of.
@@ -211,7 +199,7 @@ fn played_on(
     most: usize,
 ) -> Result<Service, Fault> {
     match step_all(alloc, &mut core, records, most) {
-        Ok(_) => Ok(core),
+        Ok(()) => Ok(core),
         Err(fault) => {
             close(core);
             Err(fault)
@@ -230,25 +218,6 @@ pub(crate) fn behind(
         Started::Runs(core) => played_on(alloc, core, records, most),
         Started::Stopped(_) => Err(Fault::Full),
     }
-}
-
-/// What a stop left: the bytes of the bank, and how many requests were answered, that in which it came with them; none where
-/// it came in the boot at the start.
-#[derive(Drop)]
-pub(crate) struct Left {
-    pub(crate) played: usize,
-    pub(crate) image: Bytes,
-}
-
-/// What a stop left in a bank.
-fn left_in(alloc: Global, bank: &MemBank, played: usize) -> Result<Left, Fault>
-    ensures image { IfOk result (λ left. left.image.list ≡ bank.now.bytes) }
-    ensures played { IfOk result (λ left. left.played ≡ played) }
-{
-    let bytes = bank.bytes();
-    let mut image = Bytes::make(alloc, bytes.len())?;
-    image.append(bytes);
-    Ok(Left { played, image })
 }
 
 /// A write in which the processor is reset after so many bytes.
@@ -279,7 +248,7 @@ pub(crate) fn with_stop(
     let breaks = [stop_in(write, after), stop_in(write.saturating_add(1), 0)];
     match start(alloc, &ZEROS, &breaks, room)? {
         Started::Runs(core) => played_to_stop(alloc, core, records),
-        Started::Stopped(bank) => left_in(alloc, &bank, 0),
+        Started::Stopped(left) => Ok(left),
     }
 }
 

@@ -1,8 +1,9 @@
 // What comes back behind a reset: asked from the service that starts anew over the bank that was left.
+use crate::plan::Plan;
 use crate::play::{Fault, Service, anew, ask, close};
 use crate::tables::{Back, Registration, Table};
+use crate::tries::Runs;
 use check_word::check16;
-use std::alloc::Global;
 use tbl_kinds::{Actor, Bytes, Request, Status};
 
 /// Makes a request, and gives its status.
@@ -46,34 +47,36 @@ pub(crate) fn read_image(
     }
 }
 
-/// Lets the application of a table run under its name. Another table of the same application may have been registered before.
-fn start_app(
-    core: &mut Service,
-    wanted: &Registration,
-    before: Option<&Registration>,
-) -> Result<(), Fault> {
-    match before {
-        Some(before) if before.app == wanted.app => return Ok(()),
-        Some(_) => {
-            status_of(core, wanted.actor, Request::Exit)?;
-        }
-        None => (),
-    }
-    let name = wanted.app.copy();
-    status_of(core, wanted.actor, Request::Start { name })?;
-    Ok(())
-}
-
-/// The registration of the last of some tables that the same application registers.
-fn last_of<'a>(tables: &'a [Table], actor: Actor, played: usize) -> Option<&'a Registration> {
-    for table in tables.iter().rev() {
+/// Whether the application of a table runs under its name once those tables that stand before it are registered; none where
+/// it doesn't run, as it has registered none of them.
+fn runs_as_wanted(earlier: &[Table], wanted: &Registration, played: usize) -> Option<bool> {
+    for table in earlier.iter().rev() {
         if let Some(registration) = table.registration(played) {
-            if registration.actor == actor {
-                return Some(registration);
+            if registration.actor == wanted.actor {
+                return Some(registration.app == wanted.app);
             }
         }
     }
     None
+}
+
+/// Lets the application of a table run under its name.
+fn start_app(
+    core: &mut Service,
+    earlier: &[Table],
+    wanted: &Registration,
+    played: usize,
+) -> Result<(), Fault> {
+    let runs = runs_as_wanted(earlier, wanted, played);
+    if runs == Some(true) {
+        return Ok(());
+    }
+    if runs == Some(false) {
+        status_of(core, wanted.actor, Request::Exit)?;
+    }
+    let name = wanted.app.copy();
+    status_of(core, wanted.actor, Request::Start { name })?;
+    Ok(())
 }
 
 /// What a request to register a table anew is answered: the status and the detail.
@@ -123,33 +126,36 @@ fn come_back_at(
 ) -> Result<Back, Fault> {
     let wanted = table.registration(played).ok_or(Fault::Full)?;
     let earlier = tables.get(..at).ok_or(Fault::Full)?;
-    start_app(core, wanted, last_of(earlier, wanted.actor, played))?;
+    start_app(core, earlier, wanted, played)?;
     back_of(core, table, wanted, played)
 }
 
 /// What comes back in each table, registered anew in a service that was just started.
 fn come_back_in(
-    alloc: Global,
     core: &mut Service,
     tables: &[Table],
     played: usize,
-) -> Result<Vec<Back>, Fault> {
-    let mut backs = Vec::new(alloc);
+    after: u32,
+    runs: &mut Runs,
+) -> Result<(), Fault> {
     for (at, table) in tables.iter().enumerate() {
-        backs.push(come_back_at(core, tables, at, table, played)?)?;
+        let back = come_back_at(core, tables, at, table, played)?;
+        runs.take(at, after, back)?;
     }
-    Ok(backs)
+    Ok(())
 }
 
-/// What comes back in each table behind a reset that left these bytes in the bank, in the last of so many requests.
+/// What comes back in each table behind a reset that left these bytes in the bank, in the last of so many requests and after
+/// so many bytes of a write.
 pub(crate) fn come_back(
-    alloc: Global,
+    plan: &Plan<'_>,
     image: &[u8],
-    tables: &[Table],
     played: usize,
-) -> Result<Vec<Back>, Fault> {
-    let mut core = anew(alloc, image)?;
-    let backs = come_back_in(alloc, &mut core, tables, played);
+    after: u32,
+    runs: &mut Runs,
+) -> Result<(), Fault> {
+    let mut core = anew(plan.alloc, image)?;
+    let told = come_back_in(&mut core, plan.tables, played, after, runs);
     close(core);
-    backs
+    told
 }

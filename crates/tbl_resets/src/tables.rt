@@ -47,7 +47,7 @@ pub(crate) struct Table {
 }
 
 /// What came back in a table, registered anew behind a reset.
-#[derive(Clone, Copy, PartialEq, Eq)]
+#[derive(Clone, Copy, PartialEq)]
 pub(crate) enum Back {
     /// No image.
     None,

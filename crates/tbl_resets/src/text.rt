@@ -1,7 +1,7 @@
 // The table as text.
 use crate::plan::Plan;
 use crate::tables::{Back, Change, Event, Table};
-use crate::tries::{Counts, Run, SHORT_WRITE, Tried, Write};
+use crate::tries::{Counts, Run, SHORT_WRITE, Sweep, Write};
 use std::alloc::AllocError;
 use std::fmt::Write as _;
 use tbl_fakes::Span;
@@ -151,19 +151,20 @@ fn tell_piece(
     write!(text, "{part} of slot {slot}")
 }
 
+/// Writes which image came back.
+fn tell_recovered(text: &mut String, number: u32, crc: u16, how: &str) -> Result<(), AllocError> {
+    write!(text, "recovered: image {number} (crc 0x{crc:04X}), {how}")
+}
+
 /// Writes what came back.
 fn tell_back(text: &mut String, back: Back) -> Result<(), AllocError> {
     match back {
         Back::None => text.push_str("none"),
         Back::Refused { status } => write!(text, "none (Register was answered with {status})"),
-        Back::Completed { number, crc } => write!(
-            text,
-            "recovered: image {number} (crc 0x{crc:04X}), the last that was copied"
-        ),
-        Back::Broken { number, crc } => write!(
-            text,
-            "recovered: image {number} (crc 0x{crc:04X}), whose copy broke off"
-        ),
+        Back::Completed { number, crc } => {
+            tell_recovered(text, number, crc, "the last that was copied")
+        }
+        Back::Broken { number, crc } => tell_recovered(text, number, crc, "whose copy broke off"),
         Back::Mixed { crc } => write!(
             text,
             "A MIX: other bytes than of any image (crc 0x{crc:04X})"
@@ -182,10 +183,7 @@ fn tell_head(
     let Write { number, span } = write;
     let length = span.length;
     let line = text.len();
-    write!(text, "{number}")?;
-    blanks_to(text, line, BYTES_AT)?;
-    write!(text, "{length}")?;
-    blanks_to(text, line, REQUEST_AT)?;
+    write!(text, "{number:<6} {length:<6} ")?;
     tell_maker(text, plan, played)?;
     blanks_to(text, line, WRITES_AT)?;
     tell_piece(text, plan, played, span, is_first)
@@ -216,19 +214,29 @@ pub(crate) fn tell_write(
     text: &mut String,
     plan: &Plan<'_>,
     write: Write,
-    tried: &Tried,
+    sweep: &Sweep,
     is_first: bool,
 ) -> Result<(), AllocError> {
     let after = after_at(plan);
     let mut line = text.len();
-    tell_head(text, plan, write, tried.played, is_first)?;
+    tell_head(text, plan, write, sweep.played, is_first)?;
     for (at, table) in plan.tables.iter().enumerate() {
-        line = tell_runs(text, line, after, at, table, &tried.runs)?;
+        line = tell_runs(text, line, after, at, table, &sweep.runs.ended)?;
     }
     if line == text.len() {
         Ok(())
     } else {
         text.push_str("\n")
+    }
+}
+
+/// Writes from which to which number of bytes a range goes.
+fn tell_range(text: &mut String, run: Run) -> Result<(), AllocError> {
+    let (from, to) = (run.from, run.to);
+    if from == to {
+        write!(text, "{from}")
+    } else {
+        write!(text, "{from}-{to}")
     }
 }
 
@@ -240,14 +248,9 @@ fn tell_run(
     table: &Table,
     run: Run,
 ) -> Result<(), AllocError> {
-    let (from, to) = (run.from, run.to);
     let name = table.name.as_str();
     blanks_to(text, line, after)?;
-    if from == to {
-        write!(text, "{from}")?;
-    } else {
-        write!(text, "{from}-{to}")?;
-    }
+    tell_range(text, run)?;
     blanks_to(text, line, after.saturating_add(RANGE_LEN))?;
     write!(text, "{name}: ")?;
     tell_back(text, run.back)?;
@@ -364,15 +367,14 @@ fn tell_front(text: &mut String, plan: &Plan<'_>, counts: &Counts) -> Result<(),
     tell_columns(text, plan)
 }
 
-/// The whole text, of which the lines of the writes are made already.
-pub(crate) fn whole_text(
+/// Writes the whole text, of which the lines of the writes are made already.
+pub(crate) fn tell_whole(
+    text: &mut String,
     plan: &Plan<'_>,
     lines: &str,
     counts: &Counts,
-) -> Result<String, AllocError> {
-    let mut text = String::new(plan.alloc);
-    tell_front(&mut text, plan, counts)?;
+) -> Result<(), AllocError> {
+    tell_front(text, plan, counts)?;
     text.push_str(lines)?;
-    tell_end(&mut text, counts)?;
-    Ok(text)
+    tell_end(text, counts)
 }

@@ -2,10 +2,10 @@
 ghost use Rattle.std.specs.Prelude.{◌≡◌, false, length, IsTrue};
 
 use crate::plan::Plan;
-use crate::play::{Fault, Left, with_stop};
+use crate::play::{Fault, with_stop};
 use crate::recovery::come_back;
 use crate::tables::Back;
-use std::alloc::AllocError;
+use std::alloc::{AllocError, Global};
 use tbl_fakes::Span;
 use tbl_kinds::Bytes;
 
@@ -33,7 +33,7 @@ pub(crate) struct Run {
 }
 
 /// How many resets were tried, over how many banks that differ, and what came back, for each table once a reset.
-#[derive(Clone, Copy)]
+#[derive(Drop)]
 pub(crate) struct Counts {
     pub(crate) stops: u64,
     pub(crate) starts: u64,
@@ -56,7 +56,7 @@ impl Counts {
     }
 
     /// Counts what came back in a table.
-    fn add_back(&mut self, back: Back) {
+    fn add(&mut self, back: Back) {
         match back {
             Back::Completed { .. } => self.completed = self.completed.saturating_add(1),
             Back::Broken { .. } => self.broken = self.broken.saturating_add(1),
@@ -64,24 +64,54 @@ impl Counts {
             Back::Mixed { .. } => self.mixed = self.mixed.saturating_add(1),
         }
     }
-
-    /// Counts a reset, and what came back behind it in each table.
-    fn add(&mut self, open: &[Run]) {
-        self.stops = self.stops.saturating_add(1);
-        for run in open {
-            self.add_back(run.back);
-        }
-    }
 }
 
-/// Ends the range of a table, and begins the next, where something else came back.
-fn turn_run(run: &mut Run, ended: &mut Vec<Run>, after: u32, back: Back) -> Result<(), AllocError> {
-    if run.back != back {
-        ended.push(*run)?;
-        run.from = after;
-        run.back = back;
+/// What came back by now: the ranges that ended, and for each table the one that goes on.
+#[derive(Drop)]
+pub(crate) struct Runs {
+    pub(crate) ended: Vec<Run>,
+    open: Vec<Run>,
+}
+
+impl Runs {
+    fn make(alloc: Global) -> Runs {
+        Runs {
+            ended: Vec::new(alloc),
+            open: Vec::new(alloc),
+        }
     }
-    Ok(())
+
+    /// Takes what came back in a table after so many bytes. Where something else came back before, that range ends.
+    pub(crate) fn take(&mut self, table: usize, after: u32, back: Back) -> Result<(), AllocError> {
+        let run = Run {
+            table,
+            from: after,
+            to: after,
+            back,
+        };
+        match self.open.as_mut_slice().get_mut(table) {
+            None => self.open.push(run)?,
+            Some(open) if open.back == back => (),
+            Some(open) => {
+                self.ended.push(*open)?;
+                *open = run;
+            }
+        }
+        Ok(())
+    }
+
+    /// Lets each range reach to so many bytes, and counts what came back behind that reset.
+    fn reach(&mut self, after: u32, counts: &mut Counts) {
+        for run in &mut self.open {
+            run.to = after;
+            counts.add(run.back);
+        }
+    }
+
+    /// Ends each range.
+    fn end(&mut self) -> Result<(), AllocError> {
+        self.ended.extend_from_slice(&self.open)
+    }
 }
 
 /// Whether a number of bytes of a write is tried.
@@ -104,62 +134,27 @@ fn put(image: &mut Bytes, at: usize, byte: u8) -> bool
     true
 }
 
-/// The resets at a write: how many requests had been made by then, and what came back.
+/// The bank after some number of bytes of a write, and what came back by then.
 #[derive(Drop)]
-pub(crate) struct Tried {
-    pub(crate) played: usize,
-    pub(crate) runs: Vec<Run>,
-}
-
-/// What comes back in each table after no byte, as a range that goes on.
-fn first_runs(plan: &Plan<'_>, before: &Left) -> Result<Vec<Run>, Fault> {
-    let backs = come_back(plan.alloc, before.image.bytes(), plan.tables, before.played)?;
-    let mut open = Vec::new(plan.alloc);
-    for (table, back) in backs.iter().enumerate() {
-        open.push(Run {
-            table,
-            from: 0,
-            to: 0,
-            back: *back,
-        })?;
-    }
-    Ok(open)
-}
-
-/// The bank after some number of bytes of a write, and what came back by then: the ranges that ended, and for each table the
-/// one that goes on.
-#[derive(Drop)]
-struct Sweep {
+pub(crate) struct Sweep {
     image: Bytes,
     /// How many requests had been made.
-    played: usize,
-    ended: Vec<Run>,
-    open: Vec<Run>,
-    /// Whether a byte changed the bank since what comes back was asked.
+    pub(crate) played: usize,
+    pub(crate) runs: Runs,
+    /// Whether the bank isn't the one any more of which was asked what comes back.
     is_changed: bool,
 }
 
 impl Sweep {
-    /// After no byte.
-    fn begin(plan: &Plan<'_>, before: Left) -> Result<Sweep, Fault> {
-        let open = first_runs(plan, &before)?;
+    /// After no byte, before anything was asked.
+    pub(crate) fn begin(plan: &Plan<'_>, write: Write) -> Result<Sweep, Fault> {
+        let before = with_stop(plan.alloc, plan.records, write.number, 0, plan.room)?;
         Ok(Sweep {
             image: before.image,
             played: before.played,
-            ended: Vec::new(plan.alloc),
-            open,
-            is_changed: false,
+            runs: Runs::make(plan.alloc),
+            is_changed: true,
         })
-    }
-
-    /// Asks what comes back after so many bytes.
-    fn ask(&mut self, plan: &Plan<'_>, after: u32) -> Result<(), Fault> {
-        let backs = come_back(plan.alloc, self.image.bytes(), plan.tables, self.played)?;
-        for (run, back) in self.open.iter_mut().zip(&backs) {
-            turn_run(run, &mut self.ended, after, *back)?;
-        }
-        self.is_changed = false;
-        Ok(())
     }
 
     /// A reset after so many bytes. The answer is whether the service was started anew: where the bank is still the one that
@@ -167,13 +162,12 @@ impl Sweep {
     fn reset(&mut self, plan: &Plan<'_>, after: u32, counts: &mut Counts) -> Result<bool, Fault> {
         let starts = self.is_changed;
         if starts {
-            self.ask(plan, after)?;
+            come_back(plan, self.image.bytes(), self.played, after, &mut self.runs)?;
             counts.starts = counts.starts.saturating_add(1);
         }
-        for run in &mut self.open {
-            run.to = after;
-        }
-        counts.add(&self.open);
+        self.is_changed = false;
+        counts.stops = counts.stops.saturating_add(1);
+        self.runs.reach(after, counts);
         Ok(starts)
     }
 
@@ -201,18 +195,9 @@ impl Sweep {
             Ok(false)
         }
     }
-
-    /// What came back after all numbers of bytes.
-    fn end(mut self) -> Result<Tried, Fault> {
-        self.ended.extend_from_slice(&self.open)?;
-        Ok(Tried {
-            played: self.played,
-            runs: self.ended,
-        })
-    }
 }
 
-/// Writes each byte of a write, and tries a reset behind it.
+/// Tries a reset after no byte of a write, and then writes each byte of it, and tries a reset behind that.
 fn try_bytes<R: Eprint>(
     rt: &R,
     plan: &Plan<'_>,
@@ -221,43 +206,29 @@ fn try_bytes<R: Eprint>(
     sweep: &mut Sweep,
     counts: &mut Counts,
 ) -> Result<(), Fault> {
+    sweep.reset(plan, 0, counts)?;
     for place in 0..write.span.length {
         if sweep.try_byte(plan, write.span, place, bytes, counts)? {
             tell_progress(rt, plan, write, place.saturating_add(1), counts.starts);
         }
     }
-    Ok(())
+    Ok(sweep.runs.end()?)
 }
 
-/// Tries a reset after each number of bytes of a write, where `bytes` are those of the bank once the whole write is there.
-fn try_between<R: Eprint>(
-    rt: &R,
-    plan: &Plan<'_>,
-    write: Write,
-    bytes: &[u8],
-    counts: &mut Counts,
-) -> Result<Tried, Fault> {
-    let before = with_stop(plan.alloc, plan.records, write.number, 0, plan.room)?;
-    let mut sweep = Sweep::begin(plan, before)?;
-    counts.starts = counts.starts.saturating_add(1);
-    counts.add(&sweep.open);
-    try_bytes(rt, plan, write, bytes, &mut sweep, counts)?;
-    sweep.end()
-}
-
-/// Tries a reset after each number of bytes of a write. What is left after no byte and after all of them comes from the
-/// session played up to there. Between these two the bank has a front of the write: it is made from both. Where a byte of
-/// the write changes nothing, what the reset leaves is the same as one byte before, and what comes back isn't asked once
-/// more.
+/// Tries a reset after each number of bytes of a write, with a sweep that begins there. What is left after no byte and after all
+/// of them comes from the session played up to there. Between these two the bank has a front of the write: it is made from both.
+/// Where a byte of the write changes nothing, what the reset leaves is the same as one byte before, and what comes back isn't
+/// asked once more.
 pub(crate) fn try_write<R: Eprint>(
     rt: &R,
     plan: &Plan<'_>,
     write: Write,
+    sweep: &mut Sweep,
     counts: &mut Counts,
-) -> Result<Tried, Fault> {
+) -> Result<(), Fault> {
     let Write { number, span } = write;
     let behind = with_stop(plan.alloc, plan.records, number, span.length, plan.room)?;
-    try_between(rt, plan, write, behind.image.bytes(), counts)
+    try_bytes(rt, plan, write, behind.image.bytes(), sweep, counts)
 }
 
 /// Says now and then on standard error how far the work is. Where that can't be written, it goes on.
