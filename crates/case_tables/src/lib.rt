@@ -3,18 +3,20 @@
 #![tactic(auto)]
 
 mod answer;
+mod banks;
 mod fault;
 mod number;
 mod piece;
 mod pieces;
 mod row;
+mod rows;
 mod table;
-mod threads;
 
 pub use answer::{kept, one_word, same_bytes, same_text};
+pub use banks::{BANK_SIZE, bank_bytes, bank_in, bank_over, new_bank, zeros};
 pub use fault::CaseFault;
 pub use number::{byte, count_of, number_in, numbers_in, short};
 pub use pieces::Pieces;
 pub use row::Row;
+pub use rows::{RowCases, play_rows};
 pub use table::{Cases, play_table};
-pub use threads::{ThreadCases, play_rows};

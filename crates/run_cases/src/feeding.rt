@@ -1,6 +1,6 @@
 //! A session that is fed in pieces.
 
-ghost use Rattle.std.specs.Prelude.{◌≡◌, ◌<◌, IfOk};
+ghost use Rattle.std.specs.Prelude.{◌≡◌, ◌<◌, [], false, IfOk};
 ghost use Rattle.tbl_top.specs.declared.playback.Standing.TheVariants.{Open};
 
 use crate::ending::bank;
@@ -30,18 +30,30 @@ fn feed_each(
     Ok(())
 }
 
-/// A session over a service without validation functions.
-fn player(alloc: Global) -> Result<Player<CalmBank, FirstByte>, CaseFault>
-    ensures { IfOk result (λ p. p.standing ≡ Open) }
+/// A service without validation functions, which has played nothing.
+pub(crate) fn service(alloc: Global) -> Result<Core<CalmBank, FirstByte>, CaseFault>
+    ensures empty { IfOk result (λ core. core.entries ≡ []) }
+    ensures live { IfOk result (λ core. core.state.ended ≡ false) }
 {
     let kit = Kit::make(alloc, Vec::new(alloc))?;
     let bank = bank(alloc)?;
-    let Ok(core) = Core::start(alloc, bank, kit) else {
-        return Err(CaseFault::Memory);
-    };
+    match Core::start(alloc, bank, kit) {
+        Ok(core) => Ok(core),
+        Err(_) => Err(CaseFault::Memory),
+    }
+}
+
+/// A session over such a service.
+fn player(alloc: Global) -> Result<Player<CalmBank, FirstByte>, CaseFault>
+    ensures { IfOk result (λ p. p.standing ≡ Open) }
+{
+    let core = service(alloc)?;
     match Player::make(alloc, core) {
         Ok(player) => Ok(player),
-        Err(_) => Err(CaseFault::Memory),
+        Err(core) => {
+            let _bank = core.end();
+            Err(CaseFault::Memory)
+        }
     }
 }
 
@@ -66,7 +78,9 @@ fn feed_row(
 /// How many entries a session has at its end.
 fn count_entries(player: Player<CalmBank, FirstByte>) -> usize {
     let core = player.end();
-    core.history().len()
+    let count = core.history().len();
+    let _bank = core.end();
+    count
 }
 
 /// Feeds a session from its start, and compares how many entries its history has, too.

@@ -1,63 +1,73 @@
-//! One step of a core, and the entry that it adds.
+//! A service, and steps of it.
 
+ghost use Rattle.std.specs.Prelude.{◌≤◌, length, IfOk};
+ghost use Rattle.tbl_kinds.specs.Places.{bank_size};
 ghost use Rattle.tbl_kinds.specs.Requests.{Fits};
+ghost use Rattle.tbl_core.specs.Service.{AskedBelow};
+ghost use Rattle.shipped_kit.specs.Verdicts.{asked_of};
 
 use case_tables::CaseFault;
 use session_records::{Next, next_record};
-use shipped_kit::Shipped;
+use shipped_kit::{Shipped, shipped_entries};
 use std::alloc::Global;
-use tbl_core::{Core, StepFault};
-use tbl_fakes::CalmBank;
-use tbl_kinds::{Actor, Bytes, Memory, Outcome, Request};
-use transcript::write_entry;
+use tbl_core::{Core, StartFault, StepFault};
+use tbl_fakes::MemBank;
+use tbl_kinds::{Actor, Memory, Request};
+use validation::Kit;
 
 /// The service that rows are played on.
-pub(crate) type Service = Core<CalmBank, Shipped>;
+pub(crate) type Service = Core<MemBank, Shipped>;
 
 /// The most entries of a history.
-const MOST_ENTRIES: usize = 32_768;
+pub(crate) const MOST_ENTRIES: usize = 32_768;
 
-/// Appends the spelling of the entry at a place.
-fn tell_entry(core: &Service, place: usize, out: &mut Bytes) -> Result<(), CaseFault> {
-    let entries = core.history();
-    if place >= MOST_ENTRIES || entries.len() <= place {
-        return Err(CaseFault::Unreadable);
-    }
-    let entry = &entries[place];
-    match write_entry(out, place as u32, entry) {
-        Ok(()) if entry.note.outcome() == Outcome::Untouched => Ok(()),
-        Ok(()) => Err(CaseFault::Unreadable),
-        Err(Memory) => Err(CaseFault::Memory),
+/// Gives a value on. It compiles only for a core that may be sent to a thread.
+fn sent<T: Send>(value: T) -> T {
+    value
+}
+
+/// The kit of the shipped program.
+fn shipped(alloc: Global) -> Result<Kit<Shipped>, Memory>
+    ensures { IfOk result (AskedBelow asked_of 1) }
+{
+    Kit::make(alloc, shipped_entries(alloc)?)
+}
+
+/// Why a row has no core.
+fn fault_of(cause: StartFault) -> CaseFault {
+    match cause {
+        StartFault::Memory => CaseFault::Memory,
+        StartFault::BootFault | StartFault::BootStopped => CaseFault::Unreadable,
     }
 }
 
-/// Plays a request, and appends the spelling of its entry.
-pub(crate) fn step(
-    core: &mut Service,
-    actor: Actor,
-    request: Request,
-    out: &mut Bytes,
-) -> Result<(), CaseFault>
+/// A core at its start over a bank.
+pub(crate) fn started(alloc: Global, bank: MemBank) -> Result<Service, CaseFault>
+    requires { bank_size ≤ length bank.bytes }
+{
+    let kit = shipped(alloc)?;
+    match Core::start(alloc, bank, kit) {
+        Ok(core) => Ok(sent(core)),
+        Err(back) => Err(fault_of(back.cause)),
+    }
+}
+
+/// Plays a request. The answer is whether a further one may follow: none does where a boot in it fails or is stopped.
+pub(crate) fn step(core: &mut Service, actor: Actor, request: Request) -> Result<bool, CaseFault>
     requires fits { Fits actor request }
 {
-    let place = core.history().len();
-    if !core.is_live() || place >= MOST_ENTRIES {
+    if !core.is_live() || core.history().len() >= MOST_ENTRIES {
         return Err(CaseFault::Unreadable);
     }
     match core.step(actor, request) {
-        Ok(()) => tell_entry(core, place, out),
+        Ok(()) => Ok(true),
+        Err(StepFault::BootFault | StepFault::BootStopped) => Ok(false),
         Err(StepFault::Memory) => Err(CaseFault::Memory),
-        Err(StepFault::BootFault | StepFault::BootStopped) => Err(CaseFault::Unreadable),
     }
 }
 
-/// Plays the record at the front of an input, and tells its length: 0 at the end of the input.
-fn step_front(
-    alloc: Global,
-    core: &mut Service,
-    input: &[u8],
-    out: &mut Bytes,
-) -> Result<usize, CaseFault> {
+/// Plays the record at the front of an input, and tells its length: 0 at the end of the input, and where none may follow.
+fn step_front(alloc: Global, core: &mut Service, input: &[u8]) -> Result<usize, CaseFault> {
     match next_record(alloc, input) {
         Ok(
             Next::Item {
@@ -65,27 +75,23 @@ fn step_front(
                 request,
                 used,
             },
-        ) => {
-            step(core, actor, request, out)?;
-            Ok(used)
-        }
+        ) => Ok(if step(core, actor, request)? { used } else { 0 }),
         Ok(Next::End) => Ok(0),
         Ok(_) => Err(CaseFault::Unreadable),
         Err(Memory) => Err(CaseFault::Memory),
     }
 }
 
-/// Plays records that stand one behind the other, and tells how many there are.
+/// Plays records that stand one behind the other, up to one behind which none may follow, and tells how many stand before that.
 pub(crate) fn step_all(
     alloc: Global,
     core: &mut Service,
     records: &[u8],
-    out: &mut Bytes,
 ) -> Result<u32, CaseFault> {
     let mut rest = records;
     let mut count = 0u32;
     for _ in 0..records.len() {
-        let used = step_front(alloc, core, rest, out)?;
+        let used = step_front(alloc, core, rest)?;
         if used == 0 {
             break;
         }

@@ -1,28 +1,18 @@
 //! Steps as a table states them.
 
-ghost use Rattle.std.specs.Prelude.{IfOk};
-ghost use Rattle.shipped_kit.specs.Verdicts.{asked_of};
-ghost use Rattle.tbl_core.specs.Service.{AskedBelow};
-
-use crate::stepping::{Service, step, step_all};
-use case_tables::{CaseFault, Cases, Pieces, kept, same_bytes};
-use shipped_kit::{Shipped, shipped_entries};
-use std::alloc::Global;
-use tbl_core::{Core, StartFault};
-use tbl_fakes::CalmBank;
-use tbl_kinds::{Actor, Bytes, Memory, Name64, Request};
-use validation::Kit;
+use crate::notes::try_notes;
+use crate::stepping::{MOST_ENTRIES, Service, started, step, step_all};
+use case_tables::{CaseFault, Row, RowCases, new_bank};
+use std::sync::Wait;
+use std::thread::Threads;
+use tbl_kinds::{Actor, Bytes, Memory, Name64, Outcome, Request};
+use transcript::write_entry;
 
 /// How many bytes the field of a file's name has.
 const NAME_FIELD: usize = 64;
 
-/// How many bytes the bank has.
-const BANK_SIZE: u32 = 131_072;
-
 /// The core that is played on, if one was started.
-#[derive(Drop)]
 pub(crate) struct Steps {
-    alloc: Global,
     core: Option<Service>,
 }
 
@@ -33,100 +23,66 @@ fn close(core: Option<Service>) {
     }
 }
 
-/// Gives a value on. It compiles only for a core that may be sent to a thread.
-fn sent<T: Send>(value: T) -> T {
-    value
-}
-
-/// The kit of the shipped program.
-fn shipped(alloc: Global) -> Result<Kit<Shipped>, Memory>
-    ensures { IfOk result (AskedBelow asked_of 1) }
-{
-    Kit::make(alloc, shipped_entries(alloc)?)
-}
-
-/// Why a row has no core.
-fn fault_of(cause: StartFault) -> CaseFault {
-    match cause {
-        StartFault::Memory => CaseFault::Memory,
-        StartFault::BootFault | StartFault::BootStopped => CaseFault::Unreadable,
-    }
-}
-
-/// A core at its start.
-fn started(alloc: Global) -> Result<Service, CaseFault> {
-    let kit = shipped(alloc)?;
-    let bank = CalmBank::of_zeros(alloc, BANK_SIZE)?;
-    match Core::start(alloc, bank, kit) {
-        Ok(core) => Ok(sent(core)),
-        Err(back) => Err(fault_of(back.cause)),
-    }
-}
-
-/// Plays the records of a cell, and tells how many there are.
-fn play_records(
-    alloc: Global,
-    core: &mut Service,
-    pieces: &Pieces,
-    records: &str,
-    out: &mut Bytes,
-) -> Result<u32, CaseFault> {
-    let records = pieces.bytes(records)?;
-    step_all(alloc, core, &records, out)
-}
-
 /// The file's name that is in a cell.
-fn name_in(pieces: &Pieces, cell: &str) -> Result<Name64, CaseFault> {
-    let name = pieces.bytes(cell)?;
+fn name_in(row: &Row, at: usize) -> Result<Name64, CaseFault> {
+    let name = row.bytes(at)?;
     if name.len() > NAME_FIELD {
         return Err(CaseFault::Unreadable);
     }
     Ok(Name64::of(&name))
 }
 
-/// The bytes of a cell, as a file has them.
-fn contents_in(alloc: Global, pieces: &Pieces, cell: &str) -> Result<Bytes, CaseFault> {
-    let contents = pieces.bytes(cell)?;
-    Ok(kept(alloc, &contents)?)
-}
-
 /// Uplinks a file, for which a record may have no room.
-fn uplink_file(
-    alloc: Global,
-    core: &mut Service,
-    pieces: &Pieces,
-    name: &str,
-    contents: &str,
-    out: &mut Bytes,
-) -> Result<(), CaseFault> {
+fn uplink_file(core: &mut Service, row: &Row) -> Result<bool, CaseFault> {
     let file = Request::File {
-        name: name_in(pieces, name)?,
-        bytes: contents_in(alloc, pieces, contents)?,
+        name: name_in(row, 1)?,
+        bytes: row.kept(2)?,
     };
-    step(core, Actor::Ground, file, out)
+    step(core, Actor::Ground, file)
 }
 
-/// Whether the entries are those of a cell.
-fn compare(alloc: Global, pieces: &Pieces, came: &Bytes, cell: &str) -> Result<(), CaseFault> {
-    let wanted = pieces.bytes(cell)?;
-    same_bytes(alloc, came.bytes(), &wanted)
+/// Appends the spelling of the entry at a place. It may not tell of a call of the store.
+fn tell_entry(core: &Service, place: usize, out: &mut Bytes) -> Result<(), CaseFault> {
+    let entries = core.history();
+    if place >= MOST_ENTRIES || entries.len() <= place {
+        return Err(CaseFault::Unreadable);
+    }
+    let entry = &entries[place];
+    match write_entry(out, place as u32, entry) {
+        Ok(()) if entry.note.outcome() == Outcome::Untouched => Ok(()),
+        Ok(()) => Err(CaseFault::Unreadable),
+        Err(Memory) => Err(CaseFault::Memory),
+    }
+}
+
+/// Whether the entries of a live service from a place on are those of a cell.
+fn compare(row: &Row, at: usize, core: &Service, first: usize) -> Result<(), CaseFault> {
+    if !core.is_live() {
+        return Err(CaseFault::Unreadable);
+    }
+    let mut out = Bytes::make(row.alloc(), 0)?;
+    for place in first..core.history().len() {
+        tell_entry(core, place, &mut out)?;
+    }
+    row.same_bytes(at, out.bytes())
 }
 
 impl Steps {
     /// Before the first core.
-    pub(crate) fn make(alloc: Global) -> Steps {
-        Steps { alloc, core: None }
+    pub(crate) fn make() -> Steps {
+        Steps { core: None }
     }
 
-    fn start(&mut self) -> Result<u32, CaseFault> {
-        let core = started(self.alloc)?;
+    fn start(&mut self, row: &Row) -> Result<u32, CaseFault> {
+        let core = started(row.alloc(), new_bank(row.alloc())?)?;
         close(self.core.replace(core));
         Ok(0)
     }
 
     /// Behind the last row.
     pub(crate) fn end(self) {
-        close(self.core);
+        let Steps { core } = self;
+        close(core);
     }
 
     /// The core that was started last.
@@ -138,38 +94,36 @@ impl Steps {
     }
 
     /// Plays records, and compares the entries that they add.
-    fn play(&mut self, pieces: &Pieces, records: &str, entries: &str) -> Result<u32, CaseFault> {
-        let alloc = self.alloc;
-        let mut out = Bytes::make(alloc, 0)?;
-        let count = play_records(alloc, self.core()?, pieces, records, &mut out)?;
-        compare(alloc, pieces, &out, entries)?;
+    fn play(&mut self, row: &Row) -> Result<u32, CaseFault> {
+        let records = row.bytes(1)?;
+        let core = self.core()?;
+        let first = core.history().len();
+        let count = step_all(row.alloc(), core, &records)?;
+        compare(row, 2, core, first)?;
         Ok(count)
     }
 
     /// Uplinks a file, and compares the entry that it adds.
-    fn uplink(
-        &mut self,
-        pieces: &Pieces,
-        name: &str,
-        contents: &str,
-        entry: &str,
-    ) -> Result<u32, CaseFault> {
-        let alloc = self.alloc;
-        let mut out = Bytes::make(alloc, 0)?;
-        uplink_file(alloc, self.core()?, pieces, name, contents, &mut out)?;
-        compare(alloc, pieces, &out, entry)?;
+    fn uplink(&mut self, row: &Row) -> Result<u32, CaseFault> {
+        let core = self.core()?;
+        let first = core.history().len();
+        uplink_file(core, row)?;
+        compare(row, 3, core, first)?;
         Ok(1)
     }
 }
 
-impl Cases for Steps {
+impl RowCases for Steps {
     /// The rows are `core | TITLE` for a core at its start, `play | RECORDS | ENTRIES` for steps of it, and
-    /// `file | NAME | CONTENTS | ENTRY` for the uplink of a file.
-    fn try_row(&mut self, pieces: &Pieces, cells: &[&str]) -> Result<u32, CaseFault> {
-        match cells {
-            ["core", _] => self.start(),
-            ["play", records, entries] => self.play(pieces, records, entries),
-            ["file", name, contents, entry] => self.uplink(pieces, name, contents, entry),
+    /// `file | NAME | CONTENTS | ENTRY` for the uplink of a file. `notes | NAME | INPUT | BANK | BREAKS | BAD READS | NOTES` is a
+    /// session of its own, over the bank that [`bank_in`](case_tables::bank_in) reads: of its entries the statuses and notes
+    /// are told. No row starts a thread.
+    fn try_row<R: Threads + Wait + Sync>(&mut self, _rt: &R, row: &Row) -> Result<u32, CaseFault> {
+        match (row.text(0)?, row.len()) {
+            ("core", 2) => self.start(row),
+            ("play", 3) => self.play(row),
+            ("file", 4) => self.uplink(row),
+            ("notes", 7) => try_notes(row),
             _ => Err(CaseFault::Unreadable),
         }
     }

@@ -1,7 +1,7 @@
 use Rattle.std.proofs.Common.{length, sym, ap, subst, ◌∙◌}
 use Rattle.tbl_crew.specs.Scripts.{request_count, AllFit}
 use Rattle.tbl_crew.proofs.PushLemmas.{pushed_actors, pushed_count, pushed_fit}
-use Rattle.crew_tests.proofs.threads.ask.Goals as goal
+use Rattle.run_cases.proofs.turns.ask.Goals as goal
 
 pub returns-clause-actors : goal.returns-clause-actors
 returns-clause-actors c = ap length c.in_ok-push.ensures.ok ∙ pushed_actors c.args.scripts.now (record { actor = c.args.actor; request = c.args.request }) c.requires.actors c.requires.may_ask

@@ -7,17 +7,17 @@ use std::io::{self, Read};
 use std::sync::Wait;
 use std::thread::Threads;
 
-/// What tries the rows of a table, and may start threads for it.
-pub trait ThreadCases {
+/// What tries the rows of a table. It may start threads for it.
+pub trait RowCases {
     /// Tries the cases of a row, and tells how many there are.
-    fn try_row<R: Threads + Wait + Sync>(&self, rt: &R, row: &Row) -> Result<u32, CaseFault>
+    fn try_row<R: Threads + Wait + Sync>(&mut self, rt: &R, row: &Row) -> Result<u32, CaseFault>
         requires { IsSync R.row };
 }
 
 /// Tries the cases of a line, and tells how many there are.
-fn try_line<R: Threads + Wait + Sync, C: ThreadCases>(
+fn try_line<R: Threads + Wait + Sync, C: RowCases>(
     rt: &R,
-    cases: &C,
+    cases: &mut C,
     row: &mut Row,
     line: &str,
 ) -> Result<u32, CaseFault> {
@@ -29,9 +29,9 @@ fn try_line<R: Threads + Wait + Sync, C: ThreadCases>(
 }
 
 /// Tries the lines of a table, and counts them.
-fn play_lines<R: Print + AllocGlobal + Threads + Wait + Sync, C: ThreadCases>(
+fn play_lines<R: Print + AllocGlobal + Threads + Wait + Sync, C: RowCases>(
     rt: &R,
-    cases: &C,
+    cases: &mut C,
     table: &str,
     tally: &mut Tally,
 ) -> io::Result<()> {
@@ -44,9 +44,9 @@ fn play_lines<R: Print + AllocGlobal + Threads + Wait + Sync, C: ThreadCases>(
 }
 
 /// Tries the table on standard input as [`play_table`](crate::play_table) does, by cases that may start threads.
-pub fn play_rows<R: Input + Print + AllocGlobal + Threads + Wait + Sync, C: ThreadCases>(
+pub fn play_rows<R: Input + Print + AllocGlobal + Threads + Wait + Sync, C: RowCases>(
     rt: &R,
-    cases: &C,
+    cases: &mut C,
 ) -> io::Result<bool> {
     let table = io::read_to_string(rt.alloc(), rt.reader())?;
     let mut tally = Tally::make();

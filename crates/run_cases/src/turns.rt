@@ -1,33 +1,18 @@
-ghost use Rattle.std.specs.Prelude.{◌≡◌, ◌≤◌, ◌+◌, ◌^◌, [], false, length, IfOk, OnOk};
+//! Turns of a crew without a thread.
+
+ghost use Rattle.std.specs.Prelude.{◌≡◌, ◌≤◌, ◌+◌, [], false, length, IfOk, OnOk};
 ghost use Rattle.tbl_kinds.specs.Records.{record_limit};
 ghost use Rattle.tbl_kinds.specs.Requests.{Fits};
-ghost use Rattle.tbl_core.specs.Service.{AskedBelow};
 ghost use Rattle.tbl_crew.specs.Scripts.{actor_count, request_count, AllFit};
 
+use crate::feeding::service;
+use case_tables::{CaseFault, Row, same_text};
 use std::alloc::Global;
-use std::sync::Wait;
-use std::test::Fail;
-use std::thread::Threads;
 use tbl_core::Core;
-use tbl_crew::{Crew, Scripts, Turn, workers};
-use tbl_fakes::{CalmBank, FirstByte, MeetingGate};
+use tbl_crew::{Crew, Scripts, Turn};
+use tbl_fakes::{CalmBank, FirstByte};
 use tbl_kinds::{Actor, Memory, Name20, Request};
-use tbl_outside::{Bank, KitEntry, Validator};
-use validation::Kit;
-
-/// How many bytes the bank has.
-const BANK_SIZE: u32 = 131_072;
-
-/// A kit of one function, which wasn't asked yet.
-fn one_function(alloc: Global) -> Result<Kit<FirstByte>, Memory>
-    ensures { IfOk result (AskedBelow (⟦<FirstByte as Validator>⟧.asked) (2 ^ 62)) }
-{
-    let function = KitEntry {
-        app: 1,
-        check: FirstByte::make(),
-    };
-    Ok(Kit::make(alloc, vec![in alloc; function]?)?)
-}
+use tbl_outside::{Bank, Validator};
 
 /// A name in its field of 20 bytes.
 fn name_of(first: u8) -> Name20 {
@@ -81,19 +66,6 @@ fn two_starts(alloc: Global) -> Result<Scripts, Memory>
     Ok(scripts)
 }
 
-/// A service that has played nothing.
-fn service(alloc: Global) -> Result<Core<CalmBank, FirstByte>, Fail>
-    ensures empty { IfOk result (λ core. core.entries ≡ []) }
-    ensures live { IfOk result (λ core. core.state.ended ≡ false) }
-{
-    let kit = one_function(alloc)?;
-    let bank = CalmBank::of_zeros(alloc, BANK_SIZE)?;
-    match Core::start(alloc, bank, kit) {
-        Ok(core) => Ok(core),
-        Err(_back) => Err(Fail::new("the service didn't start")),
-    }
-}
-
 /// What two turns of application 1 come to, and how many entries stand behind them.
 fn two_turns<B: Bank, C: Validator>(crew: &mut Crew<B, C>) -> ([Turn; 2], usize) {
     let turns = [crew.turn(1), crew.turn(1)];
@@ -104,7 +76,9 @@ fn two_turns<B: Bank, C: Validator>(crew: &mut Crew<B, C>) -> ([Turn; 2], usize)
 fn ends_well<B: Bank, C: Validator>(crew: Crew<B, C>) -> bool {
     let (core, fault) = crew.end();
     let is_one = matches!(core.history(), [entry] if entry.actor == Actor::App(1));
-    is_one && fault.is_none() && core.is_live()
+    let is_live = core.is_live();
+    let _bank = core.end();
+    is_one && fault.is_none() && is_live
 }
 
 /// Two turns of application 1: what they come to, how many entries stand behind them, and whether the crew ends well.
@@ -119,40 +93,12 @@ fn play_turns<B: Bank, C: Validator>(core: Core<B, C>, scripts: Scripts) -> ([Tu
     (turns, count, ends_well(crew))
 }
 
-// A turn plays the actor's next request, or finds none.
-#[test]
-fn a_turn_plays_the_next_request(rt: HostRuntime) -> Result<(), Fail> {
-    let scripts = two_starts(rt.alloc())?;
-    let core = service(rt.alloc())?;
+/// Plays two turns of application 1, where applications 1 and 2 ask to start, and compares what they come to.
+pub(crate) fn try_turns(row: &Row) -> Result<u32, CaseFault> {
+    let scripts = two_starts(row.alloc())?;
+    let core = service(row.alloc())?;
     let (turns, count, is_well) = play_turns(core, scripts);
-    assert_eq!(rt; turns, [Turn::Played, Turn::Done]);
-    assert!(rt; count == 1 && is_well);
-    Ok(())
-}
-
-/// Plays scripts in threads, and says whether that came to no fault, and how many entries there are.
-fn play_beside<B: Bank + Send, C: Validator + Send, R: Threads + Wait + Sync + AllocGlobal>(
-    rt: &R,
-    core: Core<B, C>,
-    scripts: Scripts,
-    gate: &MeetingGate,
-) -> (bool, usize)
-    requires live { core.state.ended ≡ false }
-    requires empty { core.entries ≡ [] }
-    requires fits { AllFit scripts }
-    requires few { request_count scripts ≤ record_limit }
-{
-    let (core, fault) = workers::crew(rt, rt.alloc(), core, scripts, gate);
-    (fault.is_none(), core.history().len())
-}
-
-// The threads of two applications run beside each other, and each plays its record.
-#[test]
-fn threads_run_beside_each_other(rt: HostRuntime) -> Result<(), Fail> {
-    let gate = MeetingGate::make();
-    let scripts = two_starts(rt.alloc())?;
-    let core = service(rt.alloc())?;
-    let (is_whole, count) = play_beside(&rt, core, scripts, &gate);
-    assert!(rt; is_whole && count == 2 && gate.met() && gate.played() == 2);
-    Ok(())
+    let told = format!(in row.alloc(); "{turns:?} {count} {is_well}")?;
+    same_text(told, row.text(1)?)?;
+    Ok(1)
 }

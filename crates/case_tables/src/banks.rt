@@ -1,11 +1,12 @@
-//! Banks as the cells of a row state them: what they hold, and which of their writes break off.
+//! Banks as the cells of a row state them: what they hold, which of their writes break off and which of their reads fail.
 
 ghost use Rattle.std.specs.Prelude.{◌≡◌, length, IfOk};
 
-use case_tables::{CaseFault, Row, number_in, same_text};
+use crate::fault::CaseFault;
+use crate::number::number_in;
+use crate::row::Row;
 use std::alloc::Global;
-use std::fmt::{self, Write};
-use tbl_fakes::{Break, MemBank, Span};
+use tbl_fakes::{Break, MemBank};
 use tbl_kinds::{Bytes, Memory};
 
 /// For how many writes a bank has room in its record.
@@ -15,14 +16,14 @@ const MOST_WRITES: u32 = 512;
 const MOST_WRITTEN: u32 = 65_536;
 
 /// How many bytes a bank has.
-pub(crate) const BANK_SIZE: usize = 131_072;
+pub const BANK_SIZE: usize = 131_072;
 
 /// A bank that nothing was written to. Copies of it take a build that checks each access far less time than loops over
 /// single bytes.
 static ZEROS: [u8; BANK_SIZE] = [0; BANK_SIZE];
 
 /// The bytes of a bank that nothing was written to.
-pub(crate) fn zeros(alloc: Global) -> Result<Bytes, Memory>
+pub fn zeros(alloc: Global) -> Result<Bytes, Memory>
     ensures { IfOk result (λ b. length b.list ≡ 131072) }
 {
     let mut bytes = Bytes::make(alloc, BANK_SIZE)?;
@@ -56,7 +57,7 @@ fn patch_pair(alloc: Global, bytes: &mut Bytes, pair: &[&str]) -> Result<(), Cas
 }
 
 /// The bytes of a bank: zeros, over which stands what a cell has, as `0 43445331 16 A5`.
-fn bank_of(row: &Row, at: usize) -> Result<Bytes, CaseFault>
+pub fn bank_bytes(row: &Row, at: usize) -> Result<Bytes, CaseFault>
     ensures { IfOk result (λ b. length b.list ≡ 131072) }
 {
     let words: Vec<&str> = row.text(at)?.split_ascii_whitespace().collect(row.alloc())?;
@@ -68,7 +69,7 @@ fn bank_of(row: &Row, at: usize) -> Result<Bytes, CaseFault>
 }
 
 /// A bank of these bytes, whose writes break off and whose reads fail as it is told.
-pub(crate) fn bank_over(
+pub fn bank_over(
     alloc: Global,
     bytes: Bytes,
     breaks: &[Break],
@@ -81,6 +82,14 @@ pub(crate) fn bank_over(
         Ok(bank) => Ok(bank),
         Err(Memory) => Err(CaseFault::Memory),
     }
+}
+
+/// A bank that nothing was written to, and in which nothing fails.
+pub fn new_bank(alloc: Global) -> Result<MemBank, CaseFault>
+    ensures { IfOk result (λ bank. length bank.bytes ≡ 131072) }
+{
+    let zeros = zeros(alloc)?;
+    bank_over(alloc, zeros, &[], &[])
 }
 
 /// A write that breaks off, as `3/15/stop`: its number, after how many bytes, and how.
@@ -106,7 +115,7 @@ fn breaks_in(alloc: Global, cell: &str) -> Result<Vec<Break>, CaseFault> {
     Ok(breaks)
 }
 
-/// A bank of these bytes. Which of its writes break off and which of its reads fail stands in two cells.
+/// A bank of these bytes. Which of its writes break off and which of its reads fail stands in the cells 4 and 5.
 fn broken_bank(row: &Row, bytes: Bytes) -> Result<MemBank, CaseFault>
     requires { length bytes.list ≡ 131072 }
     ensures { IfOk result (λ bank. length bank.bytes ≡ 131072) }
@@ -116,39 +125,11 @@ fn broken_bank(row: &Row, bytes: Bytes) -> Result<MemBank, CaseFault>
     bank_over(row.alloc(), bytes, &breaks, &bad_reads)
 }
 
-/// The bank before a session.
-pub(crate) fn bank_in(row: &Row) -> Result<MemBank, CaseFault>
+/// The bank before a session: what it holds stands in cell 3, as [`bank_bytes`] reads it, which of its writes break off in the
+/// next one, as `3/0/stop 4/15/fail`, and the numbers of its reads that fail in the one behind it.
+pub fn bank_in(row: &Row) -> Result<MemBank, CaseFault>
     ensures { IfOk result (λ bank. length bank.bytes ≡ 131072) }
 {
-    let bytes = bank_of(row, 3)?;
+    let bytes = bank_bytes(row, 3)?;
     broken_bank(row, bytes)
-}
-
-/// Writes where each write begins, and its length.
-fn tell_writes(told: &mut String, writes: &[Span]) -> fmt::Result {
-    for write in writes {
-        let at = write.at;
-        let length = write.length;
-        write!(told, "{at}/{length} ")?;
-    }
-    Ok(())
-}
-
-/// Whether the writes are those of a cell, each as `8208/8`: where it begins, and its length.
-pub(crate) fn same_writes(row: &Row, at: usize, writes: &[Span]) -> Result<(), CaseFault> {
-    let mut told = String::new(row.alloc());
-    if tell_writes(&mut told, writes).is_err() {
-        return Err(CaseFault::Memory);
-    }
-    same_text(told, row.text(at)?)
-}
-
-/// Whether a bank holds what a cell has, and zeros elsewhere.
-pub(crate) fn same_bank(row: &Row, at: usize, bank: &[u8]) -> Result<(), CaseFault> {
-    let wanted = bank_of(row, at)?;
-    if bank == wanted.bytes() {
-        return Ok(());
-    }
-    let text = String::from_str(row.alloc(), "another bank behind it")?;
-    Err(CaseFault::Differs(text))
 }

@@ -2,9 +2,8 @@
 
 ghost use Rattle.std.specs.Prelude.{◌≡◌, length, IfOk};
 
-use crate::banks::{BANK_SIZE, bank_over, zeros};
 use crate::sessions::play;
-use case_tables::{CaseFault, Row, kept, number_in};
+use case_tables::{BANK_SIZE, CaseFault, Row, bank_over, kept, number_in, zeros};
 use std::alloc::Global;
 use std::sync::Wait;
 use std::thread::Threads;
