@@ -10,7 +10,6 @@ use case_tables::{CaseFault, Row, same_text};
 use std::alloc::Global;
 use tbl_core::Core;
 use tbl_crew::{Crew, Scripts, Turn};
-use tbl_fakes::{CalmBank, FirstByte};
 use tbl_kinds::{Actor, Memory, Name20, Request};
 use tbl_outside::{Bank, Validator};
 
