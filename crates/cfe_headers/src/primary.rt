@@ -5,7 +5,7 @@ ghost use Rattle.tbl_kinds.specs.Packets.{primary_header};
 ghost use Rattle.arrayvec.specs.ArrayVec.{array_vec_len};
 
 use arrayvec::ArrayVec;
-use field_bytes::put;
+use tbl_kinds::fields::put;
 
 /// What a packet has more bytes than its length field says.
 pub(crate) const LENGTH_LESS: u16 = 7;

@@ -7,7 +7,7 @@ ghost use Rattle.arrayvec.specs.ArrayVec.{array_vec_len};
 
 use crate::primary::primary;
 use arrayvec::ArrayVec;
-use field_bytes::put;
+use tbl_kinds::fields::put;
 use tbl_kinds::Bytes;
 
 /// The headers of a telemetry packet of `len` bytes in all.

@@ -1,2 +1,3 @@
+pub mod Validators
 pub mod Verdicts
 pub mod Kit

@@ -1,6 +1,6 @@
 -- What the shipped functions answer.
 use Rattle.std.specs.Prelude.{ℕ, ℤ, List}
-use Rattle.tbl_fakes.specs.Verdicts.{first_byte, last_xor}
+use Rattle.shipped_kit.specs.Validators.{first_byte, last_xor}
 use Rattle.shipped_kit.specs.declared.functions.Shipped.{Shipped}
 use Rattle.shipped_kit.specs.declared.functions.Shipped.TheVariants.{First, Last}
 

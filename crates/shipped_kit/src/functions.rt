@@ -3,7 +3,7 @@ ghost use Rattle.shipped_kit.specs.Verdicts.{asked_of};
 ghost use Rattle.shipped_kit.specs.Kit.{shipped_at, shipped_below};
 
 use std::alloc::{AllocError, Global};
-use tbl_fakes::{FirstByte, LastXor};
+use crate::validators::{FirstByte, LastXor};
 use tbl_outside::{KitEntry, Validator};
 
 /// How many functions the shipped program has: two for each of the sixteen applications.

@@ -3,5 +3,7 @@
 #![tactic(auto)]
 
 mod functions;
+mod validators;
 
 pub use functions::{FUNCTIONS, Shipped, shipped_entries, shipped_entry};
+pub use validators::{FirstByte, LastXor};

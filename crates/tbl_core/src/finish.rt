@@ -6,7 +6,7 @@ ghost use Rattle.request_effects.specs.Asked.{asked_of, asks_notice, shown_room,
 ghost use Rattle.tbl_model.specs.State.{no_tables};
 ghost use Rattle.tbl_model.specs.CountsAfter.{counts_after, tally_of};
 ghost use Rattle.tbl_model.specs.Replies.{sent_of};
-ghost use Rattle.telemetry.specs.Counters.{counts_view};
+ghost use Rattle.reply_packets.specs.Counters.{counts_view};
 ghost use Rattle.request_effects.specs.Effects.{IsWithin, told_at};
 ghost use Rattle.tbl_core.specs.Finish.{packets_room, Reports};
 ghost use Rattle.request_effects.specs.Effects.{reply_limit};
@@ -17,7 +17,7 @@ use request_effects::{Asked, Clock, Effect, asks_notice, most_deeds, shown_room}
 use tbl_kinds::{Actor, Bytes, Entry, Reply, Request, Status};
 use tbl_model::Shown;
 use tbl_outside::{Bank, Validator};
-use telemetry::{
+use reply_packets::{
     Counters, EVENT_LENGTH, NOTICE_LENGTH, head_at, loaded_file, loaded_name, put_events,
     put_notice, put_shown, tally,
 };

@@ -11,7 +11,7 @@ use std::alloc::Global;
 use std::marker::Model;
 use tbl_kinds::{Entry, Memory, Name40, Name64};
 use tbl_model::Deed;
-use telemetry::{Counters, Tally};
+use reply_packets::{Counters, Tally};
 
 /// The entries in their order, the running numbers of telemetry, and reserved room for further entries.
 #[derive(Drop)]
@@ -27,7 +27,7 @@ impl Model for Log {
 
     ghost use Rattle.std.specs.Prelude.{◌-◌, All, vec_len, vec_capacity};
     ghost use Rattle.tbl_core.specs.Log.{IsSmall};
-    ghost use Rattle.telemetry.specs.Counters.{counts_view};
+    ghost use Rattle.reply_packets.specs.Counters.{counts_view};
 
     ghost view = { λ l. record { entries = l.entries.items; counts = counts_view l.counters; spare = vec_capacity l.entries - vec_len l.entries } };
 
@@ -35,7 +35,7 @@ impl Model for Log {
 }
 
 impl Log {
-    ghost use Rattle.telemetry.specs.Counters.{counts_view, tally_view};
+    ghost use Rattle.reply_packets.specs.Counters.{counts_view, tally_view};
 
     /// An empty history.
     pub(crate) fn make(alloc: Global) -> Log

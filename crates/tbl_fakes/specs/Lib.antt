@@ -4,4 +4,3 @@ pub mod Contents
 pub mod Notes
 pub mod Past
 pub mod Troubles
-pub mod Verdicts

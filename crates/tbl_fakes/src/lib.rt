@@ -13,7 +13,6 @@ mod past;
 mod plan;
 mod supply;
 mod troubles;
-mod validators;
 
 pub use calm::{CalmSink, CalmSource};
 pub use calm_bank::CalmBank;
@@ -23,4 +22,3 @@ pub use mem_sink::MemSink;
 pub use mem_source::MemSource;
 pub use past::Span;
 pub use troubles::Break;
-pub use validators::{FirstByte, LastXor};

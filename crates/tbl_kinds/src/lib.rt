@@ -5,6 +5,7 @@ mod block;
 mod bytes;
 mod entry;
 mod few;
+pub mod fields;
 mod name;
 mod note;
 mod number;

@@ -7,7 +7,7 @@ ghost use Rattle.tbl_kinds.specs.Telemetry.{event_body};
 
 use arrayvec::ArrayVec;
 use cfe_headers::write_tlm;
-use field_bytes::put;
+use tbl_kinds::fields::put;
 use tbl_kinds::{Bytes, Event, TlmHead};
 
 /// The message id of event packets.

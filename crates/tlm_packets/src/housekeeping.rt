@@ -7,7 +7,7 @@ ghost use Rattle.tbl_kinds.specs.Telemetry.{housekeeping_body, commands_and_load
 
 use arrayvec::ArrayVec;
 use cfe_headers::write_tlm;
-use field_bytes::put;
+use tbl_kinds::fields::put;
 use tbl_kinds::{Bytes, Housekeeping, TlmHead};
 
 /// The message id of housekeeping packets.

@@ -4,7 +4,7 @@ ghost use Rattle.tbl_kinds.specs.Records.{actor_number};
 ghost use Rattle.tbl_kinds.specs.Transcript.{entry_bytes, end_bytes};
 
 use arrayvec::ArrayVec;
-use field_bytes::put;
+use tbl_kinds::fields::put;
 use tbl_kinds::{Bytes, Entry, Memory};
 
 /// What stands before the reply's bytes: place, actor, status, detail, and how many bytes the reply has.

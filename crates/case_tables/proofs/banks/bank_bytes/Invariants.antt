@@ -1,5 +1,0 @@
-use Rattle.std.proofs.Common.{◌≡◌, length}
-use Rattle.case_tables.proofs.banks.bank_bytes.Given as goal
-
-abbrev pub invariant-runs : goal.invariant-runs
-invariant-runs l = length l.bytes.list ≡ 131072

@@ -1,6 +1,0 @@
-use Rattle.std.proofs.Common.{◌≡◌}
-use Rattle.tbl_top.specs.declared.playback.Standing.TheVariants.{Open}
-use Rattle.run_cases.proofs.feeding.feed_each.Given as goal
-
-abbrev pub invariant-pieces : goal.invariant-pieces
-invariant-pieces l = l.player.standing ≡ Open

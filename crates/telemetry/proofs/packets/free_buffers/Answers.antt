@@ -1,6 +1,0 @@
-use Rattle.tbl_model.specs.Tables.{in_use}
-use Rattle.telemetry.proofs.Buffers.{free_places}
-use Rattle.telemetry.proofs.packets.free_buffers.Goals as goal
-
-pub returns : goal.returns
-returns c = rw (c.free_in.ensures, c.in_use.ensures.rows) (free_places (in_use c.args.tables.now) c.in_use.ensures.within)

@@ -1,0 +1,121 @@
+//! File headers and table files.
+
+use crate::line::{Line, room_for};
+use test_tables::{CaseFault, Pieces, count_of, number_in, same_bytes};
+use cfe_headers::{FileHeader, read_file_header, write_file_header};
+use std::alloc::Global;
+use table_files::{IMAGE_PLACE, TableFile, read_table_file, write_table_file};
+use tbl_kinds::{Name, Name40};
+
+/// How many bytes the file header has.
+const HEADER_LENGTH: usize = 64;
+
+/// The subtype of a table file.
+const TABLE_SUBTYPE: u32 = 8;
+
+/// How many bytes the field of a table's name has.
+const TABLE_NAME: usize = 40;
+
+/// The fields of a header, without its description.
+fn tell_fields(line: &mut Line, header: &FileHeader) {
+    line.numbered("subtype", &[header.subtype]);
+    line.numbered("length", &[header.length]);
+    line.numbered(
+        "from",
+        &[header.spacecraft, header.processor, header.application],
+    );
+    line.numbered("at", &[header.seconds, header.sub]);
+}
+
+/// A file header is written again.
+fn rewrite_header(alloc: Global, header: &FileHeader, bytes: &[u8]) -> Result<(), CaseFault> {
+    let Some(front) = bytes.get(..HEADER_LENGTH) else {
+        return Err(CaseFault::Unreadable);
+    };
+    let mut out = room_for(alloc, HEADER_LENGTH)?;
+    write_file_header(&mut out, header);
+    same_bytes(alloc, out.bytes(), front)
+}
+
+/// A file header is read, and one that is right is written again.
+pub(crate) fn tell_header(alloc: Global, line: &mut Line, bytes: &[u8]) -> Result<(), CaseFault> {
+    match read_file_header(bytes) {
+        Ok(header) => {
+            tell_fields(line, &header);
+            rewrite_header(alloc, &header, bytes)
+        }
+        Err(fault) => Ok(line.shown(&fault)),
+    }
+}
+
+/// A table file is read. A fault is told with the status of a LOAD from such a file.
+pub(crate) fn tell_file(line: &mut Line, bytes: &[u8]) {
+    match read_table_file(bytes) {
+        Ok(file) => {
+            line.numbered("offset", &[file.offset]);
+            line.numbered("count", &[file.count]);
+            line.name(file.name.bytes());
+        }
+        Err(fault) => {
+            line.shown(&fault);
+            line.number(fault.status().0);
+        }
+    }
+}
+
+/// The header that the bytes of a cell begin with.
+fn header_in(pieces: &Pieces, cell: &str) -> Result<FileHeader, CaseFault> {
+    let bytes = pieces.bytes(cell)?;
+    match read_file_header(&bytes) {
+        Ok(header) => Ok(header),
+        Err(_) => Err(CaseFault::Unreadable),
+    }
+}
+
+/// The table's name that the bytes of a cell are.
+fn name_in(pieces: &Pieces, cell: &str) -> Result<Name40, CaseFault> {
+    let bytes = pieces.bytes(cell)?;
+    if bytes.len() > TABLE_NAME {
+        return Err(CaseFault::Unreadable);
+    }
+    Ok(Name::of(&bytes))
+}
+
+/// A table file is written, behind this header.
+fn try_written(
+    alloc: Global,
+    header: &FileHeader,
+    offset: u32,
+    name: Name40,
+    image: &[u8],
+    wanted: &[u8],
+) -> Result<(), CaseFault> {
+    let count = count_of(image)?;
+    if header.subtype != TABLE_SUBTYPE {
+        return Err(CaseFault::Unreadable);
+    }
+    let file = TableFile {
+        offset,
+        count,
+        name,
+    };
+    let mut out = room_for(alloc, IMAGE_PLACE + image.len())?;
+    write_table_file(&mut out, header, &file, image);
+    same_bytes(alloc, out.bytes(), wanted)
+}
+
+/// A table file is written, behind the header that the first cell begins with: header, offset, name and image.
+pub(crate) fn try_written_cells(
+    alloc: Global,
+    pieces: &Pieces,
+    cells: [&str; 4],
+    wanted: &str,
+) -> Result<(), CaseFault> {
+    let [header, offset, name, image] = cells;
+    let header = header_in(pieces, header)?;
+    let offset = number_in(offset)?;
+    let name = name_in(pieces, name)?;
+    let image = pieces.bytes(image)?;
+    let wanted = pieces.bytes(wanted)?;
+    try_written(alloc, &header, offset, name, &image, &wanted)
+}

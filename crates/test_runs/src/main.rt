@@ -1,0 +1,23 @@
+//! Plays the sessions of a table, also over banks whose writes break off and whose reads fail, and says which of them ended
+//! otherwise than it states.
+#![tactic(auto)]
+
+mod banks;
+mod ending;
+mod feeding;
+mod meeting;
+mod runs;
+mod second_runs;
+mod sessions;
+mod turns;
+
+use test_tables::play_rows;
+use runs::Runs;
+use std::process::ExitCode;
+
+fn main(rt: HostRuntime) -> ExitCode {
+    match play_rows(&rt, &mut Runs) {
+        Ok(true) => ExitCode::from(0),
+        _ => ExitCode::from(1),
+    }
+}

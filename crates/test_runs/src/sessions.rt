@@ -1,0 +1,121 @@
+//! Sessions over a bank whose writes break off and whose reads fail.
+
+ghost use Rattle.std.specs.Prelude.{◌≤◌, length};
+ghost use Rattle.tbl_kinds.specs.Places.{bank_size};
+
+use crate::banks::{same_bank, same_writes};
+use test_tables::{CaseFault, Row, bank_in, count_of, one_word};
+use shipped_kit::shipped_entries;
+use std::alloc::Global;
+use std::sync::Wait;
+use std::thread::Threads;
+use tbl_fakes::{MemBank, MemSink, MemSource, OpenGate};
+use tbl_kinds::{Bytes, Memory};
+use tbl_outside::Gate;
+use tbl_top::run_with;
+
+/// For how many bytes the sink has room beside those that are wanted.
+const MORE_OUTPUT: u32 = 512;
+
+/// What a session is given beside its bank.
+#[derive(Drop)]
+pub(crate) struct Session {
+    words: Vec<Bytes>,
+    source: MemSource,
+    pub(crate) sink: MemSink,
+}
+
+impl Session {
+    /// A session with a word, whose input stands in a cell of a row, and the output that is wanted in another one.
+    pub(crate) fn make(
+        row: &Row,
+        word: &str,
+        input: usize,
+        output: usize,
+    ) -> Result<Session, CaseFault> {
+        let room = count_of(&row.bytes(output)?)?;
+        Ok(Session {
+            words: one_word(row.alloc(), word)?,
+            source: MemSource::make(row.alloc(), row.kept(input)?, &[])?,
+            sink: MemSink::make(row.alloc(), room.saturating_add(MORE_OUTPUT), &[])?,
+        })
+    }
+
+    /// Plays it over a bank. The gate is told of each turn of a thread. The status, and the bank behind it.
+    pub(crate) fn play<R: Threads + Wait + Sync, G: Gate + Sync>(
+        &mut self,
+        rt: &R,
+        alloc: Global,
+        bank: MemBank,
+        gate: &G,
+    ) -> Result<(u8, MemBank), Memory>
+        requires { bank_size ≤ length bank.bytes }
+    {
+        let kit = shipped_entries(alloc)?;
+        Ok(run_with(
+            rt,
+            alloc,
+            &self.words,
+            &mut self.source,
+            &mut self.sink,
+            bank,
+            kit,
+            gate,
+        ))
+    }
+
+    /// Compares a status with a cell of a row, and the output with the next one.
+    pub(crate) fn compare(&self, row: &Row, at: usize, status: u8) -> Result<(), CaseFault>
+        requires { at ≤ 7 }
+    {
+        row.same_number(at, u64::from(status))?;
+        row.same_bytes(at + 1, self.sink.taken())
+    }
+
+    /// Plays it over a bank, which comes back, and compares the status and the output with two cells of a row.
+    fn play_row<R: Threads + Wait + Sync>(
+        &mut self,
+        rt: &R,
+        row: &Row,
+        at: usize,
+        bank: MemBank,
+    ) -> Result<MemBank, CaseFault>
+        requires room { bank_size ≤ length bank.bytes }
+        requires cells { at ≤ 7 }
+    {
+        let (status, bank) = self.play(rt, row.alloc(), bank, &OpenGate)?;
+        self.compare(row, at, status)?;
+        Ok(bank)
+    }
+}
+
+/// Plays a session with a word over a bank, which comes back. Its input stands in a cell of a row, and the status and the
+/// output, which are compared, in two others.
+pub(crate) fn play<R: Threads + Wait + Sync>(
+    rt: &R,
+    row: &Row,
+    word: &str,
+    input: usize,
+    wanted: usize,
+    bank: MemBank,
+) -> Result<MemBank, CaseFault>
+    requires room { bank_size ≤ length bank.bytes }
+    requires cells { wanted ≤ 7 }
+{
+    let mut session = Session::make(row, word, input, wanted + 1)?;
+    session.play_row(rt, row, wanted, bank)
+}
+
+/// Compares a bank's writes and what it holds behind a session.
+fn compare_bank(row: &Row, bank: &MemBank) -> Result<u32, CaseFault> {
+    same_writes(row, 8, bank.spans())?;
+    same_bank(row, 9, bank.bytes())?;
+    Ok(1)
+}
+
+/// Plays a session, and compares how it ends.
+pub(crate) fn try_session<R: Threads + Wait + Sync>(rt: &R, row: &Row) -> Result<u32, CaseFault> {
+    let bank = bank_in(row)?;
+    let bank = play(rt, row, row.text(0)?, 2, 6, bank)?;
+    compare_bank(row, &bank)
+}
