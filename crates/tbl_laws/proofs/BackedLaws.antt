@@ -1,10 +1,10 @@
--- Behind every legal history critical tables are backed by their blocks.
+-- After every legal history critical tables are backed by their blocks.
 use Rattle.std.proofs.Common.{◌≡◌, List, [], ◌∷◌, Option, sym, refl, subst}
 use Rattle.tbl_model.specs.State.{State, no_tables}
 use Rattle.tbl_model.specs.Effects.{Effect}
 use Rattle.tbl_model.specs.History.{Run, begins_at, onward, onward_by, run_from, given_in, IsAnswered, AreAnswered, IsLegal}
 use Rattle.tbl_kinds.specs.declared.entry.Entry.{Entry}
-use Rattle.tbl_laws.specs.Backed.{AreSingle, AreBacked}
+use Rattle.tbl_session.specs.Backed.{AreSingle, AreBacked}
 use Rattle.tbl_laws.proofs.Backing.{unbacked}
 use Rattle.tbl_laws.proofs.BackedRequests.{stays_backed}
 

@@ -14,7 +14,7 @@ use Rattle.tbl_kinds.specs.StoreSteps.{open_of, stored_at, has_room}
 use Rattle.tbl_kinds.specs.StoreCalls.{StoreCall, copy, restore, delete, after}
 use Rattle.tbl_model.specs.State.{State, Table, Dump, quiet, asked, filled}
 use Rattle.tbl_model.specs.Tables.{table_at, is_critical, critical_count, rows_where}
-use Rattle.tbl_model.specs.TableSteps.{find, handle_at, added, last_image, filled_with, new_table, with_first, as_registered, uncritical, let_go, end_dump}
+use Rattle.tbl_model.specs.TableSteps.{find, handle_at, added, last_image, filled_with, new_table, with_first, as_registered, uncritical, drop_before, end_dump}
 use Rattle.tbl_model.specs.Effects.{Effect, answered}
 use Rattle.tbl_model.specs.Given.{Given, verdict_at}
 use Rattle.tbl_model.specs.CriticalTables.{critical_limit, registered, not_kept, recovered, instead, kept_effect}
@@ -40,7 +40,7 @@ use Rattle.tbl_kinds.specs.declared.request.Request.TheVariants as ask
 use Rattle.tbl_kinds.specs.declared.request.ResetKind.TheVariants.{Processor}
 use Rattle.tbl_kinds.specs.declared.status.Status.{Status}
 use Rattle.tbl_kinds.specs.declared.status.TheConstants.Status.{SUCCESS}
-use Rattle.tbl_laws.specs.Backed.{AreBacked}
+use Rattle.tbl_session.specs.Backed.{AreBacked}
 use Rattle.tbl_laws.proofs.Descents.{Descends, same_descends, set_descends, changed_descends, put_descends, image_descends, file_descends, update_descends, mark_descends, load_descends, give_up_descends, give_up_store, managed_descends, managed_store}
 use Rattle.tbl_laws.proofs.TableBlocks.{HasBlock, has_block, change_keeps}
 use Rattle.tbl_laws.proofs.Calls.{SuitAll, app_renewal_suits, table_renewal_suits, app_delete_suits, table_delete_suits, all_done, renewal_has}
@@ -219,7 +219,7 @@ module _ (s : State) (backed : AreBacked s) (given : Given) where
   backs (App app) (ask.Edit handle offset bytes) = λ noted. by_edit s Backs refused app handle offset bytes.list (λ row t there none. on _ (put_descends s.tables row _) refl)
   backs (App app) (ask.Get handle) = λ noted. by_get s Backs refused app handle (λ a leads some. same _ refl refl)
   backs (App app) (ask.Read handle offset len) = λ noted. by_read s Backs refused app handle offset len (λ a leads pinned inside. backed)
-  backs (App app) (ask.Release handle) = λ noted. by_release s Backs refused app handle (λ a leads pinned. rw pinned (on _ (set_descends s.tables a.row a.table (let_go (slice_set s.tables.handles handle (Some (record a.handle { pin = None }))) a.row a.table) _ leads.there refl) refl))
+  backs (App app) (ask.Release handle) = λ noted. by_release s Backs refused app handle (λ a leads pinned. rw pinned (on _ (set_descends s.tables a.row a.table (drop_before (slice_set s.tables.handles handle (Some (record a.handle { pin = None }))) a.row a.table) _ leads.there refl) refl))
   backs (App app) (ask.GetStatus handle) = λ noted. by_get_status s Backs refused app handle (λ row t. backed)
   backs (App app) (ask.GetInfo name) = λ noted. by_info s Backs refused app name (λ t. backed)
   backs (App app) (ask.Notify handle msg code parameter) = λ noted. by_notify s Backs refused app handle msg code parameter (λ row t there is. on _ (changed_descends s.tables row (λ u. record u { notice = Some (record { msg = msg; code = code; parameter = parameter }) }) (λ u. refl)) refl)

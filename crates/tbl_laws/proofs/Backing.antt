@@ -15,7 +15,7 @@ use Rattle.tbl_model.specs.StoreUse.{left_by}
 use Rattle.tbl_model.specs.Boots.{boot}
 use Rattle.tbl_kinds.specs.declared.note.BankNote.{BankNote}
 use Rattle.tbl_kinds.specs.declared.request.ResetKind.{ResetKind}
-use Rattle.tbl_laws.specs.Backed.{AreSingle, AreBacked}
+use Rattle.tbl_session.specs.Backed.{AreSingle, AreBacked}
 use Rattle.tbl_laws.proofs.Pins.{at_set, nothing_there}
 use Rattle.tbl_laws.proofs.Descents.{Stands, Descends}
 use Rattle.tbl_laws.proofs.Blocks.{boot_single}

@@ -19,7 +19,7 @@ use Rattle.tbl_kinds.specs.declared.block.BlockKind.TheVariants.{Table as of_tab
 use Rattle.tbl_kinds.specs.declared.note.BankNote.{BankNote}
 use Rattle.tbl_kinds.specs.declared.request.ResetKind.{ResetKind}
 use Rattle.tbl_kinds.specs.declared.request.ResetKind.TheVariants.{Processor, PowerOn}
-use Rattle.tbl_laws.specs.Backed.{AreSingle}
+use Rattle.tbl_session.specs.Backed.{AreSingle}
 use Rattle.tbl_laws.proofs.Pins.{at_put, at_set, none_passes, nothing_there}
 
 -- ---- kinds and names

@@ -17,7 +17,7 @@ use Rattle.tbl_model.specs.TableSteps.{find, has_name}
 use Rattle.tbl_kinds.specs.declared.block.BlockKind.{BlockKind}
 use Rattle.tbl_kinds.specs.declared.block.BlockKind.TheVariants.{Table as of_table, App}
 use Rattle.tbl_kinds.specs.declared.note.BankNote.{BankNote}
-use Rattle.tbl_laws.specs.Backed.{AreSingle}
+use Rattle.tbl_session.specs.Backed.{AreSingle}
 use Rattle.tbl_laws.proofs.Blocks.{kinds_same, of_parts, name_is, Stands, open_stands, doubtful_stands, gone, none_open, none_doubtful, closed_none, remain_single, freed_remain, change_remain, made_single}
 use Rattle.tbl_laws.proofs.TableBlocks.{HasBlock, set_keeps, change_keeps, closed_keeps, made_keeps, made_has}
 use Rattle.tbl_laws.proofs.Pins.{none_passes}

@@ -26,7 +26,7 @@ use Rattle.tbl_model.specs.Deeds.{is_good, verdict_bits}
 use Rattle.tbl_model.specs.Subjects.{name_of, by_app, by_check, if_handle, by_table, if_its_table, by_row, if_table, by_flaw, by_contents, if_file}
 use Rattle.tbl_model.specs.Applications.{has_dot, full_name, start_effect}
 use Rattle.tbl_model.specs.CriticalTables.{critical_limit, registered, not_kept, recovered, instead, kept_effect}
-use Rattle.tbl_model.specs.Registration.{registration_refusal, new_effect, named_effect, register_effect}
+use Rattle.tbl_model.specs.Registration.{registration_refusal, new_effect, table_asked, placed_effect, register_effect}
 use Rattle.tbl_model.specs.Copies.{went_active, block_of, copy_failed, copied_to, copied_of, then_copy}
 use Rattle.tbl_model.specs.Addresses.{stepped, get_effect, release_effect, read_answer, read_effect}
 use Rattle.tbl_model.specs.Refusals.{by_answer, by_refusal, plan_refusal, image_refusal, closed_refusal, file_refusal, load_refusal, validation_refusal, activation_refusal, update_refusal}
@@ -68,7 +68,7 @@ pub record Leads (tables : Tables) (app m : ℕ) (a : Access) : Type 0 where
   pub row_is : a.handle.row ≡ Some a.row
   pub there : table_at tables a.row ≡ Some a.table
 
--- the table in this row, behind this handle
+-- the table in this row, to which this handle leads
 abbrev pub access_at : Handle → ℕ → Table → Access
 access_at h row t = record { handle = h; row = row; table = t }
 
@@ -142,7 +142,7 @@ module _ (s : State) (P : Effect → Type 0) (refusal : (e : Effect) → e.next 
   unless true status detail rest is p = no status detail is
   unless false status detail rest is p = p
 
-  -- the same, where the rest wants to know that it didn't
+  -- the same, where the rest needs to know that it didn't
   unless_then : (b : Bool) (status : Status) (detail : ℕ) (rest : Effect) → is_refusal status ≡ true → (b ≡ false → P rest) → P (cond b (answered s status detail) rest)
   unless_then true status detail rest is p = no status detail is
   unless_then false status detail rest is p = p refl
@@ -249,7 +249,7 @@ module _ (s : State) (P : Effect → Type 0) (refusal : (e : Effect) → e.next 
     pub by_new : P (register_effect s app short size flags validator note)
     unfolding register_effect
     by_new = by_name (name_of s app) _ (λ app_name. by_full_name (full_name app_name short)) where
-      by_full_name : (name : List ℕ) → P (named_effect s app name short size flags validator note)
+      by_full_name : (name : List ℕ) → P (placed_effect s (registration_refusal s app name short size flags validator) (table_asked s app name size flags validator) note)
       by_full_name name = by_ladder (registration_refusal s app name short size flags validator) _ (registration_refused s app name short size flags validator) (λ none.
           let taken = registration_taken s app name short size flags validator none in
           rw (taken.row.1, taken.handle.1) (done name taken.row.0 taken.handle.0 taken.plan taken.new taken.row.1 taken.handle.1))

@@ -11,11 +11,11 @@ use Rattle.tbl_model.specs.Pending.{is_pair, is_pending, without_pair}
 use Rattle.tbl_model.specs.Refusals.{validation_refusal, activation_refusal, update_refusal}
 use Rattle.tbl_model.specs.Management.{Done, nothing_done, with_validation, then_validate, with_update, then_update, with_fill, then_fill, all_done, is_asked}
 use Rattle.tbl_model.proofs.RefusalLaws.{validation_taken, activation_taken, update_taken}
-use Rattle.tbl_laws.specs.Fit.{AreFit, HasCode}
+use Rattle.tbl_model.specs.Fit.{AreFit, HasCode}
 use Rattle.tbl_model.specs.declared.deeds.Notice.{Notice}
 use Rattle.tbl_laws.proofs.Rows.{same_rows, changed_row, put_row, time_row, then_row}
 use Rattle.tbl_laws.proofs.Pairs.{both_images, pending_more_other, pending_less_other, pending_gone, fewer}
-use Rattle.tbl_laws.proofs.Fits.{fit_on, fit_same, was, Becomes, kept, unseen, mark, handles_changed, handles_put, handles_time}
+use Rattle.tbl_laws.proofs.Fits.{image_there, last_there, load_there, fit_on, fit_same, was, Becomes, kept, unseen, mark, handles_changed, handles_put, handles_time}
 use Rattle.tbl_kinds.specs.declared.entry.Answer.{Answer}
 
 -- ---- a table changes
@@ -110,7 +110,7 @@ module _ (n : ℕ) (s : State) (fit : AreFit n s) (row : ℕ) (t : Table) (there
         notice = held.notice;
         checked = held.checked;
         pends = λ a pending. elim (both_images a active) [
-          | inl same ↦ rw same (record { function = function; loaded = λ last. eqb-false t.count 0 (takes.loaded last); open_load = takes.open_load; unasked = takes.unasked })
+          | inl same ↦ rw same (function, image_there t active (λ last. let some = eqb-false t.count 0 (takes.loaded last) in omega (arith, some)) (λ inactive. (takes.open_load inactive, takes.unasked inactive)))
           | inr other ↦ held.pends a (sym (pending_more_other s.pending row row active a (λ _. other)) ∙ pending)
         ];
       })
@@ -143,12 +143,8 @@ module _ (n : ℕ) (s : State) (fit : AreFit n s) (row : ℕ) (t : Table) (there
         pends = λ a pending. elim (both_images a false) [
           | inl same ↦ absurd (cc (rw same at pending, pending_gone s.pending row false))
           | inr other ↦
-              let can = held.pends a (sym (pending_less_other s.pending row row false a (λ _. other)) ∙ pending) in record {
-                function = can.function;
-                loaded = can.loaded;
-                open_load = λ inactive. absurd (other inactive);
-                unasked = λ inactive. refl;
-              }
+              let can = held.pends a (sym (pending_less_other s.pending row row false a (λ _. other)) ∙ pending) in
+              (can.0, image_there u a (last_there t a can.1) (λ inactive. absurd (other inactive)))
         ];
       })
 
@@ -187,7 +183,7 @@ module _ (n : ℕ) (row : ℕ) (given : Given) where
   pub validated : (active : Bool) (d : Done) → AreFit n d.state → AreFit n (then_validate row active given d).state
   validated active d fit = with_found (λ e. AreFit n e.state) d _ (table_at d.state.tables row) refl fit (λ t there.
       either (λ e. AreFit n e.state) (not (is_pending row active d.state.pending)) d (with_validation row active (verdict_at (length d.asked) given) d t) fit (λ pending.
-      mark n d.state fit row t there active (verdict_at (length d.asked) given) ((was n d.state fit row t there).pends active (not-false (is_pending row active d.state.pending) pending)).unasked))
+      mark n d.state fit row t there active (verdict_at (length d.asked) given) (λ inactive. (load_there t active ((was n d.state fit row t there).pends active (not-false (is_pending row active d.state.pending) pending)).1 inactive).1)))
 
   pub updated : (d : Done) → AreFit n d.state → AreFit (suc n) (then_update row d).state
   updated d fit = with_found (λ e. AreFit (suc n) e.state) d _ (table_at d.state.tables row) refl (grown n d.state fit) (λ t there. by t there (update_refusal d.state.tables row t) refl) where

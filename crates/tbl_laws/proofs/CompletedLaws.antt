@@ -15,13 +15,13 @@ use Rattle.tbl_kinds.proofs.FreeLaws.{least_free-None}
 use Rattle.tbl_model.specs.Effects.{Effect}
 use Rattle.tbl_model.specs.StoreNotes.{is_restore}
 use Rattle.tbl_model.specs.History.{Run, effect_in}
-use Rattle.tbl_laws.specs.Crashes.{DuringCalls, writes, calls_in, UnderWay}
+use Rattle.tbl_session.specs.Crashes.{DuringCalls, writes, calls_in, UnderWay}
 use Rattle.tbl_kinds.specs.declared.block.Block.{Block}
 use Rattle.tbl_kinds.specs.declared.block.BlockKind.{BlockKind}
 use Rattle.tbl_kinds.specs.declared.entry.Entry.{Entry}
 use Rattle.tbl_kinds.specs.declared.request.Request.TheVariants as ask
 use Rattle.tbl_kinds.specs.declared.request.ResetKind.TheVariants.{PowerOn}
-use Rattle.tbl_laws.specs.Completed.{completed, Holds, Touches, LeaveAlone}
+use Rattle.tbl_session.specs.Completed.{completed, Holds, Touches, LeaveAlone}
 
 -- ---- what the calls leave
 

@@ -26,7 +26,8 @@ use Rattle.tbl_model.proofs.RefusalLaws.{is_refusal, image_refused, closed_refus
 use Rattle.tbl_kinds.specs.declared.note.BankNote.{BankNote}
 use Rattle.tbl_kinds.specs.declared.note.Outcome.{Outcome}
 use Rattle.tbl_kinds.specs.declared.note.Outcome.TheVariants.{Untouched, Done as AllDone, Failed, Stopped}
-use Rattle.tbl_laws.specs.Backed.{AreBacked, IsCopied}
+use Rattle.tbl_session.specs.Backed.{AreBacked}
+use Rattle.tbl_laws.specs.Copied.{IsCopied}
 use Rattle.tbl_laws.proofs.Rows.{changed_row, put_row, time_row}
 use Rattle.tbl_laws.proofs.Pins.{some_there}
 use Rattle.tbl_laws.proofs.Changes.{with_found, either}

@@ -1,6 +1,6 @@
 -- The blocks that a reset came over, and those that it left: no two are of one kind and one name.
 use Rattle.std.proofs.Common.{◌≡◌, ℕ, zero, suc, List, [], ◌∷◌, take, true, false, not, Option, Some, None, refl, sym, ap, ◌⊎◌, inl, inr, subst}
-use Rattle.std.specs.Prelude.{slice_get}
+use Rattle.std.specs.Prelude.{slice_get, IsSome}
 use Rattle.std.proofs.lemmas.Bool.{and_parts}
 use Rattle.std.proofs.lemmas.Option.{same_Some}
 use Rattle.tbl_kinds.specs.Blocks.{Stored, Store}
@@ -10,11 +10,11 @@ use Rattle.tbl_model.specs.State.{State, Tables, first_state}
 use Rattle.tbl_model.specs.StoreNotes.{is_doubtful_at}
 use Rattle.tbl_model.specs.Boots.{session_start}
 use Rattle.tbl_model.specs.History.{Run, begins_at, onward, run_from, AreAnswered}
-use Rattle.tbl_laws.specs.Crashes.{BreaksTo, DuringCalls, calls_in, UnderWay, AfterCrash}
+use Rattle.tbl_session.specs.Crashes.{BreaksTo, DuringCalls, calls_in, UnderWay, AfterCrash}
 use Rattle.tbl_kinds.specs.declared.block.BlockKind.{BlockKind}
 use Rattle.tbl_kinds.specs.declared.entry.Entry.{Entry}
-use Rattle.tbl_laws.specs.Backed.{AreSingle, AreBacked}
-use Rattle.tbl_laws.specs.Recovery.{IsHistory, blocks_by, blocks_during, blocks_under, blocks_at}
+use Rattle.tbl_session.specs.Backed.{AreSingle, AreBacked}
+use Rattle.tbl_session.specs.Recovery.{IsHistory, blocks_by, blocks_during, blocks_under, blocks_at}
 use Rattle.tbl_laws.proofs.Pins.{nothing_there, none_passes}
 use Rattle.tbl_laws.proofs.Blocks.{Stood, Remain, remain_single, open_stands, both_of}
 use Rattle.tbl_laws.proofs.Calls.{Suits, SuitAll, does_single, breaks_single}
@@ -107,11 +107,18 @@ pub record IsLeft (left : Store) (slot : ℕ) (b : Stored) : Type 0 where
   pub is : found ≡ shown b found.held
   pub may : MayGive b found.held
 
-pub open_left : (store left : Store) (slot : ℕ) (b : Stored) → Shows store left → stored_at store slot ≡ Some b → b.doubtful ≡ false → IsLeft left slot b
-open_left store left slot b shows there sure = by (stored_at left slot) refl (rw there at (shows.each slot)) where
+-- so is one whose gate is sure, and any that the reset left
+pub is_left : (store left : Store) (slot : ℕ) (b : Stored) → Shows store left → stored_at store slot ≡ Some b → IsSome (stored_at left slot) → IsLeft left slot b
+is_left store left slot b shows there some = by (stored_at left slot) refl (rw there at (shows.each slot)) where
   by : (found : Option Stored) → stored_at left slot ≡ found → MayShow (Some b) found → IsLeft left slot b
-  by None at may = absurd (cc (sure, may))
+  by None at may = absurd (let none = at in cc (some, none))
   by (Some found) at may = record { found = found; there = at; is = may.0; may = may.1 }
+
+pub open_shown : (store left : Store) (slot : ℕ) (b : Stored) → Shows store left → stored_at store slot ≡ Some b → b.doubtful ≡ false → IsSome (stored_at left slot)
+open_shown store left slot b shows there sure = by (stored_at left slot) refl (rw there at (shows.each slot)) where
+  by : (found : Option Stored) → stored_at left slot ≡ found → MayShow (Some b) found → IsSome (stored_at left slot)
+  by None at may = absurd (cc (sure, may))
+  by (Some found) at may = rw at refl
 
 -- it is the one that is found by its kind and name
 pub open_found : (kind : BlockKind) (name : List ℕ) (store : Store) (slot : ℕ) (b : Stored) → AreSingle store → stored_at store slot ≡ Some b → is_open_of kind name (Some b) ≡ true → open_of kind name store ≡ Some slot

@@ -1,4 +1,4 @@
--- What a reset leaves of the calls of an entry: from what single calls leave, and from what a boot behind a stopped one may leave.
+-- What a reset leaves of the calls of an entry: from what single calls leave, and from what a boot after a stopped one may leave.
 use Rattle.std.proofs.Common.{◌≡◌, suc, List, [], ◌∷◌, ◌++◌, length, Some, refl, sym, ap, subst, ◌∙◌, inl, inr, arith}
 use Rattle.std.specs.Prelude.{slice_get}
 use Rattle.std.proofs.lemmas.List.{take_all}
@@ -12,7 +12,7 @@ use Rattle.tbl_kinds.specs.StoreSteps.{Shows}
 use Rattle.tbl_kinds.specs.StoreCalls.{StoreCall, after, Leaves}
 use Rattle.tbl_model.specs.StoreUse.{left_by}
 use Rattle.tbl_model.specs.StoreNotes.{BrokeOff, Ends}
-use Rattle.tbl_laws.specs.Crashes.{DuringCalls, UnderWay, AfterCrash}
+use Rattle.tbl_session.specs.Crashes.{DuringCalls, UnderWay, AfterCrash}
 use Rattle.tbl_kinds.specs.declared.note.BankNote.{BankNote}
 use Rattle.tbl_kinds.specs.declared.note.Outcome.{Outcome}
 use Rattle.tbl_kinds.specs.declared.note.Outcome.TheVariants.{Untouched, Done, Failed, Stopped}
@@ -27,16 +27,16 @@ pub in_first_call : (call : StoreCall) (rest : List StoreCall) (store left : Sto
 in_first_call call rest store left leaves = elim leaves [
   | inl before ↦ before_calls (call ∷ rest) store left before
   | inr more ↦ elim more [
-    | inl behind ↦ record { done = 1; within = omega arith; leaves = inl behind }
+    | inl after ↦ record { done = 1; within = omega arith; leaves = inl after }
     | inr broke ↦ record { done = 0; within = omega arith; leaves = inr (call, refl, record { gate = broke.0; old = broke.1; can = broke.2; shows = broke.3 }) }
   ]
 ]
 
--- what those behind it leave
+-- what those after it leave
 pub in_later_calls : (call : StoreCall) (rest : List StoreCall) (store left : Store) → DuringCalls rest (after call store) left → DuringCalls (call ∷ rest) store left
 in_later_calls call rest store left during = record { done = suc during.done; within = let within = during.within in omega (arith, within); leaves = during.leaves }
 
--- what a boot leaves behind a call that broke off
+-- what a boot leaves after a call that broke off
 pub behind_broken_call : (calls : List StoreCall) (note : BankNote) (store left : Store) → BrokeOff calls store note → Shows (left_by calls note store) left → DuringCalls calls store left
 behind_broken_call calls note store left broke shows = record {
   done = note.done;
@@ -44,7 +44,7 @@ behind_broken_call calls note store left broke shows = record {
   leaves = inr (broke.call, broke.next, record { gate = note.gate; old = note.old; can = broke.breaks; shows = rw broke.next at shows });
 }
 
--- behind the last of them, where all are done
+-- after the last of them, where all are done
 pub behind_done_calls : (calls : List StoreCall) (note : BankNote) (store left : Store) → note.done ≡ length calls → Shows (left_by calls note store) left → DuringCalls calls store left
 behind_done_calls calls note store left done shows = record {
   done = length calls;
@@ -52,7 +52,7 @@ behind_done_calls calls note store left done shows = record {
   leaves = inl (rw (take_all (length calls) calls (omega arith)) (rw (all_done calls note store done) at shows));
 }
 
--- and behind them, however they ended
+-- and after them, however they ended
 pub behind_calls : (calls : List StoreCall) (note : BankNote) (store left : Store) → Ends note.outcome calls store note → Shows (left_by calls note store) left → DuringCalls calls store left
 behind_calls calls note store left ends shows = by note.outcome ends where
   by : (outcome : Outcome) → Ends outcome calls store note → DuringCalls calls store left

@@ -5,7 +5,7 @@ use Rattle.std.specs.Option.{option_map}
 use Rattle.tbl_kinds.specs.Numbers.{patched}
 use Rattle.tbl_model.specs.State.{State, Load, Table, Handle, Tables}
 use Rattle.tbl_model.specs.Tables.{table_at}
-use Rattle.tbl_model.specs.TableSteps.{handle_at, let_go, with_image, put_in, put, set_time_in, set_time, base, unchecked, patch, set_file, changed, changed_in, load_image, activate, filled_with, last_image, without_handle, give_back_by, registered_by}
+use Rattle.tbl_model.specs.TableSteps.{handle_at, drop_before, with_image, put_in, put, set_time_in, set_time, base, unchecked, patch, set_file, changed, changed_in, load_image, activate, filled_with, last_image, without_handle, give_back_by, registered_by}
 use Rattle.tbl_model.specs.Sharing.{give_up, give_up_by}
 use Rattle.tbl_model.specs.Given.{Given, verdict_at}
 use Rattle.tbl_model.specs.Deeds.{is_good}
@@ -119,7 +119,7 @@ give_up_descends s m = by (registered_by s.tables m) where
   back None = same_descends s.tables _ refl
   back (Some row) =
       let freed : Tables = without_handle m s.tables in
-      then_descends s.tables freed _ (same_descends s.tables freed refl) (changed_descends freed row (let_go freed.handles row) (λ t. refl))
+      then_descends s.tables freed _ (same_descends s.tables freed refl) (changed_descends freed row (drop_before freed.handles row) (λ t. refl))
 
   by : (row : Option ℕ) → Descends s.tables (give_up_by m s row).tables
   by None = back (option_and_then (λ (h : Handle). h.row) (handle_at s.tables m))

@@ -84,13 +84,13 @@ refused_spares actor request status app n same no_reset refuses =
 
 -- ---- what an effect does
 
--- the request got an address by the handle, which pins the last image of the table behind it
+-- the request got an address by the handle, which pins the last image of its table
 pub record Gets (old new : Tables) (actor : Actor) (request : Request) (status : Status) (n : ℕ) (h : Handle) (p : ℕ) : Type 0 where
   pub asked_it : asks_address n request ≡ true
   pub by : is_by h.app actor ≡ true
   pub done : is_done status ≡ true
   pub found : Access
-  pub behind : access_of old n ≡ Some found
+  pub leads : access_of old n ≡ Some found
   pub row_is : h.row ≡ Some found.row
   pub there : table_at new found.row ≡ Some found.table
   pub is_last : p ≡ found.table.count
@@ -155,7 +155,7 @@ pin_fair s app m a leads some =
           by = eq-eqb app g.app (sym leads.own ∙ ap (λ (x : Handle). x.app) here.1);
           done = (granted (nat_lt h.told t.count)).0;
           found = a;
-          behind = rw here.0 (access_is s.tables m h a.row leads.place leads.row_is ∙ rw leads.there refl);
+          leads = rw here.0 (access_is s.tables m h a.row leads.place leads.row_is ∙ rw leads.there refl);
           row_is = ap (λ (x : Handle). x.row) (sym here.1) ∙ leads.row_is;
           there = leads.there;
           is_last = same_Some p t.count (sym pin ∙ ap (λ (x : Handle). x.pin) (sym here.1));

@@ -1,7 +1,6 @@
 -- Each request is fair to pins.
 use Rattle.tbl_kinds.specs.Numbers.{patched}
 use Rattle.std.proofs.Common.{◌≡◌, ◌≢◌, ℕ, zero, suc, eqb, nat_lt, List, [], ◌∷◌, length, Bool, true, false, not, ◌&&◌, ◌||◌, cond, Option, Some, None, is_some, refl, ap, sym, ◌∙◌, subst, inl, inr, arith, ℤ, pos}
-use Rattle.std.proofs.Common.{ℤ, pos}
 use Rattle.std.specs.Prelude.{take, IfSome}
 use Rattle.std.specs.List.{fold, range_with_len}
 use Rattle.std.specs.Option.{ForSome, option_map, option_map_or}
@@ -39,7 +38,7 @@ use Rattle.tbl_kinds.specs.declared.request.Request.{Request}
 use Rattle.tbl_kinds.specs.declared.request.Request.TheVariants as ask
 use Rattle.tbl_kinds.specs.declared.status.TheConstants.Status.{SUCCESS, INFO_UPDATED, INFO_TABLE_LOCKED, INFO_STOPPED, INFO_UPDATE_PENDING, INFO_VALIDATION_PENDING, INFO_DUMP_PENDING, ERR_VALIDATION_FAILED}
 use Rattle.tbl_model.proofs.RefusalLaws.{is_refusal, image_taken, file_taken, load_taken, update_taken, edit_taken}
-use Rattle.tbl_laws.specs.Fit.{AreFit}
+use Rattle.tbl_model.specs.Fit.{AreFit}
 use Rattle.tbl_laws.proofs.Rows.{within}
 use Rattle.tbl_laws.proofs.Fits.{was}
 use Rattle.tbl_laws.proofs.Changes.{with_found, either, validated}

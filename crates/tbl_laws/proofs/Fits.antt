@@ -1,6 +1,5 @@
 -- What holds of the state between two requests, where little of it changes.
-use Rattle.std.proofs.Common.{◌≡◌, ◌≢◌, ℕ, ◌≤◌, List, length, Bool, true, false, not, Option, Some, None, is_some, refl, sym, ◌∙◌, subst, arith, inl, inr}
-use Rattle.std.proofs.Common.{ℤ}
+use Rattle.std.proofs.Common.{◌≡◌, ◌≢◌, ℕ, ◌≤◌, ◌<◌, List, length, Bool, true, false, not, Option, Some, None, IsSome, is_some, refl, sym, ◌∙◌, subst, arith, inl, inr, ℤ}
 use Rattle.std.specs.Prelude.{IfSome}
 use Rattle.std.specs.Option.{option_map}
 use Rattle.std.proofs.lemmas.Bool.{cases_eq}
@@ -10,9 +9,24 @@ use Rattle.tbl_model.specs.TableSteps.{is_checked, set_checked, changed, changed
 use Rattle.tbl_model.specs.Deeds.{is_good}
 use Rattle.tbl_model.specs.Pending.{is_pair, is_pending, without_pair}
 use Rattle.tbl_model.specs.Validations.{judged}
-use Rattle.tbl_laws.specs.Fit.{owner_at, IsRegistered, HasCode, IsFit, FitAt, AreFit}
+use Rattle.tbl_model.specs.Fit.{HasImage, owner_at, IsRegistered, HasCode, IsFit, FitAt, AreFit}
 use Rattle.tbl_laws.proofs.Rows.{OneRow, same_rows, changed_row}
 use Rattle.tbl_laws.proofs.Pairs.{both_images, pending_less_other, pending_gone, fewer}
+
+-- ---- images that are to be judged
+
+-- the image is there, whichever it is
+pub image_there : (t : Table) (active : Bool) → (active ≡ true → 0 < t.count) → (active ≡ false → IsSome t.load × (t.activation ≡ false)) → HasImage t active
+image_there t true last load = last refl
+image_there t false last load = load refl
+
+pub last_there : (t : Table) (active : Bool) → HasImage t active → active ≡ true → 0 < t.count
+last_there t true has is = has
+last_there t false has is = absurd (cc is)
+
+pub load_there : (t : Table) (active : Bool) → HasImage t active → active ≡ false → IsSome t.load × (t.activation ≡ false)
+load_there t true has is = absurd (cc is)
+load_there t false has is = has
 
 -- ---- states that differ little
 
@@ -103,12 +117,13 @@ module _ (n : ℕ) (s : State) (fit : AreFit n s) (row : ℕ) (t : Table) (there
     function = function tables u is;
     notice = is.notice;
     checked = checked;
-    pends = λ active pends. let can = was.pends active pends in record {
-      function = rw is.validator can.function;
-      loaded = λ last none. can.loaded last (omega (arith, grows, none));
-      open_load = λ inactive. (load (rw inactive at pends) (can.open_load inactive) (can.unasked inactive)).0;
-      unasked = λ inactive. (load (rw inactive at pends) (can.open_load inactive) (can.unasked inactive)).1;
-    };
+    pends = λ active pends.
+        let can = was.pends active pends in (
+          rw is.validator can.0,
+          image_there u active
+              (λ last. let some = last_there t active can.1 last in omega (arith, grows, some))
+              (λ inactive. let its = load_there t active can.1 inactive in load (rw inactive at pends) its.0 its.1),
+        );
   })
 
   -- its load and what is asked of it stay
@@ -129,12 +144,12 @@ module _ (n : ℕ) (s : State) (fit : AreFit n s) (row : ℕ) (t : Table) (there
           pends = λ a pends. elim (both_images a active) [
             | inl same ↦ absurd (cc (rw same at pends, pending_gone s.pending row active))
             | inr other ↦
-                let can = was.pends a (sym (pending_less_other s.pending row row active a (λ _. other)) ∙ pends) in record {
-                  function = rw is.validator can.function;
-                  loaded = λ last none. can.loaded last (omega (arith, grows, none));
-                  open_load = λ inactive. rw load (can.open_load inactive);
-                  unasked = λ inactive. rw activation (can.unasked inactive);
-                }
+                let can = was.pends a (sym (pending_less_other s.pending row row active a (λ _. other)) ∙ pends) in (
+                  rw is.validator can.0,
+                  image_there u a
+                      (λ last. let some = last_there t a can.1 last in omega (arith, grows, some))
+                      (λ inactive. let its = load_there t a can.1 inactive in (rw load its.0, rw activation its.1)),
+                )
           ];
         })
 

@@ -10,10 +10,10 @@ use Rattle.std.proofs.Math.ListN.{get_or-map}
 use Rattle.std.proofs.lemmas.Option.{same_Some}
 use Rattle.tbl_model.specs.State.{State, Table, Handle, Tables}
 use Rattle.tbl_model.specs.Tables.{table_at}
-use Rattle.tbl_model.specs.TableSteps.{is_that, handle_at, Access, access_of, let_go, changed, without_handle, give_back_by, orphaned, remove, registered_by}
+use Rattle.tbl_model.specs.TableSteps.{is_that, handle_at, Access, access_of, drop_before, changed, without_handle, give_back_by, orphaned, remove, registered_by}
 use Rattle.tbl_model.specs.Pending.{of_other_rows}
 use Rattle.tbl_model.specs.Sharing.{give_up, give_up_by, is_handle_of, give_up_if, without_handles_of, unless_of, ended_app}
-use Rattle.tbl_laws.specs.Fit.{IsRegistered, FitAt, AreFit}
+use Rattle.tbl_model.specs.Fit.{IsRegistered, FitAt, AreFit}
 use Rattle.tbl_laws.proofs.Rows.{within}
 use Rattle.tbl_laws.proofs.Pairs.{fewer, row_gone, row_stays}
 use Rattle.tbl_laws.proofs.Fits.{fit_on, fit_same, handles_changed}
@@ -101,9 +101,9 @@ module _ (n m : ℕ) (s : State) (fit : AreFit n s) where
   given_back : (row : Option ℕ) → registered_by s.tables m ≡ None → AreFit n (record s { tables = give_back_by m s.tables row })
   given_back None none = alone none
   given_back (Some row) none = by_row (table_at s.tables row) refl where
-    by_row : (found : Option Table) → table_at s.tables row ≡ found → AreFit n (record s { tables = changed row (let_go (without_handle m s.tables).handles row) (without_handle m s.tables) })
+    by_row : (found : Option Table) → table_at s.tables row ≡ found → AreFit n (record s { tables = changed row (drop_before (without_handle m s.tables).handles row) (without_handle m s.tables) })
     by_row None there = rw there (alone none)
-    by_row (Some t) there = told n (record s { tables = without_handle m s.tables }) (alone none) row t there n (let_go (without_handle m s.tables).handles row) (omega arith) refl refl refl refl refl refl refl
+    by_row (Some t) there = told n (record s { tables = without_handle m s.tables }) (alone none) row t there n (drop_before (without_handle m s.tables).handles row) (omega arith) refl refl refl refl refl refl refl
 
   -- the table goes with it
   taken_away : (row : ℕ) → registered_by s.tables m ≡ Some row → AreFit n (record s { tables = without_handle m (remove row s.tables); pending = of_other_rows row s.pending })
@@ -163,7 +163,7 @@ fewer_handles s m = by (registered_by s.tables m) where
   back : (row : Option ℕ) → Fewer s (record s { tables = give_back_by m s.tables row }) m
   back None = record { gone = set_none s.tables.handles m; others = λ k h is. (h, fewer_without s.tables.handles m k h is, refl); long = length-set s.tables.handles m None; kit = refl; ended = refl }
   back (Some row) =
-      let same : (give_back_by m s.tables (Some row)).handles ≡ slice_set s.tables.handles m None = handles_changed (without_handle m s.tables) row (let_go (slice_set s.tables.handles m None) row) in record {
+      let same : (give_back_by m s.tables (Some row)).handles ≡ slice_set s.tables.handles m None = handles_changed (without_handle m s.tables) row (drop_before (slice_set s.tables.handles m None) row) in record {
         gone = rw same (set_none s.tables.handles m);
         others = λ k h is. (h, fewer_without s.tables.handles m k h (rw same at is), refl);
         long = rw same (length-set s.tables.handles m None);

@@ -1,6 +1,5 @@
 -- Each request is honest about marks and about images that go active.
 use Rattle.std.proofs.Common.{◌≡◌, ℕ, suc, zero, ◌+◌, List, [], ◌∷◌, ◌++◌, length, Bool, true, false, not, cond, Option, Some, None, is_some, refl, ap, sym, ◌∙◌, subst, inl, inr, ◌⊎◌, arith, length-append, ℤ, pos}
-use Rattle.std.proofs.Common.{ℤ, pos}
 use Rattle.std.specs.Prelude.{slice_index_or, slice_set, option_and_then}
 use Rattle.std.specs.List.{fold, range_with_len}
 use Rattle.std.specs.Option.{option_map, option_map_or}
@@ -11,7 +10,7 @@ use Rattle.tbl_kinds.specs.Drawer.{is_full_for}
 use Rattle.tbl_kinds.specs.Numbers.{patched}
 use Rattle.tbl_model.specs.State.{State, Load, Table, Handle, Tables, Dump, quiet, asked, filled, no_tables}
 use Rattle.tbl_model.specs.Tables.{table_at, rows_where}
-use Rattle.tbl_model.specs.TableSteps.{handle_at, base, unchecked, last_image, load_image, let_go, with_image, put, put_in, set_time, set_time_in, set_file, set_checked, patch, activate, changed, changed_in, filled_with, end_dump, without_handle, give_back_by, remove, registered_by, with_table, with_handle, new_table, with_first, added}
+use Rattle.tbl_model.specs.TableSteps.{handle_at, base, unchecked, last_image, load_image, drop_before, with_image, put, put_in, set_time, set_time_in, set_file, set_checked, patch, activate, changed, changed_in, filled_with, end_dump, without_handle, give_back_by, remove, registered_by, with_table, with_handle, new_table, with_first, added}
 use Rattle.tbl_model.specs.Effects.{Effect, answered}
 use Rattle.tbl_model.specs.Deeds.{is_good, verdict_bits, activated, finished}
 use Rattle.tbl_model.specs.Given.{Given, verdict_at}
@@ -35,7 +34,7 @@ use Rattle.tbl_kinds.specs.declared.request.Actor.{Actor}
 use Rattle.tbl_kinds.specs.declared.request.Actor.TheVariants.{Ground, App}
 use Rattle.tbl_kinds.specs.declared.request.Request.{Request}
 use Rattle.tbl_kinds.specs.declared.request.Request.TheVariants as ask
-use Rattle.tbl_laws.specs.Fit.{AreFit}
+use Rattle.tbl_model.specs.Fit.{AreFit}
 use Rattle.tbl_laws.proofs.Rows.{set_row, changed_row}
 use Rattle.tbl_laws.proofs.Fits.{was}
 use Rattle.tbl_laws.proofs.Changes.{with_found, either, validated}
@@ -81,16 +80,16 @@ inherits_updated tables row seconds sub =
 
 -- a pin ends
 inherits_released : (tables : Tables) (m : ℕ) (h : Handle) (row : ℕ) (t : Table) → table_at tables row ≡ Some t
-    → Inherits tables (with_table row (let_go (slice_set tables.handles m (Some (record h { pin = None }))) row t) (with_handle m (record h { pin = None }) tables))
+    → Inherits tables (with_table row (drop_before (slice_set tables.handles m (Some (record h { pin = None }))) row t) (with_handle m (record h { pin = None }) tables))
 inherits_released tables m h row t there =
     let freed : Tables = with_handle m (record h { pin = None }) tables in
-    let u : Table = let_go (slice_set tables.handles m (Some (record h { pin = None }))) row t in
+    let u : Table = drop_before (slice_set tables.handles m (Some (record h { pin = None }))) row t in
     then_inherits tables freed (with_table row u freed) (inherits_same tables freed refl) (inherits_row freed (with_table row u freed) row t u there (set_row freed row t u there) refl (λ l is checked. is))
 
 -- handles and tables that are given up
 inherits_back : (tables : Tables) (m : ℕ) (row : Option ℕ) → Inherits tables (give_back_by m tables row)
 inherits_back tables m None = inherits_same tables (without_handle m tables) refl
-inherits_back tables m (Some row) = then_inherits tables (without_handle m tables) (changed row (let_go (slice_set tables.handles m None) row) (without_handle m tables)) (inherits_same tables (without_handle m tables) refl) (inherits_unseen (without_handle m tables) row (let_go (slice_set tables.handles m None) row) (λ u. refl) (λ u. refl))
+inherits_back tables m (Some row) = then_inherits tables (without_handle m tables) (changed row (drop_before (slice_set tables.handles m None) row) (without_handle m tables)) (inherits_same tables (without_handle m tables) refl) (inherits_unseen (without_handle m tables) row (drop_before (slice_set tables.handles m None) row) (λ u. refl) (λ u. refl))
 
 gone_row : {X : Type 0} (xs : List (Option X)) (n : ℕ) → slice_index_or (slice_set xs n None) n None ≡ None
 gone_row [] zero = refl
@@ -393,7 +392,7 @@ module _ (s : State) (n : ℕ) (fit : AreFit n s) where
     restarts = λ store e stopped is no_deeds status. anew e no_deeds (ap (λ (t : State). t.tables) is);
   }
 
-  -- that a copy failed is told behind all else
+  -- that a copy failed is told after all else
   failed : (row slot : ℕ) (e : Effect) → IsHonest s e → IsHonest s (copy_failed row slot e)
   failed row slot e p = record {
     active = λ place k count name image t tells there function. elim (slice_get_more e.deeds (CopyFailed row slot) (Activated k count name) place tells.deed_is) [

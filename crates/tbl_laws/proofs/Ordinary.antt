@@ -4,7 +4,6 @@ use Rattle.std.proofs.Common.{◌≡◌, ℕ, suc, ◌<◌, List, [], ◌∷◌,
 use Rattle.std.specs.Prelude.{slice_index_or, slice_set, slice_get, option_and_then, IfSome}
 use Rattle.std.specs.List.{fold}
 use Rattle.std.specs.Option.{option_map_or}
-use Rattle.std.proofs.Common.{pos}
 use Rattle.std.proofs.lemmas.Bool.{eqb-true, cond_both}
 use Rattle.tbl_kinds.specs.Blocks.{Store}
 use Rattle.tbl_kinds.specs.Drawer.{is_full_for}
@@ -14,7 +13,7 @@ use Rattle.std.proofs.lemmas.Option.{same_Some, get_or_from_slice_get}
 use Rattle.tbl_kinds.specs.Free.{least_free}
 use Rattle.tbl_model.specs.State.{State, Table, Handle, Tables, Dump, quiet, asked, filled, no_tables}
 use Rattle.tbl_model.specs.Tables.{table_at, rows_where}
-use Rattle.tbl_model.specs.TableSteps.{is_that, end_dump, handle_at, Access, let_go, with_table, with_handle, new_table, new_handle, filled_with, last_image, with_first, added}
+use Rattle.tbl_model.specs.TableSteps.{is_that, end_dump, handle_at, Access, drop_before, with_table, with_handle, new_table, new_handle, filled_with, last_image, with_first, added}
 use Rattle.tbl_model.specs.Effects.{Effect}
 use Rattle.tbl_model.specs.Given.{Given, verdict_at}
 use Rattle.tbl_model.specs.Pending.{is_pending}
@@ -25,9 +24,9 @@ use Rattle.tbl_model.specs.Boots.{boot}
 use Rattle.tbl_model.specs.Dispatch.{effect_of}
 use Rattle.tbl_model.proofs.RefusalLaws.{is_refusal, load_taken, validation_taken, update_taken, plan_taken}
 use Rattle.tbl_model.specs.Sharing.{is_notice}
-use Rattle.tbl_laws.specs.Fit.{FitAt, AreFit}
+use Rattle.tbl_model.specs.Fit.{FitAt, AreFit}
 use Rattle.tbl_laws.proofs.Rows.{nothing_at, set_row}
-use Rattle.tbl_laws.proofs.Fits.{fit_on, fit_same, was, unseen, mark}
+use Rattle.tbl_laws.proofs.Fits.{load_there, fit_on, fit_same, was, unseen, mark}
 use Rattle.tbl_laws.proofs.Changes.{grown, told, imaged, imaged_from, loads, pends, asks, aborts, updates, managed, goes_on, put_alone, noticed}
 use Rattle.tbl_laws.proofs.GivingUp.{kept_with, given_up, fewer_handles, exited, still_live}
 use Rattle.tbl_laws.proofs.Cases.{OfEffect, Leads, Commands, by_command, by_file, by_start, by_register, by_load_image, by_load_file, by_app_validate, by_update, by_manage, by_get_status, by_get, by_read, by_release, by_share, by_unregister, by_dump_to_buffer, by_edit, by_info, by_notify, by_exit, CallsStore, by_delete, by_cds_register, by_cds_copy, by_cds_restore, by_cds_delete, Copies}
@@ -136,12 +135,12 @@ module _ (s : State) (n : ℕ) (lives : s.ended ≡ false) (fit : AreFit n s) (g
   same_handle_of m h g one other = let same = same_Some h g (sym one ∙ other) in (ap (λ (x : Handle). x.app) same, ap (λ (x : Handle). x.row) same)
 
   -- the pin ends, and the image before the last may go
-  released : (app m : ℕ) (a : Access) → Leads s.tables app m a → AreFit (suc n) (record s { tables = with_table a.row (let_go (slice_set s.tables.handles m (Some (record a.handle { pin = None }))) a.row a.table) (with_handle m (record a.handle { pin = None }) s.tables) })
+  released : (app m : ℕ) (a : Access) → Leads s.tables app m a → AreFit (suc n) (record s { tables = with_table a.row (drop_before (slice_set s.tables.handles m (Some (record a.handle { pin = None }))) a.row a.table) (with_handle m (record a.handle { pin = None }) s.tables) })
   released app m a leads =
       let freed : State = record s { tables = with_handle m (record a.handle { pin = None }) s.tables } in
       let fits : AreFit n freed = with_this_handle m (record a.handle { pin = None }) (λ g at. same_handle_of m a.handle g leads.place at) in
       let few = (was n freed fits a.row a.table leads.there).few in
-      unseen n freed fits a.row a.table leads.there (suc n) _ (let_go (slice_set s.tables.handles m (Some (record a.handle { pin = None }))) a.row a.table) (omega arith)
+      unseen n freed fits a.row a.table leads.there (suc n) _ (drop_before (slice_set s.tables.handles m (Some (record a.handle { pin = None }))) a.row a.table) (omega arith)
       (record { changes = set_row freed.tables a.row a.table _ leads.there; handles = refl; handle = refl; owner = refl; validator = refl; notice = (was n freed fits a.row a.table leads.there).notice }) (omega arith) (omega (arith, few)) refl refl
 
   -- ---- housekeeping
@@ -233,7 +232,7 @@ module _ (s : State) (n : ℕ) (lives : s.ended ≡ false) (fit : AreFit n s) (g
       (λ row t file there open_to none plain. record { fit = imaged_from n s fit row t there _ s.seconds s.sub name; live = live }) (λ row t file number verdict there open_to none is one good. record { fit = imaged_from n s fit row t there _ s.seconds s.sub name; live = live })
   of_request (App app) (ask.Update handle) = by_update s (IsOrdinary n given.note) refused app handle given.note copies (λ row t there none. record { fit = updates n s fit row t there s.seconds s.sub (update_taken s.tables row t none).0; live = live })
   of_request (App app) (ask.Validate handle) = by_app_validate s (IsOrdinary n given.note) refused app handle given (λ row t active there first. record {
-    fit = grown n _ (mark n s fit row t there active (verdict_at 0 given) ((was n s fit row t there).pends active (pending_first s.pending row active first)).unasked);
+    fit = grown n _ (mark n s fit row t there active (verdict_at 0 given) (λ inactive. (load_there t active ((was n s fit row t there).pends active (pending_first s.pending row active first)).1 inactive).1));
     live = live;
   })
   of_request (App app) (ask.Manage handle) = by_manage s (IsOrdinary n given.note) refused app handle given copies (λ row t there. record { fit = managed n row given s fit; live = λ _. goes_on n row given s ∙ lives })

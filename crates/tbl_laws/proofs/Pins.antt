@@ -12,7 +12,7 @@ use Rattle.std.proofs.lemmas.Option.{same_Some}
 use Rattle.tbl_kinds.specs.Numbers.{patched}
 use Rattle.tbl_model.specs.State.{Load, Table, Handle, Tables}
 use Rattle.tbl_model.specs.Tables.{table_at, is_double}
-use Rattle.tbl_model.specs.TableSteps.{handle_at, pins, is_in_way, locker, image_of, let_go, with_table, with_handle, with_image, put, set_time, base, unchecked, changed, changed_in, patch, set_file, set_checked, new_handle, with_first, added}
+use Rattle.tbl_model.specs.TableSteps.{handle_at, pins, is_in_way, locker, image_of, drop_before, with_table, with_handle, with_image, put, set_time, base, unchecked, changed, changed_in, patch, set_file, set_checked, new_handle, with_first, added}
 
 -- ---- places
 
@@ -87,7 +87,7 @@ pin_found handles n h row p is =
     list_any_at (pins row p) handles n None (within handles n h is.place) (rw (is.place, is.row_is, is.pin, eq-eqb row row refl, eq-eqb p p refl) refl)
 
 -- the image before the last isn't let go while a handle pins it
-pub let_go_gives : (handles : List (Option Handle)) (n : ℕ) (h : Handle) (row p : ℕ) (t : Table) → PinsAt handles n h row p → IsNear p t → Gives t p (let_go handles row t)
+pub let_go_gives : (handles : List (Option Handle)) (n : ℕ) (h : Handle) (row p : ℕ) (t : Table) → PinsAt handles n h row p → IsNear p t → Gives t p (drop_before handles row t)
 let_go_gives handles n h row p t is near = record {
   same = refl;
   near = near;
@@ -175,13 +175,13 @@ unpinned_set handles m free n h p none at pin =
 
 -- a handle gives its pin back
 pub release_keeps : (tables : Tables) (m : ℕ) (h : Handle) (row : ℕ) (t : Table) → table_at tables row ≡ Some t
-    → Keeps tables (with_table row (let_go (slice_set tables.handles m (Some (record h { pin = None }))) row t) (with_handle m (record h { pin = None }) tables))
+    → Keeps tables (with_table row (drop_before (slice_set tables.handles m (Some (record h { pin = None }))) row t) (with_handle m (record h { pin = None }) tables))
 release_keeps tables m h row t there =
     let handles : List (Option Handle) = slice_set tables.handles m (Some (record h { pin = None })) in
-    set_keeps tables row (let_go handles row t) handles (λ n g p at pin. (unpinned_set tables.handles m (record h { pin = None }) n g p refl at pin).1)
+    set_keeps tables row (drop_before handles row t) handles (λ n g p at pin. (unpinned_set tables.handles m (record h { pin = None }) n g p refl at pin).1)
     (λ n g p u is stood near.
     let one : t ≡ u = same_Some t u (sym there ∙ stood) in
-    subst (λ (v : Table). Gives v p (let_go handles row t)) one (let_go_gives handles n g row p t is (subst (IsNear p) (sym one) near)))
+    subst (λ (v : Table). Gives v p (drop_before handles row t)) one (let_go_gives handles n g row p t is (subst (IsNear p) (sym one) near)))
     (λ all. let loaded = all row t there in record { some = loaded.some; sized = loaded.sized; load_sized = loaded.load_sized })
 
 -- a table comes into a free row, with a handle that pins nothing

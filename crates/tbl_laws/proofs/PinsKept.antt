@@ -8,7 +8,7 @@ use Rattle.std.proofs.lemmas.Option.{same_Some}
 use Rattle.std.proofs.Math.ListN.{get_or-map}
 use Rattle.tbl_model.specs.State.{State, Load, Table, Handle, Tables}
 use Rattle.tbl_model.specs.Tables.{table_at}
-use Rattle.tbl_model.specs.TableSteps.{is_that, handle_at, is_in_way, locker, let_go, with_table, with_image, put, set_time, changed, load_image, activate, without_handle, give_back_by, orphaned, remove, registered_by}
+use Rattle.tbl_model.specs.TableSteps.{is_that, handle_at, is_in_way, locker, drop_before, with_table, with_image, put, set_time, changed, load_image, activate, without_handle, give_back_by, orphaned, remove, registered_by}
 use Rattle.tbl_model.specs.Sharing.{give_up, give_up_by, give_up_if}
 use Rattle.tbl_laws.proofs.Rows.{within}
 use Rattle.tbl_laws.proofs.Pins.{none_passes, kept, IsNear, Gives, Keeps, stays_goes_on, stays_keeps, set_keeps, let_go_gives, image_gives, then_keeps}
@@ -63,11 +63,11 @@ without_keeps tables m = record {
 pub back_keeps : (tables : Tables) (m : ℕ) (row : Option ℕ) → Keeps tables (give_back_by m tables row)
 back_keeps tables m None = without_keeps tables m
 back_keeps tables m (Some row) = by (table_at tables row) refl where
-  by : (found : Option Table) → table_at tables row ≡ found → Keeps tables (changed row (let_go (slice_set tables.handles m None) row) (without_handle m tables))
+  by : (found : Option Table) → table_at tables row ≡ found → Keeps tables (changed row (drop_before (slice_set tables.handles m None) row) (without_handle m tables))
   by None there = rw there (without_keeps tables m)
-  by (Some t) there = rw there (set_keeps tables row (let_go (slice_set tables.handles m None) row t) (slice_set tables.handles m None) (λ n g p at pin. fewer_without tables.handles m n g at)
+  by (Some t) there = rw there (set_keeps tables row (drop_before (slice_set tables.handles m None) row t) (slice_set tables.handles m None) (λ n g p at pin. fewer_without tables.handles m n g at)
       (λ n g p u pins stood near. let one : t ≡ u = same_Some t u (sym there ∙ stood) in
-      subst (λ (v : Table). Gives v p (let_go (slice_set tables.handles m None) row t)) one (let_go_gives (slice_set tables.handles m None) n g row p t pins (subst (IsNear p) (sym one) near)))
+      subst (λ (v : Table). Gives v p (drop_before (slice_set tables.handles m None) row t)) one (let_go_gives (slice_set tables.handles m None) n g row p t pins (subst (IsNear p) (sym one) near)))
       (λ all. let loaded = all row t there in record { some = loaded.some; sized = loaded.sized; load_sized = loaded.load_sized }))
 
 -- a handle of another row, or of none, stays as it is

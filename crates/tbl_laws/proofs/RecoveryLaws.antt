@@ -1,6 +1,6 @@
 -- Recovery: after a reset at any moment a critical table begins with the image of its last completed copy, or with one whose copy broke off.
 use Rattle.std.proofs.Common.{◌≡◌, ◌≢◌, ℕ, eqb, List, [], ◌∷◌, length, take, true, false, cond, replicate, Option, Some, None, is_some, refl, sym, ap, ◌∙◌, inl, inr, subst, arith}
-use Rattle.std.specs.Prelude.{◌-◌, ◌≤◌, ◌<◌, slice_get, slice_set, IfSome, nat_le, option_and_then}
+use Rattle.std.specs.Prelude.{◌-◌, ◌≤◌, ◌<◌, slice_get, slice_set, IsSome, IfSome, nat_le, option_and_then}
 use Rattle.std.proofs.lemmas.Bool.{eq-eqb}
 use Rattle.std.proofs.lemmas.Bool.Decides.{nat_tests}
 use Rattle.std.proofs.lemmas.List.{get_or-set_same, set-get_or, length-set}
@@ -23,7 +23,7 @@ use Rattle.tbl_model.specs.StoreUse.{left_by, with_calls, by_outcome, then_call}
 use Rattle.tbl_model.specs.Boots.{stopped}
 use Rattle.tbl_model.specs.Refusals.{plan_refusal}
 use Rattle.tbl_model.specs.StoreNotes.{Ends, MayGoOn, IsNoteOf}
-use Rattle.tbl_laws.specs.Crashes.{AfterCrash}
+use Rattle.tbl_session.specs.Crashes.{AfterCrash}
 use Rattle.tbl_model.proofs.RefusalLaws.{TakesName, registration_taken}
 use Rattle.tbl_kinds.specs.declared.block.Block.{Block}
 use Rattle.tbl_kinds.specs.declared.block.BlockKind.TheVariants.{Table as of_table}
@@ -31,12 +31,12 @@ use Rattle.tbl_kinds.specs.declared.entry.Entry.{Entry}
 use Rattle.tbl_kinds.specs.declared.note.Outcome.{Outcome}
 use Rattle.tbl_kinds.specs.declared.note.Outcome.TheVariants.{Done as AllDone}
 use Rattle.tbl_kinds.specs.declared.status.TheConstants.Status.{SUCCESS, INFO_RECOVERED_TBL}
-use Rattle.tbl_laws.specs.Backed.{AreSingle}
-use Rattle.tbl_laws.specs.Completed.{completed, Holds}
-use Rattle.tbl_laws.specs.Recovery.{IsHistory, blocks_at, IsBlockOf, InDoubt, WasCopied, NotByChance, Registration, registering, Registers, Begins, Recovers, BeginsEmpty, ComesBack, request_of, started}
+use Rattle.tbl_session.specs.Backed.{AreSingle}
+use Rattle.tbl_session.specs.Completed.{completed, Holds}
+use Rattle.tbl_session.specs.Recovery.{IsHistory, blocks_at, IsBlockOf, IsShown, WasCopied, NotByChance, Registration, registering, Registers, Begins, Recovers, BeginsEmpty, ComesBack, request_of, started}
 use Rattle.tbl_laws.proofs.Blocks.{is_of_parts}
 use Rattle.tbl_laws.proofs.Calls.{all_done}
-use Rattle.tbl_laws.proofs.CrashedBlocks.{crash_shows, crash_single, left_single, IsLeft, open_left, open_found}
+use Rattle.tbl_laws.proofs.CrashedBlocks.{crash_shows, crash_single, left_single, IsLeft, is_left, open_shown, open_found}
 
 -- ---- a registration that finds its block
 
@@ -115,12 +115,17 @@ module _ (left : Store) (s : State) (name : List ℕ) (r : Registration) (over :
   told : (registering s r).status ≡ cond (is_some b.held) INFO_RECOVERED_TBL SUCCESS
   told = ap (λ (e : Effect). e.status) restores ∙ ap (λ (image : Option (List ℕ)). cond (is_some image) INFO_RECOVERED_TBL SUCCESS) gives
 
--- ---- what a reset left of an open block of a table is found
+-- ---- what a reset left of a block of a table is found
+
+-- the table begins with this image, or with none
+abbrev pub StartsWith : Store → Effect → List ℕ → Option (List ℕ) → Type 0
+StartsWith left e name None = BeginsEmpty left e name
+StartsWith left e name (Some image) = Recovers left e name image
 
 module _ (left : Store) (s : State) (name : List ℕ) (r : Registration) (over : Registers left s name r) (store : Store) (shows : Shows store left) (single : AreSingle store) (slot : ℕ) (b : Stored) (is : IsBlockOf name r.size b.block)
-    (there : stored_at store slot ≡ Some b) (sure : b.doubtful ≡ false) where
+    (there : stored_at store slot ≡ Some b) (shown : IsSome (stored_at left slot)) where
   stays : IsLeft left slot b
-  stays = open_left store left slot b shows there sure
+  stays = is_left store left slot b shows there shown
 
   is_open_one : is_open_of of_table name (Some stays.found) ≡ true
   is_open_one = rw (ap (λ (x : Stored). x.doubtful) stays.is, is_of_parts of_table name stays.found.block (ap (λ (x : Stored). x.block.kind) stays.is ∙ is.is_table) (ap (λ (x : Stored). x.block.name) stays.is ∙ is.named)) refl
@@ -134,11 +139,7 @@ module _ (left : Store) (s : State) (name : List ℕ) (r : Registration) (over :
   }
 
   -- the table begins with what is left, whatever that is
-  abbrev Starts : Option (List ℕ) → Type 0
-  Starts None = BeginsEmpty left (registering s r) name
-  Starts (Some image) = Recovers left (registering s r) name image
-
-  starts : (held : Option (List ℕ)) → stays.found.held ≡ held → Starts held
+  starts : (held : Option (List ℕ)) → stays.found.held ≡ held → StartsWith left (registering s r) name held
   starts None is = record {
     status = told left s name r over slot stays.found finds ∙ ap (λ (image : Option (List ℕ)). cond (is_some image) INFO_RECOVERED_TBL SUCCESS) is;
     begins = subst (λ (image : Option (List ℕ)). Begins left (registering s r) name image) is (begins left s name r over slot stays.found finds);
@@ -149,7 +150,7 @@ module _ (left : Store) (s : State) (name : List ℕ) (r : Registration) (over :
   }
 
   -- a block that isn't in doubt comes back with what it holds
-  sure_comes_back : b.trying ≡ [] → Starts b.held
+  sure_comes_back : b.trying ≡ [] → StartsWith left (registering s r) name b.held
   sure_comes_back none = starts b.held (subst (λ (trying : List (List ℕ)). MayGiveAfter trying b stays.found.held) none stays.may)
 
   -- and one that is in doubt with an image of its size, or with none
@@ -172,22 +173,30 @@ module _ (left : Store) (s : State) (name : List ℕ) (r : Registration) (over :
 -- ---- after a reset at any moment of a history
 
 module _ (opening : State) (entries : List Entry) (place : ℕ) (left : Store) (crash : AfterCrash opening entries place left) (history : IsHistory opening entries) (s : State) (name : List ℕ) (r : Registration) (over : Registers left s name r) where
-  -- a table whose last copy was completed begins with its image
-  pub recovers : (slot : ℕ) (block : Block) (image : List ℕ) → IsBlockOf name r.size block → Holds (blocks_at opening entries place left crash) slot block image → Recovers left (registering s r) name image
-  recovers slot block image is holds =
-      sure_comes_back left s name r over (blocks_at opening entries place left crash) (crash_shows opening entries place left crash) (crash_single opening entries place left crash history) slot (completed block image) is holds refl refl
+  abbrev Blocks : Store
+  Blocks = blocks_at opening entries place left crash
 
-  -- one whose copies broke off since then begins with an image of its size, or with none
-  pub recovers_or_begins : (slot : ℕ) (b : Stored) → IsBlockOf name r.size b.block → InDoubt (blocks_at opening entries place left crash) slot b
-      → ComesBack (λ image. length image ≡ r.size) left (registering s r) name
-  recovers_or_begins slot b is doubt =
-      doubtful_comes_back left s name r over (blocks_at opening entries place left crash) (crash_shows opening entries place left crash) (crash_single opening entries place left crash history) slot b is doubt.there doubt.is_open doubt.tried
+  shows : Shows Blocks left
+  shows = crash_shows opening entries place left crash
+
+  single : AreSingle Blocks
+  single = crash_single opening entries place left crash history
+
+  -- a table whose last copy was completed begins with its image
+  pub recovers : (slot : ℕ) (block : Block) (image : List ℕ) → IsBlockOf name r.size block → Holds Blocks slot block image → Recovers left (registering s r) name image
+  recovers slot block image is holds = sure_comes_back left s name r over Blocks shows single slot (completed block image) is holds (open_shown Blocks left slot (completed block image) shows holds refl) refl
+
+  -- a block that the reset left, and that isn't in doubt, gives what it holds
+  pub gives_what_it_holds : (slot : ℕ) (b : Stored) → IsBlockOf name r.size b.block → IsShown Blocks left slot b → b.trying ≡ [] → StartsWith left (registering s r) name b.held
+  gives_what_it_holds slot b is shown none = sure_comes_back left s name r over Blocks shows single slot b is shown.there shown.shown none
+
+  -- one whose copies broke off begins with an image of its size, or with none
+  pub recovers_or_begins : (slot : ℕ) (b : Stored) → IsBlockOf name r.size b.block → IsShown Blocks left slot b → b.trying ≢ [] → ComesBack (λ image. length image ≡ r.size) left (registering s r) name
+  recovers_or_begins slot b is shown tried = doubtful_comes_back left s name r over Blocks shows single slot b is shown.there shown.shown tried
 
   -- and where nothing matches by chance, with one that was copied: completed last, or broken off since then
-  pub recovers_copied : (slot : ℕ) (b : Stored) → IsBlockOf name r.size b.block → InDoubt (blocks_at opening entries place left crash) slot b → NotByChance b (stored_at left slot)
-      → ComesBack (WasCopied b) left (registering s r) name
-  recovers_copied slot b is doubt not_by_chance =
-      copied_comes_back left s name r over (blocks_at opening entries place left crash) (crash_shows opening entries place left crash) (crash_single opening entries place left crash history) slot b is doubt.there doubt.is_open not_by_chance
+  pub recovers_copied : (slot : ℕ) (b : Stored) → IsBlockOf name r.size b.block → IsShown Blocks left slot b → NotByChance b (stored_at left slot) → ComesBack (WasCopied b) left (registering s r) name
+  recovers_copied slot b is shown not_by_chance = copied_comes_back left s name r over Blocks shows single slot b is shown.there shown.shown not_by_chance
 
 -- ---- a start over the image that a reset left
 

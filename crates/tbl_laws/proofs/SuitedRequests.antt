@@ -13,7 +13,7 @@ use Rattle.tbl_model.specs.TableSteps.{find, new_table}
 use Rattle.tbl_model.specs.Effects.{Effect, answered}
 use Rattle.tbl_model.specs.Given.{Given}
 use Rattle.tbl_model.specs.History.{Run, effect_in, given_in}
-use Rattle.tbl_laws.specs.Crashes.{writes, calls_in}
+use Rattle.tbl_session.specs.Crashes.{writes, calls_in}
 use Rattle.tbl_model.specs.CriticalTables.{critical_limit, registered, not_kept, recovered, instead, kept_effect}
 use Rattle.tbl_model.specs.Registration.{new_effect}
 use Rattle.tbl_model.specs.StoreUse.{with_calls, by_outcome, then_call}
@@ -32,7 +32,7 @@ use Rattle.tbl_kinds.specs.declared.request.Actor.TheVariants.{Ground, App}
 use Rattle.tbl_kinds.specs.declared.request.Request.{Request}
 use Rattle.tbl_kinds.specs.declared.request.Request.TheVariants as ask
 use Rattle.tbl_kinds.specs.declared.status.TheConstants.Status.{SUCCESS}
-use Rattle.tbl_laws.specs.Backed.{AreSingle}
+use Rattle.tbl_session.specs.Backed.{AreSingle}
 use Rattle.tbl_laws.proofs.Calls.{SuitAll, app_renewal_suits, table_renewal_suits, app_delete_suits, table_delete_suits}
 use Rattle.tbl_laws.proofs.Cases.{OfEffect, Commands, by_command, by_file, by_start, by_new, by_share, by_unregister, by_load_image, by_load_file, by_app_validate, by_update, by_manage, by_get_status, by_get, by_read, by_release, by_dump_to_buffer, by_edit, by_info, by_notify, by_exit, makes_block, copies_block, restores_block, deletes_block, Copies}
 

@@ -15,7 +15,7 @@ use Rattle.tbl_model.specs.AppBlocks.{has_size}
 use Rattle.tbl_model.specs.Copies.{block_of}
 use Rattle.tbl_kinds.specs.declared.block.BlockKind.{BlockKind}
 use Rattle.tbl_kinds.specs.declared.block.BlockKind.TheVariants.{Table as of_table}
-use Rattle.tbl_laws.specs.Backed.{AreSingle}
+use Rattle.tbl_session.specs.Backed.{AreSingle}
 use Rattle.tbl_laws.proofs.Rows.{within}
 use Rattle.tbl_laws.proofs.Blocks.{open_stands, both_of, name_is}
 use Rattle.tbl_laws.proofs.Pins.{none_passes}

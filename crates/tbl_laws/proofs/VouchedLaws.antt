@@ -1,4 +1,4 @@
--- Every legal history is vouched for: what goes active was marked, and a mark has a verdict behind it.
+-- Every legal history is vouched for: what goes active was marked, and a mark comes from a verdict.
 use Rattle.std.proofs.Common.{◌≡◌, ℕ, List, [], ◌∷◌, ◌++◌, length, length-append, arith, Bool, true, Option, Some, None, is_some, refl, ap, sym, ◌∙◌, subst, inl, inr, ◌⊎◌, append_assoc}
 use Rattle.std.specs.List.{list_all}
 use Rattle.std.proofs.lemmas.Bool.{and_parts}
@@ -12,7 +12,7 @@ use Rattle.tbl_model.specs.History.{Run, begins_at, onward_by, run_from, given_i
 use Rattle.tbl_model.specs.Vouched.{Passes, PassedBefore, table_before, IsVouchedEntry, IsVouched}
 use Rattle.tbl_model.proofs.HistoryLaws.{run_push}
 use Rattle.tbl_kinds.specs.declared.entry.Entry.{Entry}
-use Rattle.tbl_laws.specs.Fit.{AreFit}
+use Rattle.tbl_model.specs.Fit.{AreFit}
 use Rattle.tbl_laws.proofs.Cases.{OfEffect}
 use Rattle.tbl_laws.proofs.Pins.{nothing_there}
 use Rattle.tbl_laws.proofs.Ordinary.{IsOrdinary, fit_at_first, ordinary}

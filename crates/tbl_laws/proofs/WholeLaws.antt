@@ -23,14 +23,14 @@ use Rattle.tbl_kinds.specs.declared.request.Actor.TheVariants.{App}
 use Rattle.tbl_kinds.specs.declared.request.Request.{Request}
 use Rattle.tbl_kinds.specs.declared.request.Request.TheVariants as ask
 use Rattle.tbl_kinds.specs.declared.status.TheConstants.Status.{SUCCESS}
-use Rattle.tbl_laws.specs.Fit.{AreFit}
+use Rattle.tbl_model.specs.Fit.{AreFit}
 use Rattle.tbl_laws.proofs.Cases.{OfEffect, by_read}
 use Rattle.tbl_laws.proofs.Ordinary.{IsOrdinary, fit_at_first, ordinary}
 use Rattle.tbl_laws.proofs.Fair.{Spares, Gets, Stays, Fair, gets_none, ends_none}
 use Rattle.tbl_laws.proofs.FairRequests.{request_fair}
 use Rattle.tbl_laws.proofs.Pins.{some_there, nothing_there, kept, IsNear, GoesOn, IsLoaded, AreLoaded}
 
--- ---- the history behind a pin
+-- ---- the history before a pin
 
 -- a read that is whole, of a table that keeps this
 abbrev WholeOf : State → List Entry → ℕ → ℕ → ℕ × ℕ × ℕ → ℕ → ℕ → List ℕ → Type 0
@@ -77,7 +77,7 @@ whole_on opening entries app n same offset len image e no_get no_end whole = let
     got = w.got;
     latest = none_more (is_get app n) w.between e w.latest no_get;
     found = w.found;
-    behind = w.behind;
+    leads = w.leads;
     stands = none_more (ends_pin app n w.found.table) w.between e w.stands (no_end w.found.table whole.1);
     image = w.image;
     is_last = w.is_last;
@@ -132,7 +132,7 @@ module _ (opening : State) (entries : List Entry) (e : Entry) (s : State) (effec
             got = rw (gets.by, gets.asked_it, status, gets.done) refl;
             latest = refl;
             found = gets.found;
-            behind = rw here gets.behind;
+            leads = rw here gets.leads;
             stands = refl;
             image = last.0;
             is_last = last.1;

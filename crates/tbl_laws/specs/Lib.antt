@@ -1,6 +1,2 @@
-pub mod Fit
-pub mod Backed
-pub mod Crashes
-pub mod Completed
-pub mod Recovery
+pub mod Copied
 pub mod StoreVectors

@@ -1,11 +1,15 @@
 -- Counts of what went wrong outside.
-use Rattle.std.specs.Prelude.{◌≡◌, ◌⊎◌, ℕ, ◌+◌, ◌-◌, ◌^◌, ◌<◌, min}
+use Rattle.std.specs.Prelude.{◌≡◌, ◌⊎◌, ℕ, ◌+◌, ◌-◌, ◌^◌, ◌<◌, ◌≤◌, min}
 use Rattle.tbl_outside.specs.declared.bank.Written.{Written}
 use Rattle.tbl_outside.specs.declared.bank.Written.TheVariants.{Done, Failed, Stopped}
 
 -- the count rose, or stands at the top of a u64, where it can't rise
 abbrev pub Rose : ℕ → ℕ → Type 0
 Rose before now = before < now ⊎ now ≡ 2 ^ 64 - 1
+
+-- a count rose by so many at least, or stands at the top of a u64, where it can't rise
+abbrev pub RoseBy : ℕ → ℕ → ℕ → Type 0
+RoseBy many before now = before + many ≤ now ⊎ 2 ^ 64 - 1 ≤ now
 
 -- one more, up to the top of a u64
 abbrev pub risen : ℕ → ℕ

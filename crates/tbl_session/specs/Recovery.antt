@@ -1,5 +1,5 @@
 -- Recovery: what the registration of a critical table has of the blocks that a reset left.
-use Rattle.std.specs.Prelude.{◌≡◌, ◌≢◌, ◌⊎◌, ℕ, ◌-◌, ◌<◌, List, [], take, replicate, Contains, true, false, Option, Some, None, IfSome, slice_set}
+use Rattle.std.specs.Prelude.{◌≡◌, ◌⊎◌, ℕ, ◌-◌, ◌<◌, List, [], take, replicate, Contains, true, Option, Some, None, IsSome, IfSome, slice_set}
 use Rattle.std.proofs.Common.{inl, inr}
 use Rattle.tbl_kinds.specs.Blocks.{Stored, Store, empty_store}
 use Rattle.tbl_kinds.specs.StoreSteps.{stored_at, Shows}
@@ -13,7 +13,7 @@ use Rattle.tbl_model.specs.Registration.{registration_refusal, register_effect}
 use Rattle.tbl_model.specs.CriticalTables.{critical_limit}
 use Rattle.tbl_model.specs.StoreNotes.{IsNoteOf}
 use Rattle.tbl_model.specs.History.{Run, begins_at, run_from, AreAnswered}
-use Rattle.tbl_laws.specs.Crashes.{BreaksTo, DuringCalls, UnderWay, AfterCrash}
+use Rattle.tbl_session.specs.Crashes.{BreaksTo, DuringCalls, UnderWay, AfterCrash}
 use Rattle.tbl_kinds.specs.declared.block.Block.{Block}
 use Rattle.tbl_kinds.specs.declared.block.BlockKind.TheVariants as kind
 use Rattle.tbl_kinds.specs.declared.entry.Entry.{Entry}
@@ -22,7 +22,7 @@ use Rattle.tbl_kinds.specs.declared.note.Outcome.TheVariants.{Done}
 use Rattle.tbl_kinds.specs.declared.request.Request.{Request}
 use Rattle.tbl_kinds.specs.declared.request.Request.TheVariants as ask
 use Rattle.tbl_kinds.specs.declared.status.TheConstants.Status.{SUCCESS, INFO_RECOVERED_TBL}
-use Rattle.tbl_laws.specs.Backed.{AreSingle}
+use Rattle.tbl_session.specs.Backed.{AreSingle}
 
 -- ---- a history, and the blocks that a reset came over in it
 
@@ -59,11 +59,10 @@ pub record IsBlockOf (name : List ℕ) (size : ℕ) (block : Block) : Type 0 whe
   pub named : block.name ≡ name
   pub sized : block.size ≡ size
 
--- the open block in this slot is in doubt: copies broke off since one was completed
-pub record InDoubt (store : Store) (slot : ℕ) (b : Stored) : Type 0 where
+-- what the reset left shows the block in this slot: each open one, and one with a doubtful gate, if it came out open
+pub record IsShown (store left : Store) (slot : ℕ) (b : Stored) : Type 0 where
   pub there : stored_at store slot ≡ Some b
-  pub is_open : b.doubtful ≡ false
-  pub tried : b.trying ≢ []
+  pub shown : IsSome (stored_at left slot)
 
 -- an image of which a copy was completed last, or broke off since then
 abbrev pub WasCopied : Stored → List ℕ → Type 0

@@ -33,7 +33,11 @@ pub record DuringCalls (calls : List StoreCall) (store left : Store) : Type 0 wh
 abbrev pub writes : List StoreCall → List StoreCall
 writes calls = filter (λ call. not (is_restore call)) calls
 
--- the calls of the store that the request of an entry makes and that write
+-- the calls of the store that the request of an entry makes
+abbrev pub all_calls_in : Run → Entry → List StoreCall
+all_calls_in r e = option_map_or (λ (effect : Effect). effect.calls) (effect_in r e) []
+
+-- those of them that write
 abbrev pub calls_in : Run → Entry → List StoreCall
 calls_in r e = option_map_or (λ (effect : Effect). writes effect.calls) (effect_in r e) []
 

@@ -1,0 +1,5 @@
+pub mod Laws
+pub mod CrashesOnward
+pub mod CrashLemmas
+pub mod TroubleLemmas
+pub mod ServingLemmas

@@ -1,0 +1,3 @@
+pub mod Surviving
+pub mod Trouble
+pub mod Serving

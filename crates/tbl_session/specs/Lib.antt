@@ -1,0 +1,15 @@
+pub mod Openings
+pub mod Actors
+pub mod Verdicts
+pub mod Restores
+pub mod Crashes
+pub mod Completed
+pub mod Backed
+pub mod Moments
+pub mod Trouble
+pub mod Served
+pub mod Recovery
+pub mod Inputs
+pub mod Session
+pub mod Orders
+pub mod Recovered
