@@ -12,63 +12,39 @@ use Rattle.tbl_kinds.specs.Transcript.{pairs_of}
 use Rattle.tbl_kinds.specs.declared.entry.Entry.{Entry}
 use Rattle.tbl_kinds.specs.declared.request.Actor.{Actor}
 use Rattle.tbl_kinds.specs.declared.request.Request.{Request}
-use Rattle.tbl_model.specs.History.{begins_at, run_from}
-use Rattle.tbl_core.proofs.Keeping.{keeps}
 use Rattle.tbl_core.specs.declared.service.StepFault.{StepFault}
-use Rattle.tbl_laws.proofs.BackedLaws.{backed}
-use Rattle.tbl_laws.proofs.VouchedLaws.{vouched}
-use Rattle.tbl_laws.proofs.WholeLaws.{whole}
 use Rattle.tbl_crew.specs.Histories.{HasPlayed, HavePlayed, OneHistory}
 use Rattle.tbl_crew.specs.Holding.{Holding, MayGoOn}
-use Rattle.tbl_crew.specs.Openings.{Opening, IsFirst, IsPlayed, LeadsFrom}
-use Rattle.tbl_crew.specs.Crashes.{Survives}
-use Rattle.tbl_crew.specs.Served.{IsServed}
-use Rattle.tbl_crew.specs.Trouble.{IsCaused}
-use Rattle.tbl_core.specs.Service.{CoreView, Vouches}
-use Rattle.tbl_model.specs.State.{State}
-use Rattle.tbl_outside.specs.declared.validator.KitEntry.{KitEntry}
-use Rattle.tbl_crew.specs.Scripts.{actor_count, actor_of, part, script_of, HaveActors, OfEach}
+use Rattle.tbl_outside.specs.declared.bank.Bank.{Ghosts}
+use Rattle.tbl_session.specs.Openings.{Opening}
+use Rattle.tbl_history.proofs.ServingLemmas.{served_of}
+use Rattle.tbl_crew.specs.Leading.{IsPlayed, LeadsFrom}
+use Rattle.tbl_crew.specs.Moves.{HasEnded}
+use Rattle.tbl_session.specs.Actors.{actor_count, actor_of, part, HaveActors}
+use Rattle.tbl_crew.specs.Scripts.{script_of, OfEach}
 
 -- nothing is left of a script
 all_played : (fault f : Option StepFault) (script played left : List Request) → fault ≡ f → (fault ≡ None → left ≡ []) → IsPlayed f script played left → HasPlayed f script played
 all_played fault None script played left is none was = sym (was ∙ ap (λ (l : List Request). played ++ l) (none is) ∙ append-nil played)
 all_played fault (Some cause) script played left is none was = was
 
-module _ {B C : Type 0} (tells tells_moments : Type 0) (now : B → List ℕ) (faults stops : B → ℕ) (may_leave : B → List ℕ → Type 0) (clock : B → ℕ) (left_since : B → ℕ → List ℕ → Type 0) (verdict : C → List ℕ → ℤ) where
-  none_left : (h : Holding B C) → MayGoOn h → (h.fault ≡ None → (actor : ℕ) → actor < actor_count → script_of h.left actor ≡ []) → h.fault ≡ None → (actor : ℕ) → script_of h.left actor ≡ []
-  none_left h goes_on none is actor = dite (dec_lt actor 17)
-      (λ within. none is actor within)
+module _ {B C : Type 0} (g : Ghosts B) (verdict : C → List ℕ → ℤ) where
+  none_left : (h : Holding B C) → MayGoOn h → ((actor : ℕ) → actor < actor_count → HasEnded h actor) → h.fault ≡ None → (actor : ℕ) → script_of h.left actor ≡ []
+  none_left h goes_on ended is actor = dite (dec_lt actor 17)
+      (λ within. ended actor within is)
       (λ past. get_or_past h.left actor [] (omega (arith, goes_on.actors)))
 
-  -- what was served is all that a core stands for, and the laws over its legal history
-  pub served_of : (opening : State) (bank : B) (given : List (Option (KitEntry C))) (core : CoreView B C) → IsFirst opening → Vouches tells now verdict given opening core
-      → Survives tells tells_moments now may_leave clock left_since opening bank core → IsCaused faults stops bank core
-      → IsServed tells tells_moments faults stops may_leave clock left_since verdict given opening bank core.state.store.bank core.entries
-  served_of opening bank given core first vouches survives caused = record {
-    state = (run_from (begins_at opening) core.entries).state;
-    legal = survives.stands.legal;
-    whole = λ told. whole opening core.entries _ first.tables first.pending (survives.stands.legal told);
-    vouched = λ told. vouched opening core.entries _ first.tables first.pending (survives.stands.legal told);
-    verdicts = vouches.verdicts;
-    kept = λ told. keeps verdict given opening core.entries (vouches.verdicts told);
-    backed = λ told. backed opening core.entries _ first.tables first.single (survives.stands.legal told);
-    moments = survives.moments;
-    exit = survives.exit;
-    restored = survives.restored;
-    causes = caused.causes;
-    trouble = caused.trouble;
-  }
-
-  pub one_history : (o : Opening B C) (h : Holding B C) → MayGoOn h → (h.fault ≡ None → (actor : ℕ) → actor < actor_count → script_of h.left actor ≡ []) → LeadsFrom tells tells_moments now faults stops may_leave clock left_since verdict o h
-      → OneHistory tells tells_moments faults stops may_leave clock left_since verdict o h.fault h.core
-  one_history o h goes_on none leads = record {
-    served = served_of o.state o.bank o.given h.core leads.first leads.vouches leads.survives leads.caused;
+  pub one_history : (o : Opening B C) (scripts : List (List Request)) (h : Holding B C) → MayGoOn h → ((actor : ℕ) → actor < actor_count → HasEnded h actor) → LeadsFrom g verdict o scripts h
+      → OneHistory g verdict o scripts h.fault h.core
+  one_history o scripts h goes_on ended leads = record {
+    served = served_of g verdict o h.core leads.serves;
     played = record {
-      parts = λ actor. all_played h.fault h.fault (script_of o.scripts actor) (part actor (pairs_of h.core.entries)) (script_of h.left actor) refl (λ is. none_left h goes_on none is actor) (leads.played actor);
+      parts = λ actor. all_played h.fault h.fault (script_of scripts actor) (part actor (pairs_of h.core.entries)) (script_of h.left actor) refl (λ is. none_left h goes_on ended is actor) (leads.played actor);
       actors = leads.actors;
     };
+    lacks = leads.lacks;
     few = omega (arith, goes_on.few);
-    caused = leads.caused;
+    caused = leads.serves.caused;
     ended = goes_on.fault;
   }
 

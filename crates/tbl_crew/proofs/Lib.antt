@@ -1,9 +1,6 @@
-pub mod TroubleLemmas
-pub mod CrashesOnward
-pub mod CrashLemmas
 pub mod ScriptLemmas
 pub mod TurnLemmas
 pub mod HistoryLemmas
-pub mod LockLemmas
 pub mod RestLemmas
+pub mod MoveLemmas
 pub mod PushLemmas

@@ -11,7 +11,8 @@ use Rattle.tbl_kinds.specs.Requests.{Fits}
 use Rattle.tbl_kinds.specs.declared.request.Actor.{Actor}
 use Rattle.tbl_kinds.specs.declared.request.Actor.TheVariants.{Ground, App}
 use Rattle.tbl_kinds.specs.declared.request.Request.{Request}
-use Rattle.tbl_crew.specs.Scripts.{actor_count, actor_of, script_of, pushed, request_count, AllFit}
+use Rattle.tbl_session.specs.Actors.{actor_count, actor_of}
+use Rattle.tbl_crew.specs.Scripts.{script_of, pushed, request_count, AllFit}
 
 -- no scripts
 empty_script : (n i : ℕ) → script_of (replicate n []) i ≡ []

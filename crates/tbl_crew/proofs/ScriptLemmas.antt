@@ -1,17 +1,20 @@
 -- Parts of a history, and the scripts as their first requests are taken.
 use Rattle.std.proofs.Common.{◌≡◌, ◌≢◌, ℕ, zero, suc, ◌+◌, ◌<◌, List, [], ◌∷◌, ◌++◌, length, Bool, true, false, refl, sym, ap, subst, ◌∙◌, arith, append_assoc}
-use Rattle.std.specs.Prelude.{if◌then◌else◌, ◌==◌, All}
+use Rattle.std.specs.Prelude.{if◌then◌else◌, ◌==◌, ◌≤◌, min, All}
 use Rattle.std.proofs.lemmas.Bool.{eqb-true}
 use Rattle.std.proofs.lemmas.Bool.Decides.{nat_tests}
-use Rattle.std.proofs.lemmas.List.{length-set, get_or-set_other, append-nil}
+use Rattle.std.proofs.Math.Decide.{dec_lt}
+use Rattle.std.proofs.Math.Logic.{dite}
+use Rattle.std.proofs.lemmas.List.{length-set, get_or-set_other, get_or_past, append-nil}
 use Rattle.std.proofs.lemmas.List.Elements.{All-head, All-tail}
-use Rattle.std.proofs.lemmas.List.Sums.{sum_by-set}
-use Rattle.tbl_kinds.specs.Records.{Pair, actor_number}
+use Rattle.std.proofs.lemmas.List.Sums.{sum_by-set, get_or-le-sum_by}
+use Rattle.tbl_kinds.specs.Records.{Pair, actor_number, record_limit}
 use Rattle.tbl_kinds.specs.Requests.{Fits}
 use Rattle.tbl_kinds.specs.Transcript.{pair_of, pairs_of}
 use Rattle.tbl_kinds.specs.declared.entry.Entry.{Entry}
 use Rattle.tbl_kinds.specs.declared.request.Request.{Request}
-use Rattle.tbl_crew.specs.Scripts.{actor_of, part, script_of, with_script, request_count, AllFit, HaveActors}
+use Rattle.tbl_session.specs.Actors.{actor_of, part, HaveActors}
+use Rattle.tbl_crew.specs.Scripts.{script_of, with_script, request_count, AllFit}
 
 -- ---- parts
 
@@ -51,6 +54,12 @@ part-other actor other e own apart =
     let same : actor_number e.actor ≡ actor = ap actor_number own ∙ number_of actor in
     let no_ : (actor_number e.actor == other) ≡ false = grind (arith, nat_tests) in
     ap (λ (b : Bool). if b then e.request ∷ [] else []) no_
+
+-- a script is counted whole, where all of them are within a session
+pub all_counted : (scripts : List (List Request)) (actor : ℕ) → request_count scripts ≤ record_limit → min (length (script_of scripts actor)) record_limit ≡ length (script_of scripts actor)
+all_counted scripts actor few = dite (dec_lt actor (length scripts))
+    (λ within. omega (arith, few, get_or-le-sum_by length scripts actor [] within))
+    (λ past. let none : length (script_of scripts actor) ≡ 0 = ap length (get_or_past scripts actor [] (omega (arith, past))) in omega (arith, none))
 
 -- ---- scripts whose first request is taken
 

@@ -1,13 +1,16 @@
 -- What a crew promises of its history.
 use Rattle.std.specs.Prelude.{◌≡◌, ℕ, ◌≤◌, List, ◌++◌, length, Option, Some, None}
 use Rattle.std.proofs.Common.{ℤ}
+use Rattle.tbl_outside.specs.declared.bank.Bank.{Ghosts}
 use Rattle.tbl_core.specs.Service.{CoreView}
 use Rattle.tbl_core.specs.declared.service.StepFault.{StepFault}
 use Rattle.tbl_crew.specs.Holding.{TellsFault}
-use Rattle.tbl_crew.specs.Openings.{Opening}
-use Rattle.tbl_crew.specs.Scripts.{part, script_of, HaveActors}
-use Rattle.tbl_crew.specs.Served.{IsServed}
-use Rattle.tbl_crew.specs.Trouble.{IsCaused}
+use Rattle.tbl_crew.specs.Leading.{LacksAfter}
+use Rattle.tbl_session.specs.Openings.{Opening}
+use Rattle.tbl_session.specs.Actors.{part, HaveActors}
+use Rattle.tbl_crew.specs.Scripts.{script_of}
+use Rattle.tbl_session.specs.Served.{IsServed}
+use Rattle.tbl_history.specs.Trouble.{IsCaused}
 use Rattle.tbl_kinds.specs.Records.{record_limit}
 use Rattle.tbl_kinds.specs.Transcript.{pairs_of}
 use Rattle.tbl_kinds.specs.declared.entry.Entry.{Entry}
@@ -24,11 +27,12 @@ pub record HavePlayed (fault : Option StepFault) (scripts : List (List Request))
   pub actors : HaveActors (pairs_of entries)
 
 -- Whoever played, and in which order their turns came, one history was served. For each actor its requests are its script, in order,
--- each once; where a step answered a fault, the beginning of it. It has no more entries than a session may have, and the service has
--- ended where the last of them tells it (`caused`).
-pub record OneHistory {B C : Type 0} (tells tells_moments : Type 0) (faults stops : B → ℕ) (may_leave : B → List ℕ → Type 0) (clock : B → ℕ) (left_since : B → ℕ → List ℕ → Type 0) (verdict : C → List ℕ → ℤ) (o : Opening B C) (fault : Option StepFault) (core : CoreView B C) : Type 0 where
-  pub served : IsServed tells tells_moments faults stops may_leave clock left_since verdict o.given o.state o.bank core.state.store.bank core.entries
-  pub played : HavePlayed fault o.scripts core.entries
+-- each once; where a step answered a fault, the beginning of it, and where that was want of memory, a request is left. It has no more
+-- entries than a session may have, and the service has ended where the last of them tells it (`caused`).
+pub record OneHistory {B C : Type 0} (g : Ghosts B) (verdict : C → List ℕ → ℤ) (o : Opening B C) (scripts : List (List Request)) (fault : Option StepFault) (core : CoreView B C) : Type 0 where
+  pub served : IsServed g verdict o core.state.store.bank core.entries
+  pub played : HavePlayed fault scripts core.entries
+  pub lacks : LacksAfter fault scripts core.entries
   pub few : length core.entries ≤ record_limit
-  pub caused : IsCaused faults stops o.bank core
+  pub caused : IsCaused g o.bank core
   pub ended : TellsFault fault core

@@ -4,8 +4,9 @@ use Rattle.tbl_kinds.specs.Records.{record_limit}
 use Rattle.tbl_core.specs.Service.{CoreView}
 use Rattle.tbl_core.specs.declared.service.StepFault.{StepFault}
 use Rattle.tbl_core.specs.declared.service.StepFault.TheVariants.{Memory, BootFault, BootStopped}
-use Rattle.tbl_crew.specs.Scripts.{actor_count, request_count, AllFit}
-use Rattle.tbl_crew.specs.Trouble.{EndsInBoot}
+use Rattle.tbl_session.specs.Actors.{actor_count}
+use Rattle.tbl_crew.specs.Scripts.{request_count, AllFit}
+use Rattle.tbl_session.specs.Trouble.{EndsInBoot}
 use Rattle.tbl_kinds.specs.declared.request.Request.{Request}
 
 pub record Holding (B C : Type 0) : Type 0 where

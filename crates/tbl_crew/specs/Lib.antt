@@ -1,9 +1,6 @@
 pub mod Scripts
-pub mod Trouble
-pub mod Crashes
 pub mod Holding
-pub mod Openings
+pub mod Leading
 pub mod Turns
-pub mod Served
 pub mod Histories
-pub mod Locks
+pub mod Moves

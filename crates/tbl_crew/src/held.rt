@@ -1,16 +1,14 @@
 //! What the lock holds, and one turn of an actor.
 
-ghost use Rattle.std.specs.Prelude.{◌≡◌, ℕ, ◌+◌, ◌<◌, ◌≤◌, Option, List, [], ◌∷◌, length, None, false};
+ghost use Rattle.std.specs.Prelude.{◌≡◌, ℕ, ◌+◌, ◌<◌, ◌≤◌, List, [], ◌∷◌, length, None, false};
 ghost use Rattle.tbl_kinds.specs.Records.{record_limit};
 ghost use Rattle.tbl_kinds.specs.declared.request.Request.{Request as Asked};
-ghost use Rattle.tbl_model.specs.State.{State};
-ghost use Rattle.tbl_core.specs.Service.{StandsFor, Vouches};
-ghost use Rattle.tbl_outside.specs.declared.validator.KitEntry.{KitEntry as Function};
-ghost use Rattle.tbl_crew.specs.Crashes.{Survives};
+ghost use Rattle.tbl_session.specs.Actors.{actor_count, actor_of};
+ghost use Rattle.tbl_session.specs.Openings.{Opening};
+ghost use Rattle.tbl_history.specs.Serving.{Serves};
 ghost use Rattle.tbl_crew.specs.Holding.{Holding, MayGoOn};
-ghost use Rattle.tbl_crew.specs.Openings.{Opening, IsFirst, LeadsFrom};
-ghost use Rattle.tbl_crew.specs.Scripts.{actor_count, actor_of, request_count, AllFit};
-ghost use Rattle.tbl_crew.specs.Trouble.{IsCaused};
+ghost use Rattle.tbl_crew.specs.Leading.{LeadsFrom, LeadsOn};
+ghost use Rattle.tbl_crew.specs.Scripts.{request_count, AllFit};
 ghost use Rattle.tbl_crew.specs.Turns.{Turns};
 
 use crate::scripts::Scripts;
@@ -48,6 +46,15 @@ impl<B: Bank, C: Validator> Model for Crew<B, C> {
     ghost invariant = { λ c. MayGoOn (record { core = c.core; fault = c.fault; left = c.left }) };
 }
 
+impl<B: Bank, C: Validator> turn_lock::Turns for Crew<B, C> {
+    ghost use Rattle.tbl_session.specs.Actors.{actor_count};
+    ghost use Rattle.tbl_crew.specs.Moves.{Moves};
+
+    ghost actors = { actor_count };
+
+    ghost moves = { Moves B.Bank C.verdict };
+}
+
 impl<B: Bank, C: Validator> Crew<B, C> {
     /// A crew over a service that played nothing yet.
     pub fn open(core: Core<B, C>, scripts: Scripts) -> Crew<B, C>
@@ -59,9 +66,7 @@ impl<B: Bank, C: Validator> Crew<B, C> {
         ensures fault { result.fault ≡ None }
         ensures left { result.left ≡ scripts }
         // Whatever the service began with, the crew stands for it, with these scripts and nothing played.
-        ensures stands { (opening : State) (bank : B) (given : List (Option (Function C))) → IsFirst opening → Vouches B.tells B.now C.verdict given opening core
-            → Survives B.tells B.tells_moments B.now B.may_leave B.clock B.left_since opening bank core → IsCaused B.faults B.stops bank core
-            → LeadsFrom B.tells B.tells_moments B.now B.faults B.stops B.may_leave B.clock B.left_since C.verdict (record { state = opening; bank = bank; given = given; scripts = scripts }) result }
+        ensures stands { (o : Opening B C) → Serves B.Bank C.verdict o core → LeadsFrom B.Bank C.verdict o scripts result }
     {
         Crew {
             core,
@@ -90,10 +95,9 @@ impl<B: Bank, C: Validator> Crew<B, C> {
     /// turn and all later ones have ended.
     pub fn turn(&mut self, actor: u8) -> Turn
         requires actor { actor < actor_count }
-        ensures turns { Turns B.faults B.stops self.old self.new actor result }
-        // From whatever opening it stood for.
-        ensures stands { (o : Opening B C) → LeadsFrom B.tells B.tells_moments B.now B.faults B.stops B.may_leave B.clock B.left_since C.verdict o self.old
-            → LeadsFrom B.tells B.tells_moments B.now B.faults B.stops B.may_leave B.clock B.left_since C.verdict o self.new }
+        ensures turns { Turns B.Bank self.old self.new actor result }
+        // Whatever it stood for.
+        ensures leads { LeadsOn B.Bank C.verdict self.old self.new }
     {
         turn_fields(&mut self.core, &mut self.fault, &mut self.left, actor)
     }
@@ -120,9 +124,8 @@ fn turn_fields<B: Bank, C: Validator>(
     requires actor { actor < actor_count }
     requires goes_on { MayGoOn (record { core = core.old; fault = fault.old; left = left.old }) }
     ensures goes_on { MayGoOn (record { core = core.new; fault = fault.new; left = left.new }) }
-    ensures turns { Turns B.faults B.stops (record { core = core.old; fault = fault.old; left = left.old }) (record { core = core.new; fault = fault.new; left = left.new }) actor result }
-    ensures stands { (o : Opening B C) → LeadsFrom B.tells B.tells_moments B.now B.faults B.stops B.may_leave B.clock B.left_since C.verdict o (record { core = core.old; fault = fault.old; left = left.old })
-        → LeadsFrom B.tells B.tells_moments B.now B.faults B.stops B.may_leave B.clock B.left_since C.verdict o (record { core = core.new; fault = fault.new; left = left.new }) }
+    ensures turns { Turns B.Bank (record { core = core.old; fault = fault.old; left = left.old }) (record { core = core.new; fault = fault.new; left = left.new }) actor result }
+    ensures leads { LeadsOn B.Bank C.verdict (record { core = core.old; fault = fault.old; left = left.old }) (record { core = core.new; fault = fault.new; left = left.new }) }
 {
     if fault.is_some() {
         return Turn::Ended;

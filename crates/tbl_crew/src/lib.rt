@@ -2,7 +2,6 @@
 #![tactic(auto)]
 
 mod held;
-mod lock;
 mod scripts;
 pub mod workers;
 

@@ -2,7 +2,8 @@
 
 ghost use Rattle.std.specs.Prelude.{◌≡◌, ℕ, ◌≤◌, ◌<◌, [], ◌∷◌, ◌++◌, length, replicate, min, slice_index, IfOk, OnOk, OnErr, MatchOption};
 ghost use Rattle.tbl_kinds.specs.Records.{actor_number, record_limit};
-ghost use Rattle.tbl_crew.specs.Scripts.{actor_count, script_of, pushed, with_script};
+ghost use Rattle.tbl_session.specs.Actors.{actor_count};
+ghost use Rattle.tbl_crew.specs.Scripts.{script_of, pushed, with_script};
 
 use std::alloc::Global;
 use std::collections::VecDeque;
@@ -74,7 +75,7 @@ pub struct Scripts {
 impl Model for Scripts {
     ghost use Rattle.std.specs.Prelude.{◌≡◌, List, length};
     ghost use Rattle.tbl_kinds.specs.declared.request.Request.{Request};
-    ghost use Rattle.tbl_crew.specs.Scripts.{actor_count};
+    ghost use Rattle.tbl_session.specs.Actors.{actor_count};
 
     ghost Value = { List (List Request) };
 

@@ -1,86 +1,150 @@
 //! A thread for each actor.
 
-ghost use Rattle.std.specs.Prelude.{◌≡◌, ℕ, ◌+◌, ◌<◌, ◌≤◌, Option, List, [], None, false};
+ghost use Rattle.std.specs.Prelude.{◌≡◌, ℕ, ◌+◌, ◌-◌, ◌/◌, ◌<◌, ◌≤◌, List, [], length, replicate, slice_index, None, false};
 ghost use Rattle.std.specs.Thread.{IsSync, IsSend};
 ghost use Rattle.tbl_kinds.specs.Records.{record_limit};
-ghost use Rattle.tbl_model.specs.State.{State};
-ghost use Rattle.tbl_core.specs.Service.{Vouches};
-ghost use Rattle.tbl_outside.specs.declared.validator.KitEntry.{KitEntry as Function};
-ghost use Rattle.tbl_crew.specs.Crashes.{Survives};
+ghost use Rattle.tbl_session.specs.Actors.{actor_count};
+ghost use Rattle.tbl_session.specs.Openings.{Opening};
+ghost use Rattle.tbl_history.specs.Serving.{Serves};
 ghost use Rattle.tbl_crew.specs.Histories.{OneHistory};
-ghost use Rattle.tbl_crew.specs.Openings.{IsFirst};
-ghost use Rattle.tbl_crew.specs.Locks.{LeadsOn};
-ghost use Rattle.tbl_crew.specs.Scripts.{actor_count, script_of, request_count, AllFit};
-ghost use Rattle.tbl_crew.specs.Trouble.{IsCaused};
+ghost use Rattle.tbl_crew.specs.Leading.{LeadsOn};
+ghost use Rattle.tbl_crew.specs.Moves.{HasEnded, HaveEnded, HaveLeft};
+ghost use Rattle.tbl_crew.specs.Scripts.{script_of, request_count, AllFit};
+ghost use Rattle.turn_lock.specs.Turns.{Idle, IsSeat};
 
 use crate::held::{Crew, Turn};
-use crate::lock::Lock;
 use crate::scripts::{ACTOR_COUNT, Scripts};
 use std::alloc::Global;
+use std::snapshot::Snapshot;
 use std::sync::Wait;
 use std::thread::{Threads, join};
 use tbl_core::{Core, StepFault};
 use tbl_outside::{Bank, Gate, Validator};
+use turn_lock::{Place, TurnLock};
 
-/// Plays an actor's requests, a turn each.
+/// Plays an actor's script from its seat, a turn each request: to its end, unless a step answers a fault.
 fn play_script<B: Bank, C: Validator, G: Gate, R: Wait>(
     rt: &R,
-    lock: &Lock<B, C>,
+    lock: &TurnLock<Crew<B, C>>,
     gate: &G,
     count: u32,
+    mut place: Place<Crew<B, C>>,
     actor: u8,
-)
+) -> Place<Crew<B, C>>
     requires actor { actor < actor_count }
+    requires own { place.table_id ≡ lock.now.table.shared.table_id }
+    requires seat { IsSeat place.me actor 1 }
+    requires left { HaveLeft (λ _. count) actor place.me.0.seen }
+    ensures own { result.table_id ≡ place.table_id }
+    ensures seat { IsSeat result.me actor 1 }
+    ensures ended { HaveEnded actor result.me.0.seen }
 {
-    for nth in 0..count {
+    'turns: for nth in 0..count {
         gate.before(actor, nth);
-        let (mut crew, taken) = lock.take(rt);
+        let mut crew = lock.take(rt, &mut place);
+        let before = Snapshot::of(&crew);
         let turn = crew.turn(actor);
-        lock.put_back(crew, taken);
-        if turn != Turn::Played {
-            return;
+        lock.put_back(&mut place, &before, crew);
+        match turn {
+            Turn::Played => gate.after(actor, nth),
+            Turn::Ended | Turn::Done => return place,
         }
-        gate.after(actor, nth);
     }
+    place
+}
+
+/// The seats of the lower half of so many actors, from one on, and of the others. What each of them has still to ask is known of both.
+fn halve<B: Bank, C: Validator>(
+    lock: &TurnLock<Crew<B, C>>,
+    counts: &[u32; ACTOR_COUNT],
+    mut place: Place<Crew<B, C>>,
+    from: u8,
+    count: u8,
+) -> (Place<Crew<B, C>>, Place<Crew<B, C>>)
+    requires own { place.table_id ≡ lock.now.table.shared.table_id }
+    requires seat { IsSeat place.me from count }
+    requires left { HaveLeft (slice_index counts.now) from place.me.0.seen }
+    ensures own { result.0.table_id ≡ lock.now.table.shared.table_id }
+    ensures other_own { result.1.table_id ≡ lock.now.table.shared.table_id }
+    ensures low { IsSeat result.0.me from (count / 2) }
+    ensures high { IsSeat result.1.me (from + count / 2) (count - count / 2) }
+    ensures low_left { HaveLeft (slice_index counts.now) from result.0.me.0.seen }
+    ensures high_left { HaveLeft (slice_index counts.now) (from + count / 2) result.1.me.0.seen }
+{
+    let other = lock.split(&mut place);
+    (place, other)
 }
 
 /// Plays the scripts of so many actors, from one on, with a thread for each. Where a thread can't be started the caller plays
-/// what it was for, behind its own.
+/// what it was for, after its own.
 #[cycle(halves)]
+#[tactic(auto, using(crate::proofs::MoveLemmas::one_left, crate::proofs::MoveLemmas::ended_both))]
 fn play_range<B: Bank + Send, C: Validator + Send, G: Gate + Sync, R: Threads + Wait + Sync>(
     rt: &R,
-    lock: &Lock<B, C>,
+    lock: &TurnLock<Crew<B, C>>,
     gate: &G,
     counts: &[u32; ACTOR_COUNT],
+    place: Place<Crew<B, C>>,
     from: u8,
     count: u8,
-)
+) -> Place<Crew<B, C>>
     requires within { from + count ≤ actor_count }
+    requires own { place.table_id ≡ lock.now.table.shared.table_id }
+    requires seat { IsSeat place.me from count }
+    requires left { HaveLeft (slice_index counts.now) from place.me.0.seen }
+    ensures own { result.table_id ≡ place.table_id }
+    ensures seat { IsSeat result.me from count }
+    ensures ended { HaveEnded from result.me.0.seen }
 {
     if count == 0 {
-        return;
+        return place;
     }
     if count == 1 {
-        play_script(rt, lock, gate, counts[usize::from(from)], from);
-        return;
+        return play_script(rt, lock, gate, counts[usize::from(from)], place, from);
     }
+    // The actors are halved, and not taken one by one: so each thread starts at most five others, and waits for them.
     let low = count / 2;
     let high = count - low;
     let middle = from + low;
-    let upper = ||
-        requires { IsSync R.row × IsSync G.row × IsSend B.row × IsSend C.row × (middle + high ≤ actor_count) }
-    { play_range(rt, lock, gate, counts, middle, high) };
-    let lower = ||
-        requires { IsSync R.row × IsSync G.row × IsSend B.row × IsSend C.row × (from + low ≤ actor_count) }
-    { play_range(rt, lock, gate, counts, from, low) };
-    join(rt, upper, lower);
+    let (place, other) = halve(lock, counts, place, from, count);
+    let upper = move || -> Place<Crew<B, C>>
+        requires { IsSync R.row × IsSync G.row × IsSend B.row × IsSend C.row × (middle + high ≤ actor_count) × (other.table_id ≡ lock.now.table.shared.table_id) × IsSeat other.me middle high
+            × HaveLeft (slice_index counts.now) middle other.me.0.seen }
+        ensures { (result.table_id ≡ other.table_id) × IsSeat result.me middle high × HaveEnded middle result.me.0.seen }
+    { play_range(rt, lock, gate, counts, other, middle, high) };
+    let lower = move || -> Place<Crew<B, C>>
+        requires { IsSync R.row × IsSync G.row × IsSend B.row × IsSend C.row × (from + low ≤ actor_count) × (place.table_id ≡ lock.now.table.shared.table_id) × IsSeat place.me from low
+            × HaveLeft (slice_index counts.now) from place.me.0.seen }
+        ensures { (result.table_id ≡ place.table_id) × IsSeat result.me from low × HaveEnded from result.me.0.seen }
+    { play_range(rt, lock, gate, counts, place, from, low) };
+    let (other, mut place) = join(rt, upper, lower);
+    lock.join(&mut place, other);
+    place
+}
+
+/// Plays each script in a thread of its own, to its end, unless a step answers a fault.
+fn play_beside<B: Bank + Send, C: Validator + Send, G: Gate + Sync, R: Threads + Wait + Sync>(
+    rt: &R,
+    lock: TurnLock<Crew<B, C>>,
+    place: Place<Crew<B, C>>,
+    counts: &[u32; ACTOR_COUNT],
+    gate: &G,
+) -> Crew<B, C>
+    requires own { place.table_id ≡ lock.table.shared.table_id }
+    requires seat { Idle place.me 0 (replicate actor_count lock.table.shared.key.value) }
+    requires left { (actor : ℕ) → actor < actor_count → length (script_of lock.table.shared.key.value.left actor) ≡ slice_index counts.now actor }
+    ensures leads { LeadsOn B.Bank C.verdict lock.table.shared.key.value result }
+    ensures ended { (actor : ℕ) → actor < actor_count → HasEnded result actor }
+{
+    let place = play_range(rt, &lock, gate, counts, place, 0, ACTOR_COUNT as u8);
+    lock.close(place)
 }
 
 /// Plays what is left to an actor.
 fn play_script_rest<B: Bank, C: Validator>(crew: &mut Crew<B, C>, actor: u8)
     requires actor { actor < actor_count }
-    ensures leads { LeadsOn B.tells B.tells_moments B.now B.faults B.stops B.may_leave B.clock B.left_since C.verdict crew.old crew.new }
-    ensures none { crew.new.fault ≡ None → script_of crew.new.left actor ≡ [] }
+    ensures leads { LeadsOn B.Bank C.verdict crew.old crew.new }
+    ensures ended { HasEnded crew.new actor }
     ensures went_on { crew.new.fault ≡ None → crew.old.fault ≡ None }
     ensures kept { (other : ℕ) → script_of crew.old.left other ≡ [] → script_of crew.new.left other ≡ [] }
 {
@@ -94,35 +158,16 @@ fn play_script_rest<B: Bank, C: Validator>(crew: &mut Crew<B, C>, actor: u8)
 
 /// Plays what is left, in order of actors.
 fn play_rest<B: Bank, C: Validator>(crew: &mut Crew<B, C>)
-    ensures leads { LeadsOn B.tells B.tells_moments B.now B.faults B.stops B.may_leave B.clock B.left_since C.verdict crew.old crew.new }
-    ensures none { crew.new.fault ≡ None → (actor : ℕ) → actor < actor_count → script_of crew.new.left actor ≡ [] }
+    ensures leads { LeadsOn B.Bank C.verdict crew.old crew.new }
+    ensures ended { (actor : ℕ) → actor < actor_count → HasEnded crew.new actor }
 {
     'actors: for actor in 0..ACTOR_COUNT as u8 {
         play_script_rest(crew, actor);
     }
 }
 
-/// Plays each script in a thread of its own. Where memory runs out for the lock nothing is played.
-fn play_beside<B: Bank + Send, C: Validator + Send, G: Gate + Sync, R: Threads + Wait + Sync>(
-    rt: &R,
-    alloc: Global,
-    crew: Crew<B, C>,
-    counts: &[u32; ACTOR_COUNT],
-    gate: &G,
-) -> Crew<B, C>
-    ensures leads { LeadsOn B.tells B.tells_moments B.now B.faults B.stops B.may_leave B.clock B.left_since C.verdict crew result }
-{
-    match Lock::make(alloc, crew) {
-        Err(crew) => crew,
-        Ok(lock) => {
-            play_range(rt, &lock, gate, counts, 0, ACTOR_COUNT as u8);
-            lock.end(rt)
-        }
-    }
-}
-
-/// Plays each actor's script in a thread of its own. The entries stand in the order of the turns. Where a step answers a fault, no
-/// further request is played.
+/// Plays each actor's script in a thread of its own; where there is no memory for the lock, the caller plays them. The entries stand
+/// in the order of the turns. Where a step answers a fault, no further request is played.
 pub fn crew<B: Bank + Send, C: Validator + Send, G: Gate + Sync, R: Threads + Wait + Sync>(
     rt: &R,
     alloc: Global,
@@ -134,12 +179,14 @@ pub fn crew<B: Bank + Send, C: Validator + Send, G: Gate + Sync, R: Threads + Wa
     requires empty { core.entries ≡ [] }
     requires fits { AllFit scripts }
     requires few { request_count scripts ≤ record_limit }
-    ensures history { (opening : State) (bank : B) (given : List (Option (Function C))) → IsFirst opening → Vouches B.tells B.now C.verdict given opening core
-        → Survives B.tells B.tells_moments B.now B.may_leave B.clock B.left_since opening bank core → IsCaused B.faults B.stops bank core
-        → OneHistory B.tells B.tells_moments B.faults B.stops B.may_leave B.clock B.left_since C.verdict (record { state = opening; bank = bank; given = given; scripts = scripts }) result.1 result.0 }
+    ensures history { (o : Opening B C) → Serves B.Bank C.verdict o core → OneHistory B.Bank C.verdict o scripts result.1 result.0 }
 {
     let counts = scripts.counts();
-    let mut crew = play_beside(rt, alloc, Crew::open(core, scripts), &counts, gate);
-    play_rest(&mut crew);
-    crew.end()
+    match TurnLock::make(alloc, Crew::open(core, scripts)) {
+        Ok((lock, place)) => play_beside(rt, lock, place, &counts, gate).end(),
+        Err(mut crew) => {
+            play_rest(&mut crew);
+            crew.end()
+        }
+    }
 }

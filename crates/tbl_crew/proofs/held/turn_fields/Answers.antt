@@ -2,13 +2,14 @@ use Rattle.std.proofs.Common.{Some, refl, sym, ◌∙◌, Ok}
 use Rattle.tbl_crew.specs.Holding.{Holding}
 use Rattle.tbl_crew.specs.Turns.{Takes}
 use Rattle.tbl_crew.proofs.TurnLemmas.{may_fit, goes_on_with, goes_on_broken, was_none, goes_live, leads_on, leads_broken}
+use Rattle.tbl_history.proofs.Laws.{Laws}
 use Rattle.tbl_crew.proofs.held.turn_fields.Goals as goal
 
 pub step-requires-clause-fits : goal.step-requires-clause-fits
 step-requires-clause-fits g c =
     let old : Holding g.row.B.Denot g.row.C.Denot = record { core = c.args.core.now; fault = c.args.fault.now; left = c.args.left.now } in
     let new : Holding g.row.B.Denot g.row.C.Denot = record { core = c.args.core.now; fault = c.args.fault.now; left = c.next.new.self } in
-    rw c.actor_of.ensures (may_fit g.B.Bank.faults g.B.Bank.stops old new c.args.actor c.in-Some.request c.requires.goes_on c.requires.actor (record { next = c.in-Some.ensures.0; others = c.in-Some.ensures.1 }))
+    rw c.actor_of.ensures (may_fit g.B.Bank old new c.args.actor c.in-Some.request c.requires.goes_on c.requires.actor (record { next = c.in-Some.ensures.0; others = c.in-Some.ensures.1 }))
 
 pub returns-in-Ok-clause-goes_on : goal.returns-in-Ok-clause-goes_on
 returns-in-Ok-clause-goes_on g c =
@@ -17,17 +18,18 @@ returns-in-Ok-clause-goes_on g c =
     let new : Holding g.row.B.Denot g.row.C.Denot = record { core = c.step.new.self; fault = c.args.fault.now; left = c.next.new.self } in
     let takes : Takes old new c.args.actor c.in-Some.request = record { next = c.in-Some.ensures.0; others = c.in-Some.ensures.1 } in
     let went = was_none c.args.fault.now (sym c.is_some.ensures ∙ c.if-is_some.false) in
-    goes_on_with b.faults b.stops old new c.args.actor c.in-Some.request c.requires.goes_on c.requires.actor takes (Ok tt) (rw (← c.actor_of.ensures) c.in-Ok.ensures.adds)
+    goes_on_with b old new c.args.actor c.in-Some.request c.requires.goes_on c.requires.actor takes (Ok tt) (rw (← c.actor_of.ensures) c.in-Ok.ensures.adds)
     (rw went c.in-Ok.ensures.live)
 
-pub returns-in-Ok-clause-stands : goal.returns-in-Ok-clause-stands
-returns-in-Ok-clause-stands g c =
+pub returns-in-Ok-clause-leads : goal.returns-in-Ok-clause-leads
+returns-in-Ok-clause-leads g c =
     let b = g.B.Bank in
     let old : Holding g.row.B.Denot g.row.C.Denot = record { core = c.args.core.now; fault = c.args.fault.now; left = c.args.left.now } in
     let new : Holding g.row.B.Denot g.row.C.Denot = record { core = c.step.new.self; fault = c.args.fault.now; left = c.next.new.self } in
     let takes : Takes old new c.args.actor c.in-Some.request = record { next = c.in-Some.ensures.0; others = c.in-Some.ensures.1 } in
     let went = was_none c.args.fault.now (sym c.is_some.ensures ∙ c.if-is_some.false) in
-    leads_on b.tells b.tells_moments b.now b.faults b.stops b.may_leave b.clock b.left_since g.C.Validator.verdict g.met.B.Bank.tells_both g.met.B.Bank.leaves_now g.met.B.Bank.leaves_only_now g.met.B.Bank.counts_now
+    let laws : Laws b = record { tells_both = g.met.B.Bank.tells_both; leaves_now = g.met.B.Bank.leaves_now; leaves_only_now = g.met.B.Bank.leaves_only_now; counts_now = g.met.B.Bank.counts_now } in
+    leads_on b laws g.C.Validator.verdict
     old new c.args.actor c.in-Some.request c.requires.goes_on c.requires.actor takes went
     went (rw (← c.actor_of.ensures) c.in-Ok.ensures.adds) c.in-Ok.ensures.legal c.in-Ok.ensures.verdicts c.in-Ok.ensures.crash c.in-Ok.ensures.gave
 
@@ -38,16 +40,17 @@ returns-in-Err-clause-goes_on g c =
     let new : Holding g.row.B.Denot g.row.C.Denot = record { core = c.step.new.self; fault = Some c.in-Err.cause; left = c.next.new.self } in
     let takes : Takes old new c.args.actor c.in-Some.request = record { next = c.in-Some.ensures.0; others = c.in-Some.ensures.1 } in
     let went = was_none c.args.fault.now (sym c.is_some.ensures ∙ c.if-is_some.false) in
-    goes_on_broken b.faults b.stops old new c.args.actor c.in-Some.request c.requires.goes_on c.requires.actor takes c.in-Err.cause refl (goes_live old c.requires.goes_on went)
+    goes_on_broken b old new c.args.actor c.in-Some.request c.requires.goes_on c.requires.actor takes c.in-Err.cause refl (goes_live old c.requires.goes_on went)
     (rw (← c.actor_of.ensures) c.in-Err.ensures.adds) c.in-Err.ensures.err
 
-pub returns-in-Err-clause-stands : goal.returns-in-Err-clause-stands
-returns-in-Err-clause-stands g c =
+pub returns-in-Err-clause-leads : goal.returns-in-Err-clause-leads
+returns-in-Err-clause-leads g c =
     let b = g.B.Bank in
     let old : Holding g.row.B.Denot g.row.C.Denot = record { core = c.args.core.now; fault = c.args.fault.now; left = c.args.left.now } in
     let new : Holding g.row.B.Denot g.row.C.Denot = record { core = c.step.new.self; fault = Some c.in-Err.cause; left = c.next.new.self } in
     let takes : Takes old new c.args.actor c.in-Some.request = record { next = c.in-Some.ensures.0; others = c.in-Some.ensures.1 } in
     let went = was_none c.args.fault.now (sym c.is_some.ensures ∙ c.if-is_some.false) in
-    leads_broken b.tells b.tells_moments b.now b.faults b.stops b.may_leave b.clock b.left_since g.C.Validator.verdict g.met.B.Bank.tells_both g.met.B.Bank.leaves_now g.met.B.Bank.leaves_only_now g.met.B.Bank.counts_now
+    let laws : Laws b = record { tells_both = g.met.B.Bank.tells_both; leaves_now = g.met.B.Bank.leaves_now; leaves_only_now = g.met.B.Bank.leaves_only_now; counts_now = g.met.B.Bank.counts_now } in
+    leads_broken b laws g.C.Validator.verdict
     old new c.args.actor c.in-Some.request c.requires.goes_on c.requires.actor takes went
     c.in-Err.cause refl (rw (← c.actor_of.ensures) c.in-Err.ensures.adds) c.in-Err.ensures.legal c.in-Err.ensures.verdicts c.in-Err.ensures.crash c.in-Err.ensures.gave c.in-Err.ensures.err

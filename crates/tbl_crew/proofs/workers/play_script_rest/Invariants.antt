@@ -1,11 +1,11 @@
 use Rattle.std.proofs.Common.{◌≡◌, ℕ, [], length, None}
-use Rattle.tbl_crew.specs.Locks.{LeadsOn}
+use Rattle.tbl_crew.specs.Leading.{LeadsOn}
 use Rattle.tbl_crew.specs.Scripts.{script_of}
 use Rattle.tbl_crew.proofs.workers.play_script_rest.Given as goal
 
 abbrev pub invariant-requests : goal.invariant-requests
 invariant-requests g l = record {
-  leads : LeadsOn g.B.Bank.tells g.B.Bank.tells_moments g.B.Bank.now g.B.Bank.faults g.B.Bank.stops g.B.Bank.may_leave g.B.Bank.clock g.B.Bank.left_since g.C.Validator.verdict l.fn.crew l.crew;
+  leads : LeadsOn g.B.Bank g.C.Validator.verdict l.fn.crew l.crew;
   went_on : l.crew.fault ≡ None → l.fn.crew.fault ≡ None;
   kept : (other : ℕ) → script_of l.fn.crew.left other ≡ [] → script_of l.crew.left other ≡ [];
 }

@@ -1,7 +1,8 @@
 use Rattle.std.proofs.Common.{◌≡◌, ℕ, ◌<◌, length}
 use Rattle.std.specs.Prelude.{min, slice_index}
 use Rattle.tbl_kinds.specs.Records.{record_limit}
-use Rattle.tbl_crew.specs.Scripts.{actor_count, script_of}
+use Rattle.tbl_session.specs.Actors.{actor_count}
+use Rattle.tbl_crew.specs.Scripts.{script_of}
 use Rattle.tbl_crew.proofs.scripts.Scripts.counts.Given as goal
 
 abbrev pub invariant-actors : goal.invariant-actors

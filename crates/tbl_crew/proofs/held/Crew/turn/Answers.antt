@@ -1,0 +1,5 @@
+use Rattle.std.proofs.Common.{sym}
+use Rattle.tbl_crew.proofs.held.Crew.turn.Goals as goal
+
+pub returns-clause-leads : goal.returns-clause-leads
+returns-clause-leads g c = rw (← c.self.view_is) c.turn_fields.ensures.leads

@@ -1,0 +1,20 @@
+use Rattle.std.proofs.Common.{◌≡◌, ◌/◌, length, take, drop, ap, sym, subst, ◌∙◌, arith}
+use Rattle.std.specs.Prelude.{slice_index}
+use Rattle.std.proofs.lemmas.List.{length-take-le, length-drop}
+use Rattle.std.proofs.Math.Nat.{div-le_self}
+use Rattle.turn_lock.specs.Turns.{IsSeat, Idle}
+use Rattle.tbl_crew.specs.Moves.{HaveLeft}
+use Rattle.tbl_crew.proofs.MoveLemmas.{low_seat, high_seat, low_left, high_left}
+use Rattle.tbl_crew.proofs.workers.halve.Goals as goal
+
+pub returns-clause-low : goal.returns-clause-low
+returns-clause-low g c = low_seat c.args.place.me c.split-other.new.seat.me c.args.from c.args.count c.requires.seat c.split-other.ensures.left
+
+pub returns-clause-high : goal.returns-clause-high
+returns-clause-high g c = high_seat c.args.place.me c.split-other.result.me c.args.from c.args.count c.requires.seat c.split-other.ensures.right
+
+pub returns-clause-low_left : goal.returns-clause-low_left
+returns-clause-low_left g c = low_left c.args.place.me c.split-other.new.seat.me c.args.from (slice_index c.args.counts.now) c.split-other.ensures.left c.requires.left
+
+pub returns-clause-high_left : goal.returns-clause-high_left
+returns-clause-high_left g c = high_left c.args.place.me c.split-other.result.me c.args.from (slice_index c.args.counts.now) c.args.count c.requires.seat c.split-other.ensures.right c.requires.left
