@@ -16,7 +16,7 @@ const PLACES: usize = 256;
 #[derive(Drop)]
 pub struct Handles {
     places: Vec<Option<HandleView>>,
-    /// How many of the handles pin an image of the table in each row.
+    /// How many of the handles pin an image of the table in each row: a row without pins is known without a search.
     pins: Vec<u16>,
 }
 
@@ -107,6 +107,7 @@ fn move_row(places: &mut [Option<HandleView>], counts: &[u16], row: u8)
     ensures places { places.new ≡ map (option_map (after_new_image row)) places.old }
     ensures counted { AreCounted places.new counts.now }
 {
+    // A new image comes with each load, and seldom to a table that anybody pins.
     if counts[row as usize] > 0 {
         move_pins(places, row);
     }

@@ -106,7 +106,7 @@ impl Buffers {
         self.last.as_ref()
     }
 
-    /// The image before the last, None for a single buffer, where there were fewer than two images, or once it was let go.
+    /// The image before the last, None for a single buffer, where there were fewer than two images, or once it was dropped.
     pub fn before(&self) -> Option<&Image>
         ensures { option_copied result ≡ self.now.before }
     {
@@ -128,7 +128,7 @@ impl Buffers {
     }
 
     /// Drops the image before the last.
-    pub fn let_go(&mut self)
+    pub fn drop_before(&mut self)
         ensures { self.new ≡ without_before self.old }
     {
         self.kept = take_kept(&mut self.kept, &mut self.before);

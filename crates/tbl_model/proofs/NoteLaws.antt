@@ -23,7 +23,7 @@ take_none : (n : ℕ) → take {A = StoreCall} n [] ≡ []
 take_none zero = refl
 take_none (suc n) = refl
 
--- no boot stands behind it
+-- no boot follows it
 no_boot : (request : Request) → is_reset request ≡ false → boot_in request Untouched ≡ None
 no_boot (ask.Reset kind) other = absurd (cc other)
 no_boot request other = refl

@@ -15,8 +15,12 @@ use Rattle.tbl_kinds.specs.declared.status.TheConstants.Status.{SUCCESS, ERR_NO_
 abbrev pub ask_effect : State → ℕ → Table → Effect
 ask_effect s row t = record (answered s SUCCESS 0) { notice = t.notice; next = record s { tables = ask row s.tables } }
 
+-- the same, unless something refuses it
+abbrev pub activation_of : State → ℕ → Table → Effect
+activation_of s row t = by_answer s (activation_refusal s.pending row t) (ask_effect s row t)
+
 unfoldable pub activate_command_effect : State → List ℕ → Effect
-activate_command_effect s name = if_table s name (λ row t. by_answer s (activation_refusal s.pending row t) (ask_effect s row t))
+activate_command_effect s name = if_table s name (activation_of s)
 
 -- the load's image becomes the table's last one, at the service's time, and the load is closed
 abbrev pub updated_effect : State → ℕ → Table → Effect
@@ -27,12 +31,20 @@ updated_effect s row t = record (answered s SUCCESS 0) {
   next = record s { tables = set_time row s.seconds s.sub (activate row s.tables) };
 }
 
+-- the same, unless something refuses it
+abbrev pub update_of : State → ℕ → Table → Effect
+update_of s row t = by_answer s (update_refusal s.tables row t) (updated_effect s row t)
+
 unfoldable pub update_effect : State → ℕ → ℕ → BankNote → Effect
-update_effect s app handle note = if_owner s app handle (λ row t. then_copy row note (by_answer s (update_refusal s.tables row t) (updated_effect s row t)))
+update_effect s app handle note = if_owner s app handle (λ row t. then_copy row note (update_of s row t))
 
 -- the load is dropped, with its activation and its validation, and nothing else
 abbrev pub aborted_effect : State → ℕ → Effect
 aborted_effect s row = record (answered s SUCCESS 0) { next = record s { tables = close_load row s.tables; pending = without_pair row false s.pending } }
 
+-- the same, where a load is open
+abbrev pub abort_of : State → ℕ → Table → Effect
+abort_of s row t = if is_some t.load then aborted_effect s row else answered s ERR_NO_LOAD 0
+
 unfoldable pub abort_effect : State → List ℕ → Effect
-abort_effect s name = if_table s name (λ row t. if is_some t.load then aborted_effect s row else answered s ERR_NO_LOAD 0)
+abort_effect s name = if_table s name (abort_of s)

@@ -60,6 +60,9 @@ abbrev pub load_file_of : State → List ℕ → Given → ℕ → Table → Tab
 load_file_of s name given row t file =
     by_refusal s (file_refusal s.tables row t file) (by_function s row (file_image t file) t.validator given (from_file row name (activate_effect s row t (file_image t file))))
 
--- an uplinked file for the table, or a part of it
+-- an uplinked file for the table, or a part of it, which is looked for only where the table takes a load
+abbrev pub named_file_of : State → List ℕ → Given → ℕ → Table → Effect
+named_file_of s name given row t = by_answer s (closed_refusal t) (if_file s name (load_file_of s name given row t))
+
 unfoldable pub app_file_effect : State → ℕ → ℕ → List ℕ → Given → Effect
-app_file_effect s app handle name given = if_owner s app handle (λ row t. then_copy row given.note (by_answer s (closed_refusal t) (if_file s name (load_file_of s name given row t))))
+app_file_effect s app handle name given = if_owner s app handle (λ row t. then_copy row given.note (named_file_of s name given row t))

@@ -40,6 +40,6 @@ abbrev pub copied_of : ℕ → BankNote → Effect → Option Table → Effect
 copied_of row note e None = e
 copied_of row note e (Some t) = if is_critical t then copied_to row note e (block_of t e.next.store) t.last else e
 
--- behind what a request did to the table in this row: an image that went active is copied
+-- after what a request did to the table in this row: an image that went active is copied
 abbrev pub then_copy : ℕ → BankNote → Effect → Effect
 then_copy row note e = if went_active e then copied_of row note e (table_at e.next.tables row) else e

@@ -92,10 +92,14 @@ dump_registry_effect s file = written_effect s None file (registry_file s)
 
 -- ---- the owner's part
 
-unfoldable pub dump_to_buffer_effect : State → ℕ → ℕ → Effect
-dump_to_buffer_effect s app handle = if_owner s app handle (λ row t.
+-- the asked dump of the table in this row is filled
+abbrev pub filled_effect : State → ℕ → Table → Effect
+filled_effect s row t =
     if not (is_asked t.dump) then answered s INFO_NO_DUMP_PENDING 0
-    else record (answered s SUCCESS 0) { next = record s { tables = fill_dump row s.tables } })
+    else record (answered s SUCCESS 0) { next = record s { tables = fill_dump row s.tables } }
+
+unfoldable pub dump_to_buffer_effect : State → ℕ → ℕ → Effect
+dump_to_buffer_effect s app handle = if_owner s app handle (filled_effect s)
 
 -- why so many bytes from this offset on aren't written over the image of a dump-only table
 abbrev pub edit_refusal : Tables → ℕ → Table → ℕ → ℕ → Option Answer
@@ -104,11 +108,14 @@ edit_refusal tables row t offset len =
     else (if len == 0 || nat_lt t.size (offset + len) then refusal ERR_OUT_OF_RANGE
     else lock_refusal (locker tables row t))
 
--- a new image with these bytes in place, of which nothing is told
-unfoldable pub edit_effect : State → ℕ → ℕ → ℕ → List ℕ → Effect
-edit_effect s app handle offset bytes = if_owner s app handle (λ row t.
+-- a new image of the table in this row, with these bytes in place, of which nothing is told
+abbrev pub edited_effect : State → ℕ → Table → ℕ → List ℕ → Effect
+edited_effect s row t offset bytes =
     by_answer s (edit_refusal s.tables row t offset (length bytes))
-    (record (answered s SUCCESS 0) { next = record s { tables = put row (patched (base t) offset bytes) s.tables } }))
+    (record (answered s SUCCESS 0) { next = record s { tables = put row (patched (base t) offset bytes) s.tables } })
+
+unfoldable pub edit_effect : State → ℕ → ℕ → ℕ → List ℕ → Effect
+edit_effect s app handle offset bytes = if_owner s app handle (λ row t. edited_effect s row t offset bytes)
 
 -- ---- housekeeping
 

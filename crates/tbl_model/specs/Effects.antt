@@ -1,14 +1,15 @@
 -- The effect of a request: its answer, its deeds, and the state that it leaves.
-use Rattle.std.specs.Prelude.{ℕ, List, [], Option, None}
+use Rattle.std.specs.Prelude.{ℕ, List, [], Bool, Option, None}
 use Rattle.std.specs.Option.{option_map}
 use Rattle.tbl_kinds.specs.StoreCalls.{StoreCall}
-use Rattle.tbl_model.specs.State.{State}
+use Rattle.tbl_model.specs.State.{State, Tables}
 use Rattle.tbl_model.specs.Deeds.{Question}
 use Rattle.tbl_model.specs.declared.deeds.Deed.{Deed}
 use Rattle.tbl_model.specs.declared.deeds.Named.{Named}
 use Rattle.tbl_model.specs.declared.deeds.Notice.{Notice}
 use Rattle.tbl_model.specs.declared.deeds.Shown.{Shown}
 use Rattle.tbl_model.specs.declared.deeds.Shown.TheVariants.{Nothing}
+use Rattle.tbl_kinds.specs.declared.entry.Answer.{Answer}
 use Rattle.tbl_kinds.specs.declared.status.Status.{Status}
 
 pub record Effect : Type 0 where
@@ -20,7 +21,7 @@ pub record Effect : Type 0 where
   pub images : List (Option (List ℕ))  -- the image that each deed is about, none where it is about no image
   pub asked : List Question  -- what validation functions are asked, in order
   pub calls : List StoreCall  -- the calls of the store, in order
-  pub shown : Shown  -- the packet behind the events
+  pub shown : Shown  -- the packet after the events
   pub notice : Option Notice
   pub next : State
 
@@ -39,6 +40,18 @@ answered s status detail = record {
   notice = None;
   next = s;
 }
+
+-- the answer, the state that is left, and nothing else
+abbrev pub answered_left : State → Answer → State → Effect
+answered_left s answer next = record (answered s answer.status answer.detail) { next = next }
+
+-- the answer, the state with these tables, and nothing else
+abbrev pub answered_with : State → Answer → Tables → Effect
+answered_with s answer tables = answered_left s answer (record s { tables = tables })
+
+-- the state with these tables and pending validations
+abbrev pub left_with : State → Tables → List (ℕ × Bool) → State
+left_with s tables pending = record s { tables = tables; pending = pending }
 
 -- the table of this full name, in the row where it was found
 abbrev pub named : List ℕ → Option ℕ → Option Named

@@ -8,6 +8,7 @@ pub mod StoreNotes
 pub mod Given
 pub mod TableSteps
 pub mod Pending
+pub mod Fit
 pub mod Registry
 pub mod Refusals
 pub mod Subjects

@@ -95,8 +95,12 @@ managed_effect s answer d = record (answered s answer.status answer.detail) {
   next = d.state;
 }
 
+-- all that is pending for the table in this row is done, and answered by what was in the way of its update
+abbrev pub manage_of : State → Given → ℕ → Table → Effect
+manage_of s given row t = managed_effect s (manage_answer s.tables row t) (all_done s given row)
+
 unfoldable pub manage_effect : State → ℕ → ℕ → Given → Effect
-manage_effect s app handle given = if_owner s app handle (λ row t. then_copy row given.note (managed_effect s (manage_answer s.tables row t) (all_done s given row)))
+manage_effect s app handle given = if_owner s app handle (λ row t. then_copy row given.note (manage_of s given row t))
 
 -- ---- what is pending
 

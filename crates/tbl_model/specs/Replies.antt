@@ -57,7 +57,7 @@ abbrev pub registry_packet : TlmHead → Option Table → List ℕ
 registry_packet head None = []
 registry_packet head (Some t) = telemetry_packet registry_id head (registry_record (registry_row t))
 
--- the packet behind the events, over the tables that the request leaves
+-- the packet after the events, over the tables that the request leaves
 abbrev pub shown_packet : TlmHead → Counts → Tables → Shown → List ℕ
 shown_packet head after tables Nothing = []
 shown_packet head after tables Housekeeping = telemetry_packet housekeeping_id head (housekeeping_body (housekeeping_of after tables))

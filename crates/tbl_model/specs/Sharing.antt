@@ -73,10 +73,14 @@ exit_effect s app = if_running s app (λ app_name. record (answered s SUCCESS 0)
 abbrev pub is_notice : ℕ → ℕ → Bool
 is_notice msg code = nat_le 0x1800 msg && nat_le msg 0x1FFF && nat_le code 127
 
-unfoldable pub notify_effect : State → ℕ → ℕ → ℕ → ℕ → ℕ → Effect
-notify_effect s app handle msg code parameter = if_owner s app handle (λ row t.
+-- the owner of the table in this row is told of pending work from now on
+abbrev pub noticed_effect : State → ℕ → ℕ → ℕ → ℕ → Effect
+noticed_effect s row msg code parameter =
     if not (is_notice msg code) then answered s ERR_NOTICE_ID 0
-    else record (answered s SUCCESS 0) { next = record s { tables = set_notice row (record { msg = msg; code = code; parameter = parameter }) s.tables } })
+    else record (answered s SUCCESS 0) { next = record s { tables = set_notice row (record { msg = msg; code = code; parameter = parameter }) s.tables } }
+
+unfoldable pub notify_effect : State → ℕ → ℕ → ℕ → ℕ → ℕ → Effect
+notify_effect s app handle msg code parameter = if_owner s app handle (λ row t. noticed_effect s row msg code parameter)
 
 abbrev pub info_of : State → Option ℕ → Effect
 info_of s None = answered s ERR_INVALID_NAME 0

@@ -1,4 +1,4 @@
--- Which notes a request may leave: how the calls of the store went that it makes, and the boot behind them.
+-- Which notes a request may leave: how the calls of the store went that it makes, and the boot after them.
 use Rattle.std.specs.Prelude.{◌≡◌, ◌≢◌, ℕ, List, [], ◌∷◌, length, take, Bool, true, false, ◌&&◌, Option, Some, None, IsSome, IfSome, slice_get}
 use Rattle.std.specs.List.{filter, range_with_len}
 use Rattle.std.specs.Option.{ForSome, option_map_or}
@@ -21,7 +21,7 @@ use Rattle.tbl_kinds.specs.declared.request.ResetKind.TheVariants.{Processor}
 abbrev pub NoGate : BankNote → Type 0
 NoGate note = (note.gate ≡ false) × (note.old ≡ false)
 
--- the call behind those that are done broke off, over the blocks that these left
+-- the call after those that are done broke off, over the blocks that these left
 pub record BrokeOff (calls : List StoreCall) (store : Store) (note : BankNote) : Type 0 where
   pub call : StoreCall
   pub next : slice_get calls note.done ≡ Some call
@@ -55,7 +55,7 @@ Tells [] note = (note.restored ≡ None) × (note.torn ≡ 0)
 Tells (restore slot given ∷ calls) note = (restored_image note ≡ given) × (IsSome given → note.torn ≡ 0)
 Tells (call ∷ calls) note = Tells calls note
 
--- ---- the boot behind them
+-- ---- the boot after them
 
 -- a Reset boots as it says, and a stopped request as after a reset of the processor
 abbrev pub boot_in : Request → Outcome → Option ResetKind

@@ -108,8 +108,8 @@ abbrev pub set_time : ℕ → ℕ → ℕ → Tables → Tables
 set_time row seconds sub tables = set_time_in tables row seconds sub (table_at tables row)
 
 -- the one before the last goes once no handle pins it
-abbrev pub let_go : List (Option Handle) → ℕ → Table → Table
-let_go handles row t = record t { before = if list_any (pins row (t.count - 1)) handles then t.before else None }
+abbrev pub drop_before : List (Option Handle) → ℕ → Table → Table
+drop_before handles row t = record t { before = if list_any (pins row (t.count - 1)) handles then t.before else None }
 
 -- what a call answers, and the tables that it leaves
 pub record Step : Type 0 where
@@ -142,7 +142,7 @@ release_of tables number h row t =
     if not (is_some h.pin) then stays tables ERR_NOT_PINNED
     else (let freed = with_handle number (record h { pin = None }) tables in record {
       status = if nat_lt h.told t.count then INFO_UPDATED else SUCCESS;
-      tables = with_table row (let_go freed.handles row t) freed;
+      tables = with_table row (drop_before freed.handles row t) freed;
     })
 
 abbrev pub release : ℕ → Tables → Step
@@ -255,7 +255,7 @@ abbrev pub give_back_by : ℕ → Tables → Option ℕ → Tables
 give_back_by number tables None = without_handle number tables
 give_back_by number tables (Some row) =
     let freed = without_handle number tables in
-    changed row (let_go freed.handles row) freed
+    changed row (drop_before freed.handles row) freed
 
 -- the handle is free again, and its pin ends
 abbrev pub give_back : ℕ → Tables → Tables

@@ -78,5 +78,9 @@ do_validation s given row t (Some active) =
       next = judged s row active verdict;
     }
 
+-- the one that is done first
+abbrev pub validation_of : State → Given → ℕ → Table → Effect
+validation_of s given row t = do_validation s given row t (first_pending s.pending row)
+
 unfoldable pub app_validate_effect : State → ℕ → ℕ → Given → Effect
-app_validate_effect s app handle given = if_owner s app handle (λ row t. do_validation s given row t (first_pending s.pending row))
+app_validate_effect s app handle given = if_owner s app handle (validation_of s given)

@@ -28,7 +28,7 @@ abbrev pub asks_address : ℕ → Request → Bool
 asks_address handle (ask.Get number) = number == handle
 asks_address handle _ = false
 
--- the application got the address of the table behind its handle
+-- the application got the address of its handle's table
 abbrev pub is_get : ℕ → ℕ → Entry → Bool
 is_get app handle e = is_by app e.actor && asks_address handle e.request && is_done e.reply.status
 
@@ -74,7 +74,7 @@ pub record IsWholeRead (opening : State) (before : List Entry) (app handle offse
   pub got : is_get app handle get ≡ true
   pub latest : list_any (is_get app handle) between ≡ false
   pub found : Access
-  pub behind : access_of (run_from (begins_at opening) earlier).state.tables handle ≡ Some found
+  pub leads : access_of (run_from (begins_at opening) earlier).state.tables handle ≡ Some found
   pub stands : list_any (ends_pin app handle found.table) between ≡ false
   pub image : List ℕ
   pub is_last : found.table.last ≡ Some image

@@ -20,7 +20,9 @@ pub struct Notice {
     pub parameter: u32,
 }
 
-/// What telemetry tells of one thing that a request did: its event, and what housekeeping counts. Rows are those of the registry.
+/// What telemetry tells of one thing that a request did: the event that is sent for it, and the counts of housekeeping that
+/// it changes. Code and definitions share it, so that the packets of a reply follow from what was done and from nothing else.
+/// Rows are those of the registry.
 #[derive(Drop)]
 pub enum Deed {
     /// A pending validation came to its end, of the last image (`active`) or of the open load's: the check word of the

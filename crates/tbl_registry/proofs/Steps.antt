@@ -6,7 +6,7 @@ use Rattle.std.proofs.lemmas.List.{map-set}
 use Rattle.std.proofs.lemmas.Option.{same_Some}
 use Rattle.std.proofs.lemmas.Bool.Decides.{nat_tests}
 use Rattle.tbl_model.specs.State.{Table, Handle, Tables}
-use Rattle.tbl_model.specs.TableSteps.{access_of, handle_at, new_handle, with_handle, with_table, give_back, give_back_by, get_address, release, read, let_go}
+use Rattle.tbl_model.specs.TableSteps.{access_of, handle_at, new_handle, with_handle, with_table, give_back, give_back_by, get_address, release, read, drop_before}
 use Rattle.tbl_model.specs.Tables.{uses_buffer}
 use Rattle.access_desc.specs.declared.handle_view.HandleView.{HandleView}
 use Rattle.access_desc.specs.Steps.{at_place, changed_at, has, pins_old, with_no_pin, new_handle as new_view}
@@ -14,7 +14,7 @@ use Rattle.working_buffers.specs.Places.{Held}
 use Rattle.std.proofs.Math.ListN.{get_or-map}
 use Rattle.tbl_registry.specs.Pins.{Pins, Leads}
 use Rattle.tbl_registry.specs.Sound.{IsSound}
-use Rattle.tbl_registry.specs.Seen.{tables_of, handle_of, with_last, let_go_unless}
+use Rattle.tbl_registry.specs.Seen.{tables_of, handle_of, with_last, drop_before_unless}
 use Rattle.tbl_registry.proofs.Places.{AtEachPlace-set, none_passes}
 use Rattle.tbl_registry.proofs.Pins.{PinsOf, pins_of, pins_here, tables_with, before_is_pinned}
 use Rattle.tbl_registry.proofs.Changes.{Stands, pins_sound, row_seen}
@@ -39,12 +39,12 @@ module _ {rows : List (Option Table)} {handles : List (Option HandleView)} {buff
   abbrev stays : Bool
   stays = is_some (position (has (pins_old row)) handles)
 
-  kept_pins : PinsOf row (let_go_unless stays t) handles
+  kept_pins : PinsOf row (drop_before_unless stays t) handles
   kept_pins k g at of is = by (position (has (pins_old row)) handles) refl where
     p : Pins t g.old
     p = pins_of rows handles row t there sound.leads k g at of is
 
-    by : (found : Option ℕ) → position (has (pins_old row)) handles ≡ found → Pins (let_go_unless (is_some found) t) g.old
+    by : (found : Option ℕ) → position (has (pins_old row)) handles ≡ found → Pins (drop_before_unless (is_some found) t) g.old
     by (Some m) _ = record { loaded = p.loaded; kept = p.kept; closed = p.closed }
     by None none = record {
       loaded = p.loaded;
@@ -52,13 +52,13 @@ module _ {rows : List (Option Table)} {handles : List (Option HandleView)} {buff
       closed = p.closed;
     }
 
-  pub let_go_sound : IsSound (slice_set rows row (Some (let_go_unless stays t))) handles buffers
-  let_go_sound = pins_sound stood (let_go_unless stays t) buffers refl kept_pins (settled_same buffers row (uses_buffer (Some t)))
+  pub let_go_sound : IsSound (slice_set rows row (Some (drop_before_unless stays t))) handles buffers
+  let_go_sound = pins_sound stood (drop_before_unless stays t) buffers refl kept_pins (settled_same buffers row (uses_buffer (Some t)))
 
-  pub let_go_seen : tables_of (slice_set rows row (Some (let_go_unless stays t))) handles ≡ with_table row (let_go (tables_of rows handles).handles row t) (tables_of rows handles)
+  pub let_go_seen : tables_of (slice_set rows row (Some (drop_before_unless stays t))) handles ≡ with_table row (drop_before (tables_of rows handles).handles row t) (tables_of rows handles)
   let_go_seen =
-      row_seen stood (let_go_unless stays t) refl
-      ∙ ap (λ (b : Bool). with_table row (let_go_unless b t) (tables_of rows handles)) (sym (before_is_pinned rows row t there handles (pins_of rows handles row t there sound.leads)))
+      row_seen stood (drop_before_unless stays t) refl
+      ∙ ap (λ (b : Bool). with_table row (drop_before_unless b t) (tables_of rows handles)) (sym (before_is_pinned rows row t there handles (pins_of rows handles row t there sound.leads)))
 
 -- ---- a handle is given, and taken back
 
@@ -96,10 +96,10 @@ module _ (rows : List (Option Table)) (handles : List (Option HandleView)) (buff
   alone_seen h place none = place_seen None ∙ sym (ap (λ (at : Option Handle). give_back_by n (tables_of rows handles) (option_and_then (λ (g : Handle). g.row) at)) (handle_seen h place) ∙ rw none refl)
 
   pub taken_back_seen : (h : HandleView) (row : ℕ) (t : Table) → at_place handles n ≡ Some h → h.row ≡ Some row → slice_index_or rows row None ≡ Some t
-      → tables_of (slice_set rows row (Some (let_go_unless (is_some (position (has (pins_old row)) (slice_set handles n None))) t))) (slice_set handles n None) ≡ give_back n (tables_of rows handles)
+      → tables_of (slice_set rows row (Some (drop_before_unless (is_some (position (has (pins_old row)) (slice_set handles n None))) t))) (slice_set handles n None) ≡ give_back n (tables_of rows handles)
   taken_back_seen h row t place of there =
       let_go_seen record { there = there; sound = freed_sound }
-      ∙ ap (λ (freed : Tables). with_table row (let_go freed.handles row t) freed) (place_seen None)
+      ∙ ap (λ (freed : Tables). with_table row (drop_before freed.handles row t) freed) (place_seen None)
       ∙ sym (ap (λ (at : Option Handle). give_back_by n (tables_of rows handles) (option_and_then (λ (g : Handle). g.row) at)) (handle_seen h place) ∙ rw (of, there) refl)
 
 -- a handle, its row and its table, as the registry keeps them
@@ -148,12 +148,12 @@ module _ (rows : List (Option Table)) (handles : List (Option HandleView)) (buff
   free_sound : IsSound rows free buffers
   free_sound = step_sound with_no_pin record { table = (sound.leads n h l.place).table; pins = λ pinned. absurd (cc pinned) }
 
-  pub released_sound : IsSound (slice_set rows row (Some (let_go_unless (is_some (position (has (pins_old row)) free)) t))) free buffers
+  pub released_sound : IsSound (slice_set rows row (Some (drop_before_unless (is_some (position (has (pins_old row)) free)) t))) free buffers
   released_sound = let_go_sound record { there = l.table; sound = free_sound }
 
-  pub released_seen : h.pinned ≡ true → tables_of (slice_set rows row (Some (let_go_unless (is_some (position (has (pins_old row)) free)) t))) free ≡ (release n (tables_of rows handles)).tables
+  pub released_seen : h.pinned ≡ true → tables_of (slice_set rows row (Some (drop_before_unless (is_some (position (has (pins_old row)) free)) t))) free ≡ (release n (tables_of rows handles)).tables
   released_seen pinned =
-      let after : Tables → Tables = λ ts. with_table row (let_go ts.handles row t) ts in
+      let after : Tables → Tables = λ ts. with_table row (drop_before ts.handles row t) ts in
       let_go_seen record { there = l.table; sound = free_sound } ∙ ap after (step_seen with_no_pin) ∙ rw (access_is, pinned) refl
 
   -- ---- it reads the image that it pins

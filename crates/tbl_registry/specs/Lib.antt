@@ -4,3 +4,4 @@ pub mod Lent
 pub mod Seen
 pub mod Sound
 pub mod Views
+pub mod Adding

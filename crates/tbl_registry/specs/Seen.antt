@@ -26,12 +26,12 @@ abbrev pub with_last : ℕ → HandleView → HandleView
 with_last count h = with_told count (with_pin h)
 
 -- the image before the last stays only while it is pinned
-abbrev pub let_go_unless : Bool → Table → Table
-let_go_unless pinned t = record t { before = if pinned then t.before else None }
+abbrev pub drop_before_unless : Bool → Table → Table
+drop_before_unless pinned t = record t { before = if pinned then t.before else None }
 
 -- an image becomes the last one, and the one that was stays where it is pinned and there is a buffer for it
 abbrev pub with_next : Table → List ℕ → Bool → Table
-with_next t image pinned = let_go_unless pinned (record t { count = t.count + 1; last = Some image; before = if is_double t then t.last else None })
+with_next t image pinned = drop_before_unless pinned (record t { count = t.count + 1; last = Some image; before = if is_double t then t.last else None })
 
 -- the rows that use the four shared buffers, and none for each that is free
 abbrev pub padded : List ℕ → List (Option ℕ)

@@ -331,10 +331,10 @@ impl Row {
     }
 
     /// Drops the image before the last.
-    pub(crate) fn let_go(&mut self)
+    pub(crate) fn drop_before(&mut self)
         ensures { self.new ≡ record self.old { before = None } }
     {
-        self.buffers.let_go();
+        self.buffers.drop_before();
     }
 
     /// Sets the time of its last update.

@@ -13,6 +13,7 @@ use std::alloc::{AllocError, Global};
 /// How many tables there can be (`CFE_PLATFORM_TBL_MAX_NUM_TABLES`).
 const ROWS: usize = 128;
 
+/// The rows of an empty registry.
 pub(crate) fn free_rows(alloc: Global) -> Result<Vec<Option<Row>>, AllocError>
     ensures { IfOk result (λ rows. rows.items ≡ replicate 128 None) }
 {
@@ -51,6 +52,7 @@ pub(crate) fn row_of_name(rows: &[Option<Row>], name: &[u8]) -> Option<usize>
     rows.iter().position(|row| has_name(row, name))
 }
 
+/// The least row without a table, as an index.
 fn first_free(rows: &[Option<Row>]) -> Option<usize>
     ensures row { result ≡ position is_none rows.now }
     ensures within { IfSome result (λ n. n < length rows.now) }
@@ -174,6 +176,7 @@ pub(crate) fn rows_with_buffer(rows: &[Option<Row>]) -> [Option<u8>; 4]
     ensures { result ≡ padded (rows_from 0 rows.now) }
 {
     let mut found = [None; 4];
+    // From the last row down: each is put in front, so they end up ascending.
     let mut row = rows.len();
     while row > 0 {
         row -= 1;

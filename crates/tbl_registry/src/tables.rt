@@ -5,9 +5,10 @@ ghost use Rattle.tbl_kinds.specs.Free.{least_free};
 ghost use Rattle.tbl_kinds.specs.Limits.{table_limit};
 ghost use Rattle.tbl_model.specs.State.{no_tables, Load, Table};
 ghost use Rattle.tbl_model.specs.Tables.{table_count, handle_count, load_count, critical_count, in_use, has_option, option_bits, table_at};
-ghost use Rattle.tbl_model.specs.TableSteps.{find, new_table, with_first, new_handle, with_table, with_handle};
+ghost use Rattle.tbl_model.specs.TableSteps.{find, added};
 ghost use Rattle.tbl_model.specs.Registry.{registry_row};
 ghost use Rattle.tbl_model.specs.Validations.{selected};
+ghost use Rattle.tbl_registry.specs.Adding.{planned};
 ghost use Rattle.tbl_registry.specs.Rows.{IsTable};
 ghost use Rattle.tbl_registry.specs.Seen.{padded};
 
@@ -66,7 +67,8 @@ impl Model for Tables {
 impl Tables {
     ghost use Rattle.tbl_registry.specs.Views.{row_view, dump_name, filled_image};
 
-    /// No table and no handle. All memory that the calls below need is taken here, but that of images.
+    /// No table and no handle. All memory that the calls below need is taken here, but that of images, so that none of them
+    /// can run out of it when a table has half changed.
     pub fn make(alloc: Global) -> Result<Tables, Memory>
         ensures { IfOk result (λ t. t ≡ no_tables) }
     {
@@ -144,7 +146,7 @@ impl Tables {
         requires first { IfSome plan.first (λ image. length image ≡ plan.size) }
         ensures row_free { OnOk result (IsSome (least_free self.old.rows)) }
         ensures handle_free { IfOk result (λ handle. least_free self.old.handles ≡ Some handle) }
-        ensures added { IfOk result (λ handle. ForSome (least_free self.old.rows) (λ row. self.new ≡ with_handle handle (new_handle app row) (with_table row (with_first plan.first (new_table plan.name app plan.size (option_bits plan.flags) plan.validator handle)) self.old))) }
+        ensures added { IfOk result (λ handle. ForSome (least_free self.old.rows) (λ row. self.new ≡ added row (planned plan app handle) self.old)) }
         ensures registry_full { (result ≡ Err AddFault.RegistryFull) ↔ (table_count self.old ≡ 128) }
         ensures handles_full { result ≡ Err AddFault.HandlesFull → handle_count self.old ≡ 256 }
         ensures no_row { result ≡ Err AddFault.RegistryFull → least_free self.old.rows ≡ None }
@@ -153,6 +155,7 @@ impl Tables {
         ensures memory { result ≢ Err AddFault.Memory }
         ensures err { OnErr result (self.new ≡ self.old) }
     {
+        // The row is looked for first: a handle that was given before it would have to be taken back.
         let Some(row) = free_row(&self.rows) else {
             return Err(AddFault::RegistryFull);
         };
@@ -181,6 +184,7 @@ impl Tables {
         let Some(table) = table_in(&self.rows, row) else {
             unreachable!();
         };
+        // Any other selector is refused for a dump-only table too, though it has one image alone.
         if select > 1 {
             return None;
         }

@@ -12,7 +12,7 @@ use Rattle.validation.specs.Asked.{is_for, Stays, WasAsked}
 module _ {C : Type 0} (verdict : C → List ℕ → ℤ) (asked : C → ℕ) where
   still : (entry : Option (KitEntry C)) → Stays verdict asked 0 entry entry
   still None = refl
-  still (Some entry) = (cc, λ same is. let e : same ≡ entry = cc is in rw e (refl, λ image. refl, omega arith))
+  still (Some entry) = (cc, λ same is. let e : same ≡ entry = cc is in rw e (record { owner = refl; steady = λ image. refl; counted = omega arith }))
 
   -- nobody was asked
   pub asked_nothing : (kit : List (Option (KitEntry C))) → WasAsked verdict asked kit kit [] (None ∷ None ∷ [])
@@ -25,8 +25,14 @@ module _ {C : Type 0} (verdict : C → List ℕ → ℤ) (asked : C → ℕ) whe
   stays_again times more (Some old) (Some mid) None first second = absurd (cc second.0)
   stays_again times more (Some old) (Some mid) (Some new) first second =
       let one = first.1 mid refl in
-      let two = second.1 new refl in
-      (cc, λ same is. let e : same ≡ new = cc is in rw e (two.0 ∙ one.0, λ image. two.1 image ∙ one.1 image, omega (arith, one.2, two.2)))
+      let two = second.1 new refl in (
+        cc,
+        λ same is. let e : same ≡ new = cc is in rw e (record {
+          owner = two.owner ∙ one.owner;
+          steady = λ image. two.steady image ∙ one.steady image;
+          counted = omega (arith, one.counted, two.counted);
+        }),
+      )
 
   -- the function that stands there later gives what it gave
   gave : (old mid : Option (KitEntry C)) (times : ℕ) (image : List ℕ) (w : ℤ) → Stays verdict asked times old mid
@@ -34,7 +40,7 @@ module _ {C : Type 0} (verdict : C → List ℕ → ℤ) (asked : C → ℕ) whe
   gave None None times image w stays given = absurd (cc given.0)
   gave None (Some mid) times image w stays given = absurd (cc stays)
   gave (Some old) None times image w stays given = absurd (cc given.0)
-  gave (Some old) (Some mid) times image w stays given = (cc, λ same is. let e : same ≡ old = cc is in rw e (given.1 mid refl ∙ (stays.1 mid refl).1 image))
+  gave (Some old) (Some mid) times image w stays given = (cc, λ same is. let e : same ≡ old = cc is in rw e (given.1 mid refl ∙ (stays.1 mid refl).steady image))
 
   both_count : (p : Question → Bool) (q r : Question) → count_by p (q ∷ []) + count_by p (r ∷ []) ≡ count_by p (q ∷ r ∷ [])
   both_count p q r = omega arith
@@ -61,7 +67,7 @@ module _ {C : Type 0} (verdict : C → List ℕ → ℤ) (asked : C → ℕ) whe
   left_of : (times most more : ℕ) (old new : Option (KitEntry C)) → times + more ≤ most → Stays verdict asked times old new
       → ForSome old (λ entry. asked entry.check + most ≤ 2 ^ 63) → ForSome new (λ entry. asked entry.check + more ≤ 2 ^ 63)
   left_of times most more None new le stays few = λ entry is. absurd (cc (rw stays at is))
-  left_of times most more (Some old) new le stays few = λ entry is. let so = (stays.1 entry is).2 in let before = few old refl in omega (arith, so, before, le)
+  left_of times most more (Some old) new le stays few = λ entry is. let so = (stays.1 entry is).counted in let before = few old refl in omega (arith, so, before, le)
 
   -- how often the functions can be asked still
   pub few_left : (old new : List (Option (KitEntry C))) (questions : List Question) (verdicts : List (Option ℤ)) (most more : ℕ) → WasAsked verdict asked old new questions verdicts → length questions + more ≤ most

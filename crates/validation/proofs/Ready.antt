@@ -14,7 +14,8 @@ use Rattle.tbl_model.specs.Pending.{is_pair, is_pending, without_pair}
 use Rattle.tbl_model.specs.Validations.{marked, first_pending}
 use Rattle.tbl_outside.specs.declared.validator.KitEntry.{KitEntry}
 use Rattle.validation.specs.Kits.{entry_at}
-use Rattle.validation.specs.Ready.{HasImage, CanBeJudged, ArePending, HaveFunctions, HasItsLoad, HaveLoads, HaveSameFunctions}
+use Rattle.tbl_model.specs.Fit.{CanValidate}
+use Rattle.validation.specs.Ready.{CanBeJudged, ArePending, HaveFunctions, HasItsLoad, HaveLoads, HaveSameFunctions}
 
 -- ---- one table changes
 
@@ -107,8 +108,8 @@ same_load checked (Some l) is = cc
 
 -- a mark leaves what can be judged
 pub mark_keeps : (tables : Tables) (row : ℕ) (checked : Bool) (r : ℕ) (a : Bool) → CanBeJudged tables r a → CanBeJudged (set_checked row checked tables) r a
-mark_keeps tables row checked r true = stays_there tables row _ (λ t. IsSome t.validator × HasImage t true) (λ t there can. can) r
-mark_keeps tables row checked r false = stays_there tables row _ (λ t. IsSome t.validator × HasImage t false) (λ t there can. (can.0, (same_load checked t.load can.1.0, can.1.1))) r
+mark_keeps tables row checked r true = stays_there tables row _ (λ t. CanValidate t true) (λ t there can. can) r
+mark_keeps tables row checked r false = stays_there tables row _ (λ t. CanValidate t false) (λ t there can. (can.0, (same_load checked t.load can.1.0, can.1.1))) r
 
 pub judged_keeps : (tables : Tables) (row : ℕ) (active : Bool) (verdict : ℤ) (pending : List (ℕ × Bool)) → ArePending tables pending → ArePending (marked row active verdict tables) (without_pair row active pending)
 judged_keeps tables row true verdict pending all = λ r a is. all r a (pending_dropped row r true a pending is)
@@ -129,7 +130,7 @@ mark_has_functions tables row false verdict kit all = all_keep tables row _ (λ 
 pub change_keeps : (tables : Tables) (row : ℕ) (change : Table → Table) (pending : List (ℕ × Bool)) → ((t : Table) → IsSome t.validator → IsSome (change t).validator) → ((t : Table) → 0 < t.count → 0 < (change t).count)
     → is_pending row false pending ≡ false → ArePending tables pending → ArePending (changed row change tables) pending
 change_keeps tables row change pending validator count gone all r true is =
-    stays_there tables row change (λ t. IsSome t.validator × HasImage t true) (λ t there can. (validator t can.0, count t can.1)) r (all r true is)
+    stays_there tables row change (λ t. CanValidate t true) (λ t there can. (validator t can.0, count t can.1)) r (all r true is)
 change_keeps tables row change pending validator count gone all r false is = elim (cases_eq r row) [
   | inl here ↦ absurd (cc (rw (here, gone) at is))
   | inr other ↦ rw (changed_there tables row change r other) (all r false is)

@@ -23,11 +23,11 @@ unless_of app entry = if is_of app entry then None else entry
 abbrev pub dropped : {C : Type 0} → ℕ → List (Option (KitEntry C)) → List (Option (KitEntry C))
 dropped app kit = map (unless_of app) kit
 
--- the same function of the same application, asked once more
-pub record AskedOnce {C : Type 0} (verdict : C → List ℕ → ℤ) (asked : C → ℕ) (old new : KitEntry C) : Type 0 where
+-- the same function of the same application, asked so many times more
+pub record AskedMore {C : Type 0} (verdict : C → List ℕ → ℤ) (asked : C → ℕ) (times : ℕ) (old new : KitEntry C) : Type 0 where
   pub owner : new.app ≡ old.app
   pub steady : (image : List ℕ) → verdict new.check image ≡ verdict old.check image
-  pub once : asked new.check ≡ asked old.check + 1
+  pub counted : asked new.check ≡ asked old.check + times
 
 -- the function of this number stands in the kit, and can be asked so many times
 abbrev pub MayAsk : {C : Type 0} → (C → ℕ) → ℕ → List (Option (KitEntry C)) → ℕ → Type 0

@@ -1,24 +1,24 @@
 -- What holds of the pending validations and of the tables' validation functions, so that each that is pending can be done.
-use Rattle.std.specs.Prelude.{◌≡◌, ◌<◌, ℕ, List, Bool, true, false, Option, IsSome}
+use Rattle.std.specs.Prelude.{◌≡◌, ℕ, List, Bool, true, Option, IsSome}
 use Rattle.std.specs.Option.{ForSome, option_map}
 use Rattle.tbl_model.specs.State.{Table, Tables}
 use Rattle.tbl_model.specs.Tables.{table_at}
 use Rattle.tbl_model.specs.Pending.{is_pending}
+use Rattle.tbl_model.specs.Fit.{CanValidate}
 use Rattle.tbl_outside.specs.declared.validator.KitEntry.{KitEntry}
 use Rattle.validation.specs.Kits.{entry_at}
 
--- the image that is to be judged is there: the last one, or that of an open load whose activation isn't asked
-abbrev pub HasImage : Table → Bool → Type 0
-HasImage t true = 0 < t.count
-HasImage t false = IsSome t.load × (t.activation ≡ false)
-
 -- a validation of this image of the table in this row can be done
 abbrev pub CanBeJudged : Tables → ℕ → Bool → Type 0
-CanBeJudged tables row active = IsSome (table_at tables row) × ForSome (table_at tables row) (λ t. IsSome t.validator × HasImage t active)
+CanBeJudged tables row active = IsSome (table_at tables row) × ForSome (table_at tables row) (λ t. CanValidate t active)
 
 -- each of these is a validation that can be done
 abbrev pub ArePending : Tables → List (ℕ × Bool) → Type 0
 ArePending tables pending = (row : ℕ) (active : Bool) → is_pending row active pending ≡ true → CanBeJudged tables row active
+
+-- whatever could be done before a change of the tables can be done after it
+abbrev pub PendingStay : Tables → Tables → Type 0
+PendingStay old new = (pending : List (ℕ × Bool)) → ArePending old pending → ArePending new pending
 
 -- the validation function of each table stands in the kit
 abbrev pub HaveFunctions : {C : Type 0} → Tables → List (Option (KitEntry C)) → Type 0

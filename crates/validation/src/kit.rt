@@ -1,6 +1,6 @@
 ghost use Rattle.std.specs.Prelude.{◌≡◌, ◌≢◌, ◌<◌, ◌^◌, ℕ, List, [], ◌∷◌, Option, Some, None, is_some, map, length, IsSome, IfOk};
 ghost use Rattle.std.specs.Option.{ForSome};
-ghost use Rattle.validation.specs.Kits.{entry_at, is_of, dropped, AskedOnce, MayAsk};
+ghost use Rattle.validation.specs.Kits.{entry_at, is_of, dropped, AskedMore, MayAsk};
 ghost use Rattle.validation.specs.Asked.{WasAsked, asks};
 ghost use Rattle.tbl_outside.specs.declared.validator.KitEntry.{KitEntry as Entry};
 
@@ -10,7 +10,7 @@ use tbl_kinds::Memory;
 use tbl_outside::{KitEntry, Validator};
 
 /// The validation functions that the service was given, by their numbers (cFE User's Guide, Table Services, "Validating
-/// tables"). A function that was dropped leaves its number free for good.
+/// tables"). A function that was dropped leaves its number free for good, so that no number ever means another function.
 #[derive(Drop)]
 pub struct Kit<C: Validator> {
     entries: Vec<Option<KitEntry<C>>>,
@@ -39,7 +39,7 @@ fn is_of<C: Validator>(entry: &Option<KitEntry<C>>, app: u8) -> bool
 fn ask<C: Validator>(entry: &mut KitEntry<C>, image: &[u8]) -> i32
     requires { C.asked entry.old.check < 2 ^ 63 }
     ensures verdict { result ≡ C.verdict entry.old.check image.now }
-    ensures asked { AskedOnce C.verdict C.asked entry.old entry.new }
+    ensures asked { AskedMore C.verdict C.asked 1 entry.old entry.new }
 {
     entry.check.validate(image)
 }
@@ -81,7 +81,7 @@ impl<C: Validator> Kit<C> {
         requires few { ForSome (entry_at self.old number) (λ entry. C.asked entry.check < 2 ^ 63) }
         ensures verdict { ForSome (entry_at self.old number) (λ entry. result ≡ C.verdict entry.check image.now) }
         ensures there { IsSome (entry_at self.new number) }
-        ensures asked { ForSome (entry_at self.old number) (λ old. ForSome (entry_at self.new number) (AskedOnce C.verdict C.asked old)) }
+        ensures asked { ForSome (entry_at self.old number) (λ old. ForSome (entry_at self.new number) (AskedMore C.verdict C.asked 1 old)) }
         ensures others { (n : ℕ) → n ≢ number → entry_at self.new n ≡ entry_at self.old n }
         ensures numbers { length self.new ≡ length self.old }
         ensures answers { WasAsked C.verdict C.asked self.old self.new (record { number = number; image = image.now } ∷ []) (Some result ∷ None ∷ []) }

@@ -52,13 +52,14 @@ impl Pending {
             .any(|pair| pair.0 == row && pair.1 == active)
     }
 
-    /// Asks a validation: it comes behind those that are pending.
+    /// Asks a validation: it comes after those that are pending.
     pub fn request(&mut self, row: u8, active: bool) -> Result<(), PendFault>
         ensures ok { OnOk result (self.new ≡ self.old ++ (row, active) ∷ []) }
         ensures twice { (result ≡ Err PendFault.Twice) ↔ (is_pending row active self.old ≡ true) }
         ensures full { (result ≡ Err PendFault.Full) ↔ ((is_pending row active self.old ≡ false) × (length self.old ≡ 10)) }
         ensures err { OnErr result (self.new ≡ self.old) }
     {
+        // That it is pending already is told even where the list is full.
         if self.has(row, active) {
             return Err(PendFault::Twice);
         }

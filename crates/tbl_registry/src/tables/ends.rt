@@ -19,6 +19,7 @@ impl Tables {
         let Some(table) = table_in(&self.rows, row) else {
             unreachable!();
         };
+        // While the table is there it can tell whether it uses a buffer.
         settle(&mut self.working, row, table.uses_buffer(), false);
         self.handles.orphan(row);
         self.rows[row as usize] = None;

@@ -9,7 +9,7 @@ ghost use Rattle.tbl_kinds.specs.Free.{least_free};
 ghost use Rattle.tbl_model.specs.Tables.{table_at};
 ghost use Rattle.tbl_model.specs.TableSteps.{check, handle_at, access_of, get_address, release, read, locker, new_handle, with_handle, give_back, registered_by};
 ghost use Rattle.access_desc.specs.Steps.{at_place, changed_at, has, pins, pins_old, with_no_pin};
-ghost use Rattle.tbl_registry.specs.Seen.{handle_of, tables_of, with_last, let_go_unless};
+ghost use Rattle.tbl_registry.specs.Seen.{handle_of, tables_of, with_last, drop_before_unless};
 
 use super::Tables;
 use crate::row::Row;
@@ -44,11 +44,11 @@ fn pin_last(handles: &mut Handles, handle: u16, count: u32)
 }
 
 /// Drops the image before the last of this row's table, unless a handle pins it.
-pub(super) fn let_go(table: &mut Row, handles: &Handles, row: u8)
-    ensures { table.new ≡ let_go_unless (is_some (position (has (pins_old row)) handles.now)) table.old }
+pub(super) fn drop_before(table: &mut Row, handles: &Handles, row: u8)
+    ensures { table.new ≡ drop_before_unless (is_some (position (has (pins_old row)) handles.now)) table.old }
 {
     if table.has_before() && handles.pinned_old(row).is_none() {
-        table.let_go();
+        table.drop_before();
     }
 }
 
@@ -56,10 +56,11 @@ pub(super) fn let_go(table: &mut Row, handles: &Handles, row: u8)
 fn unpin(table: &mut Row, handles: &mut Handles, handle: u16, row: u8)
     requires { IsSome (at_place handles.old handle) }
     ensures handles { handles.new ≡ changed_at with_no_pin handles.old handle }
-    ensures table { table.new ≡ let_go_unless (is_some (position (has (pins_old row)) handles.new)) table.old }
+    ensures table { table.new ≡ drop_before_unless (is_some (position (has (pins_old row)) handles.new)) table.old }
 {
+    // The pin ends first: the image before goes only if no other handle pins it.
     handles.unpin(handle);
-    let_go(table, handles, row);
+    drop_before(table, handles, row);
 }
 
 /// The least handle that pins an image of this row's table, or one that isn't the last.
@@ -73,8 +74,8 @@ fn first_in_way(handles: &Handles, row: u8, old_only: bool) -> Option<u16>
     }
 }
 
-/// Whether there is an image that was not told of yet.
-fn news(told: u32, count: u32) -> Status
+/// Whether the table has an image that its handle was not told of yet, as a status.
+fn update_status(told: u32, count: u32) -> Status
     ensures { result ≡ (if nat_lt told count then Status.INFO_UPDATED else Status.SUCCESS) }
 {
     if told < count {
@@ -136,7 +137,7 @@ impl Tables {
         let Some(table) = &mut self.rows[row as usize] else {
             unreachable!();
         };
-        let_go(table, &self.handles, row);
+        drop_before(table, &self.handles, row);
     }
 
     /// The row of the table that this handle registered, None for a further handle, or where the handle leads to no table.
@@ -203,7 +204,7 @@ impl Tables {
             return Answer::plain(Status::ERR_NEVER_LOADED);
         }
         pin_last(&mut self.handles, handle, count);
-        Answer::plain(news(view.told, count))
+        Answer::plain(update_status(view.told, count))
     }
 
     /// The pin of the handle ends.
@@ -224,7 +225,7 @@ impl Tables {
             unreachable!();
         };
         unpin(table, &mut self.handles, handle, row);
-        Answer::plain(news(view.told, count))
+        Answer::plain(update_status(view.told, count))
     }
 
     /// The stated bytes of the image that the handle pins.
@@ -256,6 +257,7 @@ impl Tables {
     pub fn locker(&self, row: u8) -> Option<u16>
         ensures least { result ≡ option_and_then (λ (t : Table). locker self.now row t) (table_at self.now row) }
     {
+        // With two buffers a new image leaves the last one where it is, so only pins of the image before are in its way.
         let table = table_in(&self.rows, row)?;
         first_in_way(&self.handles, row, table.is_double())
     }

@@ -9,11 +9,11 @@ ghost use Rattle.tbl_model.specs.Refusals.{open_refusal};
 ghost use Rattle.access_desc.specs.Steps.{has, pins_old, after_new_image};
 ghost use Rattle.tbl_registry.specs.Lent.{HasItsBuffer, IsSettled};
 ghost use Rattle.tbl_registry.specs.Rows.{IsTable};
-ghost use Rattle.tbl_registry.specs.Seen.{let_go_unless, with_next};
+ghost use Rattle.tbl_registry.specs.Seen.{drop_before_unless, with_next};
 
 use super::Tables;
 use super::buffers::settle;
-use super::handles::let_go;
+use super::handles::drop_before;
 use crate::row::Row;
 use access_desc::Handles;
 use buffer_pairs::Image;
@@ -24,10 +24,10 @@ use working_buffers::Working;
 /// The pins of a table are of the image before its new one, which goes where there are none.
 fn move_pins(table: &mut Row, handles: &mut Handles, row: u8)
     ensures handles { handles.new ≡ map (option_map (after_new_image row)) handles.old }
-    ensures table { table.new ≡ let_go_unless (is_some (position (has (pins_old row)) handles.new)) table.old }
+    ensures table { table.new ≡ drop_before_unless (is_some (position (has (pins_old row)) handles.new)) table.old }
 {
     handles.moved(row);
-    let_go(table, handles, row);
+    drop_before(table, handles, row);
 }
 
 /// The table takes an image as its last one. Of a table with a single buffer nobody may pin an image.
@@ -38,6 +38,7 @@ fn take_image(table: &mut Row, handles: &mut Handles, row: u8, image: Image)
     ensures handles { handles.new ≡ map (option_map (after_new_image row)) handles.old }
     ensures table { table.new ≡ with_next table.old image (is_some (position (has (pins_old row)) handles.new)) }
 {
+    // With two buffers the image that was the last stays in the place before it until the pins say that nobody has it.
     table.put(image);
     move_pins(table, handles, row);
 }
@@ -52,6 +53,7 @@ fn take_load(table: &mut Row, working: &mut Working, row: u8, image: Image)
     ensures well { IsTable table.old }
     ensures buffers { IsSettled working.old working.new row (uses_buffer (Some table.old)) (uses_buffer (Some table.new)) }
 {
+    // A load that was open has its buffer already, and keeps it.
     let had = table.uses_buffer();
     table.set_load(image);
     settle(working, row, had, table.uses_buffer());
