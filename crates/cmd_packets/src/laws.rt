@@ -25,6 +25,7 @@ pub fn written_commands_are_read()
 /// its payload; of a housekeeping request not on the code; and of a payload on its length, and on its number and names.
 pub fn nothing_else_is_looked_at()
     ensures packet { (a b : List ℕ) → packet_flaw a ≡ packet_flaw b → packet_id a ≡ packet_id b → packet_code a ≡ packet_code b → packet_payload a ≡ packet_payload b → command_in a ≡ command_in b }
-    ensures housekeeping { (a b : List ℕ) → packet_flaw a ≡ packet_flaw b → packet_id a ≡ housekeeping_request_id → packet_id b ≡ housekeeping_request_id → packet_payload a ≡ packet_payload b → command_in a ≡ command_in b }
+    ensures housekeeping { (a b : List ℕ) → packet_flaw a ≡ packet_flaw b → packet_id a ≡ housekeeping_request_id → packet_id b ≡ housekeeping_request_id
+        → packet_payload a ≡ packet_payload b → command_in a ≡ command_in b }
     ensures payload { (form : Form) (a b : List ℕ) → length a ≡ length b → form.reads a ≡ form.reads b → by_form form a ≡ by_form form b }
 {}

@@ -1,9 +1,10 @@
 -- Pending validations and asked activations stay where a table changes that neither concerns.
-use Rattle.std.proofs.Common.{◌≡◌, ◌<◌, ℕ, List, Bool, true, false, Option, Some, None, IsSome, refl, sym, ◌∙◌, arith}
+use Rattle.std.proofs.Common.{◌≡◌, ◌<◌, ℕ, List, true, false, Option, Some, None, refl, sym, ◌∙◌, arith}
 use Rattle.tbl_model.specs.State.{Table, Tables}
 use Rattle.tbl_model.specs.Tables.{table_at}
 use Rattle.tbl_model.specs.TableSteps.{changed, put, with_image}
-use Rattle.validation.specs.Ready.{HasImage, ArePending, HaveLoads, HaveSameFunctions}
+use Rattle.tbl_model.specs.Fit.{CanValidate}
+use Rattle.validation.specs.Ready.{PendingStay, HaveLoads, HaveSameFunctions}
 use Rattle.validation.proofs.Ready.{stays_there, loads_keep, functions_stay}
 
 -- a change that leaves the function, the load and its activation, and takes no image away
@@ -14,11 +15,11 @@ pub record Leaves (change : Table → Table) : Type 0 where
   pub activation : (t : Table) → (change t).activation ≡ t.activation
 
 module _ (tables : Tables) (row : ℕ) (change : Table → Table) (leaves : Leaves change) where
-  pub pending_stay : (pending : List (ℕ × Bool)) → ArePending tables pending → ArePending (changed row change tables) pending
+  pub pending_stay : PendingStay tables (changed row change tables)
   pending_stay pending all r true is =
-      stays_there tables row change (λ t. IsSome t.validator × HasImage t true) (λ t there can. (rw (leaves.function t) can.0, leaves.images t can.1)) r (all r true is)
+      stays_there tables row change (λ t. CanValidate t true) (λ t there can. (rw (leaves.function t) can.0, leaves.images t can.1)) r (all r true is)
   pending_stay pending all r false is =
-      stays_there tables row change (λ t. IsSome t.validator × HasImage t false) (λ t there can. (rw (leaves.function t) can.0, (rw (leaves.load t) can.1.0, rw (leaves.activation t) can.1.1))) r (all r false is)
+      stays_there tables row change (λ t. CanValidate t false) (λ t there can. (rw (leaves.function t) can.0, (rw (leaves.load t) can.1.0, rw (leaves.activation t) can.1.1))) r (all r false is)
 
   pub loads_stay : HaveLoads tables → HaveLoads (changed row change tables)
   loads_stay all = loads_keep tables row change (λ t there has asked. rw (leaves.load t) (has (sym (leaves.activation t) ∙ asked))) all

@@ -3,7 +3,7 @@ use Rattle.std.specs.Prelude.{ℕ, ◌==◌, List, [], Bool, if◌then◌else◌
 use Rattle.tbl_model.specs.State.{State, Table, Tables}
 use Rattle.tbl_model.specs.Tables.{in_use}
 use Rattle.tbl_model.specs.TableSteps.{ask_dump}
-use Rattle.tbl_model.specs.Effects.{Effect, answered}
+use Rattle.tbl_model.specs.Effects.{Effect, answered, answered_with}
 use Rattle.tbl_model.specs.Refusals.{refusal}
 use Rattle.tbl_model.specs.Dumps.{dump_file, written_effect}
 use Rattle.tbl_registry.specs.Views.{has_image}
@@ -12,10 +12,6 @@ use Rattle.dump_control.specs.declared.requests.DumpAnswer.{DumpAnswer}
 use Rattle.dump_control.specs.declared.requests.DumpAnswer.TheVariants.{Write, Asked, Refused}
 use Rattle.tbl_kinds.specs.declared.entry.Answer.{Answer}
 use Rattle.tbl_kinds.specs.declared.status.TheConstants.Status.{SUCCESS, ERR_NEVER_LOADED, ERR_NO_LOAD, ERR_NO_BUFFER_AVAIL}
-
--- an answer that leaves these tables and does nothing else
-abbrev pub answered_with : State → Answer → Tables → Effect
-answered_with s answer tables = record (answered s answer.status answer.detail) { next = record s { tables = tables } }
 
 -- which image is missing for a dump of a table, where one is
 abbrev pub missing_refusal : Table → Bool → Option Answer

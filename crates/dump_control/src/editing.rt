@@ -1,16 +1,14 @@
 //! Bytes that the owners of dump-only tables write over their images.
 
-ghost use Rattle.std.specs.Prelude.{◌≡◌, ◌<◌, ◌-◌, ◌+◌, ◌^◌, ◌≤◌, ℕ, List, Bool, not, nat_lt, length, replicate, Some, None, IsSome, IfSome, IfNone, IfOk, OnErr};
+ghost use Rattle.std.specs.Prelude.{◌≡◌, ◌<◌, ◌-◌, ◌+◌, ◌^◌, ◌≤◌, not, nat_lt, replicate, Some, None, IsSome, IfSome, IfNone, IfOk, OnErr};
 ghost use Rattle.std.specs.Option.{ForSome};
 ghost use Rattle.tbl_kinds.specs.Numbers.{patched};
 ghost use Rattle.tbl_model.specs.State.{State};
 ghost use Rattle.tbl_model.specs.Tables.{table_at, is_dump_only};
-ghost use Rattle.tbl_model.specs.TableSteps.{put, base, locker};
-ghost use Rattle.tbl_model.specs.Effects.{answered};
-ghost use Rattle.tbl_model.specs.Refusals.{by_answer};
-ghost use Rattle.tbl_model.specs.Dumps.{edit_refusal};
-ghost use Rattle.validation.specs.Ready.{ArePending, HaveLoads, HaveSameFunctions};
-ghost use Rattle.dump_control.specs.Answers.{answered_with};
+ghost use Rattle.tbl_model.specs.TableSteps.{put, locker};
+ghost use Rattle.tbl_model.specs.Effects.{answered_with};
+ghost use Rattle.tbl_model.specs.Dumps.{edit_refusal, edited_effect};
+ghost use Rattle.validation.specs.Ready.{HaveLoads, HaveSameFunctions, PendingStay};
 
 use bitflags::Flags;
 use std::alloc::Global;
@@ -64,16 +62,18 @@ pub fn edit(
 ) -> Result<Answer, Memory>
     requires table { IsSome (table_at tables.old row) }
     requires few { ForSome (table_at tables.old row) (λ t. t.count < 2 ^ 32 - 1) }
-    ensures effect { IfOk result (λ answer. (s : State) → s.tables ≡ tables.old → ForSome (table_at tables.old row) (λ t. by_answer s (edit_refusal s.tables row t offset (length bytes.now)) (record (answered s Status.SUCCESS 0) { next = record s { tables = put row (patched (base t) offset bytes.now) s.tables } }) ≡ answered_with s answer tables.new)) }
+    ensures effect { IfOk result (λ answer. (s : State) → s.tables ≡ tables.old
+        → ForSome (table_at tables.old row) (λ t. edited_effect s row t offset bytes.now ≡ answered_with s answer tables.new)) }
     ensures err { OnErr result (tables.new ≡ tables.old) }
     ensures table { IsSome (table_at tables.new row) }
-    ensures pending { (pending : List (ℕ × Bool)) → ArePending tables.old pending → ArePending tables.new pending }
+    ensures pending { PendingStay tables.old tables.new }
     ensures loads { HaveLoads tables.old → HaveLoads tables.new }
     ensures functions { HaveSameFunctions tables.old tables.new }
 {
     if let Some(answer) = edit_refusal(tables, row, offset, bytes.len()) {
         return Ok(answer);
     }
+    // A new image, and not a write in place: a filled dump may keep the last one.
     let image = tables.patched(alloc, row, offset, bytes)?;
     tables.put(row, image);
     Ok(Answer::plain(Status::SUCCESS))

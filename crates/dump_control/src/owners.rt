@@ -1,19 +1,17 @@
 //! Dumps of dump-only tables: their owners fill them, and the service ends them.
 
-ghost use Rattle.std.specs.Prelude.{◌≡◌, ◌≤◌, ◌+◌, ◌++◌, ℕ, List, [], Bool, not, if◌then◌else◌, length, Some, None, IsSome, IfSome, IfNone, is_some, option_and_then};
+ghost use Rattle.std.specs.Prelude.{◌≡◌, ◌≤◌, ◌+◌, ◌++◌, [], if◌then◌else◌, length, Some, None, IsSome, IfSome, IfNone, is_some, option_and_then};
 ghost use Rattle.std.specs.Option.{ForSome, option_map, option_map_or};
 ghost use Rattle.tbl_kinds.specs.Limits.{table_limit};
 ghost use Rattle.tbl_kinds.specs.TableFiles.{image_place};
 ghost use Rattle.tbl_model.specs.State.{State, Table};
 ghost use Rattle.tbl_model.specs.Tables.{table_at};
 ghost use Rattle.tbl_model.specs.TableSteps.{fill_dump, end_dump};
-ghost use Rattle.tbl_model.specs.Management.{is_asked};
-ghost use Rattle.tbl_model.specs.Effects.{answered};
-ghost use Rattle.tbl_model.specs.Dumps.{dump_file, is_filled};
+ghost use Rattle.tbl_model.specs.Effects.{answered_with};
+ghost use Rattle.tbl_model.specs.Dumps.{dump_file, is_filled, filled_effect};
 ghost use Rattle.tbl_registry.specs.Views.{filled_image};
-ghost use Rattle.validation.specs.Ready.{ArePending, HaveLoads, HaveSameFunctions};
+ghost use Rattle.validation.specs.Ready.{HaveLoads, HaveSameFunctions, PendingStay};
 ghost use Rattle.dump_control.specs.Images.{filled_name, filled_file, filled_file_len};
-ghost use Rattle.dump_control.specs.Answers.{answered_with};
 
 use crate::files::write_image;
 use table_files::IMAGE_PLACE;
@@ -25,9 +23,9 @@ use tbl_registry::{Dump, Tables};
 /// `INFO_NO_DUMP_PENDING`: none is asked.
 pub fn fill(tables: &mut Tables, row: u8) -> Answer
     requires { IsSome (table_at tables.old row) }
-    ensures effect { (s : State) → s.tables ≡ tables.old → ForSome (table_at tables.old row) (λ t. (if not (is_asked t.dump) then answered s Status.INFO_NO_DUMP_PENDING 0 else record (answered s Status.SUCCESS 0) { next = record s { tables = fill_dump row s.tables } }) ≡ answered_with s result tables.new) }
+    ensures effect { (s : State) → s.tables ≡ tables.old → ForSome (table_at tables.old row) (λ t. filled_effect s row t ≡ answered_with s result tables.new) }
     ensures table { IsSome (table_at tables.new row) }
-    ensures pending { (pending : List (ℕ × Bool)) → ArePending tables.old pending → ArePending tables.new pending }
+    ensures pending { PendingStay tables.old tables.new }
     ensures loads { HaveLoads tables.old → HaveLoads tables.new }
     ensures functions { HaveSameFunctions tables.old tables.new }
 {
@@ -92,7 +90,7 @@ pub fn finish(
     ensures bytes { (s : State) → s.seconds ≡ seconds → s.sub ≡ sub → out.new.list ≡ out.old.list ++ filled_file s (table_at tables.old row) }
     ensures tables { tables.new ≡ (if is_some result then end_dump row tables.old else tables.old) }
     ensures none { IfNone result (out.new ≡ out.old) }
-    ensures pending { (pending : List (ℕ × Bool)) → ArePending tables.old pending → ArePending tables.new pending }
+    ensures pending { PendingStay tables.old tables.new }
     ensures loads { HaveLoads tables.old → HaveLoads tables.new }
     ensures functions { HaveSameFunctions tables.old tables.new }
 {

@@ -1,13 +1,13 @@
 //! Dumps that the ground asks for.
 
-ghost use Rattle.std.specs.Prelude.{◌≡◌, ◌≢◌, ◌<◌, ◌==◌, ℕ, List, Bool, true, Some, None, IsSome, IfSome, IfNone, length};
+ghost use Rattle.std.specs.Prelude.{◌≡◌, ◌≢◌, ◌<◌, ◌==◌, Bool, true, Some, None, IsSome, IfSome, IfNone, length};
 ghost use Rattle.std.specs.Option.{ForSome};
 ghost use Rattle.tbl_model.specs.State.{State};
 ghost use Rattle.tbl_model.specs.Tables.{table_at, is_dump_only, is_quiet, in_use};
 ghost use Rattle.tbl_model.specs.TableSteps.{ask_dump};
 ghost use Rattle.tbl_model.specs.Validations.{selected};
 ghost use Rattle.tbl_model.specs.Dumps.{dump_refusal, dump_by};
-ghost use Rattle.validation.specs.Ready.{ArePending, HaveLoads, HaveSameFunctions};
+ghost use Rattle.validation.specs.Ready.{HaveLoads, HaveSameFunctions, PendingStay};
 ghost use Rattle.dump_control.specs.Images.{CanBeDumped};
 ghost use Rattle.dump_control.specs.Answers.{missing_refusal, asked_by, requested, left_by};
 
@@ -65,7 +65,7 @@ fn ask(tables: &mut Tables, row: u8, file: &Name64) -> DumpAnswer
     ensures answer { ForSome (table_at tables.old row) (λ t. result ≡ asked_by (dump_refusal tables.old t)) }
     ensures tables { tables.new ≡ left_by row file.now result tables.old }
     ensures no_file { (active : Bool) → result ≢ DumpAnswer.Write active }
-    ensures pending { (pending : List (ℕ × Bool)) → ArePending tables.old pending → ArePending tables.new pending }
+    ensures pending { PendingStay tables.old tables.new }
     ensures loads { HaveLoads tables.old → HaveLoads tables.new }
 {
     if let Some(answer) = dump_refusal(tables, row) {
@@ -101,13 +101,14 @@ pub fn request_dump(tables: &mut Tables, row: u8, select: u16, file: &Name64) ->
     ensures tables { tables.new ≡ left_by row file.now result tables.old }
     ensures image { (active : Bool) → result ≡ DumpAnswer.Write active → ForSome (table_at tables.new row) (λ t. CanBeDumped t active) }
     ensures table { IsSome (table_at tables.new row) }
-    ensures pending { (pending : List (ℕ × Bool)) → ArePending tables.old pending → ArePending tables.new pending }
+    ensures pending { PendingStay tables.old tables.new }
     ensures loads { HaveLoads tables.old → HaveLoads tables.new }
     ensures functions { HaveSameFunctions tables.old tables.new }
 {
     let Some(active) = tables.selected(row, select) else {
         return DumpAnswer::Refused(Answer::plain(Status::ERR_BAD_SELECT));
     };
+    // In cFE that image is memory of the owner, who alone knows when it can be copied.
     if is_dump_only(tables, row) {
         return ask(tables, row, file);
     }

@@ -4,7 +4,7 @@ use Rattle.std.proofs.Common.{ℤ}
 use Rattle.tbl_kinds.specs.Statuses.{is_success}
 use Rattle.tbl_model.specs.State.{State, Table, Tables}
 use Rattle.tbl_model.specs.Tables.{in_use}
-use Rattle.tbl_model.specs.TableSteps.{set_time}
+use Rattle.tbl_model.specs.TableSteps.{Access, set_time}
 use Rattle.tbl_model.specs.Effects.{Effect, answered}
 use Rattle.tbl_model.specs.Deeds.{is_good, verdict_bits}
 use Rattle.tbl_kinds.specs.TableFiles.{TableFile}
@@ -58,11 +58,11 @@ file_answered s name row t image loaded tables = owner_answered s row t image lo
 
 -- ---- both in one call
 
--- what the owner of the table in this row does with an image of the whole table, or with a table file of this name
-abbrev pub app_load_of : State → List ℕ → Given → ℕ → Table → List ℕ → Option TableFile → Effect
-app_load_of s name given row t image None = load_image_of s image given row t
-app_load_of s name given row t image (Some file) = by_answer s (closed_refusal t) (load_file_of s name given row t file)
+-- what the owner of a handle's table does with an image of the whole table, or with a table file of this name
+abbrev pub app_load_of : State → List ℕ → Given → Access → List ℕ → Option TableFile → Effect
+app_load_of s name given a image None = load_image_of s image given a.row a.table
+app_load_of s name given a image (Some file) = by_answer s (closed_refusal a.table) (load_file_of s name given a.row a.table file)
 
-abbrev pub app_load_answered : State → List ℕ → ℕ → Table → List ℕ → Option TableFile → Loaded → Tables → Effect
-app_load_answered s name row t image None loaded tables = image_answered s row t image loaded tables
-app_load_answered s name row t image (Some file) loaded tables = file_answered s name row t (file_image t file) loaded tables
+abbrev pub app_load_answered : State → List ℕ → Access → List ℕ → Option TableFile → Loaded → Tables → Effect
+app_load_answered s name a image None loaded tables = image_answered s a.row a.table image loaded tables
+app_load_answered s name a image (Some file) loaded tables = file_answered s name a.row a.table (file_image a.table file) loaded tables

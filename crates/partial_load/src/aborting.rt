@@ -1,11 +1,11 @@
 //! Loads that the ground drops.
 
-ghost use Rattle.std.specs.Prelude.{◌≡◌, false, Some, None, IsSome, is_some, if◌then◌else◌};
+ghost use Rattle.std.specs.Prelude.{◌≡◌, false, Some, None, IsSome};
 ghost use Rattle.std.specs.Option.{ForSome};
 ghost use Rattle.tbl_model.specs.State.{State};
 ghost use Rattle.tbl_model.specs.Tables.{table_at};
-ghost use Rattle.tbl_model.specs.Effects.{answered};
-ghost use Rattle.tbl_model.specs.Activations.{aborted_effect};
+ghost use Rattle.tbl_model.specs.Effects.{answered_left, left_with};
+ghost use Rattle.tbl_model.specs.Activations.{abort_of};
 ghost use Rattle.validation.specs.Ready.{ArePending, HaveLoads, HaveSameFunctions};
 
 use tbl_kinds::{Answer, Status};
@@ -17,7 +17,8 @@ use validation::Pending;
 pub fn abort(tables: &mut Tables, pending: &mut Pending, row: u8) -> Answer
     requires table { IsSome (table_at tables.old row) }
     requires pending { ArePending tables.old pending.old }
-    ensures effect { (s : State) → s.tables ≡ tables.old → s.pending ≡ pending.old → ForSome (table_at tables.old row) (λ t. (if is_some t.load then aborted_effect s row else answered s Status.ERR_NO_LOAD 0) ≡ record (answered s result.status result.detail) { next = record s { tables = tables.new; pending = pending.new } }) }
+    ensures effect { (s : State) → s.tables ≡ tables.old → s.pending ≡ pending.old
+        → ForSome (table_at tables.old row) (λ t. abort_of s row t ≡ answered_left s result (left_with s tables.new pending.new)) }
     ensures pending { ArePending tables.new pending.new }
     ensures loads { HaveLoads tables.old → HaveLoads tables.new }
     ensures functions { HaveSameFunctions tables.old tables.new }
@@ -25,6 +26,7 @@ pub fn abort(tables: &mut Tables, pending: &mut Pending, row: u8) -> Answer
     if tables.load(row).is_none() {
         return Answer::plain(Status::ERR_NO_LOAD);
     }
+    // A validation of an image that is gone could never be done.
     tables.close_load(row);
     pending.drop_pair(row, false);
     Answer::plain(Status::SUCCESS)

@@ -52,13 +52,15 @@ pub fn load_into(
 ) -> Result<Answer, Memory>
     requires table { IsSome (table_at tables.old row) }
     requires count { length image.now ≡ parsed.now.count }
-    ensures effect { IfOk result (λ answer. (s : State) → s.tables ≡ tables.old → ForSome (table_at tables.old row) (λ t. load_into s file.now (with_image parsed.now image.now) row t ≡ load_answered s None answer tables.new)) }
+    ensures effect { IfOk result (λ answer. (s : State) → s.tables ≡ tables.old
+        → ForSome (table_at tables.old row) (λ t. load_into s file.now (with_image parsed.now image.now) row t ≡ load_answered s None answer tables.new)) }
     ensures refused { IfOk result (λ answer. is_success answer.status ≡ false → tables.new ≡ tables.old) }
     ensures err { OnErr result (tables.new ≡ tables.old) }
 {
     if let Some(answer) = load_refusal(tables, row, parsed.offset, parsed.count) {
         return Ok(answer);
     }
+    // The name comes last: if memory runs out the table still tells the file of its last load.
     fill(alloc, tables, row, parsed.offset, image)?;
     tables.set_file(row, file);
     Ok(Answer::plain(Status::SUCCESS))
@@ -76,7 +78,8 @@ pub fn ground_load(
     image: &[u8],
 ) -> Result<Answer, Memory>
     requires { length image.now ≡ parsed.now.count }
-    ensures effect { IfOk result (λ answer. (s : State) → s.tables ≡ tables.old → load_file_effect s file.now (with_image parsed.now image.now) ≡ load_answered s (named parsed.now.name (find parsed.now.name tables.old)) answer tables.new) }
+    ensures effect { IfOk result (λ answer. (s : State) → s.tables ≡ tables.old
+        → load_file_effect s file.now (with_image parsed.now image.now) ≡ load_answered s (named parsed.now.name (find parsed.now.name tables.old)) answer tables.new) }
     ensures refused { IfOk result (λ answer. is_success answer.status ≡ false → tables.new ≡ tables.old) }
     ensures err { OnErr result (tables.new ≡ tables.old) }
 {

@@ -73,6 +73,7 @@ fn admit<C: Validator>(tables: &mut Tables, kit: &mut Kit<C>, row: u8, image: Im
     ensures table { IsSome (table_at tables.new row) }
     ensures asked { ForSome (table_at tables.old row) (λ t. WasAsked C.verdict C.asked kit.old kit.new (asks t.validator image) (result.verdict ∷ None ∷ [])) }
 {
+    // The image is whole before its function is asked: no further call can fail, so a verdict is never given twice.
     let number = validator(tables, row);
     let verdict = kit.judge(number, image.bytes());
     let answer = verdict_answer(verdict);
@@ -108,8 +109,10 @@ pub fn load_image<C: Validator>(
     requires table { IsSome (table_at tables.old row) }
     requires few { ForSome (table_at tables.old row) (λ t. t.count < 2 ^ 32 - 1) }
     requires kit { ForSome (table_at tables.old row) (λ t. ForSome t.validator (MayAsk C.asked 1 kit.old)) }
-    ensures effect { IfOk result (λ loaded. (s : State) (given : Given) → s.tables ≡ tables.old → given.verdicts ≡ loaded.verdict ∷ None ∷ [] → ForSome (table_at tables.old row) (λ t. load_image_of s image.now given row t ≡ image_answered s row t image.now loaded tables.new)) }
-    ensures asked { IfOk result (λ loaded. (s : State) (given : Given) → s.tables ≡ tables.old → given.verdicts ≡ loaded.verdict ∷ None ∷ [] → ForSome (table_at tables.old row) (λ t. WasAsked C.verdict C.asked kit.old kit.new (load_image_of s image.now given row t).asked (loaded.verdict ∷ None ∷ []))) }
+    ensures effect { IfOk result (λ loaded. (s : State) (given : Given) → s.tables ≡ tables.old → given.verdicts ≡ loaded.verdict ∷ None ∷ []
+        → ForSome (table_at tables.old row) (λ t. load_image_of s image.now given row t ≡ image_answered s row t image.now loaded tables.new)) }
+    ensures asked { IfOk result (λ loaded. (s : State) (given : Given) → s.tables ≡ tables.old → given.verdicts ≡ loaded.verdict ∷ None ∷ []
+        → ForSome (table_at tables.old row) (λ t. WasAsked C.verdict C.asked kit.old kit.new (load_image_of s image.now given row t).asked (loaded.verdict ∷ None ∷ []))) }
     ensures refused { IfOk result (λ loaded. is_success loaded.answer.status ≡ false → tables.new ≡ tables.old) }
     ensures table { OnOk result (IsSome (table_at tables.new row)) }
     ensures err { OnErr result (tables.new ≡ tables.old) }
@@ -141,8 +144,12 @@ pub fn load_part<C: Validator>(
     requires count { length image.now ≡ parsed.now.count }
     requires few { ForSome (table_at tables.old row) (λ t. t.count < 2 ^ 32 - 1) }
     requires kit { ForSome (table_at tables.old row) (λ t. ForSome t.validator (MayAsk C.asked 1 kit.old)) }
-    ensures effect { IfOk result (λ loaded. (s : State) (name : List ℕ) (given : Given) → s.tables ≡ tables.old → given.verdicts ≡ loaded.verdict ∷ None ∷ [] → ForSome (table_at tables.old row) (λ t. load_file_of s name given row t (with_image parsed.now image.now) ≡ file_answered s name row t (file_image t (with_image parsed.now image.now)) loaded tables.new)) }
-    ensures asked { IfOk result (λ loaded. (s : State) (name : List ℕ) (given : Given) → s.tables ≡ tables.old → given.verdicts ≡ loaded.verdict ∷ None ∷ [] → ForSome (table_at tables.old row) (λ t. WasAsked C.verdict C.asked kit.old kit.new (load_file_of s name given row t (with_image parsed.now image.now)).asked (loaded.verdict ∷ None ∷ []))) }
+    ensures effect { IfOk result (λ loaded. let file = with_image parsed.now image.now in (s : State) (name : List ℕ) (given : Given)
+        → s.tables ≡ tables.old → given.verdicts ≡ loaded.verdict ∷ None ∷ []
+        → ForSome (table_at tables.old row) (λ t. load_file_of s name given row t file ≡ file_answered s name row t (file_image t file) loaded tables.new)) }
+    ensures asked { IfOk result (λ loaded. let file = with_image parsed.now image.now in (s : State) (name : List ℕ) (given : Given)
+        → s.tables ≡ tables.old → given.verdicts ≡ loaded.verdict ∷ None ∷ []
+        → ForSome (table_at tables.old row) (λ t. WasAsked C.verdict C.asked kit.old kit.new (load_file_of s name given row t file).asked (loaded.verdict ∷ None ∷ []))) }
     ensures refused { IfOk result (λ loaded. is_success loaded.answer.status ≡ false → tables.new ≡ tables.old) }
     ensures table { OnOk result (IsSome (table_at tables.new row)) }
     ensures err { OnErr result (tables.new ≡ tables.old) }
@@ -155,8 +162,8 @@ pub fn load_part<C: Validator>(
     Ok(admit(tables, kit, row, image))
 }
 
-/// The row of the table behind a handle.
-fn row_behind(tables: &Tables, handle: u16) -> u8
+/// The row of a handle's table.
+fn row_of(tables: &Tables, handle: u16) -> u8
     requires { IsSome (access_of tables.now handle) }
     ensures row { ForSome (access_of tables.now handle) (λ a. a.row ≡ result) }
     ensures table { ForSome (access_of tables.now handle) (λ a. table_at tables.now result ≡ Some a.table) }
@@ -171,8 +178,8 @@ fn row_behind(tables: &Tables, handle: u16) -> u8
     row
 }
 
-/// What the owner of the table behind a handle loads (`CFE_TBL_Load`): an image of the whole table where `parsed` is None,
-/// else the bytes of that file. As `load_image`, or as `closed_refusal` and `load_part` behind it.
+/// What the owner of a handle's table loads (`CFE_TBL_Load`): an image of the whole table where `parsed` is None, else the
+/// bytes of that file. As `load_image`, or as `closed_refusal` and then `load_part`. Who has the row of the table calls these.
 pub fn app_load<C: Validator>(
     alloc: Global,
     tables: &mut Tables,
@@ -185,12 +192,16 @@ pub fn app_load<C: Validator>(
     requires count { ForSome parsed (λ file. length image.now ≡ file.now.count) }
     requires few { ForSome (access_of tables.old handle) (λ a. a.table.count < 2 ^ 32 - 1) }
     requires kit { ForSome (access_of tables.old handle) (λ a. ForSome a.table.validator (MayAsk C.asked 1 kit.old)) }
-    ensures effect { IfOk result (λ loaded. let file = option_map (λ (file : Bor File). with_image file.now image.now) parsed.entry in (s : State) (name : List ℕ) (given : Given) → s.tables ≡ tables.old → given.verdicts ≡ loaded.verdict ∷ None ∷ [] → ForSome (access_of tables.old handle) (λ a. app_load_of s name given a.row a.table image.now file ≡ app_load_answered s name a.row a.table image.now file loaded tables.new)) }
-    ensures asked { IfOk result (λ loaded. let file = option_map (λ (file : Bor File). with_image file.now image.now) parsed.entry in (s : State) (name : List ℕ) (given : Given) → s.tables ≡ tables.old → given.verdicts ≡ loaded.verdict ∷ None ∷ [] → ForSome (access_of tables.old handle) (λ a. WasAsked C.verdict C.asked kit.old kit.new (app_load_of s name given a.row a.table image.now file).asked (loaded.verdict ∷ None ∷ []))) }
+    ensures effect { IfOk result (λ loaded. let file = option_map (λ (file : Bor File). with_image file.now image.now) parsed.entry in (s : State) (name : List ℕ) (given : Given)
+        → s.tables ≡ tables.old → given.verdicts ≡ loaded.verdict ∷ None ∷ []
+        → ForSome (access_of tables.old handle) (λ a. app_load_of s name given a image.now file ≡ app_load_answered s name a image.now file loaded tables.new)) }
+    ensures asked { IfOk result (λ loaded. let file = option_map (λ (file : Bor File). with_image file.now image.now) parsed.entry in (s : State) (name : List ℕ) (given : Given)
+        → s.tables ≡ tables.old → given.verdicts ≡ loaded.verdict ∷ None ∷ []
+        → ForSome (access_of tables.old handle) (λ a. WasAsked C.verdict C.asked kit.old kit.new (app_load_of s name given a image.now file).asked (loaded.verdict ∷ None ∷ []))) }
     ensures err { OnErr result (tables.new ≡ tables.old) }
     ensures not_asked { OnErr result (kit.new ≡ kit.old) }
 {
-    let row = row_behind(tables, handle);
+    let row = row_of(tables, handle);
     let Some(parsed) = parsed else {
         let loaded = load_image(alloc, tables, kit, row, image)?;
         return Ok(loaded);

@@ -107,6 +107,7 @@ pub(crate) fn command_event(asked: &Asked, effect: &Effect) -> Option<Event>
             detail: effect.answer.detail,
         });
     }
+    // Its packet answers for it.
     if asks_housekeeping(asked) {
         return None;
     }

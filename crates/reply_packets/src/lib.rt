@@ -1,4 +1,4 @@
-//! The packets of a reply and the running numbers behind them: the layer above may rely on it that both are those that the
+//! The packets of a reply and the running numbers that they tell: the layer above may rely on it that both are those that the
 //! model has for the request and its effect.
 #![tactic(auto)]
 

@@ -1,10 +1,10 @@
-//! The packets behind the events: housekeeping, a table's registry packet, a notice.
+//! The packets after the events: housekeeping, a table's registry packet, a notice.
 
 ghost use Rattle.std.specs.Prelude.{◌≡◌, ◌+◌, ◌<◌, ◌≤◌, ◌++◌, length, count_by, is_none, is_some, true, IfSome};
 ghost use Rattle.tbl_model.specs.Tables.{free_buffers, table_at};
 ghost use Rattle.tbl_model.specs.Counts.{Counts};
 ghost use Rattle.tbl_model.specs.Replies.{housekeeping_of, registry_packet, shown_packet, notice_packet};
-ghost use Rattle.tbl_laws.specs.Fit.{HasCode};
+ghost use Rattle.tbl_model.specs.Fit.{HasCode};
 ghost use Rattle.reply_packets.specs.Counters.{counts_view};
 ghost use Rattle.request_effects.specs.Effects.{shown_len};
 
@@ -17,7 +17,7 @@ use tlm_packets::{write_housekeeping, write_notice, write_registry};
 /// The length of a notice.
 pub const NOTICE_LENGTH: usize = 12;
 
-/// How many of the buffers no row uses.
+/// How many of the four buffers no row uses.
 fn free_in(rows: &[Option<u8>; 4]) -> usize
     ensures { result ≡ count_by is_none rows.now }
 {
@@ -86,7 +86,7 @@ fn put_registry(packets: &mut Bytes, head: &TlmHead, tables: &Tables, row: u8)
     write_registry(packets, head, &tables.info(row));
 }
 
-/// Appends the packet behind the events.
+/// Appends the packet after the events.
 pub fn put_shown(
     packets: &mut Bytes,
     head: TlmHead,

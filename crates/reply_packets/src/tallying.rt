@@ -250,7 +250,8 @@ fn adds_request(asked: &Asked, effect: &Effect) -> bool
 pub fn tally(request: &Request, asked: &Asked, effect: &Effect) -> Tally
     requires asked { asked_of asked.now ≡ asked_in request.now }
     requires few { length effect.now.deeds.items ≤ 8 }
-    ensures { (clock : Clock) → tally_view result clock effect.now.deeds.items (loaded_in (told_at clock.seconds clock.sub no_tables request.now effect.now)) (loaded_file_in (told_at clock.seconds clock.sub no_tables request.now effect.now)) ≡ tally_of (told_at clock.seconds clock.sub no_tables request.now effect.now) }
+    ensures { (clock : Clock) → let told = told_at clock.seconds clock.sub no_tables request.now effect.now in
+        tally_view result clock effect.now.deeds.items (loaded_in told) (loaded_file_in told) ≡ tally_of told }
 {
     let restarted = restarts(request, effect);
     let resets = resets_counters(asked, effect);

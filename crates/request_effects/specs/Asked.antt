@@ -30,7 +30,7 @@ abbrev pub asks_delete : model.Asked → Bool
 asks_delete (Some (Ok (delete_cds table))) = true
 asks_delete _ = false
 
--- how long the packet is that a command shows behind its events, if it is accepted
+-- how long the packet is that a command shows after its events, if it is accepted
 abbrev pub shown_room : model.Asked → ℕ
 shown_room (Some (Ok housekeeping)) = 290
 shown_room (Some (Ok (send_registry table))) = 156

@@ -8,7 +8,7 @@ use Rattle.tbl_model.specs.Commands.{Asked}
 use Rattle.tbl_model.specs.Events.{deed_event, command_events}
 use Rattle.tbl_model.specs.Counts.{Told}
 use Rattle.tbl_model.specs.History.{told}
-use Rattle.tbl_laws.specs.Fit.{HasCode}
+use Rattle.tbl_model.specs.Fit.{HasCode}
 use Rattle.tbl_model.specs.declared.deeds.Shown.{Shown}
 use Rattle.tbl_model.specs.declared.deeds.Shown.TheVariants.{Nothing, Housekeeping, Registry}
 use Rattle.tbl_kinds.specs.declared.telemetry.Event.{Event}
@@ -30,6 +30,10 @@ pub record IsEffect (done : Effect) (questions : List Question) (after : State) 
   pub calls : e.calls ≡ []
   pub notice : e.notice ≡ done.notice
   pub next : e.next ≡ after
+
+-- it is this effect, which asks what it asks and leaves this state
+abbrev pub IsEffectAsking : Effect → State → model.Effect → Type 0
+IsEffectAsking done after e = IsEffect done e.asked after e
 
 -- the effect as it is told, which doesn't tell the calls of the store
 abbrev pub uncalled : model.Effect → model.Effect
@@ -61,7 +65,7 @@ without_images done next = record {
 abbrev pub seen_at : ℕ → ℕ → Tables → State
 seen_at seconds sub tables = record (first_state [] []) { tables = tables; seconds = seconds; sub = sub }
 
--- what telemetry tells of a request with this effect, at this time, behind which these tables stand
+-- what telemetry tells of a request with this effect, at this time, which leaves these tables
 abbrev pub told_at : ℕ → ℕ → Tables → Request → Effect → Told
 told_at seconds sub tables request done = told (seen_at seconds sub tables) Ground request (without_images done (seen_at seconds sub tables))
 
@@ -78,7 +82,7 @@ listed (Some event) = event ∷ []
 
 -- ---- how much it tells
 
--- the length of the packet behind the events
+-- the length of the packet after the events
 abbrev pub shown_len : Shown → ℕ
 shown_len Nothing = 0
 shown_len Housekeeping = 290
@@ -88,7 +92,7 @@ shown_len (Registry row) = 156
 abbrev pub reply_limit : ℕ
 reply_limit = 66000
 
--- it has so many deeds at most, its packet behind the events is so long at most, it gives a notice only where it may owe one,
+-- it has so many deeds at most, its packet after the events is so long at most, it gives a notice only where it may owe one,
 -- that can be sent, and its reply isn't too long
 pub record IsWithin (most room : ℕ) (owes : Bool) (done : Effect) : Type 0 where
   pub deeds : length done.deeds.items ≤ most

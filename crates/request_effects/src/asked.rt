@@ -170,7 +170,7 @@ pub fn activates(request: &Request) -> bool
     )
 }
 
-/// How long the packet is that a command shows behind its events, if it is accepted.
+/// How long the packet is that a command shows after its events, if it is accepted.
 pub fn shown_room(asked: &Asked) -> usize
     ensures { result ≡ shown_room (asked_of asked.now) }
 {

@@ -19,7 +19,7 @@ pub struct Effect {
     /// The table that a command names or a load fills.
     pub table: Option<Named>,
     pub deeds: Vec<Deed>,
-    /// The packet behind the events.
+    /// The packet after the events.
     pub shown: Shown,
     /// The command packet that tells an application of pending work.
     pub notice: Option<Notice>,
@@ -29,7 +29,7 @@ pub struct Effect {
     pub verdicts: [Option<i32>; 2],
 }
 
-/// Reserved room for the deeds of a request.
+/// Reserved room for the deeds of a request, so that telling what was done can't run out of memory once it is done.
 pub fn room_for_deeds(alloc: Global, request: &Request, asked: &Asked) -> Result<Vec<Deed>, Memory>
     ensures empty { IfOk result (λ deeds. deeds.items ≡ []) }
     ensures room { IfOk result (λ deeds. vec_capacity deeds ≡ most_deeds request.now (asked_of asked.now)) }

@@ -7,15 +7,16 @@ use Rattle.std.proofs.lemmas.List.{get_or-set_same, get_or-set_other}
 use Rattle.std.proofs.Math.ListN.{get_or-map}
 use Rattle.tbl_model.specs.State.{State, Handle, Tables}
 use Rattle.tbl_model.specs.Tables.{table_at}
-use Rattle.tbl_model.specs.TableSteps.{is_that, handle_at, let_go, without_handle, give_back, give_back_by, orphaned, remove, registered_by}
+use Rattle.tbl_model.specs.TableSteps.{is_that, handle_at, drop_before, without_handle, give_back, give_back_by, orphaned, remove, registered_by}
 use Rattle.tbl_model.specs.Pending.{of_other_rows}
 use Rattle.tbl_model.specs.Sharing.{is_handle_of, give_up, give_up_by, give_up_if, without_handles_of}
 use Rattle.tbl_laws.proofs.Rows.{within}
 use Rattle.tbl_laws.proofs.Pairs.{row_gone, row_stays}
 use Rattle.tbl_laws.proofs.GivingUp.{Registers, registers}
-use Rattle.validation.specs.Ready.{HasImage, ArePending, HaveLoads}
+use Rattle.tbl_model.specs.Fit.{CanValidate}
+use Rattle.validation.specs.Ready.{ArePending, HaveLoads}
 use Rattle.validation.proofs.Ready.{stays_there, loads_keep}
-use Rattle.sharing.specs.Leaving.{left_with}
+use Rattle.tbl_model.specs.Effects.{left_with}
 
 -- ---- a table goes with the handle that registered it
 
@@ -58,12 +59,12 @@ back_pends number tables None pending all = all
 back_pends number tables (Some row) pending all = by
   where
     by : ArePending (give_back_by number tables (Some row)) pending
-    by r true pends = stays_there (without_handle number tables) row (let_go (without_handle number tables).handles row) (λ t. IsSome t.validator × HasImage t true) (λ t there can. can) r (all r true pends)
-    by r false pends = stays_there (without_handle number tables) row (let_go (without_handle number tables).handles row) (λ t. IsSome t.validator × HasImage t false) (λ t there can. can) r (all r false pends)
+    by r true pends = stays_there (without_handle number tables) row (drop_before (without_handle number tables).handles row) (λ t. CanValidate t true) (λ t there can. can) r (all r true pends)
+    by r false pends = stays_there (without_handle number tables) row (drop_before (without_handle number tables).handles row) (λ t. CanValidate t false) (λ t there can. can) r (all r false pends)
 
 pub back_loads : (number : ℕ) (tables : Tables) (of : Option ℕ) → HaveLoads tables → HaveLoads (give_back_by number tables of)
 back_loads number tables None all = all
-back_loads number tables (Some row) all = loads_keep (without_handle number tables) row (let_go (without_handle number tables).handles row) (λ t there has. has) all
+back_loads number tables (Some row) all = loads_keep (without_handle number tables) row (drop_before (without_handle number tables).handles row) (λ t there has. has) all
 
 -- ---- who holds a handle
 

@@ -4,3 +4,4 @@ pub mod Names
 pub mod Running
 pub mod Options
 pub mod Plans
+pub mod Uncritical

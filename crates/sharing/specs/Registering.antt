@@ -3,17 +3,11 @@ use Rattle.std.specs.Prelude.{◌≡◌, ℕ, ◌<◌, ◌≤◌, true, None, Is
 use Rattle.tbl_kinds.specs.Free.{least_free}
 use Rattle.tbl_kinds.specs.Limits.{table_limit}
 use Rattle.tbl_kinds.specs.Names.{is_name}
-use Rattle.tbl_model.specs.State.{State, Table, Tables}
+use Rattle.tbl_model.specs.State.{Table, Tables}
 use Rattle.tbl_model.specs.Tables.{option_bits}
 use Rattle.tbl_model.specs.TableSteps.{find, new_table}
-use Rattle.tbl_model.specs.Effects.{Effect, answered}
 use Rattle.tbl_model.specs.Refusals.{are_options}
-use Rattle.tbl_kinds.specs.declared.entry.Answer.{Answer}
 use Rattle.tbl_registry.specs.declared.row.NewTable.{NewTable}
-
--- the answer, the state with these tables, and nothing else
-abbrev pub answered_with : State → Answer → Tables → Effect
-answered_with s answer tables = record (answered s answer.status answer.detail) { next = record s { tables = tables } }
 
 -- the row and the handle that the next table takes
 abbrev pub next_row : Tables → ℕ

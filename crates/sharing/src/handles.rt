@@ -1,14 +1,12 @@
 //! Further handles on registered tables, and what their registration tells.
 
-ghost use Rattle.std.specs.Prelude.{◌≡◌, ◌<◌, ◌-◌, IsSome, IfOk, IfErr, not, if◌then◌else◌};
+ghost use Rattle.std.specs.Prelude.{◌≡◌, ◌<◌, ◌-◌, IsSome, IfOk, IfErr};
 ghost use Rattle.tbl_kinds.specs.Free.{least_free};
 ghost use Rattle.tbl_kinds.specs.Telemetry.{registry_record};
 ghost use Rattle.tbl_model.specs.State.{State};
 ghost use Rattle.tbl_model.specs.Tables.{table_at};
-ghost use Rattle.tbl_model.specs.TableSteps.{set_notice};
-ghost use Rattle.tbl_model.specs.Effects.{answered};
-ghost use Rattle.tbl_model.specs.Sharing.{share_by, share_effect, is_notice, info_effect};
-ghost use Rattle.sharing.specs.Registering.{answered_with};
+ghost use Rattle.tbl_model.specs.Effects.{answered, answered_with};
+ghost use Rattle.tbl_model.specs.Sharing.{share_by, share_effect, is_notice, noticed_effect, info_effect};
 
 use crate::apps::Apps;
 use tbl_kinds::{Answer, Name40, RegistryRow, Status};
@@ -74,7 +72,7 @@ fn is_notice(msg: u16, code: u16) -> bool
 /// 0x1800 to 0x1FFF, or the code is above 127.
 pub fn notify(tables: &mut Tables, row: u8, msg: u16, code: u16, parameter: u32) -> Answer
     requires { IsSome (table_at tables.old row) }
-    ensures { (s : State) → s.tables ≡ tables.old → (if not (is_notice msg code) then answered s Status.ERR_NOTICE_ID 0 else record (answered s Status.SUCCESS 0) { next = record s { tables = set_notice row (record { msg = msg; code = code; parameter = parameter }) s.tables } }) ≡ answered_with s result tables.new }
+    ensures { (s : State) → s.tables ≡ tables.old → noticed_effect s row msg code parameter ≡ answered_with s result tables.new }
 {
     if !is_notice(msg, code) {
         return Answer::plain(Status::ERR_NOTICE_ID);

@@ -5,10 +5,10 @@ ghost use Rattle.tbl_kinds.specs.Statuses.{is_success};
 ghost use Rattle.tbl_model.specs.State.{State};
 ghost use Rattle.tbl_model.specs.TableSteps.{handle_at, registered_by, without_handle, remove};
 ghost use Rattle.tbl_model.specs.Sharing.{is_handle_of, give_up, give_up_if, without_handles_of, unregister_by, unregister_effect, exit_effect};
-ghost use Rattle.tbl_model.specs.Effects.{answered};
+ghost use Rattle.tbl_model.specs.Effects.{answered, answered_left, left_with};
 ghost use Rattle.validation.specs.Kits.{owners, dropped};
 ghost use Rattle.validation.specs.Ready.{ArePending, HaveLoads};
-ghost use Rattle.sharing.specs.Leaving.{left_with, answered_left, ended_with};
+ghost use Rattle.sharing.specs.Leaving.{ended_with};
 
 use crate::apps::Apps;
 use tbl_kinds::{Answer, Status};
@@ -21,6 +21,7 @@ fn take_away(tables: &mut Tables, handle: u16, row: u8)
     requires { registered_by tables.old handle ≡ Some row }
     ensures { tables.new ≡ without_handle handle (remove row tables.old) }
 {
+    // Without its table the handle pins nothing, so that freeing it has no image to drop.
     tables.remove(row);
     tables.free_handle(handle);
 }
@@ -43,7 +44,8 @@ fn give_up(tables: &mut Tables, pending: &mut Pending, handle: u16)
 
 /// Gives a handle up for an application, if it is that application's.
 fn give_back(tables: &mut Tables, pending: &mut Pending, app: u8, handle: u16) -> Status
-    ensures effect { (s : State) → s.tables ≡ tables.old → s.pending ≡ pending.old → unregister_by s app handle (handle_at tables.old handle) ≡ record (answered s result 0) { next = left_with s tables.new pending.new } }
+    ensures effect { (s : State) → s.tables ≡ tables.old → s.pending ≡ pending.old
+        → unregister_by s app handle (handle_at tables.old handle) ≡ record (answered s result 0) { next = left_with s tables.new pending.new } }
     ensures pending { ArePending tables.old pending.old → ArePending tables.new pending.new }
     ensures loads { HaveLoads tables.old → HaveLoads tables.new }
 {
@@ -124,7 +126,8 @@ pub fn app_exit<C: Validator>(
     apps: &mut Apps,
     app: u8,
 ) -> Answer
-    ensures effect { (s : State) → s.tables ≡ tables.old → s.pending ≡ pending.old → s.apps ≡ apps.old → s.kit ≡ owners kit.old → exit_effect s app ≡ answered_left s result (ended_with s tables.new pending.new apps.new (owners kit.new)) }
+    ensures effect { (s : State) → s.tables ≡ tables.old → s.pending ≡ pending.old → s.apps ≡ apps.old → s.kit ≡ owners kit.old
+        → exit_effect s app ≡ answered_left s result (ended_with s tables.new pending.new apps.new (owners kit.new)) }
     ensures kit { kit.new ≡ (if is_success result.status then dropped app kit.old else kit.old) }
     ensures pending { ArePending tables.old pending.old → ArePending tables.new pending.new }
     ensures loads { HaveLoads tables.old → HaveLoads tables.new }
@@ -132,6 +135,7 @@ pub fn app_exit<C: Validator>(
     if apps.name(app).is_none() {
         return Answer::plain(Status::ERR_BAD_APP);
     }
+    // The tables go before the functions that judge them: no table is ever left without its function.
     give_up_all(tables, pending, app);
     kit.drop_app(app);
     apps.end(app);

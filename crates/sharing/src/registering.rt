@@ -161,6 +161,7 @@ pub fn plan_table<C: Validator>(
     if let Some(answer) = plan_refusal(kit, app, short, size, flags, validator) {
         return Err(answer);
     }
+    // An application that registers its table again gets its handle even where the registry is full.
     if let Some(answer) = name_refusal(tables, app, size, &name) {
         return Err(answer);
     }
@@ -195,14 +196,18 @@ pub fn register(tables: &mut Tables, app: u8, plan: NewTable, status: Status) ->
 }
 
 /// Registers a table that was to be critical (`CFE_TBL_OPT_CRITICAL`), and isn't.
-pub fn register_uncritical(tables: &mut Tables, app: u8, mut plan: NewTable) -> Answer
+pub fn register_uncritical(tables: &mut Tables, app: u8, plan: NewTable) -> Answer
     requires can { CanRegister tables.old plan }
     requires begins { plan.first ≡ None }
     ensures answer { result ≡ record { status = Status.WARN_NOT_CRITICAL; detail = next_handle tables.old } }
     ensures tables { tables.new ≡ added (next_row tables.old) (uncritical (planned tables.old app plan)) tables.old }
 {
-    plan.flags.remove(Options::CRITICAL);
-    register(tables, app, plan, Status::WARN_NOT_CRITICAL)
+    let Some(row) = tables.next_row() else {
+        unreachable!();
+    };
+    let answer = register(tables, app, plan, Status::WARN_NOT_CRITICAL);
+    tables.not_critical(row);
+    answer
 }
 
 /// Registers a table that isn't to be critical. It begins with an image of zeros if it is dump-only (`CFE_TBL_OPT_DUMP_ONLY`),

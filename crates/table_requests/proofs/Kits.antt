@@ -13,7 +13,7 @@ module _ {C : Type 0} (verdict : C → List ℕ → ℤ) (asked : C → ℕ) whe
   owner_stays : (times : ℕ) (old new : Option (KitEntry C)) → Stays verdict asked times old new → option_map (λ (e : KitEntry C). e.app) new ≡ option_map (λ (e : KitEntry C). e.app) old
   owner_stays times None new stays = rw stays refl
   owner_stays times (Some old) None stays = absurd (cc stays.0)
-  owner_stays times (Some old) (Some new) stays = ap (λ (app : ℕ). Some app) (stays.1 new refl).0
+  owner_stays times (Some old) (Some new) stays = ap (λ (app : ℕ). Some app) (stays.1 new refl).owner
 
   owners_stay : (times : ℕ → ℕ) (old new : List (Option (KitEntry C))) → length new ≡ length old → ((number : ℕ) → Stays verdict asked (times number) (entry_at old number) (entry_at new number)) → owners new ≡ owners old
   owners_stay times [] [] same each = refl

@@ -13,12 +13,15 @@ pub record Written : Type 0 where
   pub bytes : List ℕ
   pub deeds : List Deed
 
+abbrev pub written : List File → List ℕ → List Deed → Written
+written drawer bytes deeds = record { drawer = drawer; bytes = bytes; deeds = deeds }
+
 -- with these files, in this state
 abbrev pub with_files : State → Written → Ended
 with_files s w = record { state = record s { drawer = w.drawer }; bytes = w.bytes; deeds = w.deeds }
 
 abbrev pub files_of : Ended → Written
-files_of e = record { drawer = e.state.drawer; bytes = e.bytes; deeds = e.deeds }
+files_of e = written e.state.drawer e.bytes e.deeds
 
 -- the file of the dump in this row, as it is written when the dump ends
 abbrev pub then_write : State → Written → ℕ → Written

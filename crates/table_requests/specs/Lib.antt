@@ -2,5 +2,4 @@ pub mod Housekeeping
 pub mod Limits
 pub mod Loads
 pub mod Managed
-pub mod RowEffects
 pub mod Rows

@@ -3,7 +3,7 @@ use Rattle.std.specs.Prelude.{ℕ, ◌-◌, ◌^◌, ◌<◌, IfSome}
 use Rattle.std.specs.Option.{ForSome}
 use Rattle.tbl_model.specs.State.{Tables}
 use Rattle.tbl_model.specs.Tables.{table_at}
-use Rattle.tbl_laws.specs.Fit.{HasCode}
+use Rattle.tbl_model.specs.Fit.{HasCode}
 
 -- the next image of each table can be counted in 32 bits
 abbrev pub AreCounted : Tables → Type 0

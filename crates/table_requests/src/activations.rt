@@ -6,15 +6,14 @@ ghost use Rattle.tbl_model.specs.State.{State, Table, Tables as Registry};
 ghost use Rattle.tbl_model.specs.Tables.{table_at};
 ghost use Rattle.tbl_model.specs.Given.{nothing_given};
 ghost use Rattle.tbl_model.specs.Deeds.{activated};
-ghost use Rattle.tbl_model.specs.Effects.{answered};
-ghost use Rattle.tbl_model.specs.Refusals.{by_answer, activation_refusal, update_refusal};
-ghost use Rattle.tbl_model.specs.Activations.{ask_effect, activate_command_effect, updated_effect, aborted_effect, abort_effect};
+ghost use Rattle.tbl_model.specs.Effects.{left_with};
+ghost use Rattle.tbl_model.specs.Activations.{activation_of, activate_command_effect, update_of, abort_of, abort_effect};
 ghost use Rattle.validation.specs.Ready.{ArePending, HaveLoads};
 ghost use Rattle.table_update.specs.Answers.{updated};
 ghost use Rattle.request_effects.specs.Effects.{IsEffect, IsWithin, IsQuiet, given_of};
 ghost use Rattle.table_requests.specs.Limits.{AreCounted, AreSendable};
 
-use crate::loads::{activated, named, stamp};
+use crate::loads::{activated, named, set_update_time};
 use request_effects::{Clock, Effect, notice, subject};
 use table_update::request_activation;
 use tbl_kinds::{Answer, Bytes, Name40, Status};
@@ -29,7 +28,7 @@ fn activate_found(tables: &mut Tables, pending: &Pending, table: Named, empty: B
     requires notices { AreSendable tables.old }
     requires empty { empty.list ≡ [] }
     ensures effect { (s : State) → s.tables ≡ tables.old → s.pending ≡ pending.now
-        → ForSome (table_at tables.old table.row) (λ t. IsEffect result [] (record s { tables = tables.new }) (record (by_answer s (activation_refusal s.pending table.row t) (ask_effect s table.row t)) { table = Some table })) }
+        → ForSome (table_at tables.old table.row) (λ t. IsEffect result [] (record s { tables = tables.new }) (record (activation_of s table.row t) { table = Some table })) }
     ensures within { IsWithin 0 0 true result }
     ensures given { given_of result ≡ nothing_given }
 {
@@ -74,7 +73,7 @@ fn abort_found(tables: &mut Tables, pending: &mut Pending, table: Named, empty: 
     requires pending { ArePending tables.old pending.old }
     requires empty { empty.list ≡ [] }
     ensures effect { (s : State) → s.tables ≡ tables.old → s.pending ≡ pending.old
-        → ForSome (table_at tables.old table.row) (λ t. IsEffect result [] (record s { tables = tables.new; pending = pending.new }) (record (if is_some t.load then aborted_effect s table.row else answered s Status.ERR_NO_LOAD 0) { table = Some table })) }
+        → ForSome (table_at tables.old table.row) (λ t. IsEffect result [] (left_with s tables.new pending.new) (record (abort_of s table.row t) { table = Some table })) }
     ensures quiet { IsQuiet result }
 {
     let answer = partial_load::abort(tables, pending, table.row);
@@ -94,7 +93,7 @@ pub(crate) fn abort(
 ) -> Effect
     requires pending { ArePending tables.old pending.old }
     requires empty { empty.list ≡ [] }
-    ensures effect { (s : State) → s.tables ≡ tables.old → s.pending ≡ pending.old → IsEffect result [] (record s { tables = tables.new; pending = pending.new }) (abort_effect s name.now) }
+    ensures effect { (s : State) → s.tables ≡ tables.old → s.pending ≡ pending.old → IsEffect result [] (left_with s tables.new pending.new) (abort_effect s name.now) }
     ensures quiet { IsQuiet result }
 {
     match subject(tables, name) {
@@ -133,13 +132,14 @@ pub fn update(tables: &mut Tables, clock: Clock, row: u8, deeds: Vec<Deed>, empt
     requires room { 1 ≤ vec_capacity deeds }
     requires empty { empty.list ≡ [] }
     ensures effect { (s : State) → s.tables ≡ tables.old → s.seconds ≡ clock.seconds → s.sub ≡ clock.sub
-        → ForSome (table_at tables.old row) (λ t. IsEffect result [] (record s { tables = tables.new }) (by_answer s (update_refusal s.tables row t) (updated_effect s row t))) }
+        → ForSome (table_at tables.old row) (λ t. IsEffect result [] (record s { tables = tables.new }) (update_of s row t)) }
     ensures within { IsWithin 1 0 false result }
     ensures given { given_of result ≡ nothing_given }
 {
+    // The deed counts the image that is to go active, so it is made before the update.
     let table = named(tables, row);
     let active = activated(tables, row);
     let answer = table_update::update(tables, row);
-    stamp(tables, row, answer.status == Status::SUCCESS, clock);
+    set_update_time(tables, row, answer.status == Status::SUCCESS, clock);
     made(answer, table, active, deeds, empty)
 }

@@ -2,10 +2,9 @@
 
 ghost use Rattle.std.specs.Prelude.{◌≡◌, ◌≤◌, [], length, IfOk, IfErr};
 ghost use Rattle.tbl_model.specs.State.{State};
-ghost use Rattle.tbl_model.specs.Effects.{answered};
+ghost use Rattle.tbl_model.specs.Effects.{answered, answered_with};
 ghost use Rattle.tbl_model.specs.Addresses.{get_effect, release_effect, read_effect};
 ghost use Rattle.tbl_kinds.specs.Limits.{table_limit};
-ghost use Rattle.sharing.specs.Registering.{answered_with};
 ghost use Rattle.request_effects.specs.Effects.{IsEffect, IsQuiet};
 
 use crate::checks::check;

@@ -6,11 +6,10 @@ ghost use Rattle.tbl_model.specs.State.{State};
 ghost use Rattle.tbl_model.specs.Tables.{table_at};
 ghost use Rattle.tbl_model.specs.Given.{nothing_given};
 ghost use Rattle.tbl_model.specs.Validations.{selected};
-ghost use Rattle.tbl_model.specs.Dumps.{dump_file, registry_file, written_effect, dump_by, dump_effect, dump_registry_effect};
+ghost use Rattle.tbl_model.specs.Dumps.{dump_file, registry_file, written_effect, dump_by, dump_effect, dump_registry_effect, filled_effect, edited_effect};
 ghost use Rattle.dump_control.specs.Images.{CanBeDumped, dumped_image};
 ghost use Rattle.request_effects.specs.Effects.{IsEffect, IsQuiet, IsWithin, given_of};
 ghost use Rattle.request_effects.specs.Effects.{reply_limit};
-ghost use Rattle.table_requests.specs.RowEffects.{filled_effect, edited_effect};
 ghost use Rattle.table_requests.specs.Limits.{AreCounted, AreSendable};
 
 use crate::checks::{BUFFERS, answered_load};
@@ -42,6 +41,7 @@ fn written(
     ensures given { IfOk result (λ done. given_of done ≡ nothing_given) }
     ensures err { OnErr result (drawer.new ≡ drawer.old) }
 {
+    // The drawer keeps one copy and the reply has the other. It is made before the drawer changes.
     let copy = contents.copy()?;
     match drawer.put(file, copy) {
         Ok(_) => {
@@ -71,7 +71,8 @@ fn image_file(
 ) -> Result<Bytes, Memory>
     requires table { IsSome (table_at tables.now row) }
     requires image { ForSome (table_at tables.now row) (λ t. CanBeDumped t active) }
-    ensures file { IfOk result (λ contents. (s : State) → s.seconds ≡ clock.seconds → s.sub ≡ clock.sub → ForSome (table_at tables.now row) (λ t. contents.list ≡ dump_file s t.name (dumped_image t active))) }
+    ensures file { IfOk result (λ contents. (s : State) → s.seconds ≡ clock.seconds → s.sub ≡ clock.sub
+        → ForSome (table_at tables.now row) (λ t. contents.list ≡ dump_file s t.name (dumped_image t active))) }
     ensures few { IfOk result (λ contents. length contents.list ≤ reply_limit) }
 {
     let mut contents = Bytes::make(alloc, dump_len(tables, row))?;
@@ -97,7 +98,8 @@ fn dump_found(
     requires room { 1 ≤ vec_capacity deeds }
     requires empty { empty.list ≡ [] }
     ensures effect { IfOk result (λ done. (s : State) → s.tables ≡ tables.old → s.drawer ≡ drawer.old → s.seconds ≡ clock.seconds → s.sub ≡ clock.sub
-        → ForSome (table_at tables.old table.row) (λ t. IsEffect done [] (record s { tables = tables.new; drawer = drawer.new }) (record (dump_by s file.now table.row t (selected t select)) { table = Some table }))) }
+        → ForSome (table_at tables.old table.row) (λ t.
+        IsEffect done [] (record s { tables = tables.new; drawer = drawer.new }) (record (dump_by s file.now table.row t (selected t select)) { table = Some table }))) }
     ensures within { IfOk result (IsWithin 1 0 true) }
     ensures given { IfOk result (λ done. given_of done ≡ nothing_given) }
     ensures err { OnErr result (tables.new ≡ tables.old) }
@@ -209,7 +211,8 @@ pub fn edit(
     requires table { IsSome (table_at tables.old row) }
     requires counted { AreCounted tables.old }
     requires empty { empty.list ≡ [] }
-    ensures effect { IfOk result (λ done. (s : State) → s.tables ≡ tables.old → ForSome (table_at tables.old row) (λ t. IsEffect done [] (record s { tables = tables.new }) (edited_effect s row t offset bytes.now))) }
+    ensures effect { IfOk result (λ done. (s : State) → s.tables ≡ tables.old
+        → ForSome (table_at tables.old row) (λ t. IsEffect done [] (record s { tables = tables.new }) (edited_effect s row t offset bytes.now))) }
     ensures quiet { IfOk result IsQuiet }
     ensures err { OnErr result (tables.new ≡ tables.old) }
 {

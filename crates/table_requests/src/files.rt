@@ -13,7 +13,7 @@ use tbl_kinds::{Answer, Bytes, Memory, Name64, Status};
 /// The most bytes of a file.
 const FILE_LIMIT: usize = 32_768;
 
-/// Puts a copy of a file into the drawer, or answers why not.
+/// Puts a copy of a file into the drawer, or answers why not. The copy is made last, when nothing else refuses the file.
 fn put(drawer: &mut Drawer, name: &Name64, bytes: &Bytes) -> Result<Status, Memory>
     ensures effect { IfOk result (λ status. (s : State) → s.drawer ≡ drawer.old → file_effect s name.now bytes.now.list ≡ record (answered s status 0) { next = record s { drawer = drawer.new } }) }
     ensures err { OnErr result (drawer.new ≡ drawer.old) }

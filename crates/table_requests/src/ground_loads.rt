@@ -32,7 +32,8 @@ fn load_found(
     requires count { length image.now ≡ parsed.now.count }
     requires empty { empty.list ≡ [] }
     requires room { 4 ≤ empty.spare }
-    ensures effect { IfOk result (λ done. (s : State) → s.tables ≡ tables.old → IsEffect done [] (record s { tables = tables.new }) (by_row s parsed.now.name row (load_into s file.now (with_image parsed.now image.now)))) }
+    ensures effect { IfOk result (λ done. (s : State) → s.tables ≡ tables.old
+        → IsEffect done [] (record s { tables = tables.new }) (by_row s parsed.now.name row (load_into s file.now (with_image parsed.now image.now)))) }
     ensures quiet { IfOk result IsQuiet }
     ensures err { OnErr result (tables.new ≡ tables.old) }
 {

@@ -7,7 +7,7 @@ ghost use Rattle.tbl_model.specs.Tables.{in_use};
 ghost use Rattle.tbl_model.specs.Given.{nothing_given};
 ghost use Rattle.tbl_model.specs.Dumps.{housekeeping_effect};
 ghost use Rattle.request_effects.specs.Effects.{IsEffect, IsWithin, given_of};
-ghost use Rattle.table_requests.specs.Housekeeping.{then_write, then_finish};
+ghost use Rattle.table_requests.specs.Housekeeping.{written, then_write, then_finish};
 ghost use Rattle.request_effects.specs.Effects.{reply_limit};
 ghost use Rattle.table_requests.specs.Rows.{rows_in};
 
@@ -34,7 +34,7 @@ fn write_row(
 ) -> Result<(), Memory>
     requires room { length deeds.old.items + 1 + length further.now ≤ vec_capacity deeds.old }
     ensures effect { OnOk result ((s : State) → s.tables ≡ tables.now → s.seconds ≡ clock.seconds → s.sub ≡ clock.sub
-        → fold (then_write s) (record { drawer = drawer.old; bytes = out.old.list; deeds = deeds.old.items }) (row ∷ rows_in further.now) ≡ record { drawer = drawer.new; bytes = out.new.list; deeds = deeds.new.items }) }
+        → fold (then_write s) (written drawer.old out.old.list deeds.old.items) (row ∷ rows_in further.now) ≡ written drawer.new out.new.list deeds.new.items) }
     ensures deeds { OnOk result (length deeds.new.items ≤ length deeds.old.items + 1 + length further.now) }
     ensures bytes { OnOk result (length out.new.list ≤ length out.old.list + 16500 * (1 + length further.now)) }
     ensures capacity { vec_capacity deeds.new ≡ vec_capacity deeds.old }
@@ -85,7 +85,7 @@ fn write_all(
 ) -> Result<(), Memory>
     requires room { length deeds.old.items + length places.now ≤ vec_capacity deeds.old }
     ensures effect { OnOk result ((s : State) → s.tables ≡ tables.now → s.seconds ≡ clock.seconds → s.sub ≡ clock.sub
-        → fold (then_write s) (record { drawer = drawer.old; bytes = out.old.list; deeds = deeds.old.items }) (rows_in places.now) ≡ record { drawer = drawer.new; bytes = out.new.list; deeds = deeds.new.items }) }
+        → fold (then_write s) (written drawer.old out.old.list deeds.old.items) (rows_in places.now) ≡ written drawer.new out.new.list deeds.new.items) }
     ensures deeds { OnOk result (length deeds.new.items ≤ length deeds.old.items + length places.now) }
     ensures bytes { OnOk result (length out.new.list ≤ length out.old.list + 16500 * length places.now) }
     ensures capacity { vec_capacity deeds.new ≡ vec_capacity deeds.old }

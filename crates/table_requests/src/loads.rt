@@ -6,15 +6,14 @@ ghost use Rattle.tbl_model.specs.State.{State};
 ghost use Rattle.tbl_model.specs.Tables.{table_at, in_use};
 ghost use Rattle.tbl_model.specs.TableSteps.{set_time, set_file};
 ghost use Rattle.tbl_model.specs.Deeds.{activated};
-ghost use Rattle.tbl_model.specs.Refusals.{by_answer, closed_refusal};
-ghost use Rattle.tbl_model.specs.Subjects.{if_file};
+ghost use Rattle.tbl_model.specs.Refusals.{closed_refusal};
 ghost use Rattle.table_files.specs.Files.{with_image};
 ghost use Rattle.tbl_kinds.specs.Notes.{untouched};
-ghost use Rattle.tbl_model.specs.AppLoads.{load_image_of, load_file_of};
+ghost use Rattle.tbl_model.specs.AppLoads.{load_image_of, load_file_of, named_file_of};
 ghost use Rattle.validation.specs.Kits.{owners, FewAsked};
 ghost use Rattle.validation.specs.Ready.{HaveFunctions};
 ghost use Rattle.validation.specs.Asked.{WasAsked};
-ghost use Rattle.request_effects.specs.Effects.{IsEffect, IsWithin, given_of};
+ghost use Rattle.request_effects.specs.Effects.{IsEffectAsking, IsWithin, given_of};
 ghost use Rattle.table_requests.specs.Loads.{verdict_deeds, IsLoaded};
 ghost use Rattle.table_requests.specs.Limits.{AreCounted};
 
@@ -114,8 +113,8 @@ fn told(
     }
 }
 
-/// The table of a row has the service's time as that of its last update, if it was updated.
-pub(crate) fn stamp(tables: &mut Tables, row: u8, updated: bool, clock: Clock)
+/// The table of a row has the service's time as that of its last update, if it was updated. The crates below have no clock.
+pub(crate) fn set_update_time(tables: &mut Tables, row: u8, updated: bool, clock: Clock)
     requires { IsSome (table_at tables.old row) }
     ensures { tables.new ≡ (if updated then set_time row clock.seconds clock.sub tables.old else tables.old) }
 {
@@ -144,7 +143,7 @@ pub fn load_image<C: Validator>(
     requires functions { HaveFunctions tables.old kit.old }
     requires kit { FewAsked C.asked 2 kit.old }
     ensures effect { IfOk result (λ done. (s : State) → s.tables ≡ tables.old → s.seconds ≡ clock.seconds → s.sub ≡ clock.sub
-        → ForSome (table_at tables.old row) (λ t. IsEffect done (load_image_of s image.now (given_of done) row t).asked (record s { tables = tables.new }) (load_image_of s image.now (given_of done) row t))) }
+        → ForSome (table_at tables.old row) (λ t. IsEffectAsking done (record s { tables = tables.new }) (load_image_of s image.now (given_of done) row t))) }
     ensures asks { IfOk result (λ done. (s : State) → s.tables ≡ tables.old
         → ForSome (table_at tables.old row) (λ t. WasAsked C.verdict C.asked kit.old kit.new (load_image_of s image.now (given_of done) row t).asked done.verdicts)) }
     ensures owners { owners kit.new ≡ owners kit.old }
@@ -154,13 +153,14 @@ pub fn load_image<C: Validator>(
     ensures err { OnErr result (tables.new ≡ tables.old) }
     ensures not_asked { OnErr result (kit.new ≡ kit.old) }
 {
+    // Room for the rows that use the buffers, and the deed, are taken first: nothing that comes after the load can fail.
     empty.reserve(BUFFERS)?;
     let table = named(tables, row);
     let active = activated(tables, row);
     let loaded = partial_load::load_image(alloc, tables, kit, row, image)?;
     let taken = loaded.answer.status == Status::SUCCESS;
     let done = told(tables, row, taken, loaded, table, active, deeds, empty);
-    stamp(tables, row, taken, clock);
+    set_update_time(tables, row, taken, clock);
     Ok(done)
 }
 
@@ -198,7 +198,7 @@ fn load_part<C: Validator>(
     requires functions { HaveFunctions tables.old kit.old }
     requires kit { FewAsked C.asked 2 kit.old }
     ensures effect { IfOk result (λ done. (s : State) → s.tables ≡ tables.old → s.seconds ≡ clock.seconds → s.sub ≡ clock.sub
-        → ForSome (table_at tables.old row) (λ t. IsEffect done (load_file_of s file.now (given_of done) row t (with_image parsed.now image.now)).asked (record s { tables = tables.new }) (load_file_of s file.now (given_of done) row t (with_image parsed.now image.now)))) }
+        → ForSome (table_at tables.old row) (λ t. IsEffectAsking done (record s { tables = tables.new }) (load_file_of s file.now (given_of done) row t (with_image parsed.now image.now)))) }
     ensures asks { IfOk result (λ done. (s : State) → s.tables ≡ tables.old
         → ForSome (table_at tables.old row) (λ t. WasAsked C.verdict C.asked kit.old kit.new (load_file_of s file.now (given_of done) row t (with_image parsed.now image.now)).asked done.verdicts)) }
     ensures owners { owners kit.new ≡ owners kit.old }
@@ -213,7 +213,7 @@ fn load_part<C: Validator>(
     let loaded = partial_load::load_part(alloc, tables, kit, row, parsed, image)?;
     let taken = loaded.answer.status == Status::SUCCESS;
     let done = told(tables, row, taken, loaded, table, active, deeds, empty);
-    stamp(tables, row, taken, clock);
+    set_update_time(tables, row, taken, clock);
     note_file(tables, row, taken, file);
     Ok(done)
 }
@@ -238,9 +238,9 @@ pub fn load_file<C: Validator>(
     requires functions { HaveFunctions tables.old kit.old }
     requires kit { FewAsked C.asked 2 kit.old }
     ensures effect { IfOk result (λ done. (s : State) → s.tables ≡ tables.old → s.drawer ≡ drawer.now → s.seconds ≡ clock.seconds → s.sub ≡ clock.sub
-        → ForSome (table_at tables.old row) (λ t. IsEffect done (by_answer s (closed_refusal t) (if_file s file.now (load_file_of s file.now (given_of done) row t))).asked (record s { tables = tables.new }) (by_answer s (closed_refusal t) (if_file s file.now (load_file_of s file.now (given_of done) row t))))) }
+        → ForSome (table_at tables.old row) (λ t. IsEffectAsking done (record s { tables = tables.new }) (named_file_of s file.now (given_of done) row t))) }
     ensures asks { IfOk result (λ done. (s : State) → s.tables ≡ tables.old → s.drawer ≡ drawer.now
-        → ForSome (table_at tables.old row) (λ t. WasAsked C.verdict C.asked kit.old kit.new (by_answer s (closed_refusal t) (if_file s file.now (load_file_of s file.now (given_of done) row t))).asked done.verdicts)) }
+        → ForSome (table_at tables.old row) (λ t. WasAsked C.verdict C.asked kit.old kit.new (named_file_of s file.now (given_of done) row t).asked done.verdicts)) }
     ensures owners { owners kit.new ≡ owners kit.old }
     ensures within { IfOk result (IsWithin 2 0 false) }
     ensures note { IfOk result (λ done. done.note ≡ untouched) }
@@ -249,6 +249,7 @@ pub fn load_file<C: Validator>(
     ensures not_asked { OnErr result (kit.new ≡ kit.old) }
 {
     empty.reserve(BUFFERS)?;
+    // A table that takes no load is told before a file that isn't there.
     if let Some(answer) = partial_load::closed_refusal(tables, row) {
         return Ok(Effect::of(answer, empty));
     }

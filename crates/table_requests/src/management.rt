@@ -5,19 +5,19 @@ ghost use Rattle.std.specs.Option.{ForSome};
 ghost use Rattle.tbl_kinds.specs.Notes.{untouched};
 ghost use Rattle.tbl_model.specs.State.{State};
 ghost use Rattle.tbl_model.specs.Tables.{table_at};
-ghost use Rattle.tbl_model.specs.Management.{managed_effect, manage_answer, all_done, pending_status, get_status_effect};
+ghost use Rattle.tbl_model.specs.Management.{manage_of, pending_status, get_status_effect};
 ghost use Rattle.validation.specs.Kits.{FewAsked, owners};
 ghost use Rattle.validation.specs.Asked.{WasAsked};
 ghost use Rattle.validation.specs.Ready.{ArePending, HaveFunctions, HaveLoads};
 ghost use Rattle.table_update.specs.Answers.{verdicts_of};
-ghost use Rattle.tbl_model.specs.Effects.{answered};
-ghost use Rattle.request_effects.specs.Effects.{IsEffect, IsWithin, IsQuiet, given_of};
-ghost use Rattle.table_requests.specs.RowEffects.{noticed_effect};
+ghost use Rattle.tbl_model.specs.Effects.{answered, left_with};
+ghost use Rattle.request_effects.specs.Effects.{IsEffect, IsEffectAsking, IsWithin, IsQuiet, given_of};
+ghost use Rattle.tbl_model.specs.Sharing.{noticed_effect};
 ghost use Rattle.table_requests.specs.Managed.{judged_deeds, managed_deeds};
 ghost use Rattle.table_requests.specs.Limits.{AreCounted};
 
 use crate::checks::check;
-use crate::loads::{activated, named, stamp};
+use crate::loads::{activated, named, set_update_time};
 use crate::validations::finished;
 use request_effects::{Clock, Effect};
 use sharing::Apps;
@@ -120,9 +120,9 @@ pub fn manage<C: Validator>(
     requires three { 3 ≤ vec_capacity deeds }
     requires empty { empty.list ≡ [] }
     ensures effect { IfOk result (λ done. (s : State) → s.tables ≡ tables.old → s.pending ≡ pending.old → s.seconds ≡ clock.seconds → s.sub ≡ clock.sub
-        → ForSome (table_at tables.old row) (λ t. IsEffect done (managed_effect s (manage_answer s.tables row t) (all_done s (given_of done) row)).asked (record s { tables = tables.new; pending = pending.new }) (managed_effect s (manage_answer s.tables row t) (all_done s (given_of done) row)))) }
+        → ForSome (table_at tables.old row) (λ t. IsEffectAsking done (left_with s tables.new pending.new) (manage_of s (given_of done) row t))) }
     ensures asks { IfOk result (λ done. (s : State) → s.tables ≡ tables.old → s.pending ≡ pending.old
-        → ForSome (table_at tables.old row) (λ t. WasAsked C.verdict C.asked kit.old kit.new (managed_effect s (manage_answer s.tables row t) (all_done s (given_of done) row)).asked done.verdicts)) }
+        → ForSome (table_at tables.old row) (λ t. WasAsked C.verdict C.asked kit.old kit.new (manage_of s (given_of done) row t).asked done.verdicts)) }
     ensures owners { owners kit.new ≡ owners kit.old }
     ensures within { IfOk result (IsWithin 3 0 false) }
     ensures note { IfOk result (λ done. done.note ≡ untouched) }
@@ -131,11 +131,12 @@ pub fn manage<C: Validator>(
     ensures still_pending { OnErr result (pending.new ≡ pending.old) }
     ensures not_asked { OnErr result (kit.new ≡ kit.old) }
 {
+    // The byte of the reply has its room before anything is done.
     empty.reserve(1)?;
     let Named { name, .. } = named(tables, row);
     let active = activated(tables, row);
     let done = table_update::manage(tables, kit, pending, row);
-    stamp(
+    set_update_time(
         tables,
         row,
         done.answer.status == Status::INFO_UPDATED,

@@ -6,13 +6,14 @@ ghost use Rattle.tbl_kinds.specs.Notes.{untouched};
 ghost use Rattle.tbl_model.specs.State.{State, Table, Tables as Registry};
 ghost use Rattle.tbl_model.specs.Tables.{table_at};
 ghost use Rattle.tbl_model.specs.Given.{nothing_given};
-ghost use Rattle.tbl_model.specs.Validations.{selected, validate_by, validate_effect, first_pending, do_validation};
+ghost use Rattle.tbl_model.specs.Effects.{left_with};
+ghost use Rattle.tbl_model.specs.Validations.{selected, validate_by, validate_effect, validation_of};
 ghost use Rattle.validation.specs.Kits.{FewAsked, owners};
 ghost use Rattle.validation.specs.Asked.{WasAsked};
 ghost use Rattle.validation.specs.Ready.{ArePending, HaveFunctions};
 ghost use Rattle.table_update.specs.Answers.{requested, validated, verdicts_of};
-ghost use Rattle.tbl_laws.specs.Fit.{HasCode};
-ghost use Rattle.request_effects.specs.Effects.{IsEffect, IsWithin, given_of};
+ghost use Rattle.tbl_model.specs.Fit.{HasCode};
+ghost use Rattle.request_effects.specs.Effects.{IsEffect, IsEffectAsking, IsWithin, given_of};
 ghost use Rattle.table_requests.specs.Limits.{AreSendable};
 
 use crate::loads::named;
@@ -51,7 +52,7 @@ fn told(
     requires room { 1 ≤ vec_capacity deeds }
     requires empty { empty.list ≡ [] }
     ensures effect { (s : State) (t : Table) (tables : Registry) (pending : List (ℕ × Bool)) → t.name ≡ name → t.notice ≡ notice
-        → IsEffect result [] (record s { tables = tables; pending = pending }) (record (requested s table.row t came tables pending) { table = Some table }) }
+        → IsEffect result [] (left_with s tables pending) (record (requested s table.row t came tables pending) { table = Some table }) }
     ensures within { IsWithin 1 0 true result }
     ensures given { given_of result ≡ nothing_given }
 {
@@ -94,7 +95,7 @@ fn validate_found(
     requires room { 1 ≤ vec_capacity deeds }
     requires empty { empty.list ≡ [] }
     ensures effect { (s : State) → s.tables ≡ tables.old → s.pending ≡ pending.old
-        → ForSome (table_at tables.old table.row) (λ t. IsEffect result [] (record s { tables = tables.new; pending = pending.new }) (record (validate_by s table.row t (selected t select)) { table = Some table })) }
+        → ForSome (table_at tables.old table.row) (λ t. IsEffect result [] (left_with s tables.new pending.new) (record (validate_by s table.row t (selected t select)) { table = Some table })) }
     ensures within { IsWithin 1 0 true result }
     ensures given { given_of result ≡ nothing_given }
 {
@@ -126,7 +127,7 @@ pub(crate) fn validate(
     requires no_deeds { deeds.items ≡ [] }
     requires room { 1 ≤ vec_capacity deeds }
     requires empty { empty.list ≡ [] }
-    ensures effect { (s : State) → s.tables ≡ tables.old → s.pending ≡ pending.old → IsEffect result [] (record s { tables = tables.new; pending = pending.new }) (validate_effect s select name.now) }
+    ensures effect { (s : State) → s.tables ≡ tables.old → s.pending ≡ pending.old → IsEffect result [] (left_with s tables.new pending.new) (validate_effect s select name.now) }
     ensures within { IsWithin 1 0 true result }
     ensures given { given_of result ≡ nothing_given }
 {
@@ -142,7 +143,7 @@ fn done(row: u8, came: Validated, name: Name40, mut deeds: Vec<Deed>, empty: Byt
     requires room { 1 ≤ vec_capacity deeds }
     requires empty { empty.list ≡ [] }
     ensures effect { (s : State) (t : Table) (tables : Registry) (pending : List (ℕ × Bool)) → t.name ≡ name
-        → IsEffect result (validated s row t came tables pending).asked (record s { tables = tables; pending = pending }) (validated s row t came tables pending) }
+        → IsEffectAsking result (left_with s tables pending) (validated s row t came tables pending) }
     ensures within { IsWithin 1 0 false result }
     ensures note { result.note ≡ untouched }
     ensures verdicts { result.verdicts ≡ verdicts_of came.judgement None }
@@ -176,9 +177,9 @@ pub fn app_validate<C: Validator>(
     requires room { 1 ≤ vec_capacity deeds }
     requires empty { empty.list ≡ [] }
     ensures effect { (s : State) → s.tables ≡ tables.old → s.pending ≡ pending.old
-        → ForSome (table_at tables.old row) (λ t. IsEffect result (do_validation s (given_of result) row t (first_pending s.pending row)).asked (record s { tables = tables.new; pending = pending.new }) (do_validation s (given_of result) row t (first_pending s.pending row))) }
+        → ForSome (table_at tables.old row) (λ t. IsEffectAsking result (left_with s tables.new pending.new) (validation_of s (given_of result) row t)) }
     ensures asks { (s : State) → s.tables ≡ tables.old → s.pending ≡ pending.old
-        → ForSome (table_at tables.old row) (λ t. WasAsked C.verdict C.asked kit.old kit.new (do_validation s (given_of result) row t (first_pending s.pending row)).asked result.verdicts) }
+        → ForSome (table_at tables.old row) (λ t. WasAsked C.verdict C.asked kit.old kit.new (validation_of s (given_of result) row t).asked result.verdicts) }
     ensures owners { owners kit.new ≡ owners kit.old }
     ensures within { IsWithin 1 0 false result }
     ensures note { result.note ≡ untouched }

@@ -179,7 +179,7 @@ changed_twice tables row change next u there =
     let now = changed_here tables row change u there in
     rw (now, there, set-set tables.rows row (Some (change u)) (Some (next (change u)))) refl
 
--- the time may be set behind the filling
+-- the time may be set after the filling
 time_behind : (tables : Tables) (row seconds sub : ℕ) (u : Table) (filled : Bool) → table_at tables row ≡ Some u
     → cond filled (fill_dump row (set_time row seconds sub tables)) (set_time row seconds sub tables) ≡ set_time row seconds sub (cond filled (fill_dump row tables) tables)
 time_behind tables row seconds sub u false there = refl

@@ -3,7 +3,7 @@ use Rattle.std.proofs.Common.{◌≡◌, ◌<◌, ◌==◌, Bool, true, false, O
 use Rattle.std.proofs.lemmas.Bool.Decides.{nat_tests}
 use Rattle.tbl_model.specs.State.{Load, Table}
 use Rattle.tbl_registry.specs.Views.{has_image}
-use Rattle.validation.specs.Ready.{HasImage}
+use Rattle.tbl_model.specs.Fit.{HasImage}
 use Rattle.table_update.specs.Answers.{missing_refusal}
 
 -- an image that can be judged is there

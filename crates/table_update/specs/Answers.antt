@@ -41,7 +41,7 @@ missing_refusal t active =
     else (if not active && t.activation then refusal ERR_UPDATE_PENDING
     else None))
 
--- why the validation of this image doesn't come behind those that are pending
+-- why the validation of this image doesn't come after those that are pending
 abbrev pub full_refusal : List (ℕ × Bool) → ℕ → Bool → Option Answer
 full_refusal pending row active =
     if is_pending row active pending then refusal ERR_VALIDATION_PENDING

@@ -10,7 +10,8 @@ ghost use Rattle.tbl_model.specs.Validations.{judged_image, questions, marked};
 ghost use Rattle.validation.specs.Kits.{FewAsked};
 ghost use Rattle.table_update.specs.Judging.{MayBeJudged};
 ghost use Rattle.validation.specs.Asked.{WasAsked};
-ghost use Rattle.validation.specs.Ready.{HasImage, ArePending, HaveFunctions, HaveLoads};
+ghost use Rattle.tbl_model.specs.Fit.{HasImage};
+ghost use Rattle.validation.specs.Ready.{ArePending, HaveFunctions, HaveLoads};
 
 use check_word::check16;
 use tbl_outside::Validator;
@@ -40,7 +41,8 @@ fn judged_image(tables: &Tables, row: u8, active: bool) -> &[u8]
     image
 }
 
-/// Verdict 0 marks the open load of the table of a row as validated, another one takes the mark away.
+/// Verdict 0 marks the open load of the table of a row as validated, another one takes the mark away. The last image has no
+/// mark: it is active whatever the verdict on it is.
 fn mark(tables: &mut Tables, row: u8, judgement: &Judgement)
     requires table { IsSome (table_at tables.old row) }
     requires image { ForSome (table_at tables.old row) (λ t. HasImage t judgement.now.active) }

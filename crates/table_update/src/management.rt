@@ -1,15 +1,15 @@
 //! All that is pending for a table, done one thing after another.
 
-ghost use Rattle.std.specs.Prelude.{◌≡◌, ◌<◌, ◌+◌, ◌-◌, ◌≤◌, ◌^◌, ℕ, List, [], ◌∷◌, ◌++◌, length, Bool, if◌then◌else◌, false, Some, None, IsSome, IfSome, IfNone};
+ghost use Rattle.std.specs.Prelude.{◌≡◌, ◌<◌, ◌+◌, ◌-◌, ◌≤◌, ◌^◌, [], ◌∷◌, ◌++◌, length, if◌then◌else◌, false, Some, None, IsSome, IfSome, IfNone};
 ghost use Rattle.std.specs.Option.{ForSome};
 ghost use Rattle.tbl_model.specs.Tables.{table_at};
 ghost use Rattle.tbl_model.specs.TableSteps.{fill_dump};
 ghost use Rattle.tbl_model.specs.Given.{Given, verdict_at};
 ghost use Rattle.tbl_model.specs.State.{State};
-ghost use Rattle.tbl_model.specs.Management.{Done, then_validate, is_asked, all_done, manage_answer, managed_effect};
+ghost use Rattle.tbl_model.specs.Management.{Done, then_validate, is_asked, manage_of};
 ghost use Rattle.validation.specs.Kits.{FewAsked};
 ghost use Rattle.validation.specs.Asked.{WasAsked};
-ghost use Rattle.validation.specs.Ready.{ArePending, HaveFunctions, HaveLoads};
+ghost use Rattle.validation.specs.Ready.{ArePending, HaveFunctions, HaveLoads, PendingStay};
 ghost use Rattle.table_update.specs.Answers.{then_judged, with_tables, verdicts_of, asked_by, marked_by, bits_of, answer_by, managed};
 
 use crate::judging::{Judgement, finish};
@@ -44,7 +44,8 @@ fn validate_pending<C: Validator>(
     requires pending { ArePending tables.old pending.old }
     requires kit { HaveFunctions tables.old kit.old }
     requires few { FewAsked C.asked 1 kit.old }
-    ensures step { (d : Done) (given : Given) → d.state.tables ≡ tables.old → d.state.pending ≡ pending.old → IfSome result (λ j. verdict_at (length d.asked) given ≡ j.verdict) → ForSome (table_at tables.old row) (λ t. then_validate row active given d ≡ with_tables tables.new pending.new (then_judged row t result d)) }
+    ensures step { (d : Done) (given : Given) → d.state.tables ≡ tables.old → d.state.pending ≡ pending.old → IfSome result (λ j. verdict_at (length d.asked) given ≡ j.verdict)
+        → ForSome (table_at tables.old row) (λ t. then_validate row active given d ≡ with_tables tables.new pending.new (then_judged row t result d)) }
     ensures image { IfSome result (λ j. j.active ≡ active) }
     ensures function { IsSome result → ForSome (table_at tables.old row) (λ t. IsSome t.validator) }
     ensures asked { ForSome (table_at tables.old row) (λ t. WasAsked C.verdict C.asked kit.old kit.new (asked_by t result) (verdicts_of result None)) }
@@ -67,7 +68,7 @@ fn fill_pending(tables: &mut Tables, row: u8) -> bool
     ensures filled { ForSome (table_at tables.old row) (λ t. result ≡ is_asked t.dump) }
     ensures tables { tables.new ≡ (if result then fill_dump row tables.old else tables.old) }
     ensures table { IsSome (table_at tables.new row) }
-    ensures pending { (pending : List (ℕ × Bool)) → ArePending tables.old pending → ArePending tables.new pending }
+    ensures pending { PendingStay tables.old tables.new }
     ensures loads { HaveLoads tables.old → HaveLoads tables.new }
 {
     let Some(table) = tables.row(row) else {
@@ -118,7 +119,8 @@ pub fn manage<C: Validator>(
     requires loads { HaveLoads tables.old }
     requires few_asked { FewAsked C.asked 2 kit.old }
     requires few { ForSome (table_at tables.old row) (λ t. t.count < 2 ^ 32 - 1) }
-    ensures effect { (s : State) (given : Given) → s.tables ≡ tables.old → s.pending ≡ pending.old → given.verdicts ≡ verdicts_of result.first result.second → ForSome (table_at tables.old row) (λ t. managed_effect s (manage_answer s.tables row t) (all_done s given row) ≡ managed s row t result tables.new pending.new) }
+    ensures effect { (s : State) (given : Given) → s.tables ≡ tables.old → s.pending ≡ pending.old → given.verdicts ≡ verdicts_of result.first result.second
+        → ForSome (table_at tables.old row) (λ t. manage_of s given row t ≡ managed s row t result tables.new pending.new) }
     ensures asked { ForSome (table_at tables.old row) (λ t. WasAsked C.verdict C.asked kit.old kit.new (asked_by t result.first ++ asked_by t result.second) (verdicts_of result.first result.second)) }
     ensures table { IsSome (table_at tables.new row) }
     ensures pending { ArePending tables.new pending.new }

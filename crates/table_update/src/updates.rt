@@ -1,13 +1,13 @@
 //! Activations that the ground asks for, and updates that owners make.
 
-ghost use Rattle.std.specs.Prelude.{◌≡◌, ◌≢◌, ◌<◌, ◌-◌, ◌^◌, ℕ, List, Bool, true, Some, None, IsSome, IfNone};
+ghost use Rattle.std.specs.Prelude.{◌≡◌, ◌≢◌, ◌<◌, ◌-◌, ◌^◌, true, Some, None, IsSome, IfNone};
 ghost use Rattle.std.specs.Option.{ForSome};
 ghost use Rattle.tbl_model.specs.State.{State};
 ghost use Rattle.tbl_model.specs.Tables.{table_at};
 ghost use Rattle.tbl_model.specs.TableSteps.{activate};
-ghost use Rattle.tbl_model.specs.Refusals.{by_answer, activation_refusal, update_refusal};
-ghost use Rattle.tbl_model.specs.Activations.{ask_effect, updated_effect};
-ghost use Rattle.validation.specs.Ready.{ArePending, HaveLoads, HasItsLoad, HaveSameFunctions};
+ghost use Rattle.tbl_model.specs.Refusals.{activation_refusal, update_refusal};
+ghost use Rattle.tbl_model.specs.Activations.{activation_of, update_of};
+ghost use Rattle.validation.specs.Ready.{ArePending, HaveLoads, HasItsLoad, HaveSameFunctions, PendingStay};
 ghost use Rattle.table_update.specs.Answers.{activation_asked, updated};
 
 use bitflags::Flags;
@@ -32,6 +32,7 @@ fn activation_refusal(tables: &Tables, pending: &Pending, row: u8) -> Option<Ans
     if table.asked {
         return Some(Answer::plain(Status::ERR_UPDATE_PENDING));
     }
+    // A load whose validation is pending has no mark yet, which is another reason than a bad verdict.
     if pending.has(row, false) {
         return Some(Answer::plain(Status::ERR_VALIDATION_PENDING));
     }
@@ -46,7 +47,8 @@ fn activation_refusal(tables: &Tables, pending: &Pending, row: u8) -> Option<Ans
 pub fn request_activation(tables: &mut Tables, pending: &Pending, row: u8) -> Answer
     requires table { IsSome (table_at tables.old row) }
     requires pending { ArePending tables.old pending.now }
-    ensures effect { (s : State) → s.tables ≡ tables.old → s.pending ≡ pending.now → ForSome (table_at tables.old row) (λ t. by_answer s (activation_refusal s.pending row t) (ask_effect s row t) ≡ activation_asked s t result tables.new) }
+    ensures effect { (s : State) → s.tables ≡ tables.old → s.pending ≡ pending.now
+        → ForSome (table_at tables.old row) (λ t. activation_of s row t ≡ activation_asked s t result tables.new) }
     ensures pending { ArePending tables.new pending.now }
     ensures loads { HaveLoads tables.old → HaveLoads tables.new }
     ensures functions { HaveSameFunctions tables.old tables.new }
@@ -87,7 +89,7 @@ pub(crate) fn take_update(tables: &mut Tables, row: u8) -> Option<Answer>
     ensures updated { IfNone result (tables.new ≡ activate row tables.old) }
     ensures refused { result ≢ None → tables.new ≡ tables.old }
     ensures table { IsSome (table_at tables.new row) }
-    ensures pending { (pending : List (ℕ × Bool)) → ArePending tables.old pending → ArePending tables.new pending }
+    ensures pending { PendingStay tables.old tables.new }
     ensures loads { HaveLoads tables.old → HaveLoads tables.new }
     ensures functions { HaveSameFunctions tables.old tables.new }
 {
@@ -105,9 +107,10 @@ pub fn update(tables: &mut Tables, row: u8) -> Answer
     requires table { IsSome (table_at tables.old row) }
     requires load { ForSome (table_at tables.old row) HasItsLoad }
     requires few { ForSome (table_at tables.old row) (λ t. t.count < 2 ^ 32 - 1) }
-    ensures effect { (s : State) → s.tables ≡ tables.old → ForSome (table_at tables.old row) (λ t. by_answer s (update_refusal s.tables row t) (updated_effect s row t) ≡ updated s row t result tables.new) }
+    ensures effect { (s : State) → s.tables ≡ tables.old
+        → ForSome (table_at tables.old row) (λ t. update_of s row t ≡ updated s row t result tables.new) }
     ensures table { IsSome (table_at tables.new row) }
-    ensures pending { (pending : List (ℕ × Bool)) → ArePending tables.old pending → ArePending tables.new pending }
+    ensures pending { PendingStay tables.old tables.new }
     ensures loads { HaveLoads tables.old → HaveLoads tables.new }
     ensures functions { HaveSameFunctions tables.old tables.new }
 {

@@ -8,11 +8,12 @@ ghost use Rattle.tbl_model.specs.Tables.{table_at};
 ghost use Rattle.tbl_model.specs.Given.{Given};
 ghost use Rattle.tbl_model.specs.Deeds.{is_good, verdict_bits};
 ghost use Rattle.tbl_model.specs.Pending.{is_pending, without_pair};
-ghost use Rattle.tbl_model.specs.Validations.{validate_by, first_pending, do_validation, judged_image, marked};
+ghost use Rattle.tbl_model.specs.Validations.{validate_by, first_pending, validation_of, judged_image, marked};
 ghost use Rattle.tbl_kinds.specs.Check.{check16};
 ghost use Rattle.validation.specs.Asked.{WasAsked};
 ghost use Rattle.table_update.specs.Answers.{requested, validated, verdicts_of, missing_refusal, full_refusal};
-ghost use Rattle.validation.specs.Ready.{HasImage, ArePending, HaveFunctions, HaveLoads, HaveSameFunctions};
+ghost use Rattle.tbl_model.specs.Fit.{HasImage};
+ghost use Rattle.validation.specs.Ready.{ArePending, HaveFunctions, HaveLoads, HaveSameFunctions};
 ghost use Rattle.validation.specs.Kits.{FewAsked};
 
 use crate::judging::{Judgement, checked, conclude, finish};
@@ -56,6 +57,7 @@ fn missing(tables: &Tables, row: u8, active: bool) -> Option<Answer>
     if !active && !table.load {
         return Some(Answer::plain(Status::ERR_NO_LOAD));
     }
+    // Another verdict could take the mark from a load that is about to go active.
     if !active && table.asked {
         return Some(Answer::plain(Status::ERR_UPDATE_PENDING));
     }
@@ -73,7 +75,7 @@ fn has_function(tables: &Tables, row: u8) -> bool
     table.validator.is_some()
 }
 
-/// The validation of this image comes behind those that are pending, or is refused.
+/// The validation of this image comes after those that are pending, or is refused.
 fn ask(pending: &mut Pending, row: u8, active: bool) -> Option<Answer>
     ensures refusal { result ≡ full_refusal pending.old row active }
     ensures asked { IfNone result (pending.new ≡ pending.old ++ (row, active) ∷ []) }
@@ -117,7 +119,8 @@ pub fn request_validation(
 ) -> Requested
     requires table { IsSome (table_at tables.old row) }
     requires pending { ArePending tables.old pending.old }
-    ensures effect { (s : State) → s.tables ≡ tables.old → s.pending ≡ pending.old → ForSome (table_at tables.old row) (λ t. validate_by s row t (Some active) ≡ requested s row t result tables.new pending.new) }
+    ensures effect { (s : State) → s.tables ≡ tables.old → s.pending ≡ pending.old
+        → ForSome (table_at tables.old row) (λ t. validate_by s row t (Some active) ≡ requested s row t result tables.new pending.new) }
     ensures pending { ArePending tables.new pending.new }
     ensures loads { HaveLoads tables.old → HaveLoads tables.new }
     ensures functions { HaveSameFunctions tables.old tables.new }
@@ -173,8 +176,10 @@ pub fn validate<C: Validator>(
     requires pending { ArePending tables.old pending.old }
     requires kit { HaveFunctions tables.old kit.old }
     requires few { FewAsked C.asked 1 kit.old }
-    ensures effect { (s : State) (given : Given) → s.tables ≡ tables.old → s.pending ≡ pending.old → given.verdicts ≡ verdicts_of result.judgement None → ForSome (table_at tables.old row) (λ t. do_validation s given row t (first_pending s.pending row) ≡ validated s row t result tables.new pending.new) }
-    ensures asked { (s : State) (given : Given) → s.tables ≡ tables.old → s.pending ≡ pending.old → given.verdicts ≡ verdicts_of result.judgement None → ForSome (table_at tables.old row) (λ t. WasAsked C.verdict C.asked kit.old kit.new (do_validation s given row t (first_pending s.pending row)).asked given.verdicts) }
+    ensures effect { (s : State) (given : Given) → s.tables ≡ tables.old → s.pending ≡ pending.old → given.verdicts ≡ verdicts_of result.judgement None
+        → ForSome (table_at tables.old row) (λ t. validation_of s given row t ≡ validated s row t result tables.new pending.new) }
+    ensures asked { (s : State) (given : Given) → s.tables ≡ tables.old → s.pending ≡ pending.old → given.verdicts ≡ verdicts_of result.judgement None
+        → ForSome (table_at tables.old row) (λ t. WasAsked C.verdict C.asked kit.old kit.new (validation_of s given row t).asked given.verdicts) }
     ensures pending { ArePending tables.new pending.new }
     ensures kit { HaveFunctions tables.new kit.new }
     ensures loads { HaveLoads tables.old → HaveLoads tables.new }

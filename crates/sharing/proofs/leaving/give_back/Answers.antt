@@ -3,7 +3,7 @@ use Rattle.tbl_kinds.specs.declared.status.TheConstants.Status.{SUCCESS, ERR_INV
 use Rattle.tbl_model.specs.State.{State}
 use Rattle.tbl_model.specs.TableSteps.{handle_at}
 use Rattle.tbl_model.specs.Effects.{answered}
-use Rattle.sharing.specs.Leaving.{left_with}
+use Rattle.tbl_model.specs.Effects.{left_with}
 use Rattle.sharing.proofs.GivenUp.{held}
 use Rattle.sharing.proofs.Running.{not_given, of_another, of_this}
 use Rattle.sharing.proofs.leaving.give_back.Goals as goal

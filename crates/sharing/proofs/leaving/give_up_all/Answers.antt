@@ -1,7 +1,7 @@
 use Rattle.std.proofs.Common.{◌≡◌, ◌∙◌, length, ap, sym, arith}
 use Rattle.tbl_model.specs.State.{State, Tables}
 use Rattle.tbl_model.specs.Sharing.{give_up_if}
-use Rattle.sharing.specs.Leaving.{left_with}
+use Rattle.tbl_model.specs.Effects.{left_with}
 use Rattle.sharing.proofs.GivenUp.{stays_left, fold_next, all_in_turn}
 use Rattle.sharing.proofs.leaving.give_up_all.Goals as goal
 

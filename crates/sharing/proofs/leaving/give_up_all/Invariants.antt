@@ -3,7 +3,7 @@ use Rattle.std.specs.List.{fold, range_with_len}
 use Rattle.tbl_model.specs.State.{State}
 use Rattle.tbl_model.specs.Sharing.{give_up_if}
 use Rattle.validation.specs.Ready.{ArePending, HaveLoads}
-use Rattle.sharing.specs.Leaving.{left_with}
+use Rattle.tbl_model.specs.Effects.{left_with}
 use Rattle.sharing.proofs.leaving.give_up_all.Given as goal
 
 abbrev pub invariant-loop-handle : goal.invariant-loop-handle

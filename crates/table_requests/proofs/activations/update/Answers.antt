@@ -21,8 +21,8 @@ pub returns-clause-effect : goal.returns-clause-effect
 returns-clause-effect c = λ s same_tables same_seconds same_sub t there.
     let answer = c.update-answer.result in
     let old = c.update-answer.new.tables in
-    let new = c.stamp.new.tables in
+    let new = c.set_update_time.new.tables in
     let is = c.made.ensures.effect s c.args.row t old (c.named-table.ensures t there) (c.activated-active.ensures t there) in
-    let time = c.stamp.ensures ∙ ap (λ b. cond b (set_time c.args.row c.args.clock.seconds c.args.clock.sub old) old) c.eq.ensures in
+    let time = c.set_update_time.ensures ∙ ap (λ b. cond b (set_time c.args.row c.args.clock.seconds c.args.clock.sub old) old) c.eq.ensures in
     rw (c.update-answer.ensures.effect s same_tables t there)
     (rw (stamped s c.args.row t answer old new c.args.clock.seconds c.args.clock.sub same_seconds same_sub time) at is)

@@ -19,11 +19,11 @@ returns-clause-effect g c = λ s same_tables same_pending same_seconds same_sub 
     let old = c.manage-done.new.tables in
     let name = ap (λ (n : Named). n.name) (c.named-name.ensures t there) in
     let deeds = c.told.ensures.deeds ∙ ap (λ n. managed_deeds row n m c.activated-active.result) name ∙ ap (managed_deeds row t.name m) (c.activated-active.ensures t there) in
-    let made = c.stamp.ensures ∙ ap (λ b. cond b (set_time row c.args.clock.seconds c.args.clock.sub old) old) c.eq.ensures in
+    let made = c.set_update_time.ensures ∙ ap (λ b. cond b (set_time row c.args.clock.seconds c.args.clock.sub old) old) c.eq.ensures in
     let time = made ∙ ap (λ seconds. cond (is_updated m.answer) (set_time row seconds c.args.clock.sub old) old) (sym same_seconds) ∙ ap (λ sub. cond (is_updated m.answer) (set_time row s.seconds sub old) old) (sym same_sub) in
-    subst (λ (e : model.Effect). IsEffect c.told.result e.asked (record s { tables = c.stamp.new.tables; pending = c.manage-done.new.pending }) e)
+    subst (λ (e : model.Effect). IsEffect c.told.result e.asked (record s { tables = c.set_update_time.new.tables; pending = c.manage-done.new.pending }) e)
     (sym (c.manage-done.ensures.effect s (given_of c.told.result) same_tables same_pending c.told.ensures.verdicts t there))
-    (is_managed s row t m old c.stamp.new.tables c.manage-done.new.pending c.told.result c.told.ensures.answer c.told.ensures.bytes c.told.ensures.table deeds c.told.ensures.shown c.told.ensures.notice time)
+    (is_managed s row t m old c.set_update_time.new.tables c.manage-done.new.pending c.told.result c.told.ensures.answer c.told.ensures.bytes c.told.ensures.table deeds c.told.ensures.shown c.told.ensures.notice time)
 
 pub returns-clause-asks : goal.returns-clause-asks
 returns-clause-asks g c = λ s same_tables same_pending t there.

@@ -6,13 +6,7 @@ use Rattle.validation.proofs.Ready.{some_is, judged_keeps, mark_has_functions, a
 use Rattle.table_update.proofs.judging.finish.Goals as goal
 
 pub judge-judgement-requires : goal.judge-judgement-requires
-judge-judgement-requires g c =
-    let can = c.requires.pending c.args.row c.args.active c.requires.this in record {
-      table = can.0;
-      validator = λ t there. (can.1 t there).0;
-      may = search rules;
-      image = λ t there. (can.1 t there).1;
-    }
+judge-judgement-requires g c = record { can = c.requires.pending c.args.row c.args.active c.requires.this; may = search rules }
 
 pub conclude-requires-clause-image : goal.conclude-requires-clause-image
 conclude-requires-clause-image g c = rw c.judge-judgement.ensures.active (λ t there. ((c.requires.pending c.args.row c.args.active c.requires.this).1 t there).1)
