@@ -35,13 +35,14 @@ use Rattle.tbl_kinds.specs.declared.block.Block.{Block}
 use Rattle.cds_store.specs.declared.fault.BankFault.{BankFault}
 use Rattle.cds_store.specs.declared.fault.BankFault.TheVariants.{Fault, Stopped as Cut}
 use Rattle.request_effects.specs.Effects.{IsEffect}
-use Rattle.tbl_laws.specs.Crashes.{DuringCalls, writes}
+use Rattle.tbl_session.specs.Crashes.{DuringCalls, writes}
 use Rattle.tbl_outside.specs.Bank.{LeavesOnly}
 use Rattle.cds_store.specs.Moments.{LeavesIn}
 use Rattle.store_requests.proofs.Moments.{one_leaves}
-use Rattle.store_requests.specs.Called.{Leaving, with_boot, broken_note, broken_status, done_note, call_note, call_status, IsTold, IsCalled, Calls}
+use Rattle.store_requests.specs.Called.{Leaving, with_boot, broken_note, broken_status, done_note, call_note, call_status, IsTold, unasked, IsCalled, Calls}
 use Rattle.tbl_model.specs.declared.deeds.Named.{Named}
 use Rattle.request_effects.specs.declared.effect.Effect.{Effect}
+use Rattle.tbl_outside.specs.declared.bank.Bank.{Ghosts}
 
 -- ---- the effect
 
@@ -71,20 +72,20 @@ torn_told {done} {status} {words} {bytes} {note} fresh empty told =
     told_with empty (ap (λ (n : BankNote). record (done_note n) { torn = words }) fresh) told
 
 -- it is enough to know it of the note that is told
-pub by_note : {B : Type 0} (tells : Type 0) (now : B → List ℕ) (tells_moments : Type 0) (clock : B → ℕ) (left_since : B → ℕ → List ℕ → Type 0) (first kept : StoreParts B) (s : State) (done : Effect) (means : BankNote → model.Effect) (note : BankNote) → done.note ≡ note
-    → ((ended stopped : Bool) (found : List ℕ) → IsCalled tells now tells_moments clock left_since first kept s [] done (with_boot ended stopped found note) (means (with_boot ended stopped found note)))
-    → Calls tells now tells_moments clock left_since first kept s done means
-by_note tells now tells_moments clock left_since first kept s done means note is all =
-    subst (λ (n : BankNote). (ended stopped : Bool) (found : List ℕ) → IsCalled tells now tells_moments clock left_since first kept s [] done (with_boot ended stopped found n) (means (with_boot ended stopped found n))) (sym is) all
+pub by_note : {B : Type 0} (g : Ghosts B) (first kept : StoreParts B) (s : State) (done : Effect) (means : BankNote → model.Effect) (note : BankNote) → done.note ≡ note
+    → ((ended stopped : Bool) (found : List ℕ) → IsCalled g first kept (unasked s) done (with_boot ended stopped found note) (means (with_boot ended stopped found note)))
+    → Calls g first kept s done means
+by_note g first kept s done means note is all =
+    subst (λ (n : BankNote). (ended stopped : Bool) (found : List ℕ) → IsCalled g first kept (unasked s) done (with_boot ended stopped found n) (means (with_boot ended stopped found n))) (sym is) all
 
 -- a note that tells of no restore
 abbrev pub Plain : BankNote → Type 0
 Plain note = (note.restored ≡ None) × (note.torn ≡ 0)
 
-module _ {B : Type 0} (tells : Type 0) (now : B → List ℕ) (tells_moments : Type 0) (clock : B → ℕ) (left_since : B → ℕ → List ℕ → Type 0) (first kept : StoreParts B) (s : State) (done : Effect) where
+module _ {B : Type 0} (g : Ghosts B) (first kept : StoreParts B) (s : State) (done : Effect) where
   -- an answer that calls nothing
-  pub calls_none : Leaving tells_moments clock left_since first kept (DuringCalls [] s.store) → (status : Status) (detail : ℕ) → IsTold done status detail [] untouched → StandsFor tells now kept s.store → Calls tells now tells_moments clock left_since first kept s done (λ n. answered s status detail)
-  calls_none moments status detail told stands = by_note tells now tells_moments clock left_since first kept s done (λ n. answered s status detail) untouched told.note_is (λ ended stopped found. record {
+  pub calls_none : Leaving g first kept (DuringCalls [] s.store) → (status : Status) (detail : ℕ) → IsTold done status detail [] untouched → StandsFor g.tells g.now kept s.store → Calls g first kept s done (λ n. answered s status detail)
+  calls_none moments status detail told stands = by_note g first kept s done (λ n. answered s status detail) untouched told.note_is (λ ended stopped found. record {
     blocks = stands;
     effect = told_so s s done status detail [] untouched told;
     ends = (refl, refl, (refl, refl));
@@ -96,11 +97,11 @@ module _ {B : Type 0} (tells : Type 0) (now : B → List ℕ) (tells_moments : T
 
   module _ (calls : List StoreCall) (status : Status) (detail : ℕ) (bytes : List ℕ) (note : BankNote) where
     -- all calls are done
-    pub calls_done : Leaving tells_moments clock left_since first kept (DuringCalls (writes calls) s.store) → IsTold done status detail bytes (done_note note) → StandsFor tells now kept (left_by calls (done_note note) s.store)
+    pub calls_done : Leaving g first kept (DuringCalls (writes calls) s.store) → IsTold done status detail bytes (done_note note) → StandsFor g.tells g.now kept (left_by calls (done_note note) s.store)
         → calls ≢ [] → note.done + 1 ≡ length calls → NoGate note
         → MayGoOn (take (note.done + 1) calls) s.store → ((n : BankNote) → n.restored ≡ note.restored → n.torn ≡ note.torn → Tells (take (note.done + 1) calls) n)
         → (ended stopped : Bool) (found : List ℕ)
-        → IsCalled tells now tells_moments clock left_since first kept s [] done (with_boot ended stopped found (done_note note)) (then_call calls (with_boot ended stopped found (done_note note)) faulted (record (answered s status detail) { bytes = bytes }))
+        → IsCalled g first kept (unasked s) done (with_boot ended stopped found (done_note note)) (then_call calls (with_boot ended stopped found (done_note note)) faulted (record (answered s status detail) { bytes = bytes }))
     calls_done moments told stands some many no_gate gave says ended stopped found = record {
       blocks = stands;
       effect = told_so s (record s { store = left_by calls (done_note note) s.store }) done status detail bytes (done_note note) told;
@@ -112,16 +113,16 @@ module _ {B : Type 0} (tells : Type 0) (now : B → List ℕ) (tells_moments : T
     }
 
     -- the next one broke off
-    pub calls_broke : Leaving tells_moments clock left_since first kept (DuringCalls (writes calls) s.store) → (call : StoreCall) → slice_get calls note.done ≡ Some call → (fault : BankFault)
+    pub calls_broke : Leaving g first kept (DuringCalls (writes calls) s.store) → (call : StoreCall) → slice_get calls note.done ≡ Some call → (fault : BankFault)
         → IsTold done (broken_status fault) 0 [] (broken_note fault note)
-        → StandsFor tells now kept (broken (is_gate fault) (is_old fault) call (after_first note.done calls s.store))
+        → StandsFor g.tells g.now kept (broken (is_gate fault) (is_old fault) call (after_first note.done calls s.store))
         → CanBreak (is_gate fault) (is_old fault) call (after_first note.done calls s.store) → ((broken_note fault note).outcome ≡ Stopped → (is_restore call ≡ false) × (writes calls ≡ calls))
         → MayGoOn (take note.done calls) s.store → ((n : BankNote) → n.restored ≡ note.restored → n.torn ≡ note.torn → Tells (take note.done calls) n)
         → (ended stopped : Bool) (found : List ℕ)
-        → IsCalled tells now tells_moments clock left_since first kept s [] done (with_boot ended stopped found (broken_note fault note)) (then_call calls (with_boot ended stopped found (broken_note fault note)) faulted (record (answered s status detail) { bytes = bytes }))
+        → IsCalled g first kept (unasked s) done (with_boot ended stopped found (broken_note fault note)) (then_call calls (with_boot ended stopped found (broken_note fault note)) faulted (record (answered s status detail) { bytes = bytes }))
     calls_broke moments call next (Fault gate old) told stands can writes gave says ended stopped found =
         let n = broken_note (Fault gate old) note in record {
-          blocks = subst (λ o. StandsFor tells now kept (then_broken n o (after_first note.done calls s.store))) (sym next) stands;
+          blocks = subst (λ o. StandsFor g.tells g.now kept (then_broken n o (after_first note.done calls s.store))) (sym next) stands;
           effect = told_so s (record s { store = left_by calls n s.store }) done ERR_CDS_FAULT 0 [] n told;
           ends = record { call = call; next = next; breaks = can };
           gave = gave;
@@ -131,9 +132,9 @@ module _ {B : Type 0} (tells : Type 0) (now : B → List ℕ) (tells_moments : T
         }
     calls_broke moments call next (Cut gate old) told stands can stops gave says ended stopped found =
         let n = broken_note (Cut gate old) note in
-        let behind = boot Processor (with_boot ended stopped found n) (record s { store = left_by calls n s.store }) in record {
-          blocks = subst (λ o. StandsFor tells now kept (then_broken n o (after_first note.done calls s.store))) (sym next) stands;
-          effect = told_so behind behind done INFO_STOPPED 0 [] n told;
+        let booted = boot Processor (with_boot ended stopped found n) (record s { store = left_by calls n s.store }) in record {
+          blocks = subst (λ o. StandsFor g.tells g.now kept (then_broken n o (after_first note.done calls s.store))) (sym next) stands;
+          effect = told_so booted booted done INFO_STOPPED 0 [] n told;
           ends = (record { call = call; next = next; breaks = can }, (stops refl).0);
           gave = gave;
           says = says (with_boot ended stopped found n) refl refl;
@@ -142,42 +143,42 @@ module _ {B : Type 0} (tells : Type 0) (now : B → List ℕ) (tells_moments : T
         }
 
   -- the first call broke off, which writes
-  pub first_broke : (call : StoreCall) (more : List StoreCall) → Leaving tells_moments clock left_since first kept (DuringCalls (writes (call ∷ more)) s.store) → (writes (call ∷ more) ≡ call ∷ more) → (status : Status) (detail : ℕ) (fault : BankFault) (before : StoreParts B) (gate old : Bool)
-      → is_restore call ≡ false → CanBreak gate old call s.store → HasFlags gate old fault → StandsFor tells now before s.store
-      → ((blocks : Blocks) → StandsFor tells now before blocks → StandsFor tells now kept (broken (is_gate fault) (is_old fault) call blocks))
+  pub first_broke : (call : StoreCall) (more : List StoreCall) → Leaving g first kept (DuringCalls (writes (call ∷ more)) s.store) → (writes (call ∷ more) ≡ call ∷ more) → (status : Status) (detail : ℕ) (fault : BankFault) (before : StoreParts B) (gate old : Bool)
+      → is_restore call ≡ false → CanBreak gate old call s.store → HasFlags gate old fault → StandsFor g.tells g.now before s.store
+      → ((blocks : Blocks) → StandsFor g.tells g.now before blocks → StandsFor g.tells g.now kept (broken (is_gate fault) (is_old fault) call blocks))
       → IsTold done (broken_status fault) 0 [] (broken_note fault untouched)
       → (ended stopped : Bool) (found : List ℕ)
-      → IsCalled tells now tells_moments clock left_since first kept s [] done (with_boot ended stopped found (broken_note fault untouched)) (then_call (call ∷ more) (with_boot ended stopped found (broken_note fault untouched)) faulted (answered s status detail))
+      → IsCalled g first kept (unasked s) done (with_boot ended stopped found (broken_note fault untouched)) (then_call (call ∷ more) (with_boot ended stopped found (broken_note fault untouched)) faulted (answered s status detail))
   first_broke call more moments all status detail fault before gate old plain can flags stands err told =
       calls_broke (call ∷ more) status detail [] untouched moments call refl fault told (err s.store stands)
       (subst (λ g. CanBreak g (is_old fault) call s.store) (sym flags.gate_is) (subst (λ o. CanBreak gate o call s.store) (sym flags.old_is) can))
       (λ is. (plain, all)) tt (λ n restored torn. (restored, torn))
 
   -- a single call that writes
-  pub one_call : (call : StoreCall) → Leaving tells_moments clock left_since first kept (DuringCalls (writes (call ∷ [])) s.store) → (writes (call ∷ []) ≡ call ∷ []) → (ended : Result Unit BankFault) (before : StoreParts B) (gate old : Bool)
+  pub one_call : (call : StoreCall) → Leaving g first kept (DuringCalls (writes (call ∷ [])) s.store) → (writes (call ∷ []) ≡ call ∷ []) → (ended : Result Unit BankFault) (before : StoreParts B) (gate old : Bool)
       → is_restore call ≡ false → ((store : Blocks) → MayGoOn (call ∷ []) store) → ((n : BankNote) → Plain n → Tells (call ∷ []) n)
       → CanBreak gate old call s.store → IfErr ended (HasFlags gate old)
-      → StandsFor tells now before s.store
-      → OnOk ended ((blocks : Blocks) → StandsFor tells now before blocks → StandsFor tells now kept (after call blocks))
-      → IfErr ended (λ fault. (blocks : Blocks) → StandsFor tells now before blocks → StandsFor tells now kept (broken (is_gate fault) (is_old fault) call blocks))
+      → StandsFor g.tells g.now before s.store
+      → OnOk ended ((blocks : Blocks) → StandsFor g.tells g.now before blocks → StandsFor g.tells g.now kept (after call blocks))
+      → IfErr ended (λ fault. (blocks : Blocks) → StandsFor g.tells g.now before blocks → StandsFor g.tells g.now kept (broken (is_gate fault) (is_old fault) call blocks))
       → IsTold done (call_status ended) 0 [] (call_note ended untouched)
-      → Calls tells now tells_moments clock left_since first kept s done (λ n. then_call (call ∷ []) n faulted (answered s SUCCESS 0))
+      → Calls g first kept s done (λ n. then_call (call ∷ []) n faulted (answered s SUCCESS 0))
   one_call call moments all (Ok x) before gate old plain gave says can flags stands ok err told =
-      by_note tells now tells_moments clock left_since first kept s done (λ n. then_call (call ∷ []) n faulted (answered s SUCCESS 0)) (done_note untouched) told.note_is
+      by_note g first kept s done (λ n. then_call (call ∷ []) n faulted (answered s SUCCESS 0)) (done_note untouched) told.note_is
       (calls_done (call ∷ []) SUCCESS 0 [] untouched moments told (ok s.store stands) (λ is. cc is) refl (refl, refl) (gave s.store) (λ n restored torn. says n (restored, torn)))
   one_call call moments all (Err fault) before gate old plain gave says can flags stands ok err told =
-      by_note tells now tells_moments clock left_since first kept s done (λ n. then_call (call ∷ []) n faulted (answered s SUCCESS 0)) (broken_note fault untouched) told.note_is
+      by_note g first kept s done (λ n. then_call (call ∷ []) n faulted (answered s SUCCESS 0)) (broken_note fault untouched) told.note_is
       (first_broke call [] moments all SUCCESS 0 fault before gate old plain can flags stands err told)
 
   -- what means the same
-  pub calls_same : (one other : BankNote → model.Effect) → ((n : BankNote) → other n ≡ one n) → Calls tells now tells_moments clock left_since first kept s done one → Calls tells now tells_moments clock left_since first kept s done other
+  pub calls_same : (one other : BankNote → model.Effect) → ((n : BankNote) → other n ≡ one n) → Calls g first kept s done one → Calls g first kept s done other
   calls_same one other same all ended stopped found =
       let n = with_boot ended stopped found done.note in
-      subst (IsCalled tells now tells_moments clock left_since first kept s [] done n) (sym (same n)) (all ended stopped found)
+      subst (IsCalled g first kept (unasked s) done n) (sym (same n)) (all ended stopped found)
 
   -- a command is about this table
-  pub calls_about : (table named : Option Named) (means : BankNote → model.Effect) → named ≡ table → Calls tells now tells_moments clock left_since first kept s done means
-      → Calls tells now tells_moments clock left_since first kept s (record done { table = table }) (λ n. record (means n) { table = named })
+  pub calls_about : (table named : Option Named) (means : BankNote → model.Effect) → named ≡ table → Calls g first kept s done means
+      → Calls g first kept s (record done { table = table }) (λ n. record (means n) { table = named })
   calls_about table named means same all ended stopped found =
       let is = all ended stopped found in record {
         blocks = is.blocks;
@@ -201,21 +202,21 @@ module _ {B : Type 0} (tells : Type 0) (now : B → List ℕ) (tells_moments : T
       }
 
 -- a copy of an image of this size, and the deletion of a block
-module _ {B : Type 0} (tells : Type 0) (now : B → List ℕ) (tells_moments : Type 0) (clock : B → ℕ) (left_since : B → ℕ → List ℕ → Type 0) (first before kept : StoreParts B) (s : State) (done : Effect) (slot : ℕ) (ended : Result Unit BankFault) (stands : StandsFor tells now before s.store) (told : IsTold done (call_status ended) 0 [] (call_note ended untouched)) where
-  pub copy_called : (image : List ℕ) (size : ℕ) → (tells_moments → LeavesOnly clock left_since first.bank kept.bank (LeavesIn (copy slot image) s.store)) → length image ≡ size → IfErr ended (HasFlags false false)
-      → OnOk ended ((blocks : Blocks) → StandsFor tells now before blocks → StandsFor tells now kept (after (copy slot image) blocks))
-      → IfErr ended (λ fault. (blocks : Blocks) → StandsFor tells now before blocks → StandsFor tells now kept (broken (is_gate fault) (is_old fault) (copy slot image) blocks))
-      → Calls tells now tells_moments clock left_since first kept s done (λ n. if length image == size then then_call (copy slot image ∷ []) n faulted (answered s SUCCESS 0) else answered s ERR_IMAGE_SIZE 0)
+module _ {B : Type 0} (g : Ghosts B) (first before kept : StoreParts B) (s : State) (done : Effect) (slot : ℕ) (ended : Result Unit BankFault) (stands : StandsFor g.tells g.now before s.store) (told : IsTold done (call_status ended) 0 [] (call_note ended untouched)) where
+  pub copy_called : (image : List ℕ) (size : ℕ) → (g.tells_moments → LeavesOnly g.clock g.left_since first.bank kept.bank (LeavesIn (copy slot image) s.store)) → length image ≡ size → IfErr ended (HasFlags false false)
+      → OnOk ended ((blocks : Blocks) → StandsFor g.tells g.now before blocks → StandsFor g.tells g.now kept (after (copy slot image) blocks))
+      → IfErr ended (λ fault. (blocks : Blocks) → StandsFor g.tells g.now before blocks → StandsFor g.tells g.now kept (broken (is_gate fault) (is_old fault) (copy slot image) blocks))
+      → Calls g first kept s done (λ n. if length image == size then then_call (copy slot image ∷ []) n faulted (answered s SUCCESS 0) else answered s ERR_IMAGE_SIZE 0)
   copy_called image size left fits flags ok err =
-      calls_same tells now tells_moments clock left_since first kept s done (λ n. then_call (copy slot image ∷ []) n faulted (answered s SUCCESS 0)) (λ n. if length image == size then then_call (copy slot image ∷ []) n faulted (answered s SUCCESS 0) else answered s ERR_IMAGE_SIZE 0)
+      calls_same g first kept s done (λ n. then_call (copy slot image ∷ []) n faulted (answered s SUCCESS 0)) (λ n. if length image == size then then_call (copy slot image ∷ []) n faulted (answered s SUCCESS 0) else answered s ERR_IMAGE_SIZE 0)
       (λ n. ap (λ b. if b then then_call (copy slot image ∷ []) n faulted (answered s SUCCESS 0) else answered s ERR_IMAGE_SIZE 0) (eq-eqb (length image) size fits))
-      (one_call tells now tells_moments clock left_since first kept s done (copy slot image) (one_leaves tells_moments clock left_since first kept (copy slot image) [] s.store left) refl ended before false false refl (λ store. (tt, tt)) (λ n plain. plain) (refl, refl) flags stands ok err told)
+      (one_call g first kept s done (copy slot image) (one_leaves g first kept (copy slot image) [] s.store left) refl ended before false false refl (λ store. (tt, tt)) (λ n plain. plain) (refl, refl) flags stands ok err told)
 
-  pub delete_called : (tells_moments → LeavesOnly clock left_since first.bank kept.bank (LeavesIn (delete slot) s.store)) → IfErr ended (HasFlags true false)
-      → OnOk ended ((blocks : Blocks) → StandsFor tells now before blocks → StandsFor tells now kept (after (delete slot) blocks))
-      → IfErr ended (λ fault. (blocks : Blocks) → StandsFor tells now before blocks → StandsFor tells now kept (broken (is_gate fault) (is_old fault) (delete slot) blocks))
-      → Calls tells now tells_moments clock left_since first kept s done (λ n. then_call (delete slot ∷ []) n faulted (answered s SUCCESS 0))
-  delete_called left flags ok err = one_call tells now tells_moments clock left_since first kept s done (delete slot) (one_leaves tells_moments clock left_since first kept (delete slot) [] s.store left) refl ended before true false refl (λ store. (tt, tt)) (λ n plain. plain) (refl, refl) flags stands ok err told
+  pub delete_called : (g.tells_moments → LeavesOnly g.clock g.left_since first.bank kept.bank (LeavesIn (delete slot) s.store)) → IfErr ended (HasFlags true false)
+      → OnOk ended ((blocks : Blocks) → StandsFor g.tells g.now before blocks → StandsFor g.tells g.now kept (after (delete slot) blocks))
+      → IfErr ended (λ fault. (blocks : Blocks) → StandsFor g.tells g.now before blocks → StandsFor g.tells g.now kept (broken (is_gate fault) (is_old fault) (delete slot) blocks))
+      → Calls g first kept s done (λ n. then_call (delete slot ∷ []) n faulted (answered s SUCCESS 0))
+  delete_called left flags ok err = one_call g first kept s done (delete slot) (one_leaves g first kept (delete slot) [] s.store left) refl ended before true false refl (λ store. (tt, tt)) (λ n plain. plain) (refl, refl) flags stands ok err told
 
 -- ---- a restore
 
@@ -255,43 +256,43 @@ module _ (bytes : List ℕ) (blocks : Blocks) (slot : ℕ) where
       let at : slot_at slots slot ≡ Some (slot_of b) = slot_is [] slots blocks same slot ∙ ap (option_map slot_of) there in
       subst (MayGive b) (none (slot_of b) at) (held slot b there)
 
-module _ {B : Type 0} (tells : Type 0) (now : B → List ℕ) (tells_moments : Type 0) (clock : B → ℕ) (left_since : B → ℕ → List ℕ → Type 0) (first before kept : StoreParts B) (s : State) (done : Effect) (slot : ℕ) (stands : StandsFor tells now before s.store) (moments : Leaving tells_moments clock left_since first kept (DuringCalls [] s.store)) where
+module _ {B : Type 0} (g : Ghosts B) (first before kept : StoreParts B) (s : State) (done : Effect) (slot : ℕ) (stands : StandsFor g.tells g.now before s.store) (moments : Leaving g first kept (DuringCalls [] s.store)) where
   abbrev Restores : Type 0
-  Restores = Calls tells now tells_moments clock left_since first kept s done (λ n. then_call (restore slot (restored_image n) ∷ []) n faulted (restore_answer s n.torn (restored_image n)))
+  Restores = Calls g first kept s done (λ n. then_call (restore slot (restored_image n) ∷ []) n faulted (restore_answer s n.torn (restored_image n)))
 
   abbrev means : BankNote → model.Effect
   means n = then_call (restore slot (restored_image n) ∷ []) n faulted (restore_answer s n.torn (restored_image n))
 
   pub given_called : (image : List ℕ) (kept_bytes : Option Buffer) → option_map (λ (b : Buffer). b.list) kept_bytes ≡ Some image
       → ForSome (stored_at s.store slot) (λ b. MayGive b (Some image)) → ForSome (stored_at s.store slot) (λ b. length image ≡ b.block.size)
-      → StandsFor tells now kept (after (restore slot (Some image)) s.store)
+      → StandsFor g.tells g.now kept (after (restore slot (Some image)) s.store)
       → IsTold done SUCCESS 0 image (record (done_note untouched) { restored = kept_bytes })
       → Restores
   given_called image None is gives sized left told = absurd (cc is)
   given_called image (Some b) is gives sized left told =
       let same : b.list ≡ image = same_Some b.list image is in
-      by_note tells now tells_moments clock left_since first kept s done means (record (done_note untouched) { restored = Some b }) told.note_is
-      (calls_done tells now tells_moments clock left_since first kept s done (restore slot (Some b.list) ∷ []) SUCCESS 0 b.list (record untouched { restored = Some b }) moments (told_with (sym same) refl told)
-      (subst (λ i. StandsFor tells now kept (after (restore slot (Some i)) s.store)) (sym same) left) (λ is. cc is) refl (refl, refl)
+      by_note g first kept s done means (record (done_note untouched) { restored = Some b }) told.note_is
+      (calls_done g first kept s done (restore slot (Some b.list) ∷ []) SUCCESS 0 b.list (record untouched { restored = Some b }) moments (told_with (sym same) refl told)
+      (subst (λ i. StandsFor g.tells g.now kept (after (restore slot (Some i)) s.store)) (sym same) left) (λ is. cc is) refl (refl, refl)
       (subst (λ (i : List ℕ). MayGo (restore slot (Some i)) s.store) (sym same) (λ b there. (gives b there, sized b there)), tt)
       (λ n restored torn. (ap (option_map (λ (b : Buffer). b.list)) restored, λ given. torn)))
 
-  pub torn_called : tells → (broke : RestoreFault) (length word found words : ℕ) → broke ≡ Torn length word found
-      → (tells → ForSome (slot_at before.slots slot) (λ t. TellsTorn (now before.bank) t.block broke))
-      → ((blocks : Blocks) → StandsFor tells now before blocks → StandsFor tells now kept (after_fault broke slot blocks))
+  pub torn_called : g.tells → (broke : RestoreFault) (length word found words : ℕ) → broke ≡ Torn length word found
+      → (g.tells → ForSome (slot_at before.slots slot) (λ t. TellsTorn (g.now before.bank) t.block broke))
+      → ((blocks : Blocks) → StandsFor g.tells g.now before blocks → StandsFor g.tells g.now kept (after_fault broke slot blocks))
       → IsTold done ERR_CDS_TORN words [] (record (done_note untouched) { torn = words })
       → Restores
   torn_called told broke length word found words is none left answer =
-      let gives = gives_none (now before.bank) s.store slot before.slots stands.slots (stands.holds told) (λ t at. (subst (TellsTorn (now before.bank) t.block) is (none told t at)).no_image) in
-      let there = subst (λ f. StandsFor tells now kept (after_fault f slot s.store)) is (left s.store stands) in
-      by_note tells now tells_moments clock left_since first kept s done means (record (done_note untouched) { torn = words }) answer.note_is
-      (calls_done tells now tells_moments clock left_since first kept s done (restore slot None ∷ []) ERR_CDS_TORN words [] (record untouched { torn = words }) moments answer there (λ is. cc is) refl (refl, refl) ((λ b there. (gives b there, tt)), tt)
+      let gives = gives_none (g.now before.bank) s.store slot before.slots stands.slots (stands.holds told) (λ t at. (subst (TellsTorn (g.now before.bank) t.block) is (none told t at)).no_image) in
+      let there = subst (λ f. StandsFor g.tells g.now kept (after_fault f slot s.store)) is (left s.store stands) in
+      by_note g first kept s done means (record (done_note untouched) { torn = words }) answer.note_is
+      (calls_done g first kept s done (restore slot None ∷ []) ERR_CDS_TORN words [] (record untouched { torn = words }) moments answer there (λ is. cc is) refl (refl, refl) ((λ b there. (gives b there, tt)), tt)
       (λ n restored torn. (ap (option_map (λ (b : Buffer). b.list)) restored, λ given. absurd (cc given))))
 
   pub unread_called : (broke : RestoreFault) → broke ≡ Unread
-      → ((blocks : Blocks) → StandsFor tells now before blocks → StandsFor tells now kept (after_fault broke slot blocks))
+      → ((blocks : Blocks) → StandsFor g.tells g.now before blocks → StandsFor g.tells g.now kept (after_fault broke slot blocks))
       → IsTold done ERR_CDS_FAULT 0 [] (broken_note (Fault false false) untouched) → Restores
   unread_called broke is left told =
-      let there = subst (λ f. StandsFor tells now kept (after_fault f slot s.store)) is (left s.store stands) in
-      by_note tells now tells_moments clock left_since first kept s done means (broken_note (Fault false false) untouched) told.note_is
-      (calls_broke tells now tells_moments clock left_since first kept s done (restore slot None ∷ []) ERR_CDS_TORN 0 [] untouched moments (restore slot None) refl (Fault false false) told there (refl, refl) (λ is. absurd (cc is)) tt (λ n restored torn. (restored, torn)))
+      let there = subst (λ f. StandsFor g.tells g.now kept (after_fault f slot s.store)) is (left s.store stands) in
+      by_note g first kept s done means (broken_note (Fault false false) untouched) told.note_is
+      (calls_broke g first kept s done (restore slot None ∷ []) ERR_CDS_TORN 0 [] untouched moments (restore slot None) refl (Fault false false) told there (refl, refl) (λ is. absurd (cc is)) tt (λ n restored torn. (restored, torn)))

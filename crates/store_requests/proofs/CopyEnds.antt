@@ -25,10 +25,10 @@ use Rattle.cds_store.specs.Standing.{StoreParts, StandsFor}
 use Rattle.cds_store.specs.declared.slot.Slot.{Slot}
 use Rattle.cds_store.specs.declared.fault.BankFault.{BankFault}
 use Rattle.cds_store.specs.declared.fault.BankFault.TheVariants.{Fault, Stopped as Cut}
-use Rattle.tbl_outside.specs.Counts.{Rose}
+use Rattle.tbl_outside.specs.Counts.{Rose, RoseBy}
 use Rattle.std.proofs.lemmas.List.{length-append}
-use Rattle.store_requests.specs.Called.{RoseBy, with_boot, done_note, broken_note, IsCalled, CallsBehind}
-use Rattle.tbl_laws.specs.Crashes.{DuringCalls, writes}
+use Rattle.store_requests.specs.Called.{with_boot, done_note, broken_note, done_first, IsCalled, CallsAfter}
+use Rattle.tbl_session.specs.Crashes.{DuringCalls, writes}
 use Rattle.tbl_outside.specs.Bank.{LeavesOnly}
 use Rattle.tbl_outside.proofs.Moments.{leaves_among}
 use Rattle.cds_layout.specs.Images.{store_of}
@@ -37,6 +37,7 @@ use Rattle.store_requests.proofs.Moments.{one_leaves}
 use Rattle.store_requests.specs.Copying.{IsCopied, IsCopyCall}
 use Rattle.request_effects.specs.Effects.{IsEffect}
 use Rattle.request_effects.specs.declared.effect.Effect.{Effect}
+use Rattle.tbl_outside.specs.declared.bank.Bank.{Ghosts}
 
 -- ---- the block of a table
 
@@ -54,20 +55,20 @@ open_of_size kind name slots n size b found is sized = open_in_slot kind name si
 
 -- ---- what the request did before
 
-module _ {B : Type 0} (tells : Type 0) (now : B → List ℕ) (tells_moments : Type 0) (clock : B → ℕ) (left_since : B → ℕ → List ℕ → Type 0) (first kept : StoreParts B) (e : model.Effect) (before : Effect) (is : IsEffect before e.asked e.next e) where
-  abbrev Behind : Effect → (BankNote → model.Effect) → Type 0
-  Behind done means = CallsBehind tells now tells_moments clock left_since first kept e.next e.asked done means
+module _ {B : Type 0} (g : Ghosts B) (first kept : StoreParts B) (e : model.Effect) (before : Effect) (is : IsEffect before e.asked e.next e) where
+  abbrev Copies : Effect → (BankNote → model.Effect) → Type 0
+  Copies done means = CallsAfter g first kept (done_first e) done means
 
   -- it is enough to know it of the note that is told
   by_told : (done : Effect) (means : BankNote → model.Effect) (note : BankNote) → done.note ≡ note
-      → ((ended stopped : Bool) (found : List ℕ) → IsCalled tells now tells_moments clock left_since first kept e.next e.asked done (with_boot ended stopped found note) (means (with_boot ended stopped found note))) → Behind done means
+      → ((ended stopped : Bool) (found : List ℕ) → IsCalled g first kept (done_first e) done (with_boot ended stopped found note) (means (with_boot ended stopped found note))) → Copies done means
   by_told done means note told all =
-      subst (λ (n : BankNote). (ended stopped : Bool) (found : List ℕ) → IsCalled tells now tells_moments clock left_since first kept e.next e.asked done (with_boot ended stopped found n) (means (with_boot ended stopped found n))) (sym told) all
+      subst (λ (n : BankNote). (ended stopped : Bool) (found : List ℕ) → IsCalled g first kept (done_first e) done (with_boot ended stopped found n) (means (with_boot ended stopped found n))) (sym told) all
 
-  -- nothing is copied behind it
-  alone : (tells_moments → LeavesOnly clock left_since first.bank kept.bank (λ image. (calls : List StoreCall) → DuringCalls calls e.next.store (store_of image))) → before.note ≡ untouched → StandsFor tells now kept e.next.store → Behind before (λ n. e)
+  -- nothing is copied after it
+  alone : (g.tells_moments → LeavesOnly g.clock g.left_since first.bank kept.bank (λ image. (calls : List StoreCall) → DuringCalls calls e.next.store (store_of image))) → before.note ≡ untouched → StandsFor g.tells g.now kept e.next.store → Copies before (λ n. e)
   alone moments told stands = by_told before (λ n. e) untouched told (λ ended stopped found. record {
-    blocks = subst (λ (calls : List StoreCall). StandsFor tells now kept (left_by calls (with_boot ended stopped found untouched) e.next.store)) (sym is.calls) stands;
+    blocks = subst (λ (calls : List StoreCall). StandsFor g.tells g.now kept (left_by calls (with_boot ended stopped found untouched) e.next.store)) (sym is.calls) stands;
     effect = record {
       status = is.status;
       detail = is.detail;
@@ -87,17 +88,17 @@ module _ {B : Type 0} (tells : Type 0) (now : B → List ℕ) (tells_moments : T
     moments = λ m. leaves_among (moments m) (λ image all. all (writes e.calls));
   })
 
-  pub stays : (tells_moments → LeavesOnly clock left_since first.bank kept.bank (λ image. (calls : List StoreCall) → DuringCalls calls e.next.store (store_of image))) → (means : BankNote → model.Effect) → ((n : BankNote) → means n ≡ e) → before.note ≡ untouched → StandsFor tells now kept e.next.store → Behind before means
+  pub stays : (g.tells_moments → LeavesOnly g.clock g.left_since first.bank kept.bank (λ image. (calls : List StoreCall) → DuringCalls calls e.next.store (store_of image))) → (means : BankNote → model.Effect) → ((n : BankNote) → means n ≡ e) → before.note ≡ untouched → StandsFor g.tells g.now kept e.next.store → Copies before means
   stays moments means same told stands ended stopped found =
       let n = with_boot ended stopped found before.note in
-      subst (IsCalled tells now tells_moments clock left_since first kept e.next e.asked before n) (sym (same n)) (alone moments told stands ended stopped found)
+      subst (IsCalled g first kept (done_first e) before n) (sym (same n)) (alone moments told stands ended stopped found)
 
   -- it is copied into this slot
-  pub copied_behind : (prior : StoreParts B) (row slot : ℕ) (image : List ℕ) (done : Effect) (ended : Result Unit BankFault) → (tells_moments → LeavesOnly clock left_since first.bank kept.bank (LeavesIn (copy slot image) e.next.store)) → StandsFor tells now prior e.next.store → IfErr ended (HasFlags false false)
-      → OnOk ended ((blocks : Blocks) → StandsFor tells now prior blocks → StandsFor tells now kept (after (copy slot image) blocks))
-      → IfErr ended (λ fault. (blocks : Blocks) → StandsFor tells now prior blocks → StandsFor tells now kept (broken (is_gate fault) (is_old fault) (copy slot image) blocks))
-      → IsCopied row slot ended before done → Behind done (λ n. copied_to row n e (Some slot) (Some image))
-  copied_behind prior row slot image done (Ok x) left stands flags ok err copied = by_told done (λ n. copied_to row n e (Some slot) (Some image)) (done_note untouched) copied.note (λ ended stopped found. record {
+  pub copied_after : (prior : StoreParts B) (row slot : ℕ) (image : List ℕ) (done : Effect) (ended : Result Unit BankFault) → (g.tells_moments → LeavesOnly g.clock g.left_since first.bank kept.bank (LeavesIn (copy slot image) e.next.store)) → StandsFor g.tells g.now prior e.next.store → IfErr ended (HasFlags false false)
+      → OnOk ended ((blocks : Blocks) → StandsFor g.tells g.now prior blocks → StandsFor g.tells g.now kept (after (copy slot image) blocks))
+      → IfErr ended (λ fault. (blocks : Blocks) → StandsFor g.tells g.now prior blocks → StandsFor g.tells g.now kept (broken (is_gate fault) (is_old fault) (copy slot image) blocks))
+      → IsCopied row slot ended before done → Copies done (λ n. copied_to row n e (Some slot) (Some image))
+  copied_after prior row slot image done (Ok x) left stands flags ok err copied = by_told done (λ n. copied_to row n e (Some slot) (Some image)) (done_note untouched) copied.note (λ ended stopped found. record {
     blocks = ok e.next.store stands;
     effect = record {
       status = is.status ∙ ap (λ (a : Answer). a.status) (sym copied.answer);
@@ -115,9 +116,9 @@ module _ {B : Type 0} (tells : Type 0) (now : B → List ℕ) (tells_moments : T
     gave = (tt, tt);
     says = (refl, refl);
     writing = λ stop. refl;
-    moments = one_leaves tells_moments clock left_since first kept (copy slot image) [] e.next.store left;
+    moments = one_leaves g first kept (copy slot image) [] e.next.store left;
   })
-  copied_behind prior row slot image done (Err (Fault gate old)) left stands flags ok err copied = by_told done (λ n. copied_to row n e (Some slot) (Some image)) (broken_note (Fault gate old) untouched) copied.note (λ ended stopped found. record {
+  copied_after prior row slot image done (Err (Fault gate old)) left stands flags ok err copied = by_told done (λ n. copied_to row n e (Some slot) (Some image)) (broken_note (Fault gate old) untouched) copied.note (λ ended stopped found. record {
     blocks = err e.next.store stands;
     effect = record {
       status = is.status ∙ ap (λ (a : Answer). a.status) (sym copied.answer);
@@ -135,9 +136,9 @@ module _ {B : Type 0} (tells : Type 0) (now : B → List ℕ) (tells_moments : T
     gave = tt;
     says = (refl, refl);
     writing = λ stop. refl;
-    moments = one_leaves tells_moments clock left_since first kept (copy slot image) [] e.next.store left;
+    moments = one_leaves g first kept (copy slot image) [] e.next.store left;
   })
-  copied_behind prior row slot image done (Err (Cut gate old)) left stands flags ok err copied = by_told done (λ n. copied_to row n e (Some slot) (Some image)) (broken_note (Cut gate old) untouched) copied.note (λ ended stopped found. record {
+  copied_after prior row slot image done (Err (Cut gate old)) left stands flags ok err copied = by_told done (λ n. copied_to row n e (Some slot) (Some image)) (broken_note (Cut gate old) untouched) copied.note (λ ended stopped found. record {
     blocks = err e.next.store stands;
     effect = record {
       status = ap (λ (a : Answer). a.status) (sym copied.answer);
@@ -155,14 +156,14 @@ module _ {B : Type 0} (tells : Type 0) (now : B → List ℕ) (tells_moments : T
     gave = tt;
     says = (refl, refl);
     writing = λ stop. refl;
-    moments = one_leaves tells_moments clock left_since first kept (copy slot image) [] e.next.store left;
+    moments = one_leaves g first kept (copy slot image) [] e.next.store left;
   })
 
   -- what means the same
-  pub behind_same : (done : Effect) (one other : BankNote → model.Effect) → ((n : BankNote) → other n ≡ one n) → Behind done one → Behind done other
-  behind_same done one other same all ended stopped found =
+  pub same_copies : (done : Effect) (one other : BankNote → model.Effect) → ((n : BankNote) → other n ≡ one n) → Copies done one → Copies done other
+  same_copies done one other same all ended stopped found =
       let n = with_boot ended stopped found done.note in
-      subst (IsCalled tells now tells_moments clock left_since first kept e.next e.asked done n) (sym (same n)) (all ended stopped found)
+      subst (IsCalled g first kept (done_first e) done n) (sym (same n)) (all ended stopped found)
 
 -- ---- how much is told, and the counts of the bank
 
@@ -173,9 +174,9 @@ rose_one before now (inr top) = inr (omega (arith, top))
 one_more : (deeds : List Deed) (deed : Deed) (most : ℕ) → length deeds ≤ most → length (deeds ++ deed ∷ []) ≤ suc most
 one_more deeds deed most few = let both = length-append deeds (deed ∷ []) in omega (arith, few, both)
 
-pub copied_call : {B : Type 0} (faults stops : B → ℕ) (old new : StoreParts B) (before done : Effect) (row slot : ℕ) (ended : Result Unit BankFault) → new.booted ≡ true → faults old.bank ≤ faults new.bank → stops old.bank ≤ stops new.bank → CallCounted faults stops old.bank new.bank ended → IsCopied row slot ended before done
-    → IsCopyCall faults stops old new before done
-copied_call faults stops old new before done row slot (Ok x) booted more_faults more_stops counted copied = record {
+pub copied_call : {B : Type 0} (g : Ghosts B) (old new : StoreParts B) (before done : Effect) (row slot : ℕ) (ended : Result Unit BankFault) → new.booted ≡ true → g.faults old.bank ≤ g.faults new.bank → g.stops old.bank ≤ g.stops new.bank → CallCounted g.faults g.stops old.bank new.bank ended → IsCopied row slot ended before done
+    → IsCopyCall g old new before done
+copied_call g old new before done row slot (Ok x) booted more_faults more_stops counted copied = record {
   within = λ most room owes within. record {
     deeds = let few = within.deeds in rw copied.deeds (omega (arith, few));
     shown = rw copied.shown within.shown;
@@ -187,10 +188,10 @@ copied_call faults stops old new before done row slot (Ok x) booted more_faults 
   no_boot = rw copied.note (record { ended = refl; stopped = refl; found = refl });
   stopped = rw copied.note (λ is. absurd (cc is));
   answer = inl (ap (λ (a : Answer). a.status) copied.answer);
-  trouble = rw copied.note (let a = counted.0 in let b = counted.1 in record { fault_count = more_faults; stop_count = more_stops; fault = inl (omega (arith, a)); stop = inl (omega (arith, b)) });
+  trouble = rw copied.note (let a = counted.0 in let b = counted.1 in record { fault_count = more_faults; stop_count = more_stops; fault = inl (omega (arith, a)); stop = inl (omega (arith, b)); no_fault = λ none. a; no_stop = λ none. b });
   booted = booted;
 }
-copied_call faults stops old new before done row slot (Err (Fault gate prior)) booted more_faults more_stops counted copied = record {
+copied_call g old new before done row slot (Err (Fault gate prior)) booted more_faults more_stops counted copied = record {
   within = λ most room owes within. record {
     deeds = let few = within.deeds in rw copied.deeds (one_more before.deeds.items (CopyFailed row slot) most few);
     shown = rw copied.shown within.shown;
@@ -202,10 +203,10 @@ copied_call faults stops old new before done row slot (Err (Fault gate prior)) b
   no_boot = rw copied.note (record { ended = refl; stopped = refl; found = refl });
   stopped = rw copied.note (λ is. absurd (cc is));
   answer = inl (ap (λ (a : Answer). a.status) copied.answer);
-  trouble = rw copied.note (let b = counted.1 in record { fault_count = more_faults; stop_count = more_stops; fault = rose_one _ _ counted.0; stop = inl (omega (arith, b)) });
+  trouble = rw copied.note (let b = counted.1 in record { fault_count = more_faults; stop_count = more_stops; fault = rose_one _ _ counted.0; stop = inl (omega (arith, b)); no_fault = λ none. absurd (cc none); no_stop = λ none. b });
   booted = booted;
 }
-copied_call faults stops old new before done row slot (Err (Cut gate prior)) booted more_faults more_stops counted copied = record {
+copied_call g old new before done row slot (Err (Cut gate prior)) booted more_faults more_stops counted copied = record {
   within = λ most room owes within. record {
     deeds = let few = within.deeds in rw copied.deeds (omega (arith, few));
     shown = rw copied.shown (omega arith);
@@ -217,7 +218,7 @@ copied_call faults stops old new before done row slot (Err (Cut gate prior)) boo
   no_boot = rw copied.note (record { ended = refl; stopped = refl; found = refl });
   stopped = λ is. ap (λ (a : Answer). a.status) copied.answer;
   answer = inr (ap (λ (a : Answer). a.status) copied.answer, rw copied.note refl);
-  trouble = rw copied.note (let b = counted.1 in record { fault_count = more_faults; stop_count = more_stops; fault = inl (omega (arith, b)); stop = rose_one _ _ counted.0 });
+  trouble = rw copied.note (let b = counted.1 in record { fault_count = more_faults; stop_count = more_stops; fault = inl (omega (arith, b)); stop = rose_one _ _ counted.0; no_fault = λ none. b; no_stop = λ none. absurd (cc none) });
   booted = booted;
 }
 

@@ -14,7 +14,7 @@ use Rattle.tbl_model.specs.Tables.{is_critical, critical_count}
 use Rattle.tbl_model.specs.TableSteps.{new_table, as_registered, with_first, added}
 use Rattle.tbl_model.specs.Refusals.{may_use}
 use Rattle.tbl_model.specs.Registration.{new_effect}
-use Rattle.tbl_laws.specs.Fit.{AreFit}
+use Rattle.tbl_model.specs.Fit.{AreFit}
 use Rattle.tbl_laws.proofs.Changes.{grown}
 use Rattle.tbl_laws.proofs.Ordinary.{new_row}
 use Rattle.std.proofs.lemmas.Bool.Decides.{nat_tests}

@@ -1,3 +1,4 @@
+pub mod BankAsked
 pub mod Both
 pub mod Calls
 pub mod CopyEnds

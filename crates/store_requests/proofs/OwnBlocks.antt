@@ -26,6 +26,7 @@ use Rattle.cds_store.specs.Standing.{StoreParts, StandsFor, slot_of}
 use Rattle.cds_store.proofs.Showing.{slot_is}
 use Rattle.cds_store.specs.declared.slot.Slot.{Slot}
 use Rattle.store_requests.specs.Called.{is_own_slot}
+use Rattle.tbl_outside.specs.declared.bank.Bank.{Ghosts}
 
 -- ---- the model
 
@@ -38,7 +39,7 @@ no_place : (s : State) (name : List ℕ) (o : Option Stored) (effect : Stored �
 no_place s name None effect own = refl
 no_place s name (Some b) effect own = rw own refl
 
-module _ {B : Type 0} (tells : Type 0) (now : B → List ℕ) (kept : StoreParts B) (s : State) (app slot : ℕ) (effect : Stored → Effect) (stands : StandsFor tells now kept s.store) (name : List ℕ) (runs : name_of s app ≡ Some name) where
+module _ {B : Type 0} (g : Ghosts B) (kept : StoreParts B) (s : State) (app slot : ℕ) (effect : Stored → Effect) (stands : StandsFor g.tells g.now kept s.store) (name : List ℕ) (runs : name_of s app ≡ Some name) where
   at_slot : slot_at kept.slots slot ≡ option_map slot_of (stored_at s.store slot)
   at_slot = slot_is [] kept.slots s.store stands.slots slot
 
@@ -101,7 +102,7 @@ no_delete s app slot status misses n = misses (λ b. then_call (delete slot ∷ 
 
 -- ---- names
 
--- the byte behind a name's first ones is a dot
+-- the byte after a name's first ones is a dot
 abbrev pub is_dot : Option ℕ → Bool
 is_dot None = false
 is_dot (Some x) = 46 == x

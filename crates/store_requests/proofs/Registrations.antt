@@ -42,18 +42,19 @@ use Rattle.cds_store.specs.declared.fault.ReserveFault.{ReserveFault}
 use Rattle.cds_store.specs.declared.fault.ReserveFault.TheVariants.{NoRoom, Bank}
 use Rattle.tbl_model.specs.BankCounts.{tells_trouble, HasCause}
 use Rattle.request_effects.specs.Effects.{IsEffect, IsWithin}
-use Rattle.store_requests.specs.Called.{NoBoot, Troubled, GaveHeld, RestoresHeld, with_boot, broken_note, done_note, IsTold, IsCall, IsCalled, Calls}
+use Rattle.store_requests.specs.Called.{NoBoot, Troubled, with_boot, broken_note, done_note, IsTold, IsCall, unasked, IsCalled, Calls, Leaving}
+use Rattle.tbl_session.specs.Restores.{GaveHeld, RestoresHeld}
 use Rattle.store_requests.specs.Registering.{Enters, EntersBroken, EntersRestored, EntersReserved, recovery, making}
 use Rattle.request_effects.specs.declared.effect.Effect.{Effect}
 use Rattle.store_requests.proofs.Calls.{told_so, by_note, calls_same, held_image, block_there, gives_image, gives_none}
-use Rattle.tbl_laws.specs.Crashes.{DuringCalls, writes}
+use Rattle.tbl_session.specs.Crashes.{DuringCalls, writes}
 use Rattle.tbl_outside.specs.Bank.{LeavesOnly}
 use Rattle.cds_store.specs.Moments.{LeavesIn}
-use Rattle.store_requests.specs.Called.{Leaving}
 use Rattle.store_requests.proofs.Moments.{one_leaves}
 use Rattle.store_requests.proofs.CopyEnds.{rose_one}
 use Rattle.store_requests.proofs.Reserved.{not_lacking, lacking}
 use Rattle.store_requests.proofs.CriticalTables.{there, any_is, kept_made, kept_full, other_size}
+use Rattle.tbl_outside.specs.declared.bank.Bank.{Ghosts}
 
 -- ---- the effect
 
@@ -73,16 +74,16 @@ entered s old new u done status note same handle enters left = record {
   next = ap (λ (tables : Tables). record s { tables = tables; store = left }) (ap (added (next_row old) u) same ∙ sym enters.tables);
 }
 
-module _ {B : Type 0} (tells : Type 0) (now : B → List ℕ) (tells_moments : Type 0) (clock : B → ℕ) (left_since : B → ℕ → List ℕ → Type 0) (first kept : StoreParts B) (s : State) (done : Effect) (old new : Tables) (t : Table) (same : s.tables ≡ old) (handle : t.handle ≡ next_handle old) where
+module _ {B : Type 0} (g : Ghosts B) (first kept : StoreParts B) (s : State) (done : Effect) (old new : Tables) (t : Table) (same : s.tables ≡ old) (handle : t.handle ≡ next_handle old) where
   abbrev row : ℕ
   row = next_row old
 
-  abbrev behind : State
-  behind = record s { tables = new }
+  abbrev changed : State
+  changed = record s { tables = new }
 
   -- the store isn't called
-  pub enters_alone : Leaving tells_moments clock left_since first kept (DuringCalls [] s.store) → (u : Table) (status : Status) → u.handle ≡ next_handle old → Enters old new u done status untouched → StandsFor tells now kept s.store → Calls tells now tells_moments clock left_since first kept behind done (λ n. registered s row u status)
-  enters_alone moments u status at enters stands = by_note tells now tells_moments clock left_since first kept behind done (λ n. registered s row u status) untouched enters.told.note_is (λ ended stopped found. record {
+  pub enters_alone : Leaving g first kept (DuringCalls [] s.store) → (u : Table) (status : Status) → u.handle ≡ next_handle old → Enters old new u done status untouched → StandsFor g.tells g.now kept s.store → Calls g first kept changed done (λ n. registered s row u status)
+  enters_alone moments u status at enters stands = by_note g first kept changed done (λ n. registered s row u status) untouched enters.told.note_is (λ ended stopped found. record {
     blocks = stands;
     effect = entered s old new u done status untouched same at enters s.store;
     ends = (refl, refl, (refl, refl));
@@ -94,11 +95,11 @@ module _ {B : Type 0} (tells : Type 0) (now : B → List ℕ) (tells_moments : T
 
   module _ (calls : List StoreCall) (u : Table) (status : Status) (note : BankNote) where
     -- all calls are done
-    pub enters_done : Leaving tells_moments clock left_since first kept (DuringCalls (writes calls) s.store) → u.handle ≡ next_handle old → Enters old new u done status (done_note note) → StandsFor tells now kept (left_by calls (done_note note) s.store)
+    pub enters_done : Leaving g first kept (DuringCalls (writes calls) s.store) → u.handle ≡ next_handle old → Enters old new u done status (done_note note) → StandsFor g.tells g.now kept (left_by calls (done_note note) s.store)
         → calls ≢ [] → note.done + 1 ≡ length calls → NoGate note
         → MayGoOn (take (note.done + 1) calls) s.store → ((n : BankNote) → n.restored ≡ note.restored → n.torn ≡ note.torn → Tells (take (note.done + 1) calls) n)
         → (ended stopped : Bool) (found : List ℕ)
-        → IsCalled tells now tells_moments clock left_since first kept behind [] done (with_boot ended stopped found (done_note note)) (then_call calls (with_boot ended stopped found (done_note note)) (instead (not_kept s row t)) (registered s row u status))
+        → IsCalled g first kept (unasked changed) done (with_boot ended stopped found (done_note note)) (then_call calls (with_boot ended stopped found (done_note note)) (instead (not_kept s row t)) (registered s row u status))
     enters_done moments at enters stands some many no_gate gave says ended stopped found = record {
       blocks = stands;
       effect = entered s old new u done status (done_note note) same at enters (left_by calls (done_note note) s.store);
@@ -110,15 +111,15 @@ module _ {B : Type 0} (tells : Type 0) (now : B → List ℕ) (tells_moments : T
     }
 
     -- the next one broke off
-    pub enters_broke : Leaving tells_moments clock left_since first kept (DuringCalls (writes calls) s.store) → (call : StoreCall) → slice_get calls note.done ≡ Some call → (fault : BankFault) → EntersBroken old new t done fault note
-        → StandsFor tells now kept (broken (is_gate fault) (is_old fault) call (after_first note.done calls s.store))
+    pub enters_broke : Leaving g first kept (DuringCalls (writes calls) s.store) → (call : StoreCall) → slice_get calls note.done ≡ Some call → (fault : BankFault) → EntersBroken old new t done fault note
+        → StandsFor g.tells g.now kept (broken (is_gate fault) (is_old fault) call (after_first note.done calls s.store))
         → CanBreak (is_gate fault) (is_old fault) call (after_first note.done calls s.store) → ((broken_note fault note).outcome ≡ Stopped → (is_restore call ≡ false) × (writes calls ≡ calls))
         → MayGoOn (take note.done calls) s.store → ((n : BankNote) → n.restored ≡ note.restored → n.torn ≡ note.torn → Tells (take note.done calls) n)
         → (ended stopped : Bool) (found : List ℕ)
-        → IsCalled tells now tells_moments clock left_since first kept behind [] done (with_boot ended stopped found (broken_note fault note)) (then_call calls (with_boot ended stopped found (broken_note fault note)) (instead (not_kept s row t)) (registered s row u status))
+        → IsCalled g first kept (unasked changed) done (with_boot ended stopped found (broken_note fault note)) (then_call calls (with_boot ended stopped found (broken_note fault note)) (instead (not_kept s row t)) (registered s row u status))
     enters_broke moments call next (Fault gate prior) enters stands can writes gave says ended stopped found =
         let n = broken_note (Fault gate prior) note in record {
-          blocks = subst (λ o. StandsFor tells now kept (then_broken n o (after_first note.done calls s.store))) (sym next) stands;
+          blocks = subst (λ o. StandsFor g.tells g.now kept (then_broken n o (after_first note.done calls s.store))) (sym next) stands;
           effect = entered s old new (uncritical t) done WARN_NOT_CRITICAL n same handle enters (left_by calls n s.store);
           ends = record { call = call; next = next; breaks = can };
           gave = gave;
@@ -129,7 +130,7 @@ module _ {B : Type 0} (tells : Type 0) (now : B → List ℕ) (tells_moments : T
     enters_broke moments call next (Cut gate prior) enters stands can stops gave says ended stopped found =
         let n = broken_note (Cut gate prior) note in
         let left = boot Processor (with_boot ended stopped found n) (record s { store = left_by calls n s.store }) in record {
-          blocks = subst (λ o. StandsFor tells now kept (then_broken n o (after_first note.done calls s.store))) (sym next) stands;
+          blocks = subst (λ o. StandsFor g.tells g.now kept (then_broken n o (after_first note.done calls s.store))) (sym next) stands;
           effect = told_so left left done INFO_STOPPED 0 [] n enters.0;
           ends = (record { call = call; next = next; breaks = can }, (stops refl).0);
           gave = gave;
@@ -145,74 +146,74 @@ module _ {B : Type 0} (tells : Type 0) (now : B → List ℕ) (tells_moments : T
 
   -- ---- its block is restored
 
-  pub enters_restored : Leaving tells_moments clock left_since first kept (DuringCalls [] s.store) → with_first None t ≡ t → tells → (before : StoreParts B) (slot : ℕ) (ended : Result Unit RestoreFault) (image : List ℕ) → StandsFor tells now before s.store → EntersRestored old new t done ended image
-      → OnOk ended (tells → held_at slot (store_of (now before.bank)) ≡ Some image)
-      → OnOk ended ((blocks : Blocks) → StandsFor tells now before blocks → StandsFor tells now kept (after (restore slot (Some image)) blocks))
-      → IfErr ended (λ fault. tells → ForSome (slot_at before.slots slot) (λ b. TellsTorn (now before.bank) b.block fault))
-      → IfErr ended (λ fault. (blocks : Blocks) → StandsFor tells now before blocks → StandsFor tells now kept (after_fault fault slot blocks))
+  pub enters_restored : Leaving g first kept (DuringCalls [] s.store) → with_first None t ≡ t → g.tells → (before : StoreParts B) (slot : ℕ) (ended : Result Unit RestoreFault) (image : List ℕ) → StandsFor g.tells g.now before s.store → EntersRestored old new t done ended image
+      → OnOk ended (g.tells → held_at slot (store_of (g.now before.bank)) ≡ Some image)
+      → OnOk ended ((blocks : Blocks) → StandsFor g.tells g.now before blocks → StandsFor g.tells g.now kept (after (restore slot (Some image)) blocks))
+      → IfErr ended (λ fault. g.tells → ForSome (slot_at before.slots slot) (λ b. TellsTorn (g.now before.bank) b.block fault))
+      → IfErr ended (λ fault. (blocks : Blocks) → StandsFor g.tells g.now before blocks → StandsFor g.tells g.now kept (after_fault fault slot blocks))
       → ForSome (stored_at s.store slot) (λ b. b.block.size ≡ length image)
-      → Calls tells now tells_moments clock left_since first kept behind done (recovery s row t slot)
+      → Calls g first kept changed done (recovery s row t slot)
   enters_restored moments fresh told before slot (Ok x) image stands enters held ok torn err sized = by done.note.restored enters.1 enters.0 where
-    by : (gave : Option Buffer) → option_map (λ (b : Buffer). b.list) gave ≡ Some image → Enters old new (with_first (Some image) t) done INFO_RECOVERED_TBL (record (done_note untouched) { restored = gave }) → Calls tells now tells_moments clock left_since first kept behind done (recovery s row t slot)
+    by : (gave : Option Buffer) → option_map (λ (b : Buffer). b.list) gave ≡ Some image → Enters old new (with_first (Some image) t) done INFO_RECOVERED_TBL (record (done_note untouched) { restored = gave }) → Calls g first kept changed done (recovery s row t slot)
     by None is enters = absurd (cc is)
     by (Some b) is enters =
         let whole : b.list ≡ image = same_Some b.list image is in
-        by_note tells now tells_moments clock left_since first kept behind done (recovery s row t slot) (record (done_note untouched) { restored = Some b }) enters.told.note_is
+        by_note g first kept changed done (recovery s row t slot) (record (done_note untouched) { restored = Some b }) enters.told.note_is
         (enters_done (restore slot (Some b.list) ∷ []) (with_first (Some b.list) t) INFO_RECOVERED_TBL (record untouched { restored = Some b }) moments handle
         (subst (λ (i : List ℕ). Enters old new (with_first (Some i) t) done INFO_RECOVERED_TBL (record (done_note untouched) { restored = Some b })) (sym whole) enters)
-        (subst (λ (i : List ℕ). StandsFor tells now kept (after (restore slot (Some i)) s.store)) (sym whole) (ok s.store stands)) (λ is. cc is) refl (refl, refl)
-        (subst (λ (i : List ℕ). MayGo (restore slot (Some i)) s.store) (sym whole) (λ b there. (gives_image (now before.bank) s.store slot image (stands.shows told) (held told) b there, sym (sized b there))), tt)
+        (subst (λ (i : List ℕ). StandsFor g.tells g.now kept (after (restore slot (Some i)) s.store)) (sym whole) (ok s.store stands)) (λ is. cc is) refl (refl, refl)
+        (subst (λ (i : List ℕ). MayGo (restore slot (Some i)) s.store) (sym whole) (λ b there. (gives_image (g.now before.bank) s.store slot image (stands.shows told) (held told) b there, sym (sized b there))), tt)
         (λ n restored torn. (ap (option_map (λ (b : Buffer). b.list)) restored, λ given. torn)))
   enters_restored moments fresh told before slot (Err (Torn size word found)) image stands enters held ok torn err sized =
       let words = word * 65536 + found in
-      let gives = gives_none (now before.bank) s.store slot before.slots stands.slots (stands.holds told) (λ b at. (torn told b at).no_image) in
-      by_note tells now tells_moments clock left_since first kept behind done (recovery s row t slot) (record (done_note untouched) { torn = words }) enters.told.note_is
+      let gives = gives_none (g.now before.bank) s.store slot before.slots stands.slots (stands.holds told) (λ b at. (torn told b at).no_image) in
+      by_note g first kept changed done (recovery s row t slot) (record (done_note untouched) { torn = words }) enters.told.note_is
       (enters_done (restore slot None ∷ []) (with_first None t) SUCCESS (record untouched { torn = words }) moments handle (subst (λ (u : Table). Enters old new u done SUCCESS (record (done_note untouched) { torn = words })) (sym fresh) enters) (err s.store stands) (λ is. cc is) refl (refl, refl) ((λ b there. (gives b there, tt)), tt)
       (λ n restored torn. (ap (option_map (λ (b : Buffer). b.list)) restored, λ given. absurd (cc given))))
   enters_restored moments fresh told before slot (Err Unread) image stands enters held ok torn err sized =
-      by_note tells now tells_moments clock left_since first kept behind done (recovery s row t slot) (broken_note (Fault false false) untouched) (broken_is (Fault false false) untouched enters)
+      by_note g first kept changed done (recovery s row t slot) (broken_note (Fault false false) untouched) (broken_is (Fault false false) untouched enters)
       (enters_broke (restore slot None ∷ []) (with_first None t) SUCCESS untouched moments (restore slot None) refl (Fault false false) enters (err s.store stands) (refl, refl) (λ is. absurd (cc is)) tt (λ n restored torn. (restored, torn)))
 
   -- ---- its block is made
 
   module _ (before : StoreParts B) where
     abbrev Made : Result ℕ ReserveFault → Type 0
-    Made result = OnOk result ((blocks : Blocks) → StandsFor tells now before blocks → StandsFor tells now kept (after (reserve of_table t.name t.size) blocks))
+    Made result = OnOk result ((blocks : Blocks) → StandsFor g.tells g.now before blocks → StandsFor g.tells g.now kept (after (reserve of_table t.name t.size) blocks))
 
     abbrev Full : Result ℕ ReserveFault → Type 0
-    Full result = (blocks : Blocks) → StandsFor tells now before blocks → lacks_room result ≡ not (has_room t.size (doubtful_of of_table t.name blocks) blocks)
+    Full result = (blocks : Blocks) → StandsFor g.tells g.now before blocks → lacks_room result ≡ not (has_room t.size (doubtful_of of_table t.name blocks) blocks)
 
     abbrev Broke : Result ℕ ReserveFault → Type 0
-    Broke result = IfErr result (λ fault. IfBank fault (λ fault. (blocks : Blocks) → StandsFor tells now before blocks → StandsFor tells now kept (broken (is_gate fault) (is_old fault) (reserve of_table t.name t.size) blocks)))
+    Broke result = IfErr result (λ fault. IfBank fault (λ fault. (blocks : Blocks) → StandsFor g.tells g.now before blocks → StandsFor g.tells g.now kept (broken (is_gate fault) (is_old fault) (reserve of_table t.name t.size) blocks)))
 
     abbrev Breaks : Result ℕ ReserveFault → Type 0
-    Breaks result = IfErr result (λ fault. IfBank fault (λ fault. (blocks : Blocks) → StandsFor tells now before blocks → CanBreak (is_gate fault) (is_old fault) (reserve of_table t.name t.size) blocks))
+    Breaks result = IfErr result (λ fault. IfBank fault (λ fault. (blocks : Blocks) → StandsFor g.tells g.now before blocks → CanBreak (is_gate fault) (is_old fault) (reserve of_table t.name t.size) blocks))
 
     -- where no open block of its name is there
-    pub new_reserved : (result : Result ℕ ReserveFault) → (tells_moments → LeavesOnly clock left_since first.bank kept.bank (LeavesIn (reserve of_table t.name t.size) s.store)) → (kept ≡ before → Leaving tells_moments clock left_since first kept (DuringCalls [] s.store)) → open_of of_table t.name s.store ≡ None → StandsFor tells now before s.store
+    pub new_reserved : (result : Result ℕ ReserveFault) → (g.tells_moments → LeavesOnly g.clock g.left_since first.bank kept.bank (LeavesIn (reserve of_table t.name t.size) s.store)) → (kept ≡ before → Leaving g first kept (DuringCalls [] s.store)) → open_of of_table t.name s.store ≡ None → StandsFor g.tells g.now before s.store
         → Made result → Full result → (lacks_room result ≡ true → kept ≡ before) → Broke result → Breaks result → EntersReserved old new t done result untouched
-        → Calls tells now tells_moments clock left_since first kept behind done (λ n. kept_effect s row t n None)
+        → Calls g first kept changed done (λ n. kept_effect s row t n None)
     new_reserved (Ok slot) left still none stands ok full untouched' err breaks enters =
-        calls_same tells now tells_moments clock left_since first kept behind done (making s row t None) (λ n. kept_effect s row t n None)
+        calls_same g first kept changed done (making s row t None) (λ n. kept_effect s row t n None)
         (λ n. kept_made s row t n None (doubtful_of of_table t.name s.store) (any_is s t None none) refl (not_lacking (has_room t.size (doubtful_of of_table t.name s.store) s.store) (full s.store stands)))
-        (by_note tells now tells_moments clock left_since first kept behind done (making s row t None) (done_note untouched) enters.told.note_is
-        (enters_done (reserve of_table t.name t.size ∷ []) t SUCCESS untouched (one_leaves tells_moments clock left_since first kept (reserve of_table t.name t.size) [] s.store left) handle enters (ok s.store stands) (λ is. cc is) refl (refl, refl) (tt, tt) (λ n restored torn. (restored, torn))))
+        (by_note g first kept changed done (making s row t None) (done_note untouched) enters.told.note_is
+        (enters_done (reserve of_table t.name t.size ∷ []) t SUCCESS untouched (one_leaves g first kept (reserve of_table t.name t.size) [] s.store left) handle enters (ok s.store stands) (λ is. cc is) refl (refl, refl) (tt, tt) (λ n restored torn. (restored, torn))))
     new_reserved (Err NoRoom) left still none stands ok full untouched' err breaks enters =
-        calls_same tells now tells_moments clock left_since first kept behind done (λ n. not_kept s row t) (λ n. kept_effect s row t n None)
+        calls_same g first kept changed done (λ n. not_kept s row t) (λ n. kept_effect s row t n None)
         (λ n. kept_full s row t n None (doubtful_of of_table t.name s.store) (any_is s t None none) refl (lacking (has_room t.size (doubtful_of of_table t.name s.store) s.store) (full s.store stands)))
-        (enters_alone (still (untouched' refl)) (uncritical t) WARN_NOT_CRITICAL handle enters (subst (λ (parts : StoreParts B). StandsFor tells now parts s.store) (sym (untouched' refl)) stands))
+        (enters_alone (still (untouched' refl)) (uncritical t) WARN_NOT_CRITICAL handle enters (subst (λ (parts : StoreParts B). StandsFor g.tells g.now parts s.store) (sym (untouched' refl)) stands))
     new_reserved (Err (Bank fault)) left still none stands ok full untouched' err breaks enters =
-        calls_same tells now tells_moments clock left_since first kept behind done (making s row t None) (λ n. kept_effect s row t n None)
+        calls_same g first kept changed done (making s row t None) (λ n. kept_effect s row t n None)
         (λ n. kept_made s row t n None (doubtful_of of_table t.name s.store) (any_is s t None none) refl (not_lacking (has_room t.size (doubtful_of of_table t.name s.store) s.store) (full s.store stands)))
-        (by_note tells now tells_moments clock left_since first kept behind done (making s row t None) (broken_note fault untouched) (broken_is fault untouched enters)
-        (enters_broke (reserve of_table t.name t.size ∷ []) t SUCCESS untouched (one_leaves tells_moments clock left_since first kept (reserve of_table t.name t.size) [] s.store left) (reserve of_table t.name t.size) refl fault enters (err s.store stands) (breaks s.store stands) (λ is. (refl, refl)) tt (λ n restored torn. (restored, torn))))
+        (by_note g first kept changed done (making s row t None) (broken_note fault untouched) (broken_is fault untouched enters)
+        (enters_broke (reserve of_table t.name t.size ∷ []) t SUCCESS untouched (one_leaves g first kept (reserve of_table t.name t.size) [] s.store left) (reserve of_table t.name t.size) refl fault enters (err s.store stands) (breaks s.store stands) (λ is. (refl, refl)) tt (λ n restored torn. (restored, torn))))
 
-    -- behind the deletion of the one of another size
-    pub renewed : (result : Result ℕ ReserveFault) (slot : ℕ) → Leaving tells_moments clock left_since first kept (DuringCalls (delete slot ∷ reserve of_table t.name t.size ∷ []) s.store) → StandsFor tells now before (after (delete slot) s.store) → doubtful_slot of_table t.name before.slots ≡ None → has_room t.size (Some slot) s.store ≡ true
+    -- after the deletion of the one of another size
+    pub renewed : (result : Result ℕ ReserveFault) (slot : ℕ) → Leaving g first kept (DuringCalls (delete slot ∷ reserve of_table t.name t.size ∷ []) s.store) → StandsFor g.tells g.now before (after (delete slot) s.store) → doubtful_slot of_table t.name before.slots ≡ None → has_room t.size (Some slot) s.store ≡ true
         → Made result → Full result → Broke result → Breaks result → EntersReserved old new t done result (done_note untouched)
-        → Calls tells now tells_moments clock left_since first kept behind done (making s row t (Some slot))
+        → Calls g first kept changed done (making s row t (Some slot))
     renewed (Ok x) slot moments stands alone room ok full err breaks enters =
-        by_note tells now tells_moments clock left_since first kept behind done (making s row t (Some slot)) (done_note (done_note untouched)) enters.told.note_is
+        by_note g first kept changed done (making s row t (Some slot)) (done_note (done_note untouched)) enters.told.note_is
         (enters_done (delete slot ∷ reserve of_table t.name t.size ∷ []) t SUCCESS (done_note untouched) moments handle enters (ok (after (delete slot) s.store) stands) (λ is. cc is) refl (refl, refl) (tt, (tt, tt)) (λ n restored torn. (restored, torn)))
     renewed (Err NoRoom) slot moments stands alone room ok full err breaks enters =
         let left = after (delete slot) s.store in
@@ -220,16 +221,16 @@ module _ {B : Type 0} (tells : Type 0) (now : B → List ℕ) (tells_moments : T
         absurd (cc (lacking (has_room t.size (doubtful_of of_table t.name left) left) (full left stands), none, room))
     renewed (Err (Bank fault)) slot moments stands alone room ok full err breaks enters =
         let left = after (delete slot) s.store in
-        by_note tells now tells_moments clock left_since first kept behind done (making s row t (Some slot)) (broken_note fault (done_note untouched)) (broken_is fault (done_note untouched) enters)
+        by_note g first kept changed done (making s row t (Some slot)) (broken_note fault (done_note untouched)) (broken_is fault (done_note untouched) enters)
         (enters_broke (delete slot ∷ reserve of_table t.name t.size ∷ []) t SUCCESS (done_note untouched) moments (reserve of_table t.name t.size) refl fault enters (err left stands) (breaks left stands) (λ is. (refl, refl)) (tt, tt) (λ n restored torn. (restored, torn)))
 
     -- that deletion broke off
-    pub delete_lost : (slot : ℕ) (fault : BankFault) → (tells_moments → LeavesOnly clock left_since first.bank kept.bank (LeavesIn (delete slot) s.store)) → StandsFor tells now before s.store → HasFlags true false fault
-        → ((blocks : Blocks) → StandsFor tells now before blocks → StandsFor tells now kept (broken (is_gate fault) (is_old fault) (delete slot) blocks)) → EntersBroken old new t done fault untouched
-        → Calls tells now tells_moments clock left_since first kept behind done (making s row t (Some slot))
+    pub delete_lost : (slot : ℕ) (fault : BankFault) → (g.tells_moments → LeavesOnly g.clock g.left_since first.bank kept.bank (LeavesIn (delete slot) s.store)) → StandsFor g.tells g.now before s.store → HasFlags true false fault
+        → ((blocks : Blocks) → StandsFor g.tells g.now before blocks → StandsFor g.tells g.now kept (broken (is_gate fault) (is_old fault) (delete slot) blocks)) → EntersBroken old new t done fault untouched
+        → Calls g first kept changed done (making s row t (Some slot))
     delete_lost slot fault left stands flags err enters =
-        by_note tells now tells_moments clock left_since first kept behind done (making s row t (Some slot)) (broken_note fault untouched) (broken_is fault untouched enters)
-        (enters_broke (delete slot ∷ reserve of_table t.name t.size ∷ []) t SUCCESS untouched (one_leaves tells_moments clock left_since first kept (delete slot) (reserve of_table t.name t.size ∷ []) s.store left) (delete slot) refl fault enters (err s.store stands)
+        by_note g first kept changed done (making s row t (Some slot)) (broken_note fault untouched) (broken_is fault untouched enters)
+        (enters_broke (delete slot ∷ reserve of_table t.name t.size ∷ []) t SUCCESS untouched (one_leaves g first kept (delete slot) (reserve of_table t.name t.size ∷ []) s.store left) (delete slot) refl fault enters (err s.store stands)
         (subst (λ g. CanBreak g (is_old fault) (delete slot) s.store) (sym flags.gate_is) (subst (λ o. CanBreak true o (delete slot) s.store) (sym flags.old_is) (refl, refl)))
         (λ is. (refl, refl)) tt (λ n restored torn. (restored, torn)))
 
@@ -257,21 +258,21 @@ silent_within done status detail note told = record {
   bytes = rw told.bytes_are (omega arith);
 }
 
-module _ {B : Type 0} (faults stops : B → ℕ) (before kept : StoreParts B) (old new : Tables) (t : Table) (done : Effect) (booted : kept.booted ≡ true) where
+module _ {B : Type 0} (g : Ghosts B) (before kept : StoreParts B) (old new : Tables) (t : Table) (done : Effect) (booted : kept.booted ≡ true) where
   -- the table was registered
-  pub enters_call : (u : Table) (status : Status) (note : BankNote) → Enters old new u done status note → NoBoot note → note.outcome ≢ Stopped → tells_trouble status ≡ false → Troubled faults stops before.bank kept.bank note → IsCall faults stops before kept done
+  pub enters_call : (u : Table) (status : Status) (note : BankNote) → Enters old new u done status note → NoBoot note → note.outcome ≢ Stopped → tells_trouble status ≡ false → Troubled g before.bank kept.bank note → IsCall g before kept done
   enters_call u status note enters no_boot goes quiet trouble = record {
     within = silent_within done status (next_handle old) note enters.told;
     verdicts = enters.told.silent.verdicts;
     no_boot = subst NoBoot (sym enters.told.note_is) no_boot;
     stopped = λ is. absurd (goes (ap (λ (n : BankNote). n.outcome) (sym enters.told.note_is) ∙ is));
     cause = rw enters.told.status_is (plain_cause status done.note quiet);
-    trouble = subst (Troubled faults stops before.bank kept.bank) (sym enters.told.note_is) trouble;
+    trouble = subst (Troubled g before.bank kept.bank) (sym enters.told.note_is) trouble;
     booted = booted;
   }
 
   -- a call broke off
-  pub broken_call : (fault : BankFault) (note : BankNote) → EntersBroken old new t done fault note → NoBoot note → Troubled faults stops before.bank kept.bank (broken_note fault note) → IsCall faults stops before kept done
+  pub broken_call : (fault : BankFault) (note : BankNote) → EntersBroken old new t done fault note → NoBoot note → Troubled g before.bank kept.bank (broken_note fault note) → IsCall g before kept done
   broken_call (Fault gate prior) note enters no_boot trouble =
       enters_call (uncritical t) WARN_NOT_CRITICAL (broken_note (Fault gate prior) note) enters (record { ended = no_boot.ended; stopped = no_boot.stopped; found = no_boot.found }) (λ is. cc is) refl trouble
   broken_call (Cut gate prior) note enters no_boot trouble =
@@ -285,42 +286,42 @@ module _ {B : Type 0} (faults stops : B → ℕ) (before kept : StoreParts B) (o
           fault = λ is. let same = ap (λ (status : Status). status.0) is in absurd (omega (arith, same));
           boot = λ is. let same = ap (λ (status : Status). status.0) is in absurd (omega (arith, same));
         });
-        trouble = subst (Troubled faults stops before.bank kept.bank) (sym enters.0.note_is) trouble;
+        trouble = subst (Troubled g before.bank kept.bank) (sym enters.0.note_is) trouble;
         booted = booted;
       }
 
-  pub restored_call : (ended : Result Unit RestoreFault) (image : List ℕ) → EntersRestored old new t done ended image → RestoreCounted faults stops before.bank kept.bank ended → faults before.bank ≤ faults kept.bank → stops before.bank ≤ stops kept.bank
-      → IsCall faults stops before kept done
+  pub restored_call : (ended : Result Unit RestoreFault) (image : List ℕ) → EntersRestored old new t done ended image → RestoreCounted g.faults g.stops before.bank kept.bank ended → g.faults before.bank ≤ g.faults kept.bank → g.stops before.bank ≤ g.stops kept.bank
+      → IsCall g before kept done
   restored_call (Ok x) image enters counted more_faults more_stops =
       let a = counted.0 in let b = counted.1 in
       enters_call (with_first (Some image) t) INFO_RECOVERED_TBL (record (done_note untouched) { restored = done.note.restored }) enters.0 (record { ended = refl; stopped = refl; found = refl }) (λ is. cc is) refl
-      (record { fault_count = more_faults; stop_count = more_stops; fault = inl (omega (arith, a)); stop = inl (omega (arith, b)) })
+      (record { fault_count = more_faults; stop_count = more_stops; fault = inl (omega (arith, a)); stop = inl (omega (arith, b)); no_fault = λ none. a; no_stop = λ none. b })
   restored_call (Err (Torn size word found)) image enters counted more_faults more_stops =
       let a = counted.0 in let b = counted.1 in
       enters_call t SUCCESS (record (done_note untouched) { torn = word * 65536 + found }) enters (record { ended = refl; stopped = refl; found = refl }) (λ is. cc is) refl
-      (record { fault_count = more_faults; stop_count = more_stops; fault = inl (omega (arith, a)); stop = inl (omega (arith, b)) })
+      (record { fault_count = more_faults; stop_count = more_stops; fault = inl (omega (arith, a)); stop = inl (omega (arith, b)); no_fault = λ none. a; no_stop = λ none. b })
   restored_call (Err Unread) image enters counted more_faults more_stops =
       let b = counted.1 in
       broken_call (Fault false false) untouched enters (record { ended = refl; stopped = refl; found = refl })
-      (record { fault_count = more_faults; stop_count = more_stops; fault = rose_one _ _ counted.0; stop = inl (omega (arith, b)) })
+      (record { fault_count = more_faults; stop_count = more_stops; fault = rose_one _ _ counted.0; stop = inl (omega (arith, b)); no_fault = λ none. absurd (cc none); no_stop = λ none. b })
 
 -- what the restore gave is what the block held
-pub restored_gave : {B : Type 0} (tells : Type 0) (now : B → List ℕ) (before : StoreParts B) (old new : Tables) (t : Table) (done : Effect) (slot : ℕ) (blocks : Blocks) (ended : Result Unit RestoreFault) (image : List ℕ) → tells
-    → StandsFor tells now before blocks → EntersRestored old new t done ended image
-    → OnOk ended (tells → held_at slot (store_of (now before.bank)) ≡ Some image)
-    → IfErr ended (λ fault. tells → ForSome (slot_at before.slots slot) (λ b. TellsTorn (now before.bank) b.block fault))
-    → done.note.outcome ≡ Done → ForSome (stored_at blocks slot) (λ b. GaveHeld (now before.bank) b.block done.note)
-restored_gave tells now before old new t done slot blocks (Ok x) image told stands enters held torn went b there =
-    let whole = held_image (now before.bank) blocks slot image (stands.shows told) (held told) b there in record {
+pub restored_gave : {B : Type 0} (g : Ghosts B) (before : StoreParts B) (old new : Tables) (t : Table) (done : Effect) (slot : ℕ) (blocks : Blocks) (ended : Result Unit RestoreFault) (image : List ℕ) → g.tells
+    → StandsFor g.tells g.now before blocks → EntersRestored old new t done ended image
+    → OnOk ended (g.tells → held_at slot (store_of (g.now before.bank)) ≡ Some image)
+    → IfErr ended (λ fault. g.tells → ForSome (slot_at before.slots slot) (λ b. TellsTorn (g.now before.bank) b.block fault))
+    → done.note.outcome ≡ Done → ForSome (stored_at blocks slot) (λ b. GaveHeld (g.now before.bank) b.block done.note)
+restored_gave g before old new t done slot blocks (Ok x) image told stands enters held torn went b there =
+    let whole = held_image (g.now before.bank) blocks slot image (stands.shows told) (held told) b there in record {
       image = enters.1 ∙ sym whole;
       words = λ none. absurd (cc (none, enters.1));
     }
-restored_gave tells now before old new t done slot blocks (Err (Torn size word found)) image told stands enters held torn went b there =
+restored_gave g before old new t done slot blocks (Err (Torn size word found)) image told stands enters held torn went b there =
     let is = torn told (slot_of b) (block_there before.slots blocks slot b stands.slots there) in record {
       image = ap (λ (n : BankNote). restored_image n) enters.told.note_is ∙ sym is.no_image;
       words = λ none. ap (λ (n : BankNote). n.torn) enters.told.note_is ∙ (λ i. is.kept_is i * 65536 + is.computed i);
     }
-restored_gave tells now before old new t done slot blocks (Err Unread) image told stands enters held torn went b there =
+restored_gave g before old new t done slot blocks (Err Unread) image told stands enters held torn went b there =
     absurd (cc (went, ap (λ (n : BankNote). n.outcome) enters.told.note_is))
 
 -- ---- what it restores

@@ -27,13 +27,14 @@ use Rattle.cds_store.specs.Standing.{StoreParts, StandsFor}
 use Rattle.cds_store.proofs.Reservations.{doubtful_same}
 use Rattle.cds_store.specs.declared.fault.ReserveFault.{ReserveFault}
 use Rattle.cds_store.specs.declared.fault.ReserveFault.TheVariants.{NoRoom, Bank}
-use Rattle.tbl_laws.specs.Crashes.{DuringCalls}
+use Rattle.tbl_session.specs.Crashes.{DuringCalls}
 use Rattle.tbl_outside.specs.Bank.{LeavesOnly}
 use Rattle.cds_store.specs.Moments.{LeavesIn}
 use Rattle.store_requests.proofs.Moments.{one_leaves}
 use Rattle.store_requests.specs.Called.{Leaving, broken_note, done_note, reserve_note, reserve_status, reserve_detail, IsTold, Calls}
 use Rattle.store_requests.proofs.Calls.{by_note, calls_none, calls_done, calls_broke, calls_same}
 use Rattle.request_effects.specs.declared.effect.Effect.{Effect}
+use Rattle.tbl_outside.specs.declared.bank.Bank.{Ghosts}
 
 -- ---- what the model does
 
@@ -80,55 +81,55 @@ any_is s name old is = ap (λ o. option_or o (doubtful_of App name s.store)) is
 
 -- ---- the last call of the request
 
-module _ {B : Type 0} (tells : Type 0) (now : B → List ℕ) (tells_moments : Type 0) (clock : B → ℕ) (left_since : B → ℕ → List ℕ → Type 0) (first before kept : StoreParts B) (s : State) (done : Effect) (name : List ℕ) (size : ℕ) where
+module _ {B : Type 0} (g : Ghosts B) (first before kept : StoreParts B) (s : State) (done : Effect) (name : List ℕ) (size : ℕ) where
   abbrev Made : Result ℕ ReserveFault → Type 0
-  Made result = OnOk result ((blocks : Blocks) → StandsFor tells now before blocks → StandsFor tells now kept (after (reserve App name size) blocks))
+  Made result = OnOk result ((blocks : Blocks) → StandsFor g.tells g.now before blocks → StandsFor g.tells g.now kept (after (reserve App name size) blocks))
 
   abbrev At : Result ℕ ReserveFault → Type 0
-  At result = IfOk result (λ slot. (blocks : Blocks) → StandsFor tells now before blocks → least_free (closed App name blocks) ≡ Some slot)
+  At result = IfOk result (λ slot. (blocks : Blocks) → StandsFor g.tells g.now before blocks → least_free (closed App name blocks) ≡ Some slot)
 
   abbrev Full : Result ℕ ReserveFault → Type 0
-  Full result = (blocks : Blocks) → StandsFor tells now before blocks → lacks_room result ≡ not (has_room size (doubtful_of App name blocks) blocks)
+  Full result = (blocks : Blocks) → StandsFor g.tells g.now before blocks → lacks_room result ≡ not (has_room size (doubtful_of App name blocks) blocks)
 
   abbrev Broke : Result ℕ ReserveFault → Type 0
-  Broke result = IfErr result (λ fault. IfBank fault (λ fault. (blocks : Blocks) → StandsFor tells now before blocks → StandsFor tells now kept (broken (is_gate fault) (is_old fault) (reserve App name size) blocks)))
+  Broke result = IfErr result (λ fault. IfBank fault (λ fault. (blocks : Blocks) → StandsFor g.tells g.now before blocks → StandsFor g.tells g.now kept (broken (is_gate fault) (is_old fault) (reserve App name size) blocks)))
 
   abbrev Breaks : Result ℕ ReserveFault → Type 0
-  Breaks result = IfErr result (λ fault. IfBank fault (λ fault. (blocks : Blocks) → StandsFor tells now before blocks → CanBreak (is_gate fault) (is_old fault) (reserve App name size) blocks))
+  Breaks result = IfErr result (λ fault. IfBank fault (λ fault. (blocks : Blocks) → StandsFor g.tells g.now before blocks → CanBreak (is_gate fault) (is_old fault) (reserve App name size) blocks))
 
   -- of a name of which no open block is there
-  pub new_called : (result : Result ℕ ReserveFault) → (tells_moments → LeavesOnly clock left_since first.bank kept.bank (LeavesIn (reserve App name size) s.store)) → (kept ≡ before → Leaving tells_moments clock left_since first kept (DuringCalls [] s.store)) → open_of App name s.store ≡ None → StandsFor tells now before s.store
+  pub new_called : (result : Result ℕ ReserveFault) → (g.tells_moments → LeavesOnly g.clock g.left_since first.bank kept.bank (LeavesIn (reserve App name size) s.store)) → (kept ≡ before → Leaving g first kept (DuringCalls [] s.store)) → open_of App name s.store ≡ None → StandsFor g.tells g.now before s.store
       → Made result → At result → Full result → (lacks_room result ≡ true → kept ≡ before) → Broke result → Breaks result
       → IsTold done (reserve_status result) (reserve_detail result) [] (reserve_note result untouched)
-      → Calls tells now tells_moments clock left_since first kept s done (λ n. block_effect s name size n None)
+      → Calls g first kept s done (λ n. block_effect s name size n None)
   new_called (Ok slot) left still none stands ok at full untouched' err breaks told =
-      calls_same tells now tells_moments clock left_since first kept s done (λ n. then_call (reserve App name size ∷ []) n faulted (answered s SUCCESS slot)) (λ n. block_effect s name size n None)
+      calls_same g first kept s done (λ n. then_call (reserve App name size ∷ []) n faulted (answered s SUCCESS slot)) (λ n. block_effect s name size n None)
       (λ n. block_means s name size n None (doubtful_of App name s.store) (any_is s name None none) refl (not_lacking (has_room size (doubtful_of App name s.store) s.store) (full s.store stands))
       ∙ ap (λ k. then_call (reserve App name size ∷ []) n faulted (answered s SUCCESS (unwrap_or k 0))) (at s.store stands))
-      (by_note tells now tells_moments clock left_since first kept s done (λ n. then_call (reserve App name size ∷ []) n faulted (answered s SUCCESS slot)) (done_note untouched) told.note_is
-      (calls_done tells now tells_moments clock left_since first kept s done (reserve App name size ∷ []) SUCCESS slot [] untouched (one_leaves tells_moments clock left_since first kept (reserve App name size) [] s.store left) told (ok s.store stands) (λ is. cc is) refl (refl, refl) (tt, tt) (λ n restored torn. (restored, torn))))
+      (by_note g first kept s done (λ n. then_call (reserve App name size ∷ []) n faulted (answered s SUCCESS slot)) (done_note untouched) told.note_is
+      (calls_done g first kept s done (reserve App name size ∷ []) SUCCESS slot [] untouched (one_leaves g first kept (reserve App name size) [] s.store left) told (ok s.store stands) (λ is. cc is) refl (refl, refl) (tt, tt) (λ n restored torn. (restored, torn))))
   new_called (Err NoRoom) left still none stands ok at full untouched' err breaks told =
-      calls_same tells now tells_moments clock left_since first kept s done (λ n. answered s ERR_CDS_NO_ROOM 0) (λ n. block_effect s name size n None)
+      calls_same g first kept s done (λ n. answered s ERR_CDS_NO_ROOM 0) (λ n. block_effect s name size n None)
       (λ n. no_room s name size n None (doubtful_of App name s.store) (any_is s name None none) refl (lacking (has_room size (doubtful_of App name s.store) s.store) (full s.store stands)))
-      (calls_none tells now tells_moments clock left_since first kept s done (still (untouched' refl)) ERR_CDS_NO_ROOM 0 told (subst (λ parts. StandsFor tells now parts s.store) (sym (untouched' refl)) stands))
+      (calls_none g first kept s done (still (untouched' refl)) ERR_CDS_NO_ROOM 0 told (subst (λ parts. StandsFor g.tells g.now parts s.store) (sym (untouched' refl)) stands))
   new_called (Err (Bank fault)) left still none stands ok at full untouched' err breaks told =
       let slot = new_slot App name None s.store in
-      calls_same tells now tells_moments clock left_since first kept s done (λ n. then_call (reserve App name size ∷ []) n faulted (answered s SUCCESS slot)) (λ n. block_effect s name size n None)
+      calls_same g first kept s done (λ n. then_call (reserve App name size ∷ []) n faulted (answered s SUCCESS slot)) (λ n. block_effect s name size n None)
       (λ n. block_means s name size n None (doubtful_of App name s.store) (any_is s name None none) refl (not_lacking (has_room size (doubtful_of App name s.store) s.store) (full s.store stands)))
-      (by_note tells now tells_moments clock left_since first kept s done (λ n. then_call (reserve App name size ∷ []) n faulted (answered s SUCCESS slot)) (broken_note fault untouched) told.note_is
-      (calls_broke tells now tells_moments clock left_since first kept s done (reserve App name size ∷ []) SUCCESS slot [] untouched (one_leaves tells_moments clock left_since first kept (reserve App name size) [] s.store left) (reserve App name size) refl fault told (err s.store stands) (breaks s.store stands) (λ is. (refl, refl)) tt (λ n restored torn. (restored, torn))))
+      (by_note g first kept s done (λ n. then_call (reserve App name size ∷ []) n faulted (answered s SUCCESS slot)) (broken_note fault untouched) told.note_is
+      (calls_broke g first kept s done (reserve App name size ∷ []) SUCCESS slot [] untouched (one_leaves g first kept (reserve App name size) [] s.store left) (reserve App name size) refl fault told (err s.store stands) (breaks s.store stands) (λ is. (refl, refl)) tt (λ n restored torn. (restored, torn))))
 
-  -- behind the deletion of the one of another size
-  pub renewed : (result : Result ℕ ReserveFault) (old : ℕ) → Leaving tells_moments clock left_since first kept (DuringCalls (delete old ∷ reserve App name size ∷ []) s.store) → StandsFor tells now before (after (delete old) s.store) → doubtful_slot App name before.slots ≡ None → has_room size (Some old) s.store ≡ true
+  -- after the deletion of the one of another size
+  pub renewed : (result : Result ℕ ReserveFault) (old : ℕ) → Leaving g first kept (DuringCalls (delete old ∷ reserve App name size ∷ []) s.store) → StandsFor g.tells g.now before (after (delete old) s.store) → doubtful_slot App name before.slots ≡ None → has_room size (Some old) s.store ≡ true
       → Made result → At result → Full result → Broke result → Breaks result
       → IsTold done (reserve_status result) (reserve_detail result) [] (reserve_note result (done_note untouched))
-      → Calls tells now tells_moments clock left_since first kept s done (λ n. then_call (renewal App name size (Some old)) n faulted (answered s SUCCESS (new_slot App name (Some old) s.store)))
+      → Calls g first kept s done (λ n. then_call (renewal App name size (Some old)) n faulted (answered s SUCCESS (new_slot App name (Some old) s.store)))
   renewed (Ok slot) old moments stands alone room ok at full err breaks told =
       let left = after (delete old) s.store in
-      calls_same tells now tells_moments clock left_since first kept s done (λ n. then_call (delete old ∷ reserve App name size ∷ []) n faulted (answered s SUCCESS slot)) (λ n. then_call (renewal App name size (Some old)) n faulted (answered s SUCCESS (new_slot App name (Some old) s.store)))
+      calls_same g first kept s done (λ n. then_call (delete old ∷ reserve App name size ∷ []) n faulted (answered s SUCCESS slot)) (λ n. then_call (renewal App name size (Some old)) n faulted (answered s SUCCESS (new_slot App name (Some old) s.store)))
       (λ n. ap (λ k. then_call (delete old ∷ reserve App name size ∷ []) n faulted (answered s SUCCESS (unwrap_or k 0))) (at left stands))
-      (by_note tells now tells_moments clock left_since first kept s done (λ n. then_call (delete old ∷ reserve App name size ∷ []) n faulted (answered s SUCCESS slot)) (done_note (done_note untouched)) told.note_is
-      (calls_done tells now tells_moments clock left_since first kept s done (delete old ∷ reserve App name size ∷ []) SUCCESS slot [] (done_note untouched) moments told (ok left stands) (λ is. cc is) refl (refl, refl) (tt, (tt, tt)) (λ n restored torn. (restored, torn))))
+      (by_note g first kept s done (λ n. then_call (delete old ∷ reserve App name size ∷ []) n faulted (answered s SUCCESS slot)) (done_note (done_note untouched)) told.note_is
+      (calls_done g first kept s done (delete old ∷ reserve App name size ∷ []) SUCCESS slot [] (done_note untouched) moments told (ok left stands) (λ is. cc is) refl (refl, refl) (tt, (tt, tt)) (λ n restored torn. (restored, torn))))
   renewed (Err NoRoom) old moments stands alone room ok at full err breaks told =
       let left = after (delete old) s.store in
       let none : doubtful_of App name left ≡ None = sym (doubtful_same App name before.slots left stands.slots) ∙ alone in
@@ -136,8 +137,17 @@ module _ {B : Type 0} (tells : Type 0) (now : B → List ℕ) (tells_moments : T
   renewed (Err (Bank fault)) old moments stands alone room ok at full err breaks told =
       let left = after (delete old) s.store in
       let slot = new_slot App name (Some old) s.store in
-      by_note tells now tells_moments clock left_since first kept s done (λ n. then_call (delete old ∷ reserve App name size ∷ []) n faulted (answered s SUCCESS slot)) (broken_note fault (done_note untouched)) told.note_is
-      (calls_broke tells now tells_moments clock left_since first kept s done (delete old ∷ reserve App name size ∷ []) SUCCESS slot [] (done_note untouched) moments (reserve App name size) refl fault told (err left stands) (breaks left stands) (λ is. (refl, refl)) (tt, tt) (λ n restored torn. (restored, torn)))
+      by_note g first kept s done (λ n. then_call (delete old ∷ reserve App name size ∷ []) n faulted (answered s SUCCESS slot)) (broken_note fault (done_note untouched)) told.note_is
+      (calls_broke g first kept s done (delete old ∷ reserve App name size ∷ []) SUCCESS slot [] (done_note untouched) moments (reserve App name size) refl fault told (err left stands) (breaks left stands) (λ is. (refl, refl)) (tt, tt) (λ n restored torn. (restored, torn)))
+
+-- where room was asked for before, there is some after the deletion
+pub room_left : (blocks : Blocks) (name : List ℕ) (size old : ℕ) (b : Bool) → has_room size (Some old) blocks ≡ true → doubtful_of App name (after (delete old) blocks) ≡ None
+    → b ≡ not (has_room size (doubtful_of App name (after (delete old) blocks)) (after (delete old) blocks)) → b ≡ true → ⊥
+room_left blocks name size old b room none full lacks =
+    let left = after (delete old) blocks in
+    let no : has_room size None left ≡ false = subst (λ (o : Option ℕ). has_room size o left ≡ false) none (lacking (has_room size (doubtful_of App name left) left) (sym lacks ∙ full)) in
+    let yes : has_room size None left ≡ true = room in
+    cc (sym yes ∙ no)
 
 -- ---- an application registers a block
 

@@ -1,4 +1,4 @@
--- An image that went active is copied, behind what its request did.
+-- An image that went active is copied, after what its request did.
 use Rattle.std.specs.Prelude.{◌≡◌, ◌⊎◌, ℕ, suc, List, [], ◌∷◌, ◌++◌, None, Bool, true, Result, Ok, Err, vec_capacity}
 use Rattle.tbl_kinds.specs.Notes.{untouched}
 use Rattle.tbl_model.specs.declared.deeds.Deed.{Deed}
@@ -13,6 +13,7 @@ use Rattle.store_requests.specs.Called.{NoBoot, Troubled, call_note}
 use Rattle.request_effects.specs.Effects.{IsWithin}
 use Rattle.store_requests.specs.declared.copies.CopyRoom.{CopyRoom}
 use Rattle.request_effects.specs.declared.effect.Effect.{Effect}
+use Rattle.tbl_outside.specs.declared.bank.Bank.{Ghosts}
 
 -- room for a note of which nothing is told yet, and for four deeds
 pub record IsFresh (room : CopyRoom) : Type 0 where
@@ -44,11 +45,11 @@ pub record IsCopied (row slot : ℕ) (ended : Result Unit BankFault) (before don
   pub verdicts : done.verdicts ≡ before.verdicts
 
 -- the answer stays but where the copy was stopped, no more is told than one deed, and the note has its cause in the counts of the bank
-pub record IsCopyCall {B : Type 0} (faults stops : B → ℕ) (old new : StoreParts B) (before done : Effect) : Type 0 where
+pub record IsCopyCall {B : Type 0} (g : Ghosts B) (old new : StoreParts B) (before done : Effect) : Type 0 where
   pub within : (most room : ℕ) (owes : Bool) → IsWithin most room owes before → IsWithin (suc most) room owes done
   pub verdicts : done.verdicts ≡ before.verdicts
   pub no_boot : NoBoot done.note
   pub stopped : done.note.outcome ≡ Stopped → done.answer.status ≡ INFO_STOPPED
   pub answer : (done.answer.status ≡ before.answer.status) ⊎ ((done.answer.status ≡ INFO_STOPPED) × (done.note.outcome ≡ Stopped))
-  pub trouble : Troubled faults stops old.bank new.bank done.note
+  pub trouble : Troubled g old.bank new.bank done.note
   pub booted : new.booted ≡ true

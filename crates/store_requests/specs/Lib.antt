@@ -1,3 +1,5 @@
+pub mod BankAsked
 pub mod Called
 pub mod Copying
+pub mod OwnBlocks
 pub mod Registering

@@ -3,24 +3,24 @@ use Rattle.std.specs.Prelude.{◌≡◌, ◌⊎◌, ℕ, ◌+◌, ◌*◌, ◌�
 use Rattle.std.specs.Option.{ForSome}
 use Rattle.tbl_kinds.specs.Blocks.{Store as Blocks}
 use Rattle.tbl_outside.specs.Bank.{LeavesOnly}
-use Rattle.tbl_kinds.specs.Notes.{untouched}
+use Rattle.tbl_kinds.specs.Notes.{untouched, restored_image}
 use Rattle.cds_layout.specs.Images.{store_of}
 use Rattle.cds_layout.specs.Restores.{TellsTorn, RestoreCounted}
 use Rattle.cds_layout.specs.declared.blocks.RestoreFault.{RestoreFault}
 use Rattle.cds_layout.specs.declared.blocks.RestoreFault.TheVariants.{Torn, Fault as Unread}
 use Rattle.cds_store.specs.Sound.{slot_at}
 use Rattle.cds_store.specs.Standing.{StoreParts, StandsFor, held_at, after_fault}
-use Rattle.tbl_kinds.specs.Notes.{restored_image}
 use Rattle.tbl_kinds.specs.StoreCalls.{restore, after}
+use Rattle.tbl_kinds.specs.StoreSteps.{open_of}
 use Rattle.tbl_kinds.specs.declared.block.BlockKind.TheVariants as kind
 use Rattle.tbl_model.specs.State.{State, Table, Tables}
 use Rattle.tbl_model.specs.Effects.{Effect as Model}
 use Rattle.tbl_model.specs.StoreUse.{then_call}
 use Rattle.tbl_model.specs.AppBlocks.{renewal}
-use Rattle.tbl_model.specs.CriticalTables.{registered, not_kept, recovered, instead}
+use Rattle.tbl_model.specs.CriticalTables.{registered, not_kept, recovered, instead, kept_effect}
 use Rattle.tbl_model.specs.TableSteps.{new_table, with_first, uncritical, added}
 use Rattle.tbl_registry.specs.declared.row.NewTable.{NewTable}
-use Rattle.sharing.specs.Registering.{next_row, next_handle}
+use Rattle.sharing.specs.Registering.{next_row, next_handle, planned}
 use Rattle.cds_store.specs.declared.fault.BankFault.{BankFault}
 use Rattle.cds_store.specs.declared.fault.BankFault.TheVariants.{Fault, Stopped as Cut}
 use Rattle.cds_store.specs.declared.fault.ReserveFault.{ReserveFault}
@@ -30,6 +30,7 @@ use Rattle.tbl_kinds.specs.declared.status.Status.{Status}
 use Rattle.tbl_kinds.specs.declared.status.TheConstants.Status.{SUCCESS, INFO_STOPPED, INFO_RECOVERED_TBL, WARN_NOT_CRITICAL}
 use Rattle.store_requests.specs.Called.{IsTold, done_note, broken_note}
 use Rattle.request_effects.specs.declared.effect.Effect.{Effect}
+use Rattle.tbl_outside.specs.declared.bank.Bank.{Ghosts}
 
 -- this table was registered next, and the answer is this status, with this note
 pub record Enters (old new : Tables) (t : Table) (done : Effect) (status : Status) (note : BankNote) : Type 0 where
@@ -45,10 +46,13 @@ abbrev pub EntersBroken : Tables → Tables → Table → Effect → BankFault �
 EntersBroken old new t done (Fault gate prior) note = EntersUncritical old new t done (broken_note (Fault gate prior) note)
 EntersBroken old new t done (Cut gate prior) note = IsTold done INFO_STOPPED 0 [] (broken_note (Cut gate prior) note) × (new ≡ old)
 
+-- it begins with this image of its block, which the note tells
+abbrev pub EntersRecovered : Tables → Tables → Table → Effect → List ℕ → BankNote → Type 0
+EntersRecovered old new t done image note = Enters old new (with_first (Some image) t) done INFO_RECOVERED_TBL (record (done_note note) { restored = done.note.restored })
+
 -- by how the restore of its block ended, which was into this image
 abbrev pub EntersRestored : Tables → Tables → Table → Effect → Result Unit RestoreFault → List ℕ → Type 0
-EntersRestored old new t done (Ok x) image =
-    Enters old new (with_first (Some image) t) done INFO_RECOVERED_TBL (record (done_note untouched) { restored = done.note.restored }) × (restored_image done.note ≡ Some image)
+EntersRestored old new t done (Ok x) image = EntersRecovered old new t done image untouched × (restored_image done.note ≡ Some image)
 EntersRestored old new t done (Err (Torn length kept found)) image = Enters old new t done SUCCESS (record (done_note untouched) { torn = kept * 65536 + found })
 EntersRestored old new t done (Err Unread) image = EntersBroken old new t done (Fault false false) untouched
 
@@ -68,21 +72,25 @@ AtMostOne old new app plan = (new ≡ old) ⊎ ((options : ℕ) × (first : Opti
 abbrev pub recovery : State → ℕ → Table → ℕ → BankNote → Model
 recovery s row t slot note = then_call (restore slot (restored_image note) ∷ []) note (instead (not_kept s row t)) (recovered s row t (restored_image note))
 
--- it is made, behind the deletion of one of another size
+-- it is made, after the deletion of one of another size
 abbrev pub making : State → ℕ → Table → Option ℕ → BankNote → Model
 making s row t old note = then_call (renewal kind.Table t.name t.size old) note (instead (not_kept s row t)) (registered s row t SUCCESS)
+
+-- what a registration of this plan means, which is critical and finds a place for its block
+abbrev pub keeping : State → Tables → ℕ → NewTable → BankNote → Model
+keeping s old app plan note = kept_effect s (next_row old) (planned old app plan) note (open_of kind.Table plan.name s.store)
 
 -- ---- a restore in place
 
 -- the block of this slot was restored into this image, of so many bytes
-pub record Restores {B : Type 0} (tells : Type 0) (now : B → List ℕ) (tells_moments : Type 0) (clock : B → ℕ) (left_since : B → ℕ → List ℕ → Type 0) (faults stops : B → ℕ) (old new : StoreParts B) (slot size : ℕ) (image : List ℕ) (ended : Result Unit RestoreFault) : Type 0 where
+pub record Restores {B : Type 0} (g : Ghosts B) (old new : StoreParts B) (slot size : ℕ) (image : List ℕ) (ended : Result Unit RestoreFault) : Type 0 where
   pub sized : length image ≡ size
   pub booted : new.booted ≡ true
-  pub held : OnOk ended (tells → held_at slot (store_of (now old.bank)) ≡ Some image)
-  pub ok : OnOk ended ((blocks : Blocks) → StandsFor tells now old blocks → StandsFor tells now new (after (restore slot (Some image)) blocks))
-  pub torn : IfErr ended (λ fault. tells → ForSome (slot_at old.slots slot) (λ s. TellsTorn (now old.bank) s.block fault))
-  pub err : IfErr ended (λ fault. (blocks : Blocks) → StandsFor tells now old blocks → StandsFor tells now new (after_fault fault slot blocks))
-  pub counted : RestoreCounted faults stops old.bank new.bank ended
-  pub more_faults : faults old.bank ≤ faults new.bank
-  pub more_stops : stops old.bank ≤ stops new.bank
-  pub moments : tells_moments → LeavesOnly clock left_since old.bank new.bank (λ image. image ≡ now old.bank)
+  pub held : OnOk ended (g.tells → held_at slot (store_of (g.now old.bank)) ≡ Some image)
+  pub ok : OnOk ended ((blocks : Blocks) → StandsFor g.tells g.now old blocks → StandsFor g.tells g.now new (after (restore slot (Some image)) blocks))
+  pub torn : IfErr ended (λ fault. g.tells → ForSome (slot_at old.slots slot) (λ s. TellsTorn (g.now old.bank) s.block fault))
+  pub err : IfErr ended (λ fault. (blocks : Blocks) → StandsFor g.tells g.now old blocks → StandsFor g.tells g.now new (after_fault fault slot blocks))
+  pub counted : RestoreCounted g.faults g.stops old.bank new.bank ended
+  pub more_faults : g.faults old.bank ≤ g.faults new.bank
+  pub more_stops : g.stops old.bank ≤ g.stops new.bank
+  pub moments : g.tells_moments → LeavesOnly g.clock g.left_since old.bank new.bank (λ image. image ≡ g.now old.bank)

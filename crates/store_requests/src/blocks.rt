@@ -1,20 +1,22 @@
 //! Blocks of the Critical Data Store: how one is registered, and how one is deleted.
 
-ghost use Rattle.std.specs.Prelude.{◌≡◌, ◌==◌, ◌∷◌, ◌<◌, ◌≤◌, true, false, [], None, Some, IsSome, IfOk, OnErr, if◌then◌else◌};
+ghost use Rattle.std.specs.Prelude.{◌≡◌, ◌==◌, ◌<◌, ◌≤◌, ℕ, List, true, false, [], None, Some, IsSome, IfOk, OnErr};
 ghost use Rattle.tbl_kinds.specs.Names.{is_name};
 ghost use Rattle.tbl_kinds.specs.Blocks.{Store as Blocks};
 ghost use Rattle.tbl_kinds.specs.Notes.{untouched};
 ghost use Rattle.tbl_kinds.specs.StoreSteps.{stored_at, open_of, has_room};
-ghost use Rattle.tbl_kinds.specs.StoreCalls.{delete as deleted};
 ghost use Rattle.tbl_kinds.specs.declared.block.BlockKind.TheVariants as kind;
-ghost use Rattle.tbl_kinds.specs.declared.note.Outcome.TheVariants as went;
 ghost use Rattle.tbl_model.specs.State.{State};
-ghost use Rattle.tbl_model.specs.Effects.{answered};
-ghost use Rattle.tbl_model.specs.StoreUse.{then_call};
-ghost use Rattle.tbl_model.specs.AppBlocks.{faulted, has_size, new_slot, renewal, block_effect, cds_register_effect};
+ghost use Rattle.tbl_model.specs.AppBlocks.{has_size, block_effect, cds_register_effect};
 ghost use Rattle.cds_store.specs.Slots.{open_slot};
 ghost use Rattle.cds_store.specs.Sound.{slot_at};
 ghost use Rattle.cds_store.specs.Standing.{StandsFor};
+ghost use Rattle.cds_layout.specs.Order.{delete_calls};
+ghost use Rattle.store_requests.specs.BankAsked.{AsksBy, make_at, renew_at, register_at};
+ghost use Rattle.std.specs.Option.{ForSome, option_map};
+ghost use Rattle.tbl_model.specs.Applications.{full_name};
+ghost use Rattle.sharing.specs.Apps.{app_name};
+ghost use Rattle.store_requests.specs.OwnBlocks.{renewing, deleting};
 ghost use Rattle.store_requests.specs.Called.{Calls, IsCall, IsTold, reserve_note, reserve_status, reserve_detail};
 
 use crate::notes::{broken, called, done, note_done, note_room, noted};
@@ -55,7 +57,8 @@ fn reserved(made: Result<u8, ReserveFault>, empty: Bytes, note: Box<BankNote>) -
     }
 }
 
-/// Deletes the block of another size, and reserves one instead. There is room for it, as was asked before.
+/// Deletes the block of another size, and reserves one instead. That there is room for it was asked before, since the old block
+/// would be gone otherwise.
 fn renew<B: Bank>(
     store: &mut Store<B>,
     old: u8,
@@ -74,8 +77,10 @@ fn renew<B: Bank>(
     requires empty { empty.list ≡ [] }
     requires untouched { note.value ≡ untouched }
     ensures effect { B.tells → (s : State) → StandsFor B.tells B.now store.old s.store
-        → Calls B.tells B.now B.tells_moments B.clock B.left_since store.old store.new s result (λ n. then_call (renewal kind.App name.now size (Some old)) n faulted (answered s Status.SUCCESS (new_slot kind.App name.now (Some old) s.store))) }
-    ensures call { IsCall B.faults B.stops store.old store.new result }
+        → Calls B.Bank store.old store.new s result (renewing s name.now size old) }
+    ensures call { IsCall B.Bank store.old store.new result }
+    ensures asked { (blocks : Blocks) → StandsFor B.tells B.now store.old blocks
+        → ForSome (renew_at store.old.slots old name.now size) (AsksBy B.Bank store.old.bank store.new.bank result.note.outcome) }
 {
     match store.delete_block(old) {
         Ok(()) => {
@@ -111,8 +116,10 @@ fn register_block<B: Bank>(
     requires within { size ≤ 16384 }
     requires empty { empty.list ≡ [] }
     ensures effect { IfOk result (λ done. B.tells → (s : State) → StandsFor B.tells B.now store.old s.store
-        → Calls B.tells B.now B.tells_moments B.clock B.left_since store.old store.new s done (λ n. block_effect s name.now size n (open_of kind.App name.now s.store))) }
-    ensures call { IfOk result (IsCall B.faults B.stops store.old store.new) }
+        → Calls B.Bank store.old store.new s done (λ n. block_effect s name.now size n (open_of kind.App name.now s.store))) }
+    ensures call { IfOk result (IsCall B.Bank store.old store.new) }
+    ensures asked { IfOk result (λ done. (blocks : Blocks) → StandsFor B.tells B.now store.old blocks
+        → ForSome (register_at (open_slot kind.App name.now store.old.slots) store.old.slots name.now size) (AsksBy B.Bank store.old.bank store.new.bank done.note.outcome)) }
     ensures err { OnErr result (store.new ≡ store.old) }
 {
     match store.find(BlockKind::App, name) {
@@ -138,8 +145,10 @@ fn register_again<B: Bank>(
     requires slot { slot < 128 }
     requires empty { empty.list ≡ [] }
     ensures effect { IfOk result (λ done. B.tells → (s : State) → StandsFor B.tells B.now store.old s.store
-        → Calls B.tells B.now B.tells_moments B.clock B.left_since store.old store.new s done (λ n. block_effect s name.now size n (Some slot))) }
-    ensures call { IfOk result (IsCall B.faults B.stops store.old store.new) }
+        → Calls B.Bank store.old store.new s done (λ n. block_effect s name.now size n (Some slot))) }
+    ensures call { IfOk result (IsCall B.Bank store.old store.new) }
+    ensures asked { IfOk result (λ done. (blocks : Blocks) → StandsFor B.tells B.now store.old blocks
+        → ForSome (renew_at store.old.slots slot name.now size) (AsksBy B.Bank store.old.bank store.new.bank done.note.outcome)) }
     ensures err { OnErr result (store.new ≡ store.old) }
 {
     if has_size(store, slot, size) {
@@ -167,8 +176,9 @@ fn register_new<B: Bank>(
     requires none_open { open_slot kind.App name.now store.old.slots ≡ None }
     requires empty { empty.list ≡ [] }
     ensures effect { IfOk result (λ done. B.tells → (s : State) → StandsFor B.tells B.now store.old s.store
-        → Calls B.tells B.now B.tells_moments B.clock B.left_since store.old store.new s done (λ n. block_effect s name.now size n None)) }
-    ensures call { IfOk result (IsCall B.faults B.stops store.old store.new) }
+        → Calls B.Bank store.old store.new s done (λ n. block_effect s name.now size n None)) }
+    ensures call { IfOk result (IsCall B.Bank store.old store.new) }
+    ensures asked { IfOk result (λ done. ForSome (make_at store.old.slots name.now size) (AsksBy B.Bank store.old.bank store.new.bank done.note.outcome)) }
     ensures err { OnErr result (store.new ≡ store.old) }
 {
     let note = note_room(alloc)?;
@@ -189,8 +199,12 @@ pub fn cds_register<B: Bank>(
     requires booted { store.old.booted ≡ true }
     requires empty { empty.list ≡ [] }
     ensures effect { IfOk result (λ done. B.tells → (s : State) → s.apps ≡ apps.now → StandsFor B.tells B.now store.old s.store
-        → Calls B.tells B.now B.tells_moments B.clock B.left_since store.old store.new s done (cds_register_effect s app short.now size)) }
-    ensures call { IfOk result (IsCall B.faults B.stops store.old store.new) }
+        → Calls B.Bank store.old store.new s done (cds_register_effect s app short.now size)) }
+    ensures call { IfOk result (IsCall B.Bank store.old store.new) }
+    // The bank was asked what its calls of the store ask, and nothing else.
+    ensures asked { IfOk result (λ done. (name : List ℕ) → option_map (λ own. full_name own short.now) (app_name apps.now app) ≡ Some name
+        → (blocks : Blocks) → StandsFor B.tells B.now store.old blocks
+        → ForSome (register_at (open_slot kind.App name store.old.slots) store.old.slots name size) (AsksBy B.Bank store.old.bank store.new.bank done.note.outcome)) }
     ensures err { OnErr result (store.new ≡ store.old) }
 {
     let Some(name) = plan_name(apps, app, short) else {
@@ -207,7 +221,7 @@ pub fn cds_register<B: Bank>(
 
 // ---- a block is deleted
 
-/// Deletes the block of a slot that is taken.
+/// Deletes the block of a slot that is taken. The memory of its note is taken first: what the bank did can't be undone.
 pub(crate) fn delete<B: Bank>(
     alloc: Global,
     store: &mut Store<B>,
@@ -218,8 +232,9 @@ pub(crate) fn delete<B: Bank>(
     requires taken { IsSome (slot_at store.old.slots slot) }
     requires empty { empty.list ≡ [] }
     ensures effect { IfOk result (λ done. B.tells → (s : State) → StandsFor B.tells B.now store.old s.store
-        → Calls B.tells B.now B.tells_moments B.clock B.left_since store.old store.new s done (λ n. then_call (deleted slot ∷ []) n faulted (answered s Status.SUCCESS 0))) }
-    ensures call { IfOk result (IsCall B.faults B.stops store.old store.new) }
+        → Calls B.Bank store.old store.new s done (deleting s slot)) }
+    ensures call { IfOk result (IsCall B.Bank store.old store.new) }
+    ensures asked { IfOk result (λ done. AsksBy B.Bank store.old.bank store.new.bank done.note.outcome (delete_calls slot)) }
     ensures err { OnErr result (store.new ≡ store.old) }
 {
     let note = note_room(alloc)?;

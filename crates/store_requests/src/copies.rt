@@ -7,7 +7,7 @@ ghost use Rattle.tbl_model.specs.Tables.{table_at, is_critical, is_critical_in};
 ghost use Rattle.tbl_model.specs.Effects.{Effect as Model};
 ghost use Rattle.tbl_model.specs.Copies.{is_activation, block_of, copied_to, then_copy};
 ghost use Rattle.cds_store.specs.Standing.{StandsFor};
-ghost use Rattle.store_requests.specs.Called.{CallsBehind};
+ghost use Rattle.store_requests.specs.Called.{CallsAfter, done_first};
 ghost use Rattle.store_requests.specs.Copying.{IsFresh, IsCopied, IsCopyCall};
 ghost use Rattle.request_effects.specs.Effects.{IsEffect};
 
@@ -25,7 +25,8 @@ use tbl_registry::Tables;
 /// So many deeds at most does a request have by which an image goes active and is copied.
 const MOST_DEEDS: usize = 4;
 
-/// What the copy of an image may need of memory, which is taken before anything changes.
+/// What the copy of an image may need of memory. It is taken before anything changes: an image that went active stays active,
+/// so running out of memory after that couldn't be answered.
 #[derive(Drop)]
 pub struct CopyRoom {
     note: Box<BankNote>,
@@ -66,7 +67,7 @@ fn went_active(effect: &Effect) -> bool
 
 // ---- how a copy ended
 
-/// The bank failed: that is told behind what was done.
+/// The bank failed: that is told after what was done, as the image is active all the same.
 fn failed(row: u8, slot: u8, mut deeds: Vec<Deed>, mut effect: Effect) -> Effect
     requires empty { deeds.items ≡ [] }
     requires room { length effect.deeds.items < vec_capacity deeds }
@@ -81,7 +82,7 @@ fn failed(row: u8, slot: u8, mut deeds: Vec<Deed>, mut effect: Effect) -> Effect
     Effect { deeds, ..effect }
 }
 
-/// It was stopped: nothing of the request is told but what was done.
+/// It was stopped: nothing of the request is told but what was done, since the processor was reset before it could answer.
 fn stopped(mut effect: Effect) -> Effect
     ensures effect { result ≡ record effect { answer = record { status = Status.INFO_STOPPED; detail = 0 }; bytes = result.bytes; table = None; shown = Shown.Nothing; notice = None } }
     ensures bytes { result.bytes.list ≡ [] }
@@ -96,7 +97,7 @@ fn stopped(mut effect: Effect) -> Effect
     }
 }
 
-/// The effect of a request behind which the copy into the block of a slot ended so.
+/// The effect of a request after which the copy into the block of a slot ended so.
 fn copied(
     row: u8,
     slot: u8,
@@ -137,9 +138,9 @@ fn copy_image<B: Bank>(
     requires fresh { IsFresh room }
     requires few { length effect.deeds.items ≤ 3 }
     requires untouched { effect.note ≡ untouched }
-    ensures behind { B.tells → (e : Model) (t : Table) → IsEffect effect e.asked e.next e → t.name ≡ name.now → t.size ≡ length image.now → StandsFor B.tells B.now store.old e.next.store
-        → CallsBehind B.tells B.now B.tells_moments B.clock B.left_since store.old store.new e.next e.asked result (λ n. copied_to row n e (block_of t e.next.store) (Some image.now)) }
-    ensures call { IsCopyCall B.faults B.stops store.old store.new effect result }
+    ensures copies { B.tells → (e : Model) (t : Table) → IsEffect effect e.asked e.next e → t.name ≡ name.now → t.size ≡ length image.now → StandsFor B.tells B.now store.old e.next.store
+        → CallsAfter B.Bank store.old store.new (done_first e) result (λ n. copied_to row n e (block_of t e.next.store) (Some image.now)) }
+    ensures call { IsCopyCall B.Bank store.old store.new effect result }
 {
     let Some(slot) = sized_block(store, name, image.len()) else {
         return effect;
@@ -149,7 +150,7 @@ fn copy_image<B: Bank>(
 }
 
 /// Copies the image of the table of a row that went active by this effect, if one did and the table is critical, which has
-/// its room then.
+/// its room then. The copy comes last, so that an image is never kept that didn't go active.
 pub fn then_copy<B: Bank>(
     tables: &Tables,
     store: &mut Store<B>,
@@ -162,9 +163,9 @@ pub fn then_copy<B: Bank>(
     requires fresh { IfSome room IsFresh }
     requires few { length effect.deeds.items ≤ 3 }
     requires untouched { effect.note ≡ untouched }
-    ensures behind { B.tells → (e : Model) → IsEffect effect e.asked e.next e → e.next.tables ≡ tables.now → StandsFor B.tells B.now store.old e.next.store
-        → CallsBehind B.tells B.now B.tells_moments B.clock B.left_since store.old store.new e.next e.asked result (λ n. then_copy row n e) }
-    ensures call { IsCopyCall B.faults B.stops store.old store.new effect result }
+    ensures copies { B.tells → (e : Model) → IsEffect effect e.asked e.next e → e.next.tables ≡ tables.now → StandsFor B.tells B.now store.old e.next.store
+        → CallsAfter B.Bank store.old store.new (done_first e) result (λ n. then_copy row n e) }
+    ensures call { IsCopyCall B.Bank store.old store.new effect result }
 {
     let Some(room) = room else {
         return effect;

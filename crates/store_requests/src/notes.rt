@@ -1,4 +1,5 @@
-//! Notes of how a request's calls of the store went. Their memory is taken before the first call, and filled behind it.
+//! Notes of how a request's calls of the store went. Their memory is taken before the first call, so that nothing is missing
+//! once the bank was called.
 
 ghost use Rattle.std.specs.Prelude.{◌≡◌, ◌+◌, ◌<◌, IfOk};
 ghost use Rattle.tbl_kinds.specs.Notes.{untouched};
@@ -61,7 +62,7 @@ pub(crate) fn done(answer: Answer, bytes: Bytes, mut note: Box<BankNote>) -> Eff
     noted(answer, bytes, note)
 }
 
-/// The next call of a request broke off. Where it was stopped, the service boots behind it.
+/// The next call of a request broke off. Where it was stopped, the service boots after it.
 pub(crate) fn broken(fault: BankFault, empty: Bytes, mut note: Box<BankNote>) -> Effect
     ensures { IsTold result (broken_status fault) 0 empty.list (broken_note fault note.value) }
 {

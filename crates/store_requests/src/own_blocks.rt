@@ -1,21 +1,22 @@
 //! An application's own blocks of the Critical Data Store: copied into, restored and deleted.
 
 ghost use Rattle.std.specs.Option.{ForSome};
-ghost use Rattle.std.specs.Prelude.{◌≡◌, ◌==◌, Option, ◌∷◌, ◌+◌, ◌*◌, ◌<◌, ◌≤◌, is_some, true, false, [], length, None, Some, IfSome, IfOk, IfErr, OnErr, if◌then◌else◌};
+ghost use Rattle.std.specs.Prelude.{◌≡◌, ◌==◌, Option, ◌+◌, ◌*◌, ◌<◌, ◌≤◌, is_some, true, false, [], length, None, Some, IfSome, IfOk, IfErr, OnErr};
 ghost use Rattle.tbl_kinds.specs.Blocks.{Stored, Store as Blocks};
 ghost use Rattle.tbl_kinds.specs.Notes.{untouched, restored_image};
 ghost use Rattle.tbl_kinds.specs.StoreSteps.{stored_at};
-ghost use Rattle.tbl_kinds.specs.StoreCalls.{copy as copied, restore as restored, delete as deleted};
-ghost use Rattle.tbl_kinds.specs.declared.block.BlockKind.TheVariants as kind;
 ghost use Rattle.tbl_kinds.specs.declared.note.Outcome.TheVariants as went;
 ghost use Rattle.tbl_model.specs.State.{State};
 ghost use Rattle.tbl_model.specs.BankCounts.{tells_trouble};
 ghost use Rattle.tbl_model.specs.Effects.{Effect as Model, answered};
-ghost use Rattle.tbl_model.specs.StoreUse.{then_call};
-ghost use Rattle.tbl_model.specs.AppBlocks.{faulted, is_named_by, if_block, restore_answer, cds_copy_effect, cds_restore_effect, cds_delete_effect};
+ghost use Rattle.tbl_model.specs.AppBlocks.{is_named_by, if_block, cds_copy_effect, cds_restore_effect, cds_delete_effect};
 ghost use Rattle.cds_store.specs.Sound.{slot_at, IsOpenOf};
 ghost use Rattle.cds_store.specs.Standing.{StandsFor};
-ghost use Rattle.store_requests.specs.Called.{GaveHeld, Calls, IsCall, IsTold, done_note, is_own_slot};
+ghost use Rattle.tbl_session.specs.Restores.{GaveHeld};
+ghost use Rattle.cds_layout.specs.Order.{delete_calls};
+ghost use Rattle.store_requests.specs.BankAsked.{AsksBy, copy_at, restore_at};
+ghost use Rattle.store_requests.specs.OwnBlocks.{copying, restoring};
+ghost use Rattle.store_requests.specs.Called.{Calls, IsCall, IsTold, done_note, is_own_slot};
 
 use crate::blocks::{delete, plain};
 use crate::notes::{broken, called, done, note_room};
@@ -98,8 +99,9 @@ fn copy_into<B: Bank>(
     requires own { IsOpenOf own.size (slot_at store.old.slots own.slot) }
     requires empty { empty.list ≡ [] }
     ensures effect { IfOk result (λ done. B.tells → (s : State) → StandsFor B.tells B.now store.old s.store
-        → Calls B.tells B.now B.tells_moments B.clock B.left_since store.old store.new s done (λ n. if length image.now == own.size then then_call (copied own.slot image.now ∷ []) n faulted (answered s Status.SUCCESS 0) else answered s Status.ERR_IMAGE_SIZE 0)) }
-    ensures call { IfOk result (IsCall B.faults B.stops store.old store.new) }
+        → Calls B.Bank store.old store.new s done (copying s own.slot own.size image.now)) }
+    ensures call { IfOk result (IsCall B.Bank store.old store.new) }
+    ensures asked { IfOk result (λ done. AsksBy B.Bank store.old.bank store.new.bank done.note.outcome (copy_at store.old.slots own.slot image.now)) }
     ensures err { OnErr result (store.new ≡ store.old) }
 {
     if image.len() != own.size as usize {
@@ -123,8 +125,10 @@ pub fn cds_copy<B: Bank>(
     requires booted { store.old.booted ≡ true }
     requires empty { empty.list ≡ [] }
     ensures effect { IfOk result (λ done. B.tells → (s : State) → s.apps ≡ apps.now → StandsFor B.tells B.now store.old s.store
-        → Calls B.tells B.now B.tells_moments B.clock B.left_since store.old store.new s done (cds_copy_effect s app slot image.now)) }
-    ensures call { IfOk result (IsCall B.faults B.stops store.old store.new) }
+        → Calls B.Bank store.old store.new s done (cds_copy_effect s app slot image.now)) }
+    ensures call { IfOk result (IsCall B.Bank store.old store.new) }
+    // The bank was asked what this call of the store asks, and nothing else.
+    ensures asked { IfOk result (λ done. AsksBy B.Bank store.old.bank store.new.bank done.note.outcome (copy_at store.old.slots slot image.now)) }
     ensures err { OnErr result (store.new ≡ store.old) }
 {
     match own_block(store, apps, app, slot) {
@@ -183,8 +187,9 @@ fn restore_into<B: Bank>(
     requires empty { empty.list ≡ [] }
     requires untouched { note.value ≡ untouched }
     ensures effect { B.tells → (s : State) → StandsFor B.tells B.now store.old s.store
-        → Calls B.tells B.now B.tells_moments B.clock B.left_since store.old store.new s result (λ n. then_call (restored slot (restored_image n) ∷ []) n faulted (restore_answer s n.torn (restored_image n))) }
-    ensures call { IsCall B.faults B.stops store.old store.new result }
+        → Calls B.Bank store.old store.new s result (restoring s slot) }
+    ensures call { IsCall B.Bank store.old store.new result }
+    ensures asked { AsksBy B.Bank store.old.bank store.new.bank result.note.outcome (restore_at store.old.slots slot) }
     ensures gave { B.tells → (blocks : Blocks) → StandsFor B.tells B.now store.old blocks → result.note.outcome ≡ went.Done
         → ForSome (stored_at blocks slot) (λ b. GaveHeld (B.now store.old.bank) b.block result.note) }
 {
@@ -201,7 +206,7 @@ fn restore_into<B: Bank>(
     }
 }
 
-/// Restores the image of a block. All memory is taken before.
+/// Restores the image of a block. All memory is taken before, since a read of the bank that failed has to be told.
 fn restore_from<B: Bank>(
     alloc: Global,
     store: &mut Store<B>,
@@ -213,8 +218,9 @@ fn restore_from<B: Bank>(
     requires within { own.size ≤ 16384 }
     requires empty { empty.list ≡ [] }
     ensures effect { IfOk result (λ done. B.tells → (s : State) → StandsFor B.tells B.now store.old s.store
-        → Calls B.tells B.now B.tells_moments B.clock B.left_since store.old store.new s done (λ n. then_call (restored own.slot (restored_image n) ∷ []) n faulted (restore_answer s n.torn (restored_image n)))) }
-    ensures call { IfOk result (IsCall B.faults B.stops store.old store.new) }
+        → Calls B.Bank store.old store.new s done (restoring s own.slot)) }
+    ensures call { IfOk result (IsCall B.Bank store.old store.new) }
+    ensures asked { IfOk result (λ done. AsksBy B.Bank store.old.bank store.new.bank done.note.outcome (restore_at store.old.slots own.slot)) }
     ensures gave { IfOk result (λ done. B.tells → (blocks : Blocks) → StandsFor B.tells B.now store.old blocks → done.note.outcome ≡ went.Done
         → ForSome (stored_at blocks own.slot) (λ b. GaveHeld (B.now store.old.bank) b.block done.note)) }
     ensures err { OnErr result (store.new ≡ store.old) }
@@ -239,8 +245,10 @@ pub fn cds_restore<B: Bank>(
     requires booted { store.old.booted ≡ true }
     requires empty { empty.list ≡ [] }
     ensures effect { IfOk result (λ done. B.tells → (s : State) → s.apps ≡ apps.now → StandsFor B.tells B.now store.old s.store
-        → Calls B.tells B.now B.tells_moments B.clock B.left_since store.old store.new s done (cds_restore_effect s app slot)) }
-    ensures call { IfOk result (IsCall B.faults B.stops store.old store.new) }
+        → Calls B.Bank store.old store.new s done (cds_restore_effect s app slot)) }
+    ensures call { IfOk result (IsCall B.Bank store.old store.new) }
+    // The bank was asked what this call of the store asks, and nothing else.
+    ensures asked { IfOk result (λ done. AsksBy B.Bank store.old.bank store.new.bank done.note.outcome (restore_at store.old.slots slot)) }
     // What it gave is what the block held in the bank as the call began.
     ensures gave { IfOk result (λ done. B.tells → (blocks : Blocks) → StandsFor B.tells B.now store.old blocks → done.note.outcome ≡ went.Done
         → ForSome (stored_at blocks slot) (λ b. GaveHeld (B.now store.old.bank) b.block done.note)) }
@@ -264,8 +272,10 @@ pub fn cds_delete<B: Bank>(
     requires booted { store.old.booted ≡ true }
     requires empty { empty.list ≡ [] }
     ensures effect { IfOk result (λ done. B.tells → (s : State) → s.apps ≡ apps.now → StandsFor B.tells B.now store.old s.store
-        → Calls B.tells B.now B.tells_moments B.clock B.left_since store.old store.new s done (cds_delete_effect s app slot)) }
-    ensures call { IfOk result (IsCall B.faults B.stops store.old store.new) }
+        → Calls B.Bank store.old store.new s done (cds_delete_effect s app slot)) }
+    ensures call { IfOk result (IsCall B.Bank store.old store.new) }
+    // The bank was asked what this call of the store asks, and nothing else.
+    ensures asked { IfOk result (λ done. AsksBy B.Bank store.old.bank store.new.bank done.note.outcome (delete_calls slot)) }
     ensures err { OnErr result (store.new ≡ store.old) }
 {
     match own_block(store, apps, app, slot) {

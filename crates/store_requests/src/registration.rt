@@ -2,26 +2,25 @@
 
 ghost use Rattle.std.specs.Arc.{arc_value};
 ghost use Rattle.std.specs.Option.{ForSome};
-ghost use Rattle.std.specs.Prelude.{◌≡◌, ℕ, suc, Bool, List, Option, ◌+◌, ◌*◌, ◌<◌, ◌≤◌, [], length, None, Some, IsSome, IfSome, IfNone, IfOk, OnErr, true};
+ghost use Rattle.std.specs.Prelude.{◌≡◌, ℕ, suc, Option, ◌+◌, ◌*◌, ◌<◌, ◌≤◌, [], length, None, Some, IsSome, IfSome, IfNone, IfOk, OnErr, true};
 ghost use Rattle.tbl_kinds.specs.Blocks.{Store as Blocks};
 ghost use Rattle.tbl_kinds.specs.Notes.{untouched, restored_image};
-ghost use Rattle.tbl_kinds.specs.StoreSteps.{stored_at, open_of, has_room};
+ghost use Rattle.tbl_kinds.specs.StoreSteps.{stored_at, has_room};
 ghost use Rattle.tbl_kinds.specs.declared.block.BlockKind.TheVariants as kind;
 ghost use Rattle.tbl_kinds.specs.declared.note.Outcome.TheVariants as went;
 ghost use Rattle.tbl_model.specs.State.{State};
-ghost use Rattle.tbl_model.specs.Tables.{is_critical};
-ghost use Rattle.tbl_model.specs.TableSteps.{with_first};
 ghost use Rattle.tbl_model.specs.Copies.{block_of};
-ghost use Rattle.tbl_model.specs.CriticalTables.{kept_effect, critical_effect};
+ghost use Rattle.tbl_model.specs.CriticalTables.{critical_effect};
 ghost use Rattle.tbl_model.specs.Registration.{register_effect};
-ghost use Rattle.tbl_laws.specs.Fit.{AreFit};
+ghost use Rattle.tbl_model.specs.Fit.{AreFit};
 ghost use Rattle.validation.specs.Kits.{owners};
 ghost use Rattle.cds_store.specs.Slots.{open_slot};
 ghost use Rattle.cds_store.specs.Sound.{slot_at, IsOpenOf};
 ghost use Rattle.cds_store.specs.Standing.{StandsFor};
 ghost use Rattle.sharing.specs.Registering.{next_row, planned, CanRegister};
-ghost use Rattle.store_requests.specs.Called.{GaveHeld, RestoresHeld, Calls, IsCall, done_note, with_boot};
-ghost use Rattle.store_requests.specs.Registering.{Enters, EntersBroken, EntersRestored, EntersReserved, Restores, AtMostOne, recovery, making};
+ghost use Rattle.tbl_session.specs.Restores.{GaveHeld};
+ghost use Rattle.store_requests.specs.Called.{Calls, IsCall, GaveAsHeld, done_note};
+ghost use Rattle.store_requests.specs.Registering.{Enters, EntersBroken, EntersRecovered, EntersRestored, EntersReserved, Restores, AtMostOne, recovery, making, keeping};
 
 use crate::notes::{note_broken, note_done, note_room, noted};
 use crate::table_blocks::sized_block;
@@ -40,7 +39,8 @@ use validation::Kit;
 /// So many tables can be critical (`CFE_PLATFORM_TBL_MAX_CRITICAL_TABLES`).
 const MOST_CRITICAL: u16 = 32;
 
-/// A call for the block of a table broke off. Where the bank failed in it, the table isn't critical.
+/// A call for the block of a table broke off. Where the bank failed in it, the table is registered and isn't critical, so that an
+/// application can run without the store.
 fn lost(
     tables: &mut Tables,
     app: u8,
@@ -79,7 +79,7 @@ fn recovered(
     requires none_kept { kept.list ≡ [] }
     requires empty { empty.list ≡ [] }
     requires done { note.value.done < 255 }
-    ensures enters { Enters tables.old tables.new (with_first (Some image) (planned tables.old app plan)) result Status.INFO_RECOVERED_TBL (record (done_note note.value) { restored = result.note.restored }) }
+    ensures enters { EntersRecovered tables.old tables.new (planned tables.old app plan) result image note.value }
     ensures restored { restored_image result.note ≡ Some image }
 {
     kept.append(image.bytes());
@@ -163,7 +163,7 @@ fn restore_into<B: Bank>(
 ) -> Option<Result<(), RestoreFault>>
     requires booted { store.old.booted ≡ true }
     requires can { IsOpenOf (length (arc_value room.old).items) (slot_at store.old.slots slot) }
-    ensures restores { IfSome result (Restores B.tells B.now B.tells_moments B.clock B.left_since B.faults B.stops store.old store.new slot (length (arc_value room.old).items) (arc_value room.new).items) }
+    ensures restores { IfSome result (Restores B.Bank store.old store.new slot (length (arc_value room.old).items) (arc_value room.new).items) }
     ensures none { IfNone result (store.new ≡ store.old) }
 {
     let bytes = Arc::get_mut(room)?;
@@ -171,7 +171,7 @@ fn restore_into<B: Bank>(
 }
 
 /// Registers a critical table whose open block stands in this slot, and has its size. All memory is taken before its image is
-/// restored.
+/// restored, which is done in place: the table's image is made of the very bytes that were read.
 fn recover<B: Bank>(
     alloc: Global,
     tables: &mut Tables,
@@ -187,8 +187,8 @@ fn recover<B: Bank>(
     requires open_block { IsOpenOf plan.size (slot_at store.old.slots slot) }
     requires empty { empty.list ≡ [] }
     ensures effect { IfOk result (λ done. B.tells → (s : State) → s.tables ≡ tables.old → StandsFor B.tells B.now store.old s.store
-        → Calls B.tells B.now B.tells_moments B.clock B.left_since store.old store.new (record s { tables = tables.new }) done (recovery s (next_row tables.old) (planned tables.old app plan) slot)) }
-    ensures call { IfOk result (IsCall B.faults B.stops store.old store.new) }
+        → Calls B.Bank store.old store.new (record s { tables = tables.new }) done (recovery s (next_row tables.old) (planned tables.old app plan) slot)) }
+    ensures call { IfOk result (IsCall B.Bank store.old store.new) }
     // What it gave is what the block held in the bank as the call began.
     ensures gave { IfOk result (λ done. B.tells → (blocks : Blocks) → StandsFor B.tells B.now store.old blocks → done.note.outcome ≡ went.Done
         → ForSome (stored_at blocks slot) (λ b. GaveHeld (B.now store.old.bank) b.block done.note)) }
@@ -234,7 +234,8 @@ fn reserved(
     }
 }
 
-/// Deletes the block of another size, and makes one instead. There is room for it, as was asked before.
+/// Deletes the block of another size, and makes one instead. That there is room for it was asked before, since the old block
+/// would be gone otherwise.
 fn renew<B: Bank>(
     tables: &mut Tables,
     store: &mut Store<B>,
@@ -253,8 +254,8 @@ fn renew<B: Bank>(
     requires empty { empty.list ≡ [] }
     requires untouched { note.value ≡ untouched }
     ensures effect { B.tells → (s : State) → s.tables ≡ tables.old → StandsFor B.tells B.now store.old s.store
-        → Calls B.tells B.now B.tells_moments B.clock B.left_since store.old store.new (record s { tables = tables.new }) result (making s (next_row tables.old) (planned tables.old app plan) (Some old)) }
-    ensures call { IsCall B.faults B.stops store.old store.new result }
+        → Calls B.Bank store.old store.new (record s { tables = tables.new }) result (making s (next_row tables.old) (planned tables.old app plan) (Some old)) }
+    ensures call { IsCall B.Bank store.old store.new result }
     ensures one { AtMostOne tables.old tables.new app plan }
 {
     match store.delete_block(old) {
@@ -285,8 +286,8 @@ fn keep_again<B: Bank>(
     requires other { (blocks : Blocks) → StandsFor B.tells B.now store.old blocks → block_of (planned tables.old app plan) blocks ≡ None }
     requires empty { empty.list ≡ [] }
     ensures effect { IfOk result (λ done. B.tells → (s : State) → s.tables ≡ tables.old → StandsFor B.tells B.now store.old s.store
-        → Calls B.tells B.now B.tells_moments B.clock B.left_since store.old store.new (record s { tables = tables.new }) done (λ n. kept_effect s (next_row tables.old) (planned tables.old app plan) n (open_of kind.Table plan.name s.store))) }
-    ensures call { IfOk result (IsCall B.faults B.stops store.old store.new) }
+        → Calls B.Bank store.old store.new (record s { tables = tables.new }) done (keeping s tables.old app plan)) }
+    ensures call { IfOk result (IsCall B.Bank store.old store.new) }
     ensures one { IfOk result (λ done. AtMostOne tables.old tables.new app plan) }
     ensures err_tables { OnErr result (tables.new ≡ tables.old) }
     ensures err_store { OnErr result (store.new ≡ store.old) }
@@ -313,8 +314,8 @@ fn keep_new<B: Bank>(
     requires none_open { open_slot kind.Table plan.name store.old.slots ≡ None }
     requires empty { empty.list ≡ [] }
     ensures effect { IfOk result (λ done. B.tells → (s : State) → s.tables ≡ tables.old → StandsFor B.tells B.now store.old s.store
-        → Calls B.tells B.now B.tells_moments B.clock B.left_since store.old store.new (record s { tables = tables.new }) done (λ n. kept_effect s (next_row tables.old) (planned tables.old app plan) n (open_of kind.Table plan.name s.store))) }
-    ensures call { IfOk result (IsCall B.faults B.stops store.old store.new) }
+        → Calls B.Bank store.old store.new (record s { tables = tables.new }) done (keeping s tables.old app plan)) }
+    ensures call { IfOk result (IsCall B.Bank store.old store.new) }
     ensures one { IfOk result (λ done. AtMostOne tables.old tables.new app plan) }
     ensures err_tables { OnErr result (tables.new ≡ tables.old) }
     ensures err_store { OnErr result (store.new ≡ store.old) }
@@ -338,10 +339,10 @@ fn keep<B: Bank>(
     requires begins { plan.first ≡ None }
     requires empty { empty.list ≡ [] }
     ensures effect { IfOk result (λ done. B.tells → (s : State) → s.tables ≡ tables.old → StandsFor B.tells B.now store.old s.store
-        → Calls B.tells B.now B.tells_moments B.clock B.left_since store.old store.new (record s { tables = tables.new }) done (λ n. kept_effect s (next_row tables.old) (planned tables.old app plan) n (open_of kind.Table plan.name s.store))) }
-    ensures call { IfOk result (IsCall B.faults B.stops store.old store.new) }
-    ensures gave { IfOk result (λ done. B.tells → (s : State) → StandsFor B.tells B.now store.old s.store → (ended stopped : Bool) (found : List ℕ)
-        → RestoresHeld (B.now store.old.bank) (kept_effect s (next_row tables.old) (planned tables.old app plan) (with_boot ended stopped found done.note) (open_of kind.Table plan.name s.store)).calls s.store (with_boot ended stopped found done.note)) }
+        → Calls B.Bank store.old store.new (record s { tables = tables.new }) done (keeping s tables.old app plan)) }
+    ensures call { IfOk result (IsCall B.Bank store.old store.new) }
+    ensures gave { IfOk result (λ done. B.tells → (s : State) → StandsFor B.tells B.now store.old s.store
+        → GaveAsHeld B.Bank store.old s.store done (keeping s tables.old app plan)) }
     ensures one { IfOk result (λ done. AtMostOne tables.old tables.new app plan) }
     ensures err_tables { OnErr result (tables.new ≡ tables.old) }
     ensures err_store { OnErr result (store.new ≡ store.old) }
@@ -371,10 +372,10 @@ fn register_critical<B: Bank>(
     requires begins { plan.first ≡ None }
     requires empty { empty.list ≡ [] }
     ensures effect { IfOk result (λ done. B.tells → (s : State) → s.tables ≡ tables.old → StandsFor B.tells B.now store.old s.store
-        → Calls B.tells B.now B.tells_moments B.clock B.left_since store.old store.new (record s { tables = tables.new }) done (critical_effect s (next_row tables.old) (planned tables.old app plan))) }
-    ensures call { IfOk result (IsCall B.faults B.stops store.old store.new) }
-    ensures gave { IfOk result (λ done. B.tells → (s : State) → s.tables ≡ tables.old → StandsFor B.tells B.now store.old s.store → (ended stopped : Bool) (found : List ℕ)
-        → RestoresHeld (B.now store.old.bank) (critical_effect s (next_row tables.old) (planned tables.old app plan) (with_boot ended stopped found done.note)).calls s.store (with_boot ended stopped found done.note)) }
+        → Calls B.Bank store.old store.new (record s { tables = tables.new }) done (critical_effect s (next_row tables.old) (planned tables.old app plan))) }
+    ensures call { IfOk result (IsCall B.Bank store.old store.new) }
+    ensures gave { IfOk result (λ done. B.tells → (s : State) → s.tables ≡ tables.old → StandsFor B.tells B.now store.old s.store
+        → GaveAsHeld B.Bank store.old s.store done (critical_effect s (next_row tables.old) (planned tables.old app plan))) }
     ensures one { IfOk result (λ done. AtMostOne tables.old tables.new app plan) }
     ensures err_tables { OnErr result (tables.new ≡ tables.old) }
     ensures err_store { OnErr result (store.new ≡ store.old) }
@@ -403,10 +404,10 @@ pub fn register<B: Bank, C: Validator>(
     requires booted { store.old.booted ≡ true }
     requires empty { empty.list ≡ [] }
     ensures effect { IfOk result (λ done. B.tells → (s : State) → s.tables ≡ tables.old → s.kit ≡ owners kit.now → s.apps ≡ apps.now → StandsFor B.tells B.now store.old s.store
-        → Calls B.tells B.now B.tells_moments B.clock B.left_since store.old store.new (record s { tables = tables.new }) done (register_effect s app short.now size flags validator)) }
-    ensures call { IfOk result (IsCall B.faults B.stops store.old store.new) }
-    ensures gave { IfOk result (λ done. B.tells → (s : State) → s.tables ≡ tables.old → s.kit ≡ owners kit.now → s.apps ≡ apps.now → StandsFor B.tells B.now store.old s.store → (ended stopped : Bool) (found : List ℕ)
-        → RestoresHeld (B.now store.old.bank) (register_effect s app short.now size flags validator (with_boot ended stopped found done.note)).calls s.store (with_boot ended stopped found done.note)) }
+        → Calls B.Bank store.old store.new (record s { tables = tables.new }) done (register_effect s app short.now size flags validator)) }
+    ensures call { IfOk result (IsCall B.Bank store.old store.new) }
+    ensures gave { IfOk result (λ done. B.tells → (s : State) → s.tables ≡ tables.old → s.kit ≡ owners kit.now → s.apps ≡ apps.now → StandsFor B.tells B.now store.old s.store
+        → GaveAsHeld B.Bank store.old s.store done (register_effect s app short.now size flags validator)) }
     // What holds of tables still does, over a bank that doesn't tell its bytes too.
     ensures fit { IfOk result (λ done. (s : State) (n : ℕ) → s.tables ≡ tables.old → s.kit ≡ owners kit.now → AreFit n s → AreFit (suc n) (record s { tables = tables.new })) }
     ensures err_tables { OnErr result (tables.new ≡ tables.old) }

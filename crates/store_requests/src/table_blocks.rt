@@ -2,13 +2,15 @@
 
 ghost use Rattle.std.specs.Prelude.{◌≡◌, ◌==◌, ℕ, Option, ◌<◌, is_some, true, [], None, Some, IsSome, IfSome, IfOk, OnErr};
 ghost use Rattle.tbl_kinds.specs.Blocks.{Store as Blocks};
-ghost use Rattle.tbl_kinds.specs.StoreCalls.{delete as deleted};
 ghost use Rattle.tbl_kinds.specs.declared.block.BlockKind.TheVariants as kind;
 ghost use Rattle.tbl_model.specs.State.{State, Table};
 ghost use Rattle.tbl_model.specs.Copies.{block_of};
 ghost use Rattle.tbl_model.specs.AppBlocks.{any_of, delete_table_block, delete_cds_effect};
 ghost use Rattle.cds_store.specs.Sound.{slot_at, IsOpenOf};
 ghost use Rattle.cds_store.specs.Standing.{StandsFor};
+ghost use Rattle.std.specs.Option.{option_or};
+ghost use Rattle.cds_store.specs.Slots.{open_slot, doubtful_slot};
+ghost use Rattle.store_requests.specs.BankAsked.{AsksBy, delete_named};
 ghost use Rattle.store_requests.specs.Called.{Calls, IsCall};
 
 use crate::blocks::{delete, plain};
@@ -23,6 +25,7 @@ use tbl_registry::Tables;
 /// The block of a table of this name, open or in doubt.
 pub(crate) fn table_block<B: Bank>(store: &Store<B>, name: &Name40) -> Option<u8>
     ensures block { (blocks : Blocks) → StandsFor B.tells B.now store.now blocks → result ≡ any_of kind.Table name.now blocks }
+    ensures slot { result ≡ option_or (open_slot kind.Table name.now store.now.slots) (doubtful_slot kind.Table name.now store.now.slots) }
     ensures taken { IfSome result (λ slot. IsSome (slot_at store.now.slots slot)) }
 {
     match store.find(BlockKind::Table, name) {
@@ -56,8 +59,9 @@ fn delete_table_block<B: Bank>(
     requires booted { store.old.booted ≡ true }
     requires empty { empty.list ≡ [] }
     ensures effect { IfOk result (λ done. B.tells → (s : State) (row : Option ℕ) → is_some row ≡ is_registered → StandsFor B.tells B.now store.old s.store
-        → Calls B.tells B.now B.tells_moments B.clock B.left_since store.old store.new s done (λ n. delete_table_block s n (any_of kind.Table name.now s.store) row)) }
-    ensures call { IfOk result (IsCall B.faults B.stops store.old store.new) }
+        → Calls B.Bank store.old store.new s done (λ n. delete_table_block s n (any_of kind.Table name.now s.store) row)) }
+    ensures call { IfOk result (IsCall B.Bank store.old store.new) }
+    ensures asked { IfOk result (λ done. AsksBy B.Bank store.old.bank store.new.bank done.note.outcome (delete_named store.old.slots name.now)) }
     ensures err { OnErr result (store.new ≡ store.old) }
 {
     match table_block(store, name) {
@@ -79,8 +83,10 @@ pub fn delete_cds<B: Bank>(
     requires booted { store.old.booted ≡ true }
     requires empty { empty.list ≡ [] }
     ensures effect { IfOk result (λ done. B.tells → (s : State) → s.tables ≡ tables.now → StandsFor B.tells B.now store.old s.store
-        → Calls B.tells B.now B.tells_moments B.clock B.left_since store.old store.new s done (delete_cds_effect s name.now)) }
-    ensures call { IfOk result (IsCall B.faults B.stops store.old store.new) }
+        → Calls B.Bank store.old store.new s done (delete_cds_effect s name.now)) }
+    ensures call { IfOk result (IsCall B.Bank store.old store.new) }
+    // The bank was asked what this call of the store asks, and nothing else.
+    ensures asked { IfOk result (λ done. AsksBy B.Bank store.old.bank store.new.bank done.note.outcome (delete_named store.old.slots name.now)) }
     ensures err { OnErr result (store.new ≡ store.old) }
 {
     let table = subject(tables, name);

@@ -1,4 +1,4 @@
-use Rattle.std.proofs.Common.{[], ◌∷◌, refl}
+use Rattle.std.proofs.Common.{[], ◌∷◌, refl, ◌≡◌, ℕ, subst, IfOk}
 use Rattle.tbl_kinds.specs.StoreCalls.{restore}
 use Rattle.tbl_kinds.specs.Notes.{restored_image}
 use Rattle.tbl_model.specs.Effects.{answered}
@@ -7,29 +7,30 @@ use Rattle.tbl_model.specs.AppBlocks.{faulted, restore_answer, cds_restore_effec
 use Rattle.store_requests.proofs.Both.{one}
 use Rattle.store_requests.proofs.Calls.{told_with, calls_none, calls_same}
 use Rattle.store_requests.proofs.OwnBlocks.{restore_means, no_restore}
-use Rattle.std.proofs.Common.{◌≡◌, ℕ, subst, IfOk}
 use Rattle.std.specs.Option.{ForSome}
 use Rattle.tbl_kinds.specs.Blocks.{Store as Blocks}
 use Rattle.tbl_kinds.specs.StoreSteps.{stored_at}
 use Rattle.tbl_kinds.specs.declared.note.Outcome.TheVariants.{Done}
 use Rattle.cds_store.specs.Standing.{StandsFor}
-use Rattle.store_requests.specs.Called.{GaveHeld}
+use Rattle.tbl_session.specs.Restores.{GaveHeld}
 use Rattle.store_requests.proofs.Moments.{uncalled_leaves}
+use Rattle.store_requests.specs.BankAsked.{AsksBy, restore_at}
+use Rattle.store_requests.proofs.BankAsked.{asked_none}
 use Rattle.store_requests.proofs.own_blocks.cds_restore.Goals as goal
 
 pub returns-in-Ok-clause-effect : goal.returns-in-Ok-clause-effect
 returns-in-Ok-clause-effect g c = one c.restore_from.result _ _ c.restore_from.ensures.effect (λ done is tells s apps stands.
     let b = g.B.Bank in
     let own = c.in-Ok.own in
-    calls_same b.tells b.now b.tells_moments b.clock b.left_since c.args.store.now c.restore_from.new.store s done (λ n. then_call (restore own.slot (restored_image n) ∷ []) n faulted (restore_answer s n.torn (restored_image n))) (cds_restore_effect s c.args.app c.args.slot)
+    calls_same b c.args.store.now c.restore_from.new.store s done (λ n. then_call (restore own.slot (restored_image n) ∷ []) n faulted (restore_answer s n.torn (restored_image n))) (cds_restore_effect s c.args.app c.args.slot)
     (restore_means s c.args.app c.args.slot own.slot own.size c.in-Ok.ensures.slot (λ effect. c.in-Ok.ensures.ok s effect apps stands)) (is tells s stands))
 
 pub returns-in-Err-clause-effect : goal.returns-in-Err-clause-effect
 returns-in-Err-clause-effect g c = λ tells s apps stands.
     let b = g.B.Bank in
-    calls_same b.tells b.now b.tells_moments b.clock b.left_since c.args.store.now c.args.store.now s c.plain.result (λ n. answered s c.in-Err.status 0) (cds_restore_effect s c.args.app c.args.slot)
+    calls_same b c.args.store.now c.args.store.now s c.plain.result (λ n. answered s c.in-Err.status 0) (cds_restore_effect s c.args.app c.args.slot)
     (no_restore s c.args.app c.args.slot c.in-Err.status (λ effect. c.in-Err.ensures.err s effect apps stands))
-    (calls_none b.tells b.now b.tells_moments b.clock b.left_since c.args.store.now c.args.store.now s c.plain.result (uncalled_leaves b.tells_moments b.clock b.left_since b.now b.may_leave g.met.B.Bank.leaves_only_now g.met.B.Bank.only_now c.args.store.now c.args.store.now s.store refl (stands.shows tells)) c.in-Err.status 0 (told_with c.requires.empty refl c.plain.ensures) stands)
+    (calls_none b c.args.store.now c.args.store.now s c.plain.result (uncalled_leaves b g.met.B.Bank.leaves_only_now g.met.B.Bank.only_now c.args.store.now c.args.store.now s.store refl (stands.shows tells)) c.in-Err.status 0 (told_with c.requires.empty refl c.plain.ensures) stands)
 
 pub returns-in-Ok-clause-gave : goal.returns-in-Ok-clause-gave
 returns-in-Ok-clause-gave g c =
@@ -38,3 +39,13 @@ returns-in-Ok-clause-gave g c =
     (λ (slot : ℕ). IfOk c.restore_from.result (λ done. b.tells → (blocks : Blocks) → StandsFor b.tells b.now c.args.store.now blocks → done.note.outcome ≡ Done
     → ForSome (stored_at blocks slot) (λ x. GaveHeld (b.now c.args.store.now.bank) x.block done.note)))
     c.in-Ok.ensures.slot c.restore_from.ensures.gave
+
+pub returns-in-Ok-clause-asked : goal.returns-in-Ok-clause-asked
+returns-in-Ok-clause-asked g c =
+    let old = c.args.store.now in
+    subst (λ (slot : ℕ). IfOk c.restore_from.result (λ done. AsksBy g.B.Bank old.bank c.restore_from.new.store.bank done.note.outcome (restore_at old.slots slot))) c.in-Ok.ensures.slot c.restore_from.ensures.asked
+
+pub returns-in-Err-clause-asked : goal.returns-in-Err-clause-asked
+returns-in-Err-clause-asked g c =
+    let old = c.args.store.now in
+    asked_none g.B.Bank old.bank old.bank (restore_at old.slots c.args.slot) c.plain.result.note refl c.plain.ensures.note_is

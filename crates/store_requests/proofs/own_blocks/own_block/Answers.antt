@@ -7,6 +7,6 @@ pub returns-in-Some-find_own-clause-ok : goal.returns-in-Some-find_own-clause-ok
 returns-in-Some-find_own-clause-ok g c = λ s effect apps stands.
     let b = g.B.Bank in
     let found = c.in-Some-find_own.ensures in
-    own_found b.tells b.now c.args.store.now s c.args.app c.args.slot effect stands c.in-Some.app_name.now
+    own_found b c.args.store.now s c.args.app c.args.slot effect stands c.in-Some.app_name.now
     (ap (λ a. app_name a c.args.app) apps ∙ sym c.in-Some.ensures.name)
     c.in-Some-find_own.own.size (sym found.own) found.sized

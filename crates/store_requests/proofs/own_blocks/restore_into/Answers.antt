@@ -1,5 +1,6 @@
 use Rattle.std.proofs.Common.{◌≡◌, length, ◌∙◌, ◌+◌, ◌*◌, ap, sym, subst, rules, refl, false}
 use Rattle.tbl_kinds.specs.declared.note.BankNote.{BankNote}
+use Rattle.cds_layout.specs.declared.blocks.RestoreFault.{RestoreFault}
 use Rattle.cds_layout.specs.declared.blocks.RestoreFault.TheVariants.{Torn}
 use Rattle.cds_store.specs.declared.fault.BankFault.TheVariants.{Fault}
 use Rattle.tbl_kinds.specs.Notes.{restored_image}
@@ -8,8 +9,9 @@ use Rattle.cds_store.specs.Standing.{slot_of}
 use Rattle.cds_store.specs.Sound.{IsOpenOf}
 use Rattle.store_requests.specs.Called.{done_note, broken_note}
 use Rattle.store_requests.proofs.Calls.{block_there, held_image, told_with, given_called, gives_image, torn_called, torn_told, unread_called}
-use Rattle.std.specs.Prelude.{[]}
+use Rattle.std.specs.Prelude.{[], Err}
 use Rattle.store_requests.proofs.Moments.{read_leaves}
+use Rattle.store_requests.proofs.BankAsked.{asked_restore, read_outcome}
 use Rattle.store_requests.proofs.own_blocks.restore_into.Goals as goal
 
 pub returns-in-Ok-clause-effect : goal.returns-in-Ok-clause-effect
@@ -17,7 +19,7 @@ returns-in-Ok-clause-effect g c = λ tells s stands.
     let b = g.B.Bank in
     let image = c.restore.new.into in
     let kept = c.given.result.note.restored in
-    given_called b.tells b.now b.tells_moments b.clock b.left_since c.args.store.now c.args.store.now c.restore.new.self s c.given.result c.args.slot stands (read_leaves b.tells_moments b.clock b.left_since b.now c.args.store.now c.restore.new.self [] s.store c.restore.ensures.moments (stands.shows tells)) image kept
+    given_called b c.args.store.now c.args.store.now c.restore.new.self s c.given.result c.args.slot stands (read_leaves b c.args.store.now c.restore.new.self [] s.store c.restore.ensures.moments (stands.shows tells)) image kept
     c.given.ensures.restored
     (gives_image (b.now c.args.store.now.bank) s.store c.args.slot image (stands.shows tells) (c.in-Ok.ensures.image tells))
     (λ x there. let same : length image ≡ length c.args.image.now = search rules in same ∙ sym (subst (IsOpenOf (length c.args.image.now)) (block_there c.args.store.now.slots s.store c.args.slot x stands.slots there) c.requires.own).1)
@@ -29,13 +31,13 @@ returns-in-Err-Torn-clause-effect g c = λ tells s stands.
     let b = g.B.Bank in
     let arm = c.in-Err-Torn in
     let is : arm.field-0 ≡ Torn arm.field-0-0 arm.kept arm.found = search rules in
-    torn_called b.tells b.now b.tells_moments b.clock b.left_since c.args.store.now c.args.store.now c.restore.new.self s c.torn.result c.args.slot stands (read_leaves b.tells_moments b.clock b.left_since b.now c.args.store.now c.restore.new.self [] s.store c.restore.ensures.moments (stands.shows tells)) tells arm.field-0 arm.field-0-0 arm.kept arm.found _ is arm.ensures.torn arm.ensures.err
+    torn_called b c.args.store.now c.args.store.now c.restore.new.self s c.torn.result c.args.slot stands (read_leaves b c.args.store.now c.restore.new.self [] s.store c.restore.ensures.moments (stands.shows tells)) tells arm.field-0 arm.field-0-0 arm.kept arm.found _ is arm.ensures.torn arm.ensures.err
     (torn_told c.requires.untouched c.requires.empty c.torn.ensures)
 
 pub returns-clause-effect : goal.returns-clause-effect
 returns-clause-effect g c = λ tells s stands.
     let b = g.B.Bank in
-    unread_called b.tells b.now b.tells_moments b.clock b.left_since c.args.store.now c.args.store.now c.restore.new.self s c.broken.result c.args.slot stands (read_leaves b.tells_moments b.clock b.left_since b.now c.args.store.now c.restore.new.self [] s.store c.restore.ensures.moments (stands.shows tells)) c.in-Err-Fault.field-0 c.in-Err-Fault.field-0-is c.in-Err-Fault.ensures.err
+    unread_called b c.args.store.now c.args.store.now c.restore.new.self s c.broken.result c.args.slot stands (read_leaves b c.args.store.now c.restore.new.self [] s.store c.restore.ensures.moments (stands.shows tells)) c.in-Err-Fault.field-0 c.in-Err-Fault.field-0-is c.in-Err-Fault.ensures.err
     (told_with c.requires.empty (ap (broken_note (Fault false false)) c.requires.untouched) c.broken.ensures)
 
 pub returns-in-Ok-clause-gave : goal.returns-in-Ok-clause-gave
@@ -57,3 +59,23 @@ returns-in-Err-Torn-clause-gave g c = λ tells blocks stands went b there.
 
 pub returns-clause-gave : goal.returns-clause-gave
 returns-clause-gave g c = λ tells blocks stands went. absurd (cc (went, ap (λ (n : BankNote). n.outcome) c.broken.ensures.note_is))
+
+pub returns-in-Ok-clause-asked : goal.returns-in-Ok-clause-asked
+returns-in-Ok-clause-asked g c =
+    let old = c.args.store.now in
+    asked_restore g.B.Bank old.bank c.restore.new.self.bank old.slots c.args.slot (length c.args.image.now) c.given.result.note c.restore.result c.requires.own c.restore.ensures.asked
+    (ap (λ (n : BankNote). n.outcome) c.given.ensures.told.note_is ∙ sym (ap read_outcome c.in-Ok.is))
+
+pub returns-in-Err-Torn-clause-asked : goal.returns-in-Err-Torn-clause-asked
+returns-in-Err-Torn-clause-asked g c =
+    let old = c.args.store.now in
+    let arm = c.in-Err-Torn in
+    let is : arm.field-0 ≡ Torn arm.field-0-0 arm.kept arm.found = search rules in
+    asked_restore g.B.Bank old.bank c.restore.new.self.bank old.slots c.args.slot (length c.args.image.now) c.torn.result.note c.restore.result c.requires.own c.restore.ensures.asked
+    (ap (λ (n : BankNote). n.outcome) c.torn.ensures.note_is ∙ sym (ap read_outcome arm.is ∙ ap (λ (f : RestoreFault). read_outcome (Err f)) is))
+
+pub returns-clause-asked : goal.returns-clause-asked
+returns-clause-asked g c =
+    let old = c.args.store.now in
+    asked_restore g.B.Bank old.bank c.restore.new.self.bank old.slots c.args.slot (length c.args.image.now) c.broken.result.note c.restore.result c.requires.own c.restore.ensures.asked
+    (ap (λ (n : BankNote). n.outcome) c.broken.ensures.note_is ∙ sym (ap read_outcome c.in-Err-Fault.is ∙ ap (λ (f : RestoreFault). read_outcome (Err f)) c.in-Err-Fault.field-0-is))

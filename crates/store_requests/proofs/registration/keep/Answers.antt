@@ -5,7 +5,8 @@ use Rattle.tbl_model.specs.Copies.{block_of}
 use Rattle.tbl_model.specs.Effects as model
 use Rattle.tbl_model.specs.CriticalTables.{kept_effect}
 use Rattle.sharing.specs.Registering.{next_row, planned}
-use Rattle.store_requests.specs.Called.{with_boot, RestoresHeld}
+use Rattle.store_requests.specs.Called.{with_boot}
+use Rattle.tbl_session.specs.Restores.{RestoresHeld}
 use Rattle.store_requests.specs.Registering.{recovery}
 use Rattle.store_requests.proofs.Both.{one}
 use Rattle.store_requests.proofs.Calls.{calls_same}
@@ -20,7 +21,7 @@ returns-in-Some-clause-effect g c = one c.recover.result _ _ c.recover.ensures.e
     let slot = c.in-Some.slot in
     let t = planned old c.args.app c.args.plan in
     let there : block_of t s.store ≡ Some slot = sym (c.sized_block.ensures.block t s.store refl refl stands) ∙ (search rules) in
-    calls_same b.tells b.now b.tells_moments b.clock b.left_since c.args.store.now c.recover.new.store (record s { tables = c.recover.new.tables }) done (recovery s (next_row old) t slot) (λ n. kept_effect s (next_row old) t n (open_of Table c.args.plan.name s.store))
+    calls_same b c.args.store.now c.recover.new.store (record s { tables = c.recover.new.tables }) done (recovery s (next_row old) t slot) (λ n. kept_effect s (next_row old) t n (open_of Table c.args.plan.name s.store))
     (λ n. kept_found s (next_row old) t n slot there) (is tells s same stands))
 
 pub returns-in-Some-clause-gave : goal.returns-in-Some-clause-gave

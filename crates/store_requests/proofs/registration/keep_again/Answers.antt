@@ -24,10 +24,10 @@ returns-then-not-room-clause-effect g c = λ tells s same stands.
     let found : open_of Table c.args.plan.name s.store ≡ Some slot = sym (open_same Table c.args.plan.name c.args.store.now.slots s.store stands.slots) ∙ c.requires.open_block in
     let other = other_size s t slot found (c.requires.other s.store stands) in
     let full : has_room c.args.plan.size (Some slot) s.store ≡ false = sym (c.room.ensures s.store stands) ∙ c.if-not-room.true in
-    calls_same b.tells b.now b.tells_moments b.clock b.left_since c.args.store.now c.args.store.now (record s { tables = c.register_uncritical.new.tables }) c.of.result (λ n. not_kept s (next_row old) t) (λ n. kept_effect s (next_row old) t n (open_of Table c.args.plan.name s.store))
+    calls_same b c.args.store.now c.args.store.now (record s { tables = c.register_uncritical.new.tables }) c.of.result (λ n. not_kept s (next_row old) t) (λ n. kept_effect s (next_row old) t n (open_of Table c.args.plan.name s.store))
     (λ n. ap (kept_effect s (next_row old) t n) found ∙ kept_full s (next_row old) t n (Some slot) (Some slot) (any_is s t (Some slot) found) other full)
-    (enters_alone b.tells b.now b.tells_moments b.clock b.left_since c.args.store.now c.args.store.now s c.of.result old c.register_uncritical.new.tables t same refl
-    (uncalled_leaves b.tells_moments b.clock b.left_since b.now b.may_leave g.met.B.Bank.leaves_only_now g.met.B.Bank.only_now c.args.store.now c.args.store.now s.store refl (stands.shows tells)) (uncritical t) WARN_NOT_CRITICAL refl (record { told = search rules; tables = c.register_uncritical.ensures.tables }) stands)
+    (enters_alone b c.args.store.now c.args.store.now s c.of.result old c.register_uncritical.new.tables t same refl
+    (uncalled_leaves b g.met.B.Bank.leaves_only_now g.met.B.Bank.only_now c.args.store.now c.args.store.now s.store refl (stands.shows tells)) (uncritical t) WARN_NOT_CRITICAL refl (record { told = search rules; tables = c.register_uncritical.ensures.tables }) stands)
 
 pub renew-requires-clause-taken : goal.renew-requires-clause-taken
 renew-requires-clause-taken g c = found_there (is_open_slot Table c.args.plan.name) c.args.store.now.slots c.args.slot refl c.requires.open_block
@@ -41,6 +41,6 @@ returns-clause-effect g c = λ tells s same stands.
     let found : open_of Table c.args.plan.name s.store ≡ Some slot = sym (open_same Table c.args.plan.name c.args.store.now.slots s.store stands.slots) ∙ c.requires.open_block in
     let other = other_size s t slot found (c.requires.other s.store stands) in
     let room : has_room c.args.plan.size (Some slot) s.store ≡ true = sym (c.room.ensures s.store stands) ∙ c.if-not-room.false in
-    calls_same b.tells b.now b.tells_moments b.clock b.left_since c.args.store.now c.renew.new.store (record s { tables = c.renew.new.tables }) c.renew.result (making s (next_row old) t (Some slot)) (λ n. kept_effect s (next_row old) t n (open_of Table c.args.plan.name s.store))
+    calls_same b c.args.store.now c.renew.new.store (record s { tables = c.renew.new.tables }) c.renew.result (making s (next_row old) t (Some slot)) (λ n. kept_effect s (next_row old) t n (open_of Table c.args.plan.name s.store))
     (λ n. ap (kept_effect s (next_row old) t n) found ∙ kept_made s (next_row old) t n (Some slot) (Some slot) (any_is s t (Some slot) found) other room)
     (c.renew.ensures.effect tells s same stands)

@@ -17,10 +17,10 @@ returns-clause-effect g c = λ tells s same stands.
     let t = planned old c.args.app c.args.plan in
     let made = c.reserve_block-made.ensures in
     let none : open_of Table c.args.plan.name s.store ≡ None = sym (open_same Table c.args.plan.name c.args.store.now.slots s.store stands.slots) ∙ c.requires.none_open in
-    calls_same b.tells b.now b.tells_moments b.clock b.left_since c.args.store.now c.reserve_block-made.new.self (record s { tables = c.reserved.new.tables }) c.reserved.result (λ n. kept_effect s (next_row old) t n None) (λ n. kept_effect s (next_row old) t n (open_of Table c.args.plan.name s.store))
+    calls_same b c.args.store.now c.reserve_block-made.new.self (record s { tables = c.reserved.new.tables }) c.reserved.result (λ n. kept_effect s (next_row old) t n None) (λ n. kept_effect s (next_row old) t n (open_of Table c.args.plan.name s.store))
     (λ n. ap (kept_effect s (next_row old) t n) none)
-    (new_reserved b.tells b.now b.tells_moments b.clock b.left_since c.args.store.now c.reserve_block-made.new.self s c.reserved.result old c.reserved.new.tables t same refl
+    (new_reserved b c.args.store.now c.reserve_block-made.new.self s c.reserved.result old c.reserved.new.tables t same refl
     c.args.store.now c.reserve_block-made.result (λ m. made.moments m s.store stands)
-    (λ same. uncalled_leaves b.tells_moments b.clock b.left_since b.now b.may_leave g.met.B.Bank.leaves_only_now g.met.B.Bank.only_now c.args.store.now c.reserve_block-made.new.self s.store same (stands.shows tells)) none stands
+    (λ same. uncalled_leaves b g.met.B.Bank.leaves_only_now g.met.B.Bank.only_now c.args.store.now c.reserve_block-made.new.self s.store same (stands.shows tells)) none stands
     made.ok made.full made.untouched made.err made.breaks
     (subst (λ n. EntersReserved old c.reserved.new.tables t c.reserved.result c.reserve_block-made.result n) c.in_ok-note.ensures c.reserved.ensures.reserved))

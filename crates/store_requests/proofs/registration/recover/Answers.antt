@@ -17,7 +17,7 @@ returns-clause-effect g c = λ tells s same stands.
     let r = c.in-Some.ensures.restores in
     let image = c.from_shared-image.result in
     let is : EntersRestored old c.restored.new.tables t c.restored.result c.in-Some.ended (arc_value c.restore_into.new.room).items = subst (λ (image : List ℕ). EntersRestored old c.restored.new.tables t c.restored.result c.in-Some.ended image) c.from_shared-image.ensures c.restored.ensures.enters in
-    enters_restored b.tells b.now b.tells_moments b.clock b.left_since c.args.store.now c.restore_into.new.store s c.restored.result old c.restored.new.tables t same refl (read_leaves b.tells_moments b.clock b.left_since b.now c.args.store.now c.restore_into.new.store [] s.store r.moments (stands.shows tells)) refl tells c.args.store.now c.args.slot c.in-Some.ended (arc_value c.restore_into.new.room).items stands is r.held r.ok r.torn r.err
+    enters_restored b c.args.store.now c.restore_into.new.store s c.restored.result old c.restored.new.tables t same refl (read_leaves b c.args.store.now c.restore_into.new.store [] s.store r.moments (stands.shows tells)) refl tells c.args.store.now c.args.slot c.in-Some.ended (arc_value c.restore_into.new.room).items stands is r.held r.ok r.torn r.err
     (λ x there. (subst (IsOpenOf c.args.plan.size) (block_there c.args.store.now.slots s.store c.args.slot x stands.slots there) c.requires.open_block).1 ∙ sym (r.sized ∙ c.in_ok-room.ensures))
 
 pub returns-clause-call : goal.returns-clause-call
@@ -26,7 +26,7 @@ returns-clause-call g c =
     let old = c.args.tables.now in
     let t = planned old c.args.app c.args.plan in
     let r = c.in-Some.ensures.restores in
-    restored_call b.faults b.stops c.args.store.now c.restore_into.new.store old c.restored.new.tables t c.restored.result r.booted c.in-Some.ended c.from_shared-image.result c.restored.ensures.enters r.counted r.more_faults r.more_stops
+    restored_call b c.args.store.now c.restore_into.new.store old c.restored.new.tables t c.restored.result r.booted c.in-Some.ended c.from_shared-image.result c.restored.ensures.enters r.counted r.more_faults r.more_stops
 
 pub returns-clause-gave : goal.returns-clause-gave
 returns-clause-gave g c = λ tells blocks stands.
@@ -35,4 +35,4 @@ returns-clause-gave g c = λ tells blocks stands.
     let t = planned old c.args.app c.args.plan in
     let r = c.in-Some.ensures.restores in
     let is : EntersRestored old c.restored.new.tables t c.restored.result c.in-Some.ended (arc_value c.restore_into.new.room).items = subst (λ (image : List ℕ). EntersRestored old c.restored.new.tables t c.restored.result c.in-Some.ended image) c.from_shared-image.ensures c.restored.ensures.enters in
-    restored_gave b.tells b.now c.args.store.now old c.restored.new.tables t c.restored.result c.args.slot blocks c.in-Some.ended (arc_value c.restore_into.new.room).items tells stands is r.held r.torn
+    restored_gave b c.args.store.now old c.restored.new.tables t c.restored.result c.args.slot blocks c.in-Some.ended (arc_value c.restore_into.new.room).items tells stands is r.held r.torn

@@ -1,20 +1,19 @@
 use Rattle.std.proofs.Common.{◌≡◌, ◌∙◌, ℕ, List, Option, refl, sym, subst, inr, true, rules}
 use Rattle.tbl_model.specs.Effects as model
 use Rattle.tbl_model.specs.Tables.{is_critical, option_bits}
-use Rattle.tbl_model.specs.TableSteps.{first_image}
+use Rattle.tbl_model.specs.TableSteps.{first_image, as_registered}
 use Rattle.tbl_model.specs.Refusals.{may_use}
-use Rattle.tbl_model.specs.CriticalTables.{critical_effect}
+use Rattle.tbl_model.specs.CriticalTables.{critical_effect, registered}
 use Rattle.tbl_model.specs.Registration.{register_effect}
 use Rattle.sharing.specs.Registering.{next_row, planned}
 use Rattle.tbl_model.specs.State.{Tables}
-use Rattle.store_requests.specs.Called.{with_boot, RestoresHeld, Calls}
+use Rattle.store_requests.specs.Called.{with_boot, Calls}
+use Rattle.tbl_session.specs.Restores.{RestoresHeld}
 use Rattle.store_requests.proofs.Both.{one}
 use Rattle.store_requests.proofs.Calls.{calls_none, calls_same}
 use Rattle.std.specs.Prelude.{false}
 use Rattle.tbl_kinds.specs.declared.status.TheConstants.Status.{SUCCESS}
 use Rattle.tbl_model.specs.Effects.{answered}
-use Rattle.tbl_model.specs.TableSteps.{as_registered}
-use Rattle.tbl_model.specs.CriticalTables.{registered}
 use Rattle.store_requests.proofs.Moments.{uncalled_leaves}
 use Rattle.store_requests.proofs.CriticalTables.{critical_new, plain_new, fits_one}
 use Rattle.store_requests.proofs.Registrations.{enters_alone}
@@ -27,7 +26,7 @@ returns-then-contains-clause-effect g c = one c.register_critical.result _ _ c.r
     let old = a.tables.now in
     let t = planned old a.app c.in-Ok.plan in
     let critical : is_critical t ≡ true = sym (c.contains.ensures tt) ∙ c.if-contains.true in
-    calls_same b.tells b.now b.tells_moments b.clock b.left_since c.args.store.now c.register_critical.new.store (record s { tables = c.register_critical.new.tables }) done (critical_effect s (next_row old) t) (register_effect s a.app a.short.now a.size a.flags a.validator)
+    calls_same b c.args.store.now c.register_critical.new.store (record s { tables = c.register_critical.new.tables }) done (critical_effect s (next_row old) t) (register_effect s a.app a.short.now a.size a.flags a.validator)
     (λ n. c.in-Ok.ensures.ok s n tables kit apps ∙ critical_new s (next_row old) t n critical)
     (is tells s tables stands))
 
@@ -59,11 +58,11 @@ returns-in-Err-clause-effect g c = λ tells s tables kit apps stands.
     let a = c.args in
     let answer = c.in-Err.answer in
     let means = register_effect s a.app a.short.now a.size a.flags a.validator in
-    subst (λ (held : Tables). Calls b.tells b.now b.tells_moments b.clock b.left_since c.args.store.now c.args.store.now (record s { tables = held }) c.of.result means) tables
-    (calls_same b.tells b.now b.tells_moments b.clock b.left_since c.args.store.now c.args.store.now s c.of.result (λ n. answered s answer.status answer.detail) means
+    subst (λ (held : Tables). Calls b c.args.store.now c.args.store.now (record s { tables = held }) c.of.result means) tables
+    (calls_same b c.args.store.now c.args.store.now s c.of.result (λ n. answered s answer.status answer.detail) means
     (λ n. c.in-Err.ensures.err s n tables kit apps)
-    (calls_none b.tells b.now b.tells_moments b.clock b.left_since c.args.store.now c.args.store.now s c.of.result
-    (uncalled_leaves b.tells_moments b.clock b.left_since b.now b.may_leave g.met.B.Bank.leaves_only_now g.met.B.Bank.only_now c.args.store.now c.args.store.now s.store refl (stands.shows tells))
+    (calls_none b c.args.store.now c.args.store.now s c.of.result
+    (uncalled_leaves b g.met.B.Bank.leaves_only_now g.met.B.Bank.only_now c.args.store.now c.args.store.now s.store refl (stands.shows tells))
     answer.status answer.detail (search rules) stands))
 
 -- it isn't to be critical
@@ -74,8 +73,8 @@ returns-clause-effect g c = λ tells s tables kit apps stands.
     let old = a.tables.now in
     let t = planned old a.app c.in-Ok.plan in
     let plain : is_critical t ≡ false = sym (c.contains.ensures tt) ∙ c.if-contains.false in
-    calls_same b.tells b.now b.tells_moments b.clock b.left_since c.args.store.now c.args.store.now (record s { tables = c.register_plain.new.tables }) c.of-2.result (λ n. registered s (next_row old) (as_registered t) SUCCESS) (register_effect s a.app a.short.now a.size a.flags a.validator)
+    calls_same b c.args.store.now c.args.store.now (record s { tables = c.register_plain.new.tables }) c.of-2.result (λ n. registered s (next_row old) (as_registered t) SUCCESS) (register_effect s a.app a.short.now a.size a.flags a.validator)
     (λ n. c.in-Ok.ensures.ok s n tables kit apps ∙ plain_new s (next_row old) t n plain)
-    (enters_alone b.tells b.now b.tells_moments b.clock b.left_since c.args.store.now c.args.store.now s c.of-2.result old c.register_plain.new.tables t tables refl
-    (uncalled_leaves b.tells_moments b.clock b.left_since b.now b.may_leave g.met.B.Bank.leaves_only_now g.met.B.Bank.only_now c.args.store.now c.args.store.now s.store refl (stands.shows tells))
+    (enters_alone b c.args.store.now c.args.store.now s c.of-2.result old c.register_plain.new.tables t tables refl
+    (uncalled_leaves b g.met.B.Bank.leaves_only_now g.met.B.Bank.only_now c.args.store.now c.args.store.now s.store refl (stands.shows tells))
     (as_registered t) SUCCESS refl (record { told = search rules; tables = search rules }) stands)

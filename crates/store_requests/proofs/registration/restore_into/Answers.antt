@@ -9,7 +9,7 @@ returns-clause-restores g c =
     let b = g.B.Bank in
     let into = c.restore.new.into in
     let whole : take c.in_ok-bytes.bytes.now.len (into ++ drop (length into) c.in_ok-bytes.bytes.now.items) ≡ into = refilled c.in_ok-bytes.bytes.now.len into c.in_ok-bytes.bytes.now.items (search rules) in
-    subst (λ (image : List ℕ). Restores b.tells b.now b.tells_moments b.clock b.left_since b.faults b.stops c.args.store.now c.restore.new.self c.args.slot (length (arc_value c.args.room.now).items) image c.restore.result) (sym whole) (record {
+    subst (λ (image : List ℕ). Restores b c.args.store.now c.restore.new.self c.args.slot (length (arc_value c.args.room.now).items) image c.restore.result) (sym whole) (record {
       sized = search rules;
       booted = c.restore.ensures.booted;
       held = c.restore.ensures.image;

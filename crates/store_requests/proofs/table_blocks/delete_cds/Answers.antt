@@ -15,5 +15,5 @@ returns-clause-effect g c = λ tells s tables stands.
     let row = find name s.tables in
     let same = subject_is s c.args.tables.now name c.subject-table.result tables c.subject-table.ensures.found c.subject-table.ensures.missing in
     let registered : is_some row ≡ c.is_some.result = sym (some_named name row) ∙ ap is_some same ∙ sym c.is_some.ensures in
-    calls_about b.tells b.now b.tells_moments b.clock b.left_since c.args.store.now c.delete_table_block.new.store s c.in_ok-done.done c.subject-table.result (named name row) (λ n. delete_table_block s n (any_of Table name s.store) row) same
+    calls_about b c.args.store.now c.delete_table_block.new.store s c.in_ok-done.done c.subject-table.result (named name row) (λ n. delete_table_block s n (any_of Table name s.store) row) same
     (c.in_ok-done.ensures.effect tells s row registered stands)

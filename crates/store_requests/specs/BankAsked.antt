@@ -1,0 +1,46 @@
+-- What a request on a block asks of the bank, call by call.
+use Rattle.std.specs.Prelude.{ℕ, List, [], ◌++◌, slice_set, true, false, Option, Some, None}
+use Rattle.std.specs.Option.{option_map, option_map_or, option_or}
+use Rattle.tbl_kinds.specs.declared.block.BlockKind.TheVariants as kind
+use Rattle.tbl_kinds.specs.declared.note.Outcome.{Outcome}
+use Rattle.tbl_kinds.specs.declared.note.Outcome.TheVariants.{Untouched, Done, Failed, Stopped}
+use Rattle.tbl_outside.specs.BankCalls.{BankCall, Asks}
+use Rattle.tbl_outside.specs.declared.bank.Bank.{Ghosts}
+use Rattle.cds_layout.specs.Order.{restore_calls, copy_calls, delete_calls, close_calls, reserve_calls}
+use Rattle.cds_store.specs.Slots.{open_slot, doubtful_slot, without_slot, room_in}
+use Rattle.cds_store.specs.Sound.{slot_at}
+use Rattle.cds_store.specs.declared.slot.Slot.{Slot}
+
+-- by how the calls of the store went: nothing was asked where none was made, all of this where they are done, and the first of it up
+-- to what broke off
+abbrev pub AsksBy : {B : Type 0} → Ghosts B → B → B → Outcome → List BankCall → Type 0
+AsksBy g old new Untouched calls = Asks g.tells_calls g.calls old new true []
+AsksBy g old new Done calls = Asks g.tells_calls g.calls old new true calls
+AsksBy g old new Failed calls = Asks g.tells_calls g.calls old new false calls
+AsksBy g old new Stopped calls = Asks g.tells_calls g.calls old new false calls
+
+-- what a copy into the block of a slot asks, and a restore of it
+abbrev pub copy_at : List (Option Slot) → ℕ → List ℕ → List BankCall
+copy_at slots slot image = option_map_or (λ (s : Slot). copy_calls s.block image) (slot_at slots slot) []
+
+abbrev pub restore_at : List (Option Slot) → ℕ → List BankCall
+restore_at slots slot = option_map_or (λ (s : Slot). restore_calls s.block) (slot_at slots slot) []
+
+-- what the deletion of the block of a table of this name asks, open or in doubt
+abbrev pub delete_named : List (Option Slot) → List ℕ → List BankCall
+delete_named slots name = close_calls (option_or (open_slot kind.Table name slots) (doubtful_slot kind.Table name slots))
+
+-- what it asks to make a block of an application, where there is room for one
+abbrev pub make_at : List (Option Slot) → List ℕ → ℕ → Option (List BankCall)
+make_at slots name size =
+    let old = doubtful_slot kind.App name slots in
+    option_map (λ (room : ℕ × ℕ). reserve_calls old room.0 (record { kind = kind.App; offset = room.1; size = size; name = name })) (room_in size (without_slot old slots))
+
+-- the block of another size in this slot is deleted first
+abbrev pub renew_at : List (Option Slot) → ℕ → List ℕ → ℕ → Option (List BankCall)
+renew_at slots old name size = option_map (λ (calls : List BankCall). delete_calls old ++ calls) (make_at (slice_set slots old None) name size)
+
+-- if there is one that is open
+abbrev pub register_at : Option ℕ → List (Option Slot) → List ℕ → ℕ → Option (List BankCall)
+register_at None slots name size = make_at slots name size
+register_at (Some old) slots name size = renew_at slots old name size
