@@ -54,8 +54,8 @@ room_left : (command : Bool) (deeds most events shown owed spare left : ℕ) →
 room_left true deeds most events shown owed spare left few told room used = omega (arith, few, told, room, used)
 room_left false deeds most events shown owed spare left few told room used = omega (arith, few, told, room, used)
 
--- the room for the packet behind the events, and for a notice, is left by the events
-pub behind_events : (request : Request) (asked : Asked) (done : Effect) (spare left : ℕ) → length done.deeds.items ≤ most_deeds request asked → packets_room request asked ≤ spare
+-- the room for the packet after the events, and for a notice, is left by the events
+pub after_events : (request : Request) (asked : Asked) (done : Effect) (spare left : ℕ) → length done.deeds.items ≤ most_deeds request asked → packets_room request asked ≤ spare
     → spare ≤ left + 24 * length (told_events asked done) → shown_room asked + notice_room asked ≤ left
-behind_events request asked done spare left few room used =
+after_events request asked done spare left few room used =
     room_left (is_some asked) (length done.deeds.items) (most_deeds request asked) (length (told_events asked done)) (shown_room asked) (notice_room asked) spare left few (told_few asked done) room used

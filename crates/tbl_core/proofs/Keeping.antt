@@ -14,7 +14,7 @@ use Rattle.validation.specs.Kits.{entry_at}
 use Rattle.validation.specs.Asked.{GivesEach}
 use Rattle.tbl_laws.proofs.Cases.{OfEffect}
 use Rattle.tbl_laws.proofs.Kept.{IsKept, kept}
-use Rattle.tbl_core.specs.Verdicts.{questions_in, AreGiven, verdict_of, KeepsToFunctions}
+use Rattle.tbl_session.specs.Verdicts.{questions_in, AreGiven, verdict_of, KeepsToFunctions}
 
 -- the table that has this function
 with_function : (found : Option Table) (number : ℕ) → option_and_then (λ (t : Table). t.validator) found ≡ Some number → (t : Table) × (found ≡ Some t) × (t.validator ≡ Some number)

@@ -1,5 +1,5 @@
-pub mod Behind
-pub mod CopiedBehind
+pub mod BootedAfter
+pub mod CopiedAfter
 pub mod Crashing
 pub mod Doing
 pub mod Few

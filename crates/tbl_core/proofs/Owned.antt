@@ -1,5 +1,5 @@
 -- What the owner of a table asked did not make the table another: it stays critical, or not.
-use Rattle.std.proofs.Common.{◌≡◌, ◌∙◌, ◌≤◌, ℕ, List, [], Bool, true, false, Option, Some, None, ℤ, sym, ap, subst, arith}
+use Rattle.std.proofs.Common.{◌≡◌, ◌∙◌, ◌≤◌, ℕ, [], Bool, true, Option, Some, None, sym, ap, subst, arith}
 use Rattle.std.specs.Prelude.{IfSome}
 use Rattle.std.proofs.lemmas.Option.{same_Some}
 use Rattle.tbl_model.specs.State.{State, Table, Tables}
@@ -12,9 +12,10 @@ use Rattle.tbl_kinds.specs.declared.request.Request.TheVariants as ask
 use Rattle.request_effects.specs.Asked.{activates, owned_deeds}
 use Rattle.request_effects.specs.Effects.{given_of}
 use Rattle.tbl_core.specs.Owned.{owned_effect, owned_at}
-use Rattle.tbl_core.specs.Service.{Held, state_of, Does}
+use Rattle.tbl_core.specs.Service.{Held, state_of, deeds_alone, owned_in, Does}
 use Rattle.request_effects.specs.declared.effect.Effect.{Effect}
 use Rattle.tbl_core.proofs.TableRequests.{stands_in, effect_left}
+use Rattle.tbl_outside.specs.declared.validator.Validator.{Ghosts as ValidatorGhosts}
 
 abbrev Stay : ℕ → Table → model.Effect → Type 0
 Stay row t e = IfSome (table_at e.next.tables row) (λ (u : Table). u.options ≡ t.options)
@@ -30,10 +31,10 @@ by_options : (t : Table) (o : Option Table) (is : Bool) → is ≡ is_critical t
 by_options t None is critical stay = tt
 by_options t (Some u) is critical stay = critical ∙ ap (has_option 0x0008) (sym stay)
 
-pub stays_critical : {B C : Type 0} (verdict : C → List ℕ → ℤ) (asked : C → ℕ) (old new : Held B C) (row : ℕ) (request : Request) (done : Effect) (t : Table) → table_at old.tables row ≡ Some t → activates request ≡ true
-    → Does verdict asked (owned_deeds request) 0 false old new (λ s given. owned_at (table_at s.tables row) s row request given) done
+pub stays_critical : {B C : Type 0} (v : ValidatorGhosts C) (old new : Held B C) (row : ℕ) (request : Request) (done : Effect) (t : Table) → table_at old.tables row ≡ Some t → activates request ≡ true
+    → Does v (deeds_alone (owned_deeds request)) old new (owned_in row request) done
     → (is : Bool) → is ≡ is_critical t → IfSome (table_at new.tables row) (λ u. is ≡ is_critical u)
-stays_critical verdict asked old new row request done t there can does is critical =
+stays_critical v old new row request done t there can does is critical =
     let left = effect_left [] done new _ (does.effect (state_of old) (stands_in old)) in
     let e = left.0 in
     let found : owned_effect (state_of old) row t request (given_of done) ≡ Some e = ap (λ (o : Option Table). owned_at o (state_of old) row request (given_of done)) (sym there) ∙ left.1 in

@@ -1,5 +1,5 @@
 -- A call that the owner of a table alone may make is what is done to the table of its handle, or why that isn't done.
-use Rattle.std.proofs.Common.{◌≡◌, ◌∙◌, ℕ, ℤ, List, Bool, true, false, Option, Some, refl, sym, ap, subst}
+use Rattle.std.proofs.Common.{◌≡◌, ◌∙◌, ℕ, List, true, false, Option, Some, refl, sym, ap, subst}
 use Rattle.std.proofs.lemmas.Option.{same_Some}
 use Rattle.tbl_model.specs.State.{State, Table}
 use Rattle.tbl_model.specs.Tables.{table_at}
@@ -12,8 +12,8 @@ use Rattle.tbl_model.specs.AppLoads.{load_image_of, load_image_effect, load_file
 use Rattle.tbl_model.specs.Activations.{updated_effect, update_effect}
 use Rattle.tbl_model.specs.Validations.{first_pending, do_validation, app_validate_effect}
 use Rattle.tbl_model.specs.Management.{managed_effect, manage_answer, all_done, manage_effect}
-use Rattle.tbl_model.specs.Sharing.{notify_effect}
-use Rattle.tbl_model.specs.Dumps.{dump_to_buffer_effect, edit_effect}
+use Rattle.tbl_model.specs.Sharing.{notify_effect, noticed_effect}
+use Rattle.tbl_model.specs.Dumps.{dump_to_buffer_effect, edit_effect, filled_effect, edited_effect}
 use Rattle.tbl_model.specs.Dispatch.{app_effect}
 use Rattle.tbl_kinds.specs.declared.status.Status.{Status}
 use Rattle.tbl_kinds.specs.declared.status.TheConstants.Status.{ERR_UNREGISTERED}
@@ -25,10 +25,10 @@ use Rattle.tbl_model.specs.Copies.{then_copy}
 use Rattle.tbl_kinds.specs.declared.note.BankNote.{BankNote}
 use Rattle.request_effects.specs.Asked.{owners_handle, activates}
 use Rattle.request_effects.specs.Effects.{IsEffect, given_of}
-use Rattle.tbl_core.specs.Service.{Held, Stands, Leaves, Asks, Does}
+use Rattle.tbl_core.specs.Service.{Held, Stands, Bounds, owned_in, Leaves, IsJudged, Does}
 use Rattle.request_effects.specs.declared.effect.Effect.{Effect as Done}
-use Rattle.table_requests.specs.RowEffects.{filled_effect, edited_effect, noticed_effect}
 use Rattle.tbl_core.specs.Owned.{owned_effect, owned_at, copied_at}
+use Rattle.tbl_outside.specs.declared.validator.Validator.{Ghosts as ValidatorGhosts}
 
 module _ (s : State) (app handle : ℕ) (given : Given) where
   module _ (status : Status) (no : (effect : ℕ → Effect) → if_handle s app handle true effect ≡ answered s status 0) where
@@ -70,7 +70,7 @@ module _ (s : State) (app handle : ℕ) (given : Given) where
         by (ask.Notify h msg code parameter) is = done_to h is (λ row t. noticed_effect s row msg code parameter)
         by request is = absurd (cc is)
 
--- which call it is tells whether anything is copied behind it
+-- which call it is tells whether anything is copied after it
 pub not_copied : (request : Request) (row : ℕ) (note : BankNote) (o : Option Effect) → activates request ≡ false → copied_at request row note o ≡ o
 not_copied (ask.LoadImage h image) row note o never = absurd (cc never)
 not_copied (ask.LoadFile h name) row note o never = absurd (cc never)
@@ -103,16 +103,16 @@ leaves_of blocks done new questions e after is stands = (
   subst (Stands blocks new) (sym is.next) stands,
 )
 
--- what was done to the table of the handle is what the application asked, where nothing is copied behind it
-module _ {B C : Type 0} (verdict : C → List ℕ → ℤ) (asked : C → ℕ) (most room : ℕ) (owes : Bool) (old new : Held B C) (app row : ℕ) (request : Request) (done : Done)
+-- what was done to the table of the handle is what the application asked, where nothing is copied after it
+module _ {B C : Type 0} (v : ValidatorGhosts C) (bounds : Bounds) (old new : Held B C) (app row : ℕ) (request : Request) (done : Done)
     (means : (s : State) → Stands s.store old s → (given : Given) → app_effect s app request given ≡ copied_at request row given.note (owned_at (table_at s.tables row) s row request given)) (plain : activates request ≡ false) where
   same : (s : State) → Stands s.store old s → app_effect s app request (given_of done) ≡ owned_at (table_at s.tables row) s row request (given_of done)
   same s stands = means s stands (given_of done) ∙ not_copied request row done.note (owned_at (table_at s.tables row) s row request (given_of done)) plain
 
-  pub does_plainly : Does verdict asked most room owes old new (λ s given. owned_at (table_at s.tables row) s row request given) done → Does verdict asked most room owes old new (λ s given. app_effect s app request given) done
+  pub does_plainly : Does v bounds old new (owned_in row request) done → Does v bounds old new (λ s given. app_effect s app request given) done
   does_plainly does = record {
     effect = λ s stands. subst (Leaves s.store done new) (sym (same s stands)) (does.effect s stands);
-    asks = λ s stands. subst (Asks verdict asked old.kit new.kit done.verdicts) (sym (same s stands)) (does.asks s stands);
+    judged = λ s stands. subst (IsJudged v old.kit new.kit done.verdicts) (sym (same s stands)) (does.judged s stands);
     store = does.store;
     note = does.note;
     two = does.two;

@@ -6,12 +6,13 @@ use Rattle.tbl_model.specs.State.{Table, Load}
 use Rattle.tbl_model.specs.Tables.{table_at}
 use Rattle.tbl_model.specs.TableSteps.{is_checked}
 use Rattle.tbl_model.specs.Pending.{is_pending}
-use Rattle.tbl_laws.specs.Fit.{IsFit, FitAt, CanValidate, owner_at}
+use Rattle.tbl_model.specs.Fit.{IsFit, FitAt, owner_at}
 use Rattle.tbl_outside.specs.declared.validator.KitEntry.{KitEntry}
 use Rattle.validation.specs.Kits.{entry_at, owners, FewAsked}
-use Rattle.validation.specs.Ready.{HasImage, CanBeJudged, HaveFunctions}
+use Rattle.validation.specs.Ready.{CanBeJudged, HaveFunctions}
 use Rattle.tbl_core.specs.Service.{CoreView, IsReady, MayPlay}
 use Rattle.table_requests.specs.Limits.{AreCounted, AreSendable}
+use Rattle.tbl_outside.specs.declared.validator.Validator.{Ghosts as ValidatorGhosts}
 
 -- whose function it is stands at its number
 owner_of_entry : {C : Type 0} (kit : List (Option (KitEntry C))) (number : ℕ) → owner_at (owners kit) number ≡ option_map (λ (e : KitEntry C). e.app) (entry_at kit number)
@@ -27,14 +28,6 @@ some : {X : Type 0} (o : Option X) → is_some o ≡ true → IsSome o
 some None is = absurd (cc is)
 some (Some x) is = cc
 
--- an image that may be judged is there
-has_image : (t : Table) (active : Bool) → CanValidate t active → HasImage t active
-has_image t true can = let loaded = can.loaded refl in by t.count refl loaded where
-  by : (count : ℕ) → t.count ≡ count → (t.count ≡ 0 → ⊥) → 0 < t.count
-  by zero is loaded = absurd (loaded is)
-  by (suc n) is loaded = omega (arith, is)
-has_image t false can = (some t.load (can.open_load refl), can.unasked refl)
-
 -- a checked load is open
 open_load : (t : Table) → is_checked t ≡ true → IsSome t.load
 open_load t checked = by t.load refl where
@@ -42,7 +35,7 @@ open_load t checked = by t.load refl where
   by None at = absurd (cc (checked, at))
   by (Some load) at = rw at cc
 
-module _ {B C : Type 0} (asked : C → ℕ) (core : CoreView B C) (ready : IsReady asked core) (room : length core.entries < record_limit) where
+module _ {B C : Type 0} (v : ValidatorGhosts C) (core : CoreView B C) (ready : IsReady v core) (room : length core.entries < record_limit) where
   of_row : (row : ℕ) (t : Table) → table_at core.state.tables row ≡ Some t → IsFit (length core.entries) (owners core.state.kit) core.state.pending core.state.tables.handles row t
   of_row row t is = subst (FitAt (length core.entries) (owners core.state.kit) core.state.pending core.state.tables.handles row) is (ready.fit.each row)
 
@@ -57,14 +50,14 @@ module _ {B C : Type 0} (asked : C → ℕ) (core : CoreView B C) (ready : IsRea
     owner : (n : ℕ) → t.validator ≡ Some n → owner_at (owners core.state.kit) n ≡ Some t.owner
     owner n is_n = subst (λ v. IfSome v (λ m. owner_at (owners core.state.kit) m ≡ Some t.owner)) is_n (of_row row t is).function
 
-  few : FewAsked asked 2 core.state.kit
+  few : FewAsked v.asked 2 core.state.kit
   few number entry at = let low = ready.kit number entry at in omega (arith, low, room)
 
   can : (row : ℕ) (active : Bool) (found : Option Table) → table_at core.state.tables row ≡ found → is_pending row active core.state.pending ≡ true → CanBeJudged core.state.tables row active
   can row active None at pending = absurd (cc (pending, subst (FitAt (length core.entries) (owners core.state.kit) core.state.pending core.state.tables.handles row) at (ready.fit.each row) active))
-  can row active (Some t) at pending = (rw at cc, λ u is. let same : t ≡ u = cc (at, is) in let c = (of_row row u is).pends active pending in (some u.validator c.function, has_image u active c))
+  can row active (Some t) at pending = (rw at cc, λ u is. let same : t ≡ u = cc (at, is) in (of_row row u is).pends active pending)
 
-  pub may_play : core.state.ended ≡ false → MayPlay asked core.state
+  pub may_play : core.state.ended ≡ false → MayPlay v core.state
   may_play live = record {
     booted = rw (ready.booted, live) refl;
     counted = counted;

@@ -1,5 +1,5 @@
 -- A boot: which doubtful blocks it finds, and what a Reset leaves.
-use Rattle.std.proofs.Common.{◌≡◌, ◌∙◌, ⊎_elim, inl, inr, ℕ, zero, suc, List, [], ◌∷◌, map, ◌&&◌, Bool, false, not, Option, Some, None, is_some, replicate, ℤ, refl, sym, ap, arith}
+use Rattle.std.proofs.Common.{◌≡◌, ◌∙◌, ⊎_elim, inl, inr, ℕ, zero, suc, List, [], ◌∷◌, map, ◌&&◌, Bool, false, not, Option, Some, None, is_some, replicate, refl, sym, ap, arith}
 use Rattle.std.specs.List.{filter, range_with_len}
 use Rattle.std.specs.Option.{option_map}
 use Rattle.tbl_kinds.specs.Blocks.{Store as Blocks}
@@ -25,10 +25,12 @@ use Rattle.tbl_laws.proofs.Crashes.{before_calls}
 use Rattle.cds_layout.specs.Images.{store_of}
 use Rattle.cds_store.specs.Moments.{BootLeaves}
 use Rattle.store_requests.specs.Called.{Leaving, with_boot, Troubled, IsSilent}
-use Rattle.tbl_core.specs.Service.{Held, state_of, EndsIn, Makes, Meets}
+use Rattle.tbl_core.specs.Service.{Held, state_of, step_of, deeds_alone, EndsIn, Makes, Meets}
 use Rattle.tbl_core.specs.Verdicts.{Judged}
 use Rattle.request_effects.specs.declared.effect.Effect.{Effect}
 use Rattle.tbl_core.proofs.Verdicts.{none_judged}
+use Rattle.tbl_outside.specs.declared.bank.Bank.{Ghosts}
+use Rattle.tbl_outside.specs.declared.validator.Validator.{Ghosts as ValidatorGhosts}
 
 -- ---- doubtful blocks
 
@@ -52,9 +54,9 @@ finds PowerOn slots blocks shown found are is = is
 -- ---- a Reset
 
 -- its boot leaves the blocks, or none
-reset_leaves : {B : Type 0} (tells_moments : Type 0) (clock : B → ℕ) (left_since : B → ℕ → List ℕ → Type 0) (old new : StoreParts B) (kind : ResetKind) (blocks : Blocks)
-    → (tells_moments → LeavesOnly clock left_since old.bank new.bank (BootLeaves kind blocks)) → Leaving tells_moments clock left_since old new (EndsIn (ask.Reset kind) [] blocks)
-reset_leaves tells_moments clock left_since old new kind blocks moments told =
+reset_leaves : {B : Type 0} (g : Ghosts B) (old new : StoreParts B) (kind : ResetKind) (blocks : Blocks)
+    → (g.tells_moments → LeavesOnly g.clock g.left_since old.bank new.bank (BootLeaves kind blocks)) → Leaving g old new (EndsIn (ask.Reset kind) [] blocks)
+reset_leaves g old new kind blocks moments told =
     leaves_among (moments told) (λ image left. ⊎_elim (λ shows. inl (before_calls [] blocks (store_of image) shows)) (λ power_on. inr (ap ask.Reset power_on.0, power_on.1)) left)
 
 -- what it leaves
@@ -68,18 +70,18 @@ after_reset kind note store held = record held {
   ended = note.ended;
 }
 
-module _ {B C : Type 0} (tells : Type 0) (now : B → List ℕ) (faults stops : B → ℕ) (verdict : C → List ℕ → ℤ) (asked : C → ℕ) (old new : Held B C) (kind : ResetKind) (done : Effect) (kept : StoreParts B) (ended stopped : Bool) (found : List ℕ)
+module _ {B C : Type 0} (g : Ghosts B) (v : ValidatorGhosts C) (old new : Held B C) (kind : ResetKind) (done : Effect) (kept : StoreParts B) (ended stopped : Bool) (found : List ℕ)
     (held : new ≡ after_reset kind (with_boot ended stopped found untouched) kept old)
     (note : done.note ≡ with_boot ended stopped found untouched)
     (answer : done.answer ≡ record { status = reset_status (with_boot ended stopped found untouched); detail = 0 })
     (bytes : done.bytes.list ≡ [])
     (silent : IsSilent done) where
-  judged : Judged verdict asked old.kit new.kit [] done.verdicts
+  judged : Judged v old.kit new.kit [] done.verdicts
   judged =
       let same : new.kit ≡ old.kit = ap (λ (h : Held B C). h.kit) held in
-      rw (same, silent.verdicts) (none_judged verdict asked old.kit [] untouched (None ∷ None ∷ []) refl refl)
+      rw (same, silent.verdicts) (none_judged v old.kit [] untouched (None ∷ None ∷ []) refl refl)
 
-  pub reset_makes : kept.booted ≡ not ended → Troubled faults stops old.store.bank kept.bank (with_boot ended stopped [] untouched) → Makes asked verdict faults stops 0 0 false old new done
+  pub reset_makes : kept.booted ≡ not ended → Troubled g old.store.bank kept.bank (with_boot ended stopped [] untouched) → Makes g v (deeds_alone 0) old new done
   reset_makes booted trouble = record {
     fit = λ n fits. fit_at_first (suc n) (state_of new) (ap (λ (h : Held B C). h.tables) held) (ap (λ (h : Held B C). h.pending) held);
     judged = ([], judged);
@@ -94,17 +96,16 @@ module _ {B C : Type 0} (tells : Type 0) (now : B → List ℕ) (faults stops : 
     booted = ap (λ (h : Held B C). h.store.booted) held ∙ booted ∙ sym (ap not (ap (λ (h : Held B C). h.ended) held));
     ended = rw note (ap (λ (h : Held B C). h.ended) held);
     stopped = rw note (λ is. absurd (cc is));
-    trouble = let same : new.store.bank ≡ kept.bank = ap (λ (h : Held B C). h.store.bank) held in rw same (record { fault_count = trouble.fault_count; stop_count = trouble.stop_count; fault = rw note trouble.fault; stop = rw note trouble.stop });
+    trouble = let same : new.store.bank ≡ kept.bank = ap (λ (h : Held B C). h.store.bank) held in rw same (record { fault_count = trouble.fault_count; stop_count = trouble.stop_count; fault = rw note trouble.fault; stop = rw note trouble.stop; no_fault = rw note trouble.no_fault; no_stop = rw note trouble.no_stop });
     cause = rw (answer, note) (caused (first_state [] []) (record { note = with_boot ended stopped found untouched; verdicts = [] }) Ground (ask.Reset kind));
   }
 
-  pub reset_meets : (tells_moments : Type 0) (clock : B → ℕ) (left_since : B → ℕ → List ℕ → Type 0)
-      → (tells_moments → (blocks : Blocks) → HasBlocks tells now old.store blocks → LeavesOnly clock left_since old.store.bank kept.bank (BootLeaves kind blocks))
-      → (tells → (blocks : Blocks) → HasBlocks tells now old.store blocks → Boots (Some kind) blocks (with_boot ended stopped found untouched))
-      → (tells → (blocks : Blocks) → HasBlocks tells now old.store blocks → ended ≡ false → HasBlocks tells now kept (blocks_after kind (with_boot ended stopped found untouched) blocks))
+  pub reset_meets : (g.tells_moments → (blocks : Blocks) → HasBlocks g.tells g.now old.store blocks → LeavesOnly g.clock g.left_since old.store.bank kept.bank (BootLeaves kind blocks))
+      → (g.tells → (blocks : Blocks) → HasBlocks g.tells g.now old.store blocks → Boots (Some kind) blocks (with_boot ended stopped found untouched))
+      → (g.tells → (blocks : Blocks) → HasBlocks g.tells g.now old.store blocks → ended ≡ false → HasBlocks g.tells g.now kept (blocks_after kind (with_boot ended stopped found untouched) blocks))
       → old.ended ≡ false
-      → Meets tells now tells_moments clock left_since verdict asked old new (ask.Reset kind) (λ s given. Some (reset_effect s kind given.note)) done
-  reset_meets tells_moments clock left_since moments boots blocks live told s holds n follows =
+      → Meets g v (step_of old new (ask.Reset kind)) (λ s given. Some (reset_effect s kind given.note)) done
+  reset_meets moments boots blocks live told s holds n follows =
       let same : n ≡ with_boot ended stopped found untouched = follows.same (rw note (λ is. cc is)) ∙ note in
       rw same (record {
         before = boot kind (with_boot ended stopped found untouched) s;
@@ -139,7 +140,7 @@ module _ {B C : Type 0} (tells : Type 0) (now : B → List ℕ) (faults stops : 
         left = λ stop. absurd (cc stop);
         writing = λ stop. absurd (cc stop);
         moments =
-            let leaves : Leaving tells_moments clock left_since old.store kept (EndsIn (ask.Reset kind) [] s.store) = reset_leaves tells_moments clock left_since old.store kept kind s.store (λ m. moments m s.store (holds.blocks live)) in
+            let leaves : Leaving g old.store kept (EndsIn (ask.Reset kind) [] s.store) = reset_leaves g old.store kept kind s.store (λ m. moments m s.store (holds.blocks live)) in
             rw (ap (λ (h : Held B C). h.store) held) leaves;
         noted = λ _. record { ends = (refl, refl, (refl, refl)); gave = tt; tells = (refl, refl); boots = boots told s.store (holds.blocks live) };
       })

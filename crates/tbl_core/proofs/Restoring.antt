@@ -21,7 +21,7 @@ use Rattle.tbl_model.specs.Applications.{full_name}
 use Rattle.tbl_model.specs.Boots.{stopped}
 use Rattle.tbl_model.specs.StoreUse.{with_calls, by_outcome, then_call}
 use Rattle.tbl_model.specs.AppBlocks.{faulted, any_of, renewal, new_slot, has_size, cds_register_effect, is_own, by_block, cds_copy_effect, restore_answer, cds_restore_effect, cds_delete_effect, delete_table_block, delete_cds_effect}
-use Rattle.store_requests.specs.Called.{GaveHeld, RestoresHeld}
+use Rattle.tbl_session.specs.Restores.{GaveHeld, RestoresHeld}
 
 module _ (bytes : List ℕ) (s : State) (n : BankNote) where
   abbrev Holds : Effect → Type 0

@@ -1,9 +1,8 @@
 -- From what a step did to the core to the legal history.
-use Rattle.std.proofs.Common.{◌≡◌, ℕ, suc, false, List, [], ◌∷◌, ◌++◌, length, Some, Result, Ok, Err, ℤ, refl, sym, ap, subst, ◌∙◌, length-append, arith}
+use Rattle.std.proofs.Common.{◌≡◌, suc, false, List, [], ◌∷◌, ◌++◌, length, Some, Result, Ok, Err, refl, sym, ap, subst, ◌∙◌, length-append, arith}
 use Rattle.tbl_model.specs.State.{State, Tables}
 use Rattle.tbl_kinds.specs.Requests.{Fits}
 use Rattle.tbl_model.specs.Effects as model
-use Rattle.tbl_model.specs.StoreNotes.{IsNoteOf}
 use Rattle.tbl_model.specs.Dispatch.{effect_of}
 use Rattle.tbl_model.specs.Counts.{Counts, counts_of}
 use Rattle.tbl_model.specs.CountsAfter.{tally_of, counts_after}
@@ -13,11 +12,13 @@ use Rattle.tbl_model.proofs.CountsLaws.{counts_push}
 use Rattle.tbl_model.proofs.HistoryLaws.{run_push, answered_push}
 use Rattle.tbl_core.specs.Log.{Logged, entry_of}
 use Rattle.tbl_core.specs.Ended.{OnPlayed, session_end}
-use Rattle.store_requests.specs.Called.{RestoresHeld, Leaving}
+use Rattle.tbl_session.specs.Restores.{RestoresHeld}
+use Rattle.store_requests.specs.Called.{Leaving}
 use Rattle.request_effects.specs.Effects.{IsEffect, uncalled, given_of, without_images, told_at}
-use Rattle.tbl_core.specs.Service.{CoreView, HoldsAll, Shows, StandsFor, Finishes, EndsIn, IsMade, Plays, IsReady}
-use Rattle.tbl_core.specs.Verdicts.{Judged, questions_in, all_calls_in}
-use Rattle.tbl_laws.specs.Crashes.{UnderWay}
+use Rattle.tbl_core.specs.Service.{CoreView, Shows, StandsFor, step_of, Finishes, HadEffect, IsMade, Plays, IsReady}
+use Rattle.tbl_core.specs.Verdicts.{Judged}
+use Rattle.tbl_session.specs.Verdicts.{questions_in}
+use Rattle.tbl_session.specs.Crashes.{all_calls_in, UnderWay}
 use Rattle.tbl_core.proofs.Verdicts.{answers_each, few_more}
 use Rattle.request_effects.specs.declared.effect.Effect.{Effect}
 use Rattle.request_effects.specs.declared.clock.Clock.{Clock}
@@ -26,6 +27,8 @@ use Rattle.tbl_core.specs.declared.service.StepFault.TheVariants.{Memory, BootFa
 use Rattle.tbl_kinds.specs.declared.request.Actor.{Actor}
 use Rattle.tbl_kinds.specs.declared.request.Request.{Request}
 use Rattle.tbl_kinds.specs.declared.entry.Entry.{Entry}
+use Rattle.tbl_outside.specs.declared.bank.Bank.{Ghosts}
+use Rattle.tbl_outside.specs.declared.validator.Validator.{Ghosts as ValidatorGhosts}
 
 -- ---- one effect
 
@@ -56,13 +59,13 @@ module _ (done : Effect) (clock : Clock) (actor : Actor) (request : Request) (s 
 -- ---- one request
 
 -- what a request did
-pub record Did {B C : Type 0} (tells : Type 0) (now : B → List ℕ) (tells_moments : Type 0) (bank_clock : B → ℕ) (left_since : B → ℕ → List ℕ → Type 0) (faults stops : B → ℕ) (verdict : C → List ℕ → ℤ) (asked : C → ℕ) (old new : CoreView B C) (actor : Actor) (request : Request) (clock : Clock) (done : Effect) : Type 0 where
+pub record Did {B C : Type 0} (g : Ghosts B) (v : ValidatorGhosts C) (old new : CoreView B C) (actor : Actor) (request : Request) (clock : Clock) (done : Effect) : Type 0 where
   pub fits : Fits actor request
   pub live : old.state.ended ≡ false
-  pub ready : IsReady asked old
+  pub ready : IsReady v old
   pub seconds : old.state.seconds ≡ clock.seconds
   pub sub : old.state.sub ≡ clock.sub
-  pub made : IsMade tells now tells_moments bank_clock left_since faults stops verdict asked old.state new.state request (λ s given. effect_of s actor request given) done
+  pub made : IsMade g v (step_of old.state new.state request) (λ s given. effect_of s actor request given) done
   pub before : Logged
   pub after : Logged
   pub entries : before.entries ≡ old.entries
@@ -71,8 +74,8 @@ pub record Did {B C : Type 0} (tells : Type 0) (now : B → List ℕ) (tells_mom
   pub counted : new.counts ≡ after.counts
   pub finishes : Finishes before after clock new.state.tables actor request done
 
-module _ {B C : Type 0} (tells : Type 0) (now : B → List ℕ) (tells_moments : Type 0) (bank_clock : B → ℕ) (left_since : B → ℕ → List ℕ → Type 0) (faults stops : B → ℕ) (verdict : C → List ℕ → ℤ) (asked : C → ℕ) (old new : CoreView B C) (actor : Actor) (request : Request) (clock : Clock) (done : Effect)
-    (did : Did tells now tells_moments bank_clock left_since faults stops verdict asked old new actor request clock done) where
+module _ {B C : Type 0} (g : Ghosts B) (v : ValidatorGhosts C) (old new : CoreView B C) (actor : Actor) (request : Request) (clock : Clock) (done : Effect)
+    (did : Did g v old new actor request clock done) where
   entry : Entry
   entry = entry_of actor request did.finishes.reply (given_of done)
 
@@ -81,67 +84,65 @@ module _ {B C : Type 0} (tells : Type 0) (now : B → List ℕ) (tells_moments :
   added = did.entered ∙ did.finishes.entries ∙ ap (λ es. es ++ entry ∷ []) did.entries
 
   -- its effect, whatever run the core stood for
-  left : tells → (r : Run) → Shows tells now old r → (e : model.Effect) × (effect_of r.state actor request (given_of done) ≡ Some e) × IsEffect done e.asked e.next (uncalled e) × HoldsAll tells now new.state e.next
-      × Judged verdict asked old.state.kit new.state.kit e.asked done.verdicts × IsNoteOf request e.calls r.state.store done.note × RestoresHeld (now old.state.store.bank) e.calls r.state.store done.note
-      × Leaving tells_moments bank_clock left_since old.state.store new.state.store (EndsIn request e.calls r.state.store)
+  left : g.tells → (r : Run) → Shows g old r → (e : model.Effect) × (effect_of r.state actor request (given_of done) ≡ Some e) × HadEffect g v (step_of old.state new.state request) r.state done e
   left told r shown = did.made.effect told r.state shown.state
 
-  counted_on : (is_told : tells) (r : Run) (shown : Shows tells now old r) → counts_of (r.past ++ told r.state actor request (left is_told r shown).0 ∷ []) ≡ new.counts
+  counted_on : (is_told : g.tells) (r : Run) (shown : Shows g old r) → counts_of (r.past ++ told r.state actor request (left is_told r shown).0 ∷ []) ≡ new.counts
   counted_on is_told r shown =
       let e = left is_told r shown in
       counts_push r.past (told r.state actor request e.0)
-      ∙ ap (counts_after (counts_of r.past)) (tally_same done clock actor request r.state e.0 e.2 (shown.state.parts.seconds ∙ did.seconds) (shown.state.parts.sub ∙ did.sub) new.state.tables)
+      ∙ ap (counts_after (counts_of r.past)) (tally_same done clock actor request r.state e.0 e.2.told (shown.state.parts.seconds ∙ did.seconds) (shown.state.parts.sub ∙ did.sub) new.state.tables)
       ∙ ap (λ c. counts_after c (tally_of (told_at clock.seconds clock.sub new.state.tables request done))) (shown.counts ∙ sym did.counts)
       ∙ sym did.finishes.counts ∙ sym did.counted
 
-  answered : tells → (r : Run) → Shows tells now old r → IsAnswered r entry
+  answered : g.tells → (r : Run) → Shows g old r → IsAnswered r entry
   unfolding entry packets_of
   answered is_told r shown =
       let e = left is_told r shown in
       let done_by = did.finishes in record {
         live = shown.state.parts.ended ∙ did.live;
         fits = did.fits;
-        given = record { note = e.5; verdicts = answers_each verdict old.state.kit e.0.asked done.verdicts did.made.two e.4.gives };
+        given = record { note = e.2.noted; verdicts = answers_each v.verdict old.state.kit e.0.asked done.verdicts did.made.two e.2.judged.gives };
         effect = e.0;
         effect_is = e.1;
-        status = done_by.status ∙ sym e.2.status;
-        detail = done_by.detail ∙ sym e.2.detail;
-        bytes = done_by.bytes ∙ sym e.2.bytes;
+        status = done_by.status ∙ sym e.2.told.status;
+        detail = done_by.detail ∙ sym e.2.told.detail;
+        bytes = done_by.bytes ∙ sym e.2.told.bytes;
         packets = done_by.packets
-            ∙ sym (packets_same done clock actor request r.state e.0 e.2 (shown.state.parts.seconds ∙ did.seconds) (shown.state.parts.sub ∙ did.sub) new.state.tables did.before.counts did.after.counts e.3.parts.tables)
+            ∙ sym (packets_same done clock actor request r.state e.0 e.2.told (shown.state.parts.seconds ∙ did.seconds) (shown.state.parts.sub ∙ did.sub) new.state.tables did.before.counts did.after.counts e.2.holds.parts.tables)
             ∙ ap (λ c. packets_by c did.after.counts (told r.state actor request e.0)) (did.counts ∙ sym shown.counts)
             ∙ ap (λ c. packets_by (counts_of r.past) c (told r.state actor request e.0)) (sym did.counted ∙ sym (counted_on is_told r shown));
       }
 
-  shows : tells → (r : Run) → Shows tells now old r → Shows tells now new (onward r entry)
+  shows : g.tells → (r : Run) → Shows g old r → Shows g new (onward r entry)
   unfolding entry
   shows is_told r shown =
       let e = left is_told r shown in
-      subst (λ found. Shows tells now new (onward_by r entry found)) (sym e.1) (record { state = e.3; counts = counted_on is_told r shown })
+      subst (λ found. Shows g new (onward_by r entry found)) (sym e.1) (record { state = e.2.holds; counts = counted_on is_told r shown })
 
   one_more : length new.entries ≡ suc (length old.entries)
   one_more = ap length added ∙ omega (arith, length-append old.entries (entry ∷ []))
 
-  judged : tells → (r : Run) → Shows tells now old r → Judged verdict asked old.state.kit new.state.kit (questions_in r entry) entry.verdicts
+  judged : g.tells → (r : Run) → Shows g old r → Judged v old.state.kit new.state.kit (questions_in r entry) entry.verdicts
   unfolding entry
-  judged is_told r shown = rw (left is_told r shown).1 (left is_told r shown).4
+  judged is_told r shown = rw (left is_told r shown).1 (left is_told r shown).2.judged
 
-  gave : tells → (r : Run) → Shows tells now old r → RestoresHeld (now old.state.store.bank) (all_calls_in r entry) r.state.store entry.note
+  gave : g.tells → (r : Run) → Shows g old r → RestoresHeld (g.now old.state.store.bank) (all_calls_in r entry) r.state.store entry.note
   unfolding entry
-  gave is_told r shown = rw (left is_told r shown).1 (left is_told r shown).6
+  gave is_told r shown = rw (left is_told r shown).1 (left is_told r shown).2.gave
 
-  moments : tells → (r : Run) → Shows tells now old r → Leaving tells_moments bank_clock left_since old.state.store new.state.store (UnderWay r entry)
+  moments : g.tells → (r : Run) → Shows g old r → Leaving g old.state.store new.state.store (UnderWay r entry)
   unfolding entry
-  moments is_told r shown = rw (left is_told r shown).1 (left is_told r shown).7
+  moments is_told r shown = rw (left is_told r shown).1 (left is_told r shown).2.moments
 
-  ready : IsReady asked new
+  ready : IsReady v new
   ready = record {
     fit = rw one_more (did.made.fit (length old.entries) did.ready.fit);
     booted = did.made.booted;
-    kit = rw one_more (few_more verdict asked old.state.kit new.state.kit did.made.judged.0 done.verdicts (length old.entries) did.made.two did.made.judged.1 did.ready.kit);
+    kit = rw one_more (few_more v old.state.kit new.state.kit did.made.judged.0 done.verdicts (length old.entries) did.made.two did.made.judged.1 did.ready.kit);
   }
 
-  pub did_play : (result : Result Unit StepFault) → result ≡ session_end done.note → Plays tells now tells_moments bank_clock left_since faults stops verdict asked old new actor request result
+  pub did_play : (result : Result Unit StepFault) → result ≡ session_end done.note → Plays g v old new actor request result
   unfolding entry
   did_play result ends = record {
     entry = entry;
@@ -164,16 +165,16 @@ module _ {B C : Type 0} (tells : Type 0) (now : B → List ℕ) (tells_moments :
 -- ---- the history
 
 -- a step that played a request leads from each opening that the core stood for to one that it stands for
-module _ {B C : Type 0} (tells : Type 0) (now : B → List ℕ) (tells_moments : Type 0) (bank_clock : B → ℕ) (left_since : B → ℕ → List ℕ → Type 0) (faults stops : B → ℕ) (verdict : C → List ℕ → ℤ) (asked : C → ℕ) (old new : CoreView B C) (actor : Actor) (request : Request) (result : Result Unit StepFault)
-    (p : Plays tells now tells_moments bank_clock left_since faults stops verdict asked old new actor request result) (opening : State) (stood : StandsFor tells now opening old) where
-  goes_on : tells → AreAnswered (begins_at opening) new.entries × Shows tells now new (run_from (begins_at opening) new.entries)
+module _ {B C : Type 0} (g : Ghosts B) (v : ValidatorGhosts C) (old new : CoreView B C) (actor : Actor) (request : Request) (result : Result Unit StepFault)
+    (p : Plays g v old new actor request result) (opening : State) (stood : StandsFor g opening old) where
+  goes_on : g.tells → AreAnswered (begins_at opening) new.entries × Shows g new (run_from (begins_at opening) new.entries)
   goes_on told =
       let run = run_from (begins_at opening) old.entries in
       let all : AreAnswered (begins_at opening) (old.entries ++ p.entry ∷ []) = answered_push (begins_at opening) old.entries p.entry (stood.legal told).answered (p.answered told run (stood.shows told)) in
-      let shown : Shows tells now new (run_from (begins_at opening) (old.entries ++ p.entry ∷ [])) = subst (λ (r : Run). Shows tells now new r) (sym (run_push (begins_at opening) old.entries p.entry)) (p.shows told run (stood.shows told)) in
-      subst (λ (es : List Entry). AreAnswered (begins_at opening) es × Shows tells now new (run_from (begins_at opening) es)) (sym p.added) (all, shown)
+      let shown : Shows g new (run_from (begins_at opening) (old.entries ++ p.entry ∷ [])) = subst (λ (r : Run). Shows g new r) (sym (run_push (begins_at opening) old.entries p.entry)) (p.shows told run (stood.shows told)) in
+      subst (λ (es : List Entry). AreAnswered (begins_at opening) es × Shows g new (run_from (begins_at opening) es)) (sym p.added) (all, shown)
 
-  pub plays_on : StandsFor tells now opening new
+  pub plays_on : StandsFor g opening new
   plays_on = record { legal = λ told. record { answered = (goes_on told).0; leads = refl }; shows = λ told. (goes_on told).1 }
 
 -- what follows from a request that was played

@@ -1,5 +1,5 @@
--- A request that calls the store was made: what it did, with any note that a boot behind it may leave.
-use Rattle.std.proofs.Common.{◌≡◌, ◌≢◌, ◌∙◌, ℕ, suc, List, [], ◌∷◌, Bool, false, not, Option, Some, None, Result, Ok, ℤ, refl, sym, ap, subst, inl}
+-- A request that calls the store was made: what it did, with any note that a boot after it may leave.
+use Rattle.std.proofs.Common.{◌≡◌, ◌≢◌, ◌∙◌, ℕ, suc, List, [], ◌∷◌, Bool, false, not, Option, Some, None, Result, Ok, refl, sym, ap, subst, inl}
 use Rattle.tbl_kinds.specs.Notes.{untouched}
 use Rattle.tbl_kinds.specs.Blocks.{Store as Blocks}
 use Rattle.tbl_model.specs.State.{State, Tables}
@@ -10,7 +10,7 @@ use Rattle.tbl_model.specs.Given.{Given}
 use Rattle.tbl_model.specs.Dispatch.{effect_of}
 use Rattle.tbl_model.specs.StoreNotes.{boot_in, Boots, IsNoteOf}
 use Rattle.tbl_model.specs.StoreUse.{left_by}
-use Rattle.tbl_laws.specs.Fit.{AreFit}
+use Rattle.tbl_model.specs.Fit.{AreFit}
 use Rattle.tbl_laws.proofs.Changes.{grown}
 use Rattle.tbl_kinds.specs.declared.note.BankNote.{BankNote}
 use Rattle.tbl_kinds.specs.declared.note.Outcome.{Outcome}
@@ -26,16 +26,19 @@ use Rattle.tbl_kinds.specs.declared.request.Actor.TheVariants.{Ground}
 use Rattle.tbl_model.specs.AppBlocks.{delete_cds_effect}
 use Rattle.tbl_model.specs.Commands.{asked_in, effect_by}
 use Rattle.validation.specs.Kits.{owners}
-use Rattle.tbl_laws.specs.Crashes.{DuringCalls, writes}
+use Rattle.tbl_session.specs.Crashes.{DuringCalls, writes}
 use Rattle.tbl_outside.proofs.Moments.{leaves_among}
 use Rattle.cds_layout.specs.Images.{store_of}
-use Rattle.store_requests.specs.Called.{NoBoot, with_boot, RestoresHeld, IsCall, IsCalled, Calls}
-use Rattle.tbl_core.specs.Service.{Held, Stands, HoldsAll, state_of, HasEffect, Makes, Meets}
+use Rattle.store_requests.specs.Called.{NoBoot, with_boot, IsCall, IsCalled, Calls, GaveAsHeld}
+use Rattle.tbl_session.specs.Restores.{RestoresHeld}
+use Rattle.tbl_core.specs.Service.{Held, Stands, HoldsAll, state_of, step_of, deeds_alone, HasEffect, Makes, Meets}
 use Rattle.tbl_core.specs.Verdicts.{Judged}
 use Rattle.request_effects.specs.declared.effect.Effect.{Effect}
 use Rattle.tbl_core.proofs.Verdicts.{none_judged}
+use Rattle.tbl_outside.specs.declared.bank.Bank.{Ghosts}
+use Rattle.tbl_outside.specs.declared.validator.Validator.{Ghosts as ValidatorGhosts}
 
--- which boot stands behind a request that isn't a Reset
+-- which boot comes after a request that isn't a Reset
 boot_at : (request : Request) → is_reset request ≡ false → boot_in request Stopped ≡ Some Processor
 boot_at (ask.Reset kind) plain = absurd (cc plain)
 boot_at request plain = refl
@@ -44,7 +47,7 @@ no_boot_at : (request : Request) → is_reset request ≡ false → (boot_in req
 no_boot_at (ask.Reset kind) plain = absurd (cc plain)
 no_boot_at request plain = (refl, refl, refl)
 
--- with what a boot behind it told, where it was stopped
+-- with what a boot after it told, where it was stopped
 module _ (request : Request) (plain : is_reset request ≡ false) (called : BankNote) (no_boot : NoBoot called) (left : Blocks) (ended stopped : Bool) (found : List ℕ) (same : called.outcome ≢ Stopped → with_boot ended stopped found called ≡ called) where
   abbrev told_note : BankNote
   told_note = with_boot ended stopped found called
@@ -63,12 +66,12 @@ module _ (request : Request) (plain : is_reset request ≡ false) (called : Bank
     by Done at = kind_is Done None at (no_boot_at request plain).1 (none (λ stop. cc (at, stop)))
     by Failed at = kind_is Failed None at (no_boot_at request plain).2 (none (λ stop. cc (at, stop)))
 
-module _ {B C : Type 0} (tells : Type 0) (now : B → List ℕ) (tells_moments : Type 0) (clock : B → ℕ) (left_since : B → ℕ → List ℕ → Type 0) (faults stops : B → ℕ) (verdict : C → List ℕ → ℤ) (asked : C → ℕ) (old new : Held B C) (request : Request) (done : Effect) where
+module _ {B C : Type 0} (g : Ghosts B) (v : ValidatorGhosts C) (old new : Held B C) (request : Request) (done : Effect) where
   -- what it did to the state before its calls, and what it asked
   pub has_called : (plain : is_reset request ≡ false) (no_boot : NoBoot done.note) (s after : State) (questions : List Question) (e : model.Effect) (ended stopped : Bool) (found : List ℕ)
-      (same : done.note.outcome ≢ Stopped → with_boot ended stopped found done.note ≡ done.note) → IsCalled tells now tells_moments clock left_since old.store new.store after questions done (with_boot ended stopped found done.note) e
-      → after.store ≡ s.store → Stands after.store new after → Judged verdict asked old.kit new.kit questions done.verdicts → RestoresHeld (now old.store.bank) e.calls s.store (with_boot ended stopped found done.note)
-      → HasEffect tells now tells_moments clock left_since verdict asked old new request s done (with_boot ended stopped found done.note) e
+      (same : done.note.outcome ≢ Stopped → with_boot ended stopped found done.note ≡ done.note) → IsCalled g old.store new.store (record { state = after; questions = questions }) done (with_boot ended stopped found done.note) e
+      → after.store ≡ s.store → Stands after.store new after → Judged v old.kit new.kit questions done.verdicts → RestoresHeld (g.now old.store.bank) e.calls s.store (with_boot ended stopped found done.note)
+      → HasEffect g v (step_of old new request) s done (with_boot ended stopped found done.note) e
   has_called plain no_boot s after questions e ended stopped found same c kept stands judged gave =
       let note = with_boot ended stopped found done.note in
       let left = left_by e.calls note after.store in record {
@@ -99,7 +102,7 @@ module _ {B C : Type 0} (tells : Type 0) (now : B → List ℕ) (tells_moments :
           notice = c.effect.notice;
           next = c.effect.next;
         };
-        judged = subst (λ (questions : List Question). Judged verdict asked old.kit new.kit questions done.verdicts) (sym c.effect.asked) judged;
+        judged = subst (λ (questions : List Question). Judged v old.kit new.kit questions done.verdicts) (sym c.effect.asked) judged;
         gave = gave;
         left = λ _. ap (λ (store : Blocks). left_by e.calls note store) kept;
         writing = c.writing;
@@ -108,13 +111,13 @@ module _ {B C : Type 0} (tells : Type 0) (now : B → List ℕ) (tells_moments :
             (record { ends = c.ends; gave = c.gave; tells = c.says; boots = boots_at request plain done.note no_boot left ended stopped found same boots });
       }
 
-  module _ (held : new ≡ record old { store = new.store; tables = new.tables }) (live : old.ended ≡ false) (call : IsCall faults stops old.store new.store done) where
-    unasked : (questions : List Question) → questions ≡ [] → Judged verdict asked old.kit new.kit questions done.verdicts
+  module _ (held : new ≡ record old { store = new.store; tables = new.tables }) (live : old.ended ≡ false) (call : IsCall g old.store new.store done) where
+    unasked : (questions : List Question) → questions ≡ [] → Judged v old.kit new.kit questions done.verdicts
     unasked questions none =
         let same : new.kit ≡ old.kit = ap (λ (h : Held B C). h.kit) held in
-        rw (same, call.verdicts) (none_judged verdict asked old.kit questions untouched (None ∷ None ∷ []) none refl)
+        rw (same, call.verdicts) (none_judged v old.kit questions untouched (None ∷ None ∷ []) none refl)
 
-    pub call_makes : ((n : ℕ) → AreFit n (state_of old) → AreFit (suc n) (record (state_of old) { tables = new.tables })) → Makes asked verdict faults stops 0 0 false old new done
+    pub call_makes : ((n : ℕ) → AreFit n (state_of old) → AreFit (suc n) (record (state_of old) { tables = new.tables })) → Makes g v (deeds_alone 0) old new done
     call_makes fit =
         let goes : new.ended ≡ false = ap (λ (h : Held B C). h.ended) held ∙ live in record {
           fit = λ n was. subst (AreFit (suc n)) (ap state_of (sym held)) (fit n was);
@@ -129,11 +132,11 @@ module _ {B C : Type 0} (tells : Type 0) (now : B → List ℕ) (tells_moments :
         }
 
     -- where the model's effect is this
-    pub call_meets : (means : State → BankNote → model.Effect) (calls : tells → (s : State) → HoldsAll tells now old s → Calls tells now tells_moments clock left_since old.store new.store (record s { tables = new.tables }) done (means s)) (plain : is_reset request ≡ false)
-        (gave : tells → (s : State) → HoldsAll tells now old s → (ended stopped : Bool) (found : List ℕ) → RestoresHeld (now old.store.bank) (means s (with_boot ended stopped found done.note)).calls s.store (with_boot ended stopped found done.note))
-        → Meets tells now tells_moments clock left_since verdict asked old new request (λ s given. Some (means s given.note)) done
+    pub call_meets : (means : State → BankNote → model.Effect) (calls : g.tells → (s : State) → HoldsAll g old s → Calls g old.store new.store (record s { tables = new.tables }) done (means s)) (plain : is_reset request ≡ false)
+        (gave : g.tells → (s : State) → HoldsAll g old s → GaveAsHeld g old.store s.store done (means s))
+        → Meets g v (step_of old new request) (λ s given. Some (means s given.note)) done
     call_meets means calls plain gave told s holds note follows =
-        subst (λ (n : BankNote). HasEffect tells now tells_moments clock left_since verdict asked old new request s done n (means s n)) (sym follows.is)
+        subst (λ (n : BankNote). HasEffect g v (step_of old new request) s done n (means s n)) (sym follows.is)
         (has_called plain call.no_boot s (record s { tables = new.tables }) [] (means s (with_boot follows.ended follows.stopped follows.found done.note)) follows.ended follows.stopped follows.found (λ goes. sym follows.is ∙ follows.same goes)
         (calls told s holds follows.ended follows.stopped follows.found) refl (record {
           tables = refl;
@@ -148,18 +151,18 @@ module _ {B C : Type 0} (tells : Type 0) (now : B → List ℕ) (tells_moments :
         }) (unasked [] refl) (gave told s holds follows.ended follows.stopped follows.found))
 
   -- tables stay
-  module _ (held : new ≡ record old { store = new.store }) (live : old.ended ≡ false) (call : IsCall faults stops old.store new.store done) where
+  module _ (held : new ≡ record old { store = new.store }) (live : old.ended ≡ false) (call : IsCall g old.store new.store done) where
     same_tables : new ≡ record old { store = new.store; tables = new.tables }
     same_tables = held ∙ ap (λ (tables : Tables). record old { store = new.store; tables = tables }) (sym (ap (λ (h : Held B C). h.tables) held))
 
-    pub block_makes : Makes asked verdict faults stops 0 0 false old new done
+    pub block_makes : Makes g v (deeds_alone 0) old new done
     block_makes = call_makes same_tables live call (λ n fit. subst (λ (tables : Tables). AreFit (suc n) (record (state_of old) { tables = tables })) (sym (ap (λ (h : Held B C). h.tables) held)) (grown n (state_of old) fit))
 
-    pub block_meets : (means : State → BankNote → model.Effect) (calls : tells → (s : State) → HoldsAll tells now old s → Calls tells now tells_moments clock left_since old.store new.store s done (means s)) (plain : is_reset request ≡ false)
-        (gave : tells → (s : State) → HoldsAll tells now old s → (ended stopped : Bool) (found : List ℕ) → RestoresHeld (now old.store.bank) (means s (with_boot ended stopped found done.note)).calls s.store (with_boot ended stopped found done.note))
-        → Meets tells now tells_moments clock left_since verdict asked old new request (λ s given. Some (means s given.note)) done
+    pub block_meets : (means : State → BankNote → model.Effect) (calls : g.tells → (s : State) → HoldsAll g old s → Calls g old.store new.store s done (means s)) (plain : is_reset request ≡ false)
+        (gave : g.tells → (s : State) → HoldsAll g old s → GaveAsHeld g old.store s.store done (means s))
+        → Meets g v (step_of old new request) (λ s given. Some (means s given.note)) done
     block_meets means calls = call_meets same_tables live call means
-        (λ told s holds. subst (λ (tables : Tables). Calls tells now tells_moments clock left_since old.store new.store (record s { tables = tables }) done (means s)) (holds.parts.tables ∙ sym (ap (λ (h : Held B C). h.tables) held)) (calls told s holds))
+        (λ told s holds. subst (λ (tables : Tables). Calls g old.store new.store (record s { tables = tables }) done (means s)) (holds.parts.tables ∙ sym (ap (λ (h : Held B C). h.tables) held)) (calls told s holds))
 
 -- ---- the command that deletes a block
 

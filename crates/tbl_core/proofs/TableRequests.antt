@@ -1,5 +1,5 @@
 -- A request about tables was made: the parts stand for the state that it leaves, over the same blocks.
-use Rattle.std.proofs.Common.{◌≡◌, ◌∙◌, ℕ, suc, List, [], Bool, true, false, Option, Some, None, ℤ, refl, sym, ap, subst, inl, arith}
+use Rattle.std.proofs.Common.{◌≡◌, ◌∙◌, ℕ, suc, List, [], true, false, Option, Some, None, ℤ, refl, sym, ap, subst, inl, arith}
 use Rattle.tbl_kinds.specs.Notes.{untouched}
 use Rattle.tbl_kinds.specs.Blocks.{Store as Blocks}
 use Rattle.tbl_kinds.specs.StoreCalls.{StoreCall}
@@ -10,7 +10,7 @@ use Rattle.tbl_model.specs.Counts.{is_reset}
 use Rattle.tbl_model.specs.Dispatch.{effect_of}
 use Rattle.tbl_model.specs.StoreNotes.{IsNoteOf}
 use Rattle.tbl_model.proofs.NoteLaws.{may_be_untouched}
-use Rattle.tbl_laws.specs.Fit.{AreFit}
+use Rattle.tbl_model.specs.Fit.{AreFit}
 use Rattle.tbl_laws.proofs.Cases.{OfEffect}
 use Rattle.tbl_laws.proofs.Causes.{caused}
 use Rattle.tbl_laws.proofs.Ordinary.{IsOrdinary, ordinary}
@@ -19,14 +19,17 @@ use Rattle.tbl_kinds.specs.declared.note.BankNote.{BankNote}
 use Rattle.tbl_kinds.specs.declared.request.Actor.{Actor}
 use Rattle.tbl_kinds.specs.declared.request.Request.{Request}
 use Rattle.tbl_outside.specs.declared.validator.KitEntry.{KitEntry}
-use Rattle.tbl_laws.specs.Crashes.{DuringCalls, writes}
+use Rattle.tbl_session.specs.Crashes.{DuringCalls, writes}
 use Rattle.tbl_outside.proofs.Moments.{leaves_among}
 use Rattle.cds_layout.specs.Images.{store_of}
-use Rattle.store_requests.specs.Called.{Leaving, boots_behind, RestoresHeld}
+use Rattle.store_requests.specs.Called.{Leaving, boots_after}
+use Rattle.tbl_session.specs.Restores.{RestoresHeld}
 use Rattle.request_effects.specs.Effects.{IsEffect, given_of}
-use Rattle.tbl_core.specs.Service.{Held, Stands, state_of, Leaves, Asks, Does, HasEffect, Has, Makes, Meets}
+use Rattle.tbl_core.specs.Service.{Held, Stands, state_of, step_of, Bounds, Leaves, IsJudged, Does, HasEffect, Has, Makes, Meets}
 use Rattle.tbl_core.specs.Verdicts.{Judged}
 use Rattle.request_effects.specs.declared.effect.Effect.{Effect}
+use Rattle.tbl_outside.specs.declared.bank.Bank.{Ghosts}
+use Rattle.tbl_outside.specs.declared.validator.Validator.{Ghosts as ValidatorGhosts}
 
 -- ---- what the parts stand for
 
@@ -54,18 +57,18 @@ fit_without n blocks s fit = record { each = fit.each; few_pending = fit.few_pen
 
 -- ---- requests about tables
 
--- the effect that the parts stand behind
+-- the effect after which the parts stand for this
 pub effect_left : {B C : Type 0} (blocks : Blocks) (done : Effect) (held : Held B C) (found : Option model.Effect) → Leaves blocks done held found → (e : model.Effect) × (found ≡ Some e) × (IsEffect done e.asked e.next e) × (Stands blocks held e.next)
 effect_left blocks done held None leaves = absurd leaves
 effect_left blocks done held (Some e) leaves = (e, refl, leaves.0, leaves.1)
 
 -- what its effect asks
-pub asked_there : {C : Type 0} (verdict : C → List ℕ → ℤ) (asked : C → ℕ) (old new : List (Option (KitEntry C))) (verdicts : List (Option ℤ)) (found : Option model.Effect) (e : model.Effect)
-    → found ≡ Some e → Asks verdict asked old new verdicts found → Judged verdict asked old new e.asked verdicts
-asked_there verdict asked old new verdicts found e is asks = subst (Asks verdict asked old new verdicts) is asks
+pub judged_there : {C : Type 0} (v : ValidatorGhosts C) (old new : List (Option (KitEntry C))) (verdicts : List (Option ℤ)) (found : Option model.Effect) (e : model.Effect)
+    → found ≡ Some e → IsJudged v old new verdicts found → Judged v old new e.asked verdicts
+judged_there v old new verdicts found e is asks = subst (IsJudged v old new verdicts) is asks
 
-module _ {B C : Type 0} (tells : Type 0) (now : B → List ℕ) (faults stops : B → ℕ) (verdict : C → List ℕ → ℤ) (asked : C → ℕ) (most room : ℕ) (owes : Bool) (old new : Held B C) (actor : Actor) (request : Request) (done : Effect)
-    (does : Does verdict asked most room owes old new (λ s given. effect_of s actor request given) done) (live : old.ended ≡ false) (so_many : ℕ) (fits : AreFit so_many (state_of old)) where
+module _ {B C : Type 0} (g : Ghosts B) (v : ValidatorGhosts C) (bounds : Bounds) (old new : Held B C) (actor : Actor) (request : Request) (done : Effect)
+    (does : Does v bounds old new (λ s given. effect_of s actor request given) done) (live : old.ended ≡ false) (so_many : ℕ) (fits : AreFit so_many (state_of old)) where
   -- without blocks
   left : (e : model.Effect) × (effect_of (state_of old) actor request (given_of done) ≡ Some e) × (IsEffect done e.asked e.next e) × (Stands [] new e.next)
   left = effect_left [] done new _ (does.effect (state_of old) (stands_in old))
@@ -76,30 +79,30 @@ module _ {B C : Type 0} (tells : Type 0) (now : B → List ℕ) (faults stops : 
   goes : new.ended ≡ false
   goes = sym left.3.ended ∙ (ordinary_left so_many fits).live (rw does.note refl)
 
-  pub table_makes : old.store.booted ≡ true → Makes asked verdict faults stops most room owes old new done
+  pub table_makes : old.store.booted ≡ true → Makes g v bounds old new done
   table_makes booted = record {
     fit = λ n fit. fit_without (suc n) [] (state_of new) (subst (AreFit (suc n)) (state_is new [] left.0.next left.3) (ordinary_left n fit).fit);
-    judged = (left.0.asked, asked_there verdict asked old.kit new.kit done.verdicts _ left.0 left.1 (does.asks (state_of old) (stands_in old)));
+    judged = (left.0.asked, judged_there v old.kit new.kit done.verdicts _ left.0 left.1 (does.judged (state_of old) (stands_in old)));
     two = does.two;
     within = does.within;
     booted = rw (does.store, booted, goes) refl;
     ended = rw (goes, does.note) refl;
     stopped = rw does.note (λ is. absurd (cc is));
-    trouble = rw (does.store, does.note) (record { fault_count = omega arith; stop_count = omega arith; fault = inl (omega arith); stop = inl (omega arith) });
+    trouble = rw (does.store, does.note) (record { fault_count = omega arith; stop_count = omega arith; fault = inl (omega arith); stop = inl (omega arith); no_fault = λ none. refl; no_stop = λ none. refl });
     cause = rw (← left.2.status) (subst (OfEffect (λ e. HasCause e.status done.note)) left.1 (caused (state_of old) (given_of done) actor request));
   }
 
-  pub table_meets : (tells_moments : Type 0) (clock : B → ℕ) (left_since : B → ℕ → List ℕ → Type 0) → (tells → (blocks : Blocks) → HasBlocks tells now old.store blocks → Leaving tells_moments clock left_since old.store new.store (DuringCalls [] blocks))
-      → is_reset request ≡ false → Meets tells now tells_moments clock left_since verdict asked old new request (λ s given. effect_of s actor request given) done
-  table_meets tells_moments clock left_since moved plain told s holds note follows =
+  pub table_meets : (g.tells → (blocks : Blocks) → HasBlocks g.tells g.now old.store blocks → Leaving g old.store new.store (DuringCalls [] blocks))
+      → is_reset request ≡ false → Meets g v (step_of old new request) (λ s given. effect_of s actor request given) done
+  table_meets moved plain told s holds note follows =
       let same : note ≡ done.note = follows.same (rw does.note (λ is. cc is)) in
       let found = effect_left s.store done new _ (does.effect s holds.parts) in
       let noted : untouched ≡ done.note = sym does.note in
-      let had : HasEffect tells now tells_moments clock left_since verdict asked old new request s done done.note found.0 = record {
+      let had : HasEffect g v (step_of old new request) s done done.note found.0 = record {
         before = found.0.next;
         holds = record {
           parts = subst (λ (blocks : Blocks). Stands blocks new found.0.next) (sym found.3.store) found.3;
-          blocks = λ is. subst (λ (kept : StoreParts B). HasBlocks tells now kept found.0.next.store) (sym does.store) (subst (λ (blocks : Blocks). HasBlocks tells now old.store blocks) (sym found.3.store) (holds.blocks live));
+          blocks = λ is. subst (λ (kept : StoreParts B). HasBlocks g.tells g.now kept found.0.next.store) (sym does.store) (subst (λ (blocks : Blocks). HasBlocks g.tells g.now old.store blocks) (sym found.3.store) (holds.blocks live));
         };
         effect = record {
           status = found.2.status;
@@ -111,14 +114,14 @@ module _ {B C : Type 0} (tells : Type 0) (now : B → List ℕ) (faults stops : 
           asked = refl;
           calls = refl;
           notice = found.2.notice;
-          next = ap (λ (n : BankNote). boots_behind n.outcome n found.0.next) noted;
+          next = ap (λ (n : BankNote). boots_after n.outcome n found.0.next) noted;
         };
-        judged = asked_there verdict asked old.kit new.kit done.verdicts _ found.0 found.1 (does.asks s holds.parts);
-        gave = subst (λ (calls : List StoreCall). RestoresHeld (now old.store.bank) calls s.store done.note) (sym found.2.calls) tt;
+        judged = judged_there v old.kit new.kit done.verdicts _ found.0 found.1 (does.judged s holds.parts);
+        gave = subst (λ (calls : List StoreCall). RestoresHeld (g.now old.store.bank) calls s.store done.note) (sym found.2.calls) tt;
         left = λ stop. absurd (cc (stop, does.note));
         writing = λ stop. absurd (cc (stop, does.note));
         moments = λ m. leaves_among (moved told s.store (holds.blocks live) m) (λ image during. inl (subst (λ (calls : List StoreCall). DuringCalls (writes calls) s.store (store_of image)) (sym found.2.calls) during));
         noted = λ _. subst (IsNoteOf request found.0.calls s.store) noted (subst (λ (calls : List StoreCall). IsNoteOf request calls s.store untouched) (sym found.2.calls) (may_be_untouched request s.store plain));
       } in
-      subst (λ (n : BankNote). Has tells now tells_moments clock left_since verdict asked old new request s done n (effect_of s actor request (record { note = n; verdicts = done.verdicts }))) (sym same)
-      (subst (Has tells now tells_moments clock left_since verdict asked old new request s done done.note) (sym found.1) had)
+      subst (λ (n : BankNote). Has g v (step_of old new request) s done n (effect_of s actor request (record { note = n; verdicts = done.verdicts }))) (sym same)
+      (subst (Has g v (step_of old new request) s done done.note) (sym found.1) had)

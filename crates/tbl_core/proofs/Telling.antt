@@ -1,17 +1,19 @@
 -- How much a request may tell, and which requests are no Reset.
-use Rattle.std.proofs.Common.{◌≡◌, ◌≤◌, ℕ, suc, List, Bool, true, false, Some, None, ℤ, refl, arith}
+use Rattle.std.proofs.Common.{◌≡◌, ◌≤◌, ℕ, suc, true, false, Some, None, refl, arith}
 use Rattle.tbl_model.specs.Counts.{is_reset}
 use Rattle.tbl_kinds.specs.declared.request.Request.{Request}
 use Rattle.tbl_kinds.specs.declared.request.Request.TheVariants as ask
 use Rattle.tbl_model.specs.Commands.{Asked}
 use Rattle.request_effects.specs.Asked.{asks_store, activates, owners_handle, owned_deeds, most_deeds}
-use Rattle.tbl_core.specs.Service.{Held, Makes}
+use Rattle.tbl_core.specs.Service.{Held, Bounds, deeds_alone, Makes}
 use Rattle.request_effects.specs.declared.effect.Effect.{Effect}
+use Rattle.tbl_outside.specs.declared.bank.Bank.{Ghosts}
+use Rattle.tbl_outside.specs.declared.validator.Validator.{Ghosts as ValidatorGhosts}
 
 -- no more is told than where more may be
-pub wider : {B C : Type 0} (asked : C → ℕ) (verdict : C → List ℕ → ℤ) (faults stops : B → ℕ) (least most room : ℕ) (owes : Bool) (old new : Held B C) (done : Effect) → least ≤ most
-    → Makes asked verdict faults stops least 0 false old new done → Makes asked verdict faults stops most room owes old new done
-wider asked verdict faults stops least most room owes old new done more makes =
+pub wider : {B C : Type 0} (g : Ghosts B) (v : ValidatorGhosts C) (least : ℕ) (bounds : Bounds) (old new : Held B C) (done : Effect) → least ≤ bounds.most
+    → Makes g v (deeds_alone least) old new done → Makes g v bounds old new done
+wider g v least bounds old new done more makes =
     let deeds = makes.within.deeds in let shown = makes.within.shown in record {
       fit = makes.fit;
       judged = makes.judged;
@@ -34,7 +36,7 @@ owners_deeds (ask.Validate h) asked handle is = omega arith
 owners_deeds (ask.Manage h) asked handle is = omega arith
 owners_deeds request asked handle is = omega arith
 
--- nor are those more than a request may have, with the failure of a copy behind them
+-- nor are those more than a request may have, with the failure of a copy after them
 pub owned_fewer : (request : Request) → owned_deeds request ≤ most_deeds request None
 owned_fewer (ask.LoadImage h image) = omega arith
 owned_fewer (ask.LoadFile h name) = omega arith

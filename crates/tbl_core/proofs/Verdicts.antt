@@ -1,5 +1,5 @@
 -- What is known of the kit of validation functions after an entry.
-use Rattle.std.proofs.Common.{◌≡◌, ◌==◌, ◌<◌, ◌≤◌, ◌+◌, ◌*◌, ◌^◌, ℕ, zero, suc, Bool, true, false, cond, List, [], ◌∷◌, length, count_by, Option, Some, None, ℤ, refl, ap, subst, arith}
+use Rattle.std.proofs.Common.{◌≡◌, ◌⊎◌, inl, inr, ◌==◌, ◌≤◌, ◌+◌, ◌*◌, ◌^◌, ℕ, zero, suc, Bool, true, false, cond, List, [], ◌∷◌, length, count_by, Option, Some, None, ℤ, refl, ap, arith}
 use Rattle.std.proofs.lemmas.List.Sums.{count_by-le-length}
 use Rattle.tbl_model.specs.Deeds.{Question}
 use Rattle.tbl_model.specs.Given.{Given, AnswersEach, nothing_given}
@@ -9,7 +9,8 @@ use Rattle.validation.specs.Kits.{entry_at, unless_of, dropped}
 use Rattle.validation.specs.Asked.{is_for, GivesEach, Stays, WasAsked}
 use Rattle.validation.proofs.Asking.{asked_nothing}
 use Rattle.tbl_core.specs.Service.{AskedBelow}
-use Rattle.tbl_core.specs.Verdicts.{Stood, StoodThere, Judged}
+use Rattle.tbl_core.specs.Verdicts.{Judged}
+use Rattle.tbl_outside.specs.declared.validator.Validator.{Ghosts as ValidatorGhosts}
 
 module _ {C : Type 0} (verdict : C → List ℕ → ℤ) where
   -- as many verdicts as questions
@@ -33,56 +34,53 @@ module _ {C : Type 0} (verdict : C → List ℕ → ℤ) where
   few_questions kit (q ∷ more) (None ∷ verdicts) gives = absurd gives
   few_questions kit (q ∷ more) (Some v ∷ verdicts) gives = let rest = few_questions kit more verdicts gives.1 in omega (arith, rest)
 
-module _ {C : Type 0} (verdict : C → List ℕ → ℤ) (asked : C → ℕ) where
+module _ {C : Type 0} (v : ValidatorGhosts C) where
+  -- what stands under a number after an entry was there before it, and counts what it was asked
+  pub was_there : (times : ℕ) (old new : Option (KitEntry C)) (entry : KitEntry C) → new ≡ Some entry → (new ≡ None) ⊎ Stays v.verdict v.asked times old new
+      → (before : KitEntry C) × (old ≡ Some before) × ((image : List ℕ) → v.verdict entry.check image ≡ v.verdict before.check image) × (v.asked entry.check ≡ v.asked before.check + times)
+  was_there times old new entry there (inl gone) = absurd (cc (there, gone))
+  was_there times None new entry there (inr stays) = absurd (cc (there, stays))
+  was_there times (Some before) new entry there (inr stays) = let is = stays.1 entry there in (before, refl, is.steady, is.counted)
+
   -- an entry asks each function twice at most
-  pub few_more : (old new : List (Option (KitEntry C))) (questions : List Question) (verdicts : List (Option ℤ)) (n : ℕ) → length verdicts ≡ 2 → Judged verdict asked old new questions verdicts
-      → AskedBelow asked (2 ^ 62 + 2 * n) old → AskedBelow asked (2 ^ 62 + 2 * suc n) new
+  pub few_more : (old new : List (Option (KitEntry C))) (questions : List Question) (verdicts : List (Option ℤ)) (n : ℕ) → length verdicts ≡ 2 → Judged v old new questions verdicts
+      → AskedBelow v.asked (2 ^ 62 + 2 * n) old → AskedBelow v.asked (2 ^ 62 + 2 * suc n) new
   few_more old new questions verdicts n two judged few number entry there =
       let least = count_by-le-length (is_for number) questions in
-      let most = few_questions verdict old questions verdicts judged.gives in
-      by (entry_at old number) refl (subst (StoodThere verdict asked (count_by (is_for number) questions) (entry_at old number)) there (judged.each number)) least most
-    where
-      by : (found : Option (KitEntry C)) → entry_at old number ≡ found → StoodThere verdict asked (count_by (is_for number) questions) (entry_at old number) (Some entry)
-          → count_by (is_for number) questions ≤ length questions → length questions ≤ length verdicts → asked entry.check < 2 ^ 62 + 2 * suc n
-      by None at stood least most = absurd (subst (λ (o : Option (KitEntry C)). StoodThere verdict asked (count_by (is_for number) questions) o (Some entry)) at stood)
-      by (Some before) at stood least most =
-          let is : Stood verdict asked (count_by (is_for number) questions) before entry = subst (λ (o : Option (KitEntry C)). StoodThere verdict asked (count_by (is_for number) questions) o (Some entry)) at stood in
-          let low = few number before at in
-          omega (arith, is.counted, low, least, most, two)
+      let most = few_questions v.verdict old questions verdicts judged.gives in
+      let was = was_there (count_by (is_for number) questions) (entry_at old number) (entry_at new number) entry there (judged.each number) in
+      let low = few number was.0 was.1 in
+      let counted = was.3 in
+      omega (arith, counted, low, least, most, two)
 
   -- a kit that was asked, and kept its functions
-  stood_there : (times : ℕ) (old new : Option (KitEntry C)) → Stays verdict asked times old new → StoodThere verdict asked times old new
-  stood_there times old None stays = tt
-  stood_there times None (Some new) stays = absurd (cc stays)
-  stood_there times (Some old) (Some new) stays = let is = stays.1 new refl in record { owner = is.0; steady = is.1; counted = is.2 }
-
-  pub was_judged : (old new : List (Option (KitEntry C))) (questions : List Question) (verdicts : List (Option ℤ)) → WasAsked verdict asked old new questions verdicts → Judged verdict asked old new questions verdicts
-  was_judged old new questions verdicts was = record { gives = was.gives; each = λ number. stood_there _ (entry_at old number) (entry_at new number) (was.each number) }
+  pub was_judged : (old new : List (Option (KitEntry C))) (questions : List Question) (verdicts : List (Option ℤ)) → WasAsked v.verdict v.asked old new questions verdicts → Judged v old new questions verdicts
+  was_judged old new questions verdicts was = record { gives = was.gives; each = λ number. inr (was.each number) }
 
   -- a request that asks nothing leaves the kit as it is
   pub none_judged : (kit : List (Option (KitEntry C))) (questions : List Question) (note : BankNote) (verdicts : List (Option ℤ)) → questions ≡ [] → record { note = note; verdicts = verdicts } ≡ nothing_given
-      → Judged verdict asked kit kit questions verdicts
+      → Judged v kit kit questions verdicts
   none_judged kit questions note verdicts none given =
       let unsaid : verdicts ≡ None ∷ None ∷ [] = ap (λ (g : Given). g.verdicts) given in
-      rw (none, unsaid) (was_judged kit kit [] (None ∷ None ∷ []) (asked_nothing verdict asked kit))
+      rw (none, unsaid) (was_judged kit kit [] (None ∷ None ∷ []) (asked_nothing v.verdict v.asked kit))
 
   -- where an application's are dropped, each that still stands is one that stood there
-  kept_there : (app : ℕ) (found : Option (KitEntry C)) → StoodThere verdict asked 0 found (unless_of app found)
-  kept_there app None = tt
+  kept_there : (app : ℕ) (found : Option (KitEntry C)) → (unless_of app found ≡ None) ⊎ Stays v.verdict v.asked 0 found (unless_of app found)
+  kept_there app None = inl refl
   kept_there app (Some entry) = by (entry.app == app)
     where
-      by : (gone : Bool) → StoodThere verdict asked 0 (Some entry) (cond gone None (Some entry))
-      by true = tt
-      by false = record { owner = refl; steady = λ image. refl; counted = omega arith }
+      by : (gone : Bool) → (cond gone None (Some entry) ≡ None) ⊎ Stays v.verdict v.asked 0 (Some entry) (cond gone None (Some entry))
+      by true = inl refl
+      by false = inr (cc, λ same is. let one : same ≡ entry = cc is in rw one (record { owner = refl; steady = λ image. refl; counted = omega arith }))
 
-  dropped_there : (app : ℕ) (kit : List (Option (KitEntry C))) (number : ℕ) → StoodThere verdict asked 0 (entry_at kit number) (entry_at (dropped app kit) number)
-  dropped_there app [] number = tt
+  dropped_there : (app : ℕ) (kit : List (Option (KitEntry C))) (number : ℕ) → (entry_at (dropped app kit) number ≡ None) ⊎ Stays v.verdict v.asked 0 (entry_at kit number) (entry_at (dropped app kit) number)
+  dropped_there app [] number = inl refl
   dropped_there app (x ∷ kit) zero = kept_there app x
   dropped_there app (x ∷ kit) (suc number) = dropped_there app kit number
 
   -- an application that ends asks nothing
   pub end_judged : (app : ℕ) (ends : Bool) (old new : List (Option (KitEntry C))) (questions : List Question) (note : BankNote) (verdicts : List (Option ℤ)) → new ≡ cond ends (dropped app old) old
-      → questions ≡ [] → record { note = note; verdicts = verdicts } ≡ nothing_given → Judged verdict asked old new questions verdicts
+      → questions ≡ [] → record { note = note; verdicts = verdicts } ≡ nothing_given → Judged v old new questions verdicts
   end_judged app true old new questions note verdicts is none given =
       let unsaid : verdicts ≡ None ∷ None ∷ [] = ap (λ (g : Given). g.verdicts) given in
       rw (is, none, unsaid) (record { gives = tt; each = λ number. dropped_there app old number })

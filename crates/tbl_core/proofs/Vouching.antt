@@ -1,5 +1,5 @@
 -- The verdicts of a history are those of the functions that it began with.
-use Rattle.std.proofs.Common.{◌≡◌, ◌∙◌, ℕ, List, [], ◌∷◌, ◌++◌, Option, Some, None, IsSome, Result, ℤ, refl, sym, subst}
+use Rattle.std.proofs.Common.{◌≡◌, ◌⊎◌, ◌∙◌, ℕ, List, [], ◌∷◌, ◌++◌, count_by, Option, Some, None, IsSome, Result, ℤ, refl, sym, subst}
 use Rattle.std.specs.Option.{ForSome}
 use Rattle.tbl_model.specs.Deeds.{Question}
 use Rattle.tbl_model.specs.State.{State}
@@ -9,11 +9,14 @@ use Rattle.tbl_kinds.specs.declared.request.Actor.{Actor}
 use Rattle.tbl_kinds.specs.declared.request.Request.{Request}
 use Rattle.tbl_outside.specs.declared.validator.KitEntry.{KitEntry}
 use Rattle.validation.specs.Kits.{entry_at}
-use Rattle.validation.specs.Asked.{GivesEach}
+use Rattle.validation.specs.Asked.{is_for, GivesEach, Stays}
 use Rattle.tbl_core.specs.Service.{CoreView, StandsFor, Vouches, Plays}
-use Rattle.tbl_core.specs.Verdicts.{StoodThere, questions_in, AreGiven, IsOf, AreOf}
+use Rattle.tbl_core.proofs.Verdicts.{was_there}
+use Rattle.tbl_session.specs.Verdicts.{questions_in, AreGiven, IsOf, AreOf}
 use Rattle.tbl_core.specs.declared.service.StepFault.{StepFault}
 use Rattle.tbl_core.proofs.Steps.{plays_on}
+use Rattle.tbl_outside.specs.declared.bank.Bank.{Ghosts}
+use Rattle.tbl_outside.specs.declared.validator.Validator.{Ghosts as ValidatorGhosts}
 
 module _ {C : Type 0} (verdict : C → List ℕ → ℤ) where
   -- what stands in the kit gives what the first function gives
@@ -41,28 +44,32 @@ module _ {C : Type 0} (verdict : C → List ℕ → ℤ) where
   same_function (Some entry) = λ image. refl
 
   -- whoever stands for an opening vouches for the functions that it began with
-  pub vouch_first : {B : Type 0} (tells : Type 0) (now : B → List ℕ) (given : List (Option (KitEntry C))) (opening : State) (core : CoreView B C) → core.entries ≡ [] → core.state.kit ≡ given → StandsFor tells now opening core → Vouches tells now verdict given opening core
-  vouch_first tells now given opening core none same stands = record {
+  pub vouch_first : {B : Type 0} (g : Ghosts B) (given : List (Option (KitEntry C))) (opening : State) (core : CoreView B C) → core.entries ≡ [] → core.state.kit ≡ given → StandsFor g opening core → Vouches g verdict given opening core
+  vouch_first g given opening core none same stands = record {
     stands = stands;
     verdicts = λ told. rw none tt;
     functions = rw same (λ number. same_function (entry_at given number));
   }
 
-module _ {C : Type 0} (verdict : C → List ℕ → ℤ) (asked : C → ℕ) where
-  of_before : (times : ℕ) (first old new : Option (KitEntry C)) → IsOf verdict first old → StoodThere verdict asked times old new → IsOf verdict first new
+module _ {C : Type 0} (v : ValidatorGhosts C) where
+  of_before : (times : ℕ) (first old new : Option (KitEntry C)) → IsOf v.verdict first old → (new ≡ None) ⊎ Stays v.verdict v.asked times old new → IsOf v.verdict first new
   of_before times first old None of stood = tt
-  of_before times first None (Some new) of stood = absurd stood
-  of_before times None (Some old) (Some new) of stood = absurd of
-  of_before times (Some first) (Some old) (Some new) of stood = λ image. stood.steady image ∙ of image
+  of_before times first old (Some new) of stood =
+      let was = was_there v times old (Some new) new refl stood in
+      by first was.0 (subst (IsOf v.verdict first) was.1 of) was.2
+    where
+      by : (first : Option (KitEntry C)) (before : KitEntry C) → IsOf v.verdict first (Some before) → ((image : List ℕ) → v.verdict new.check image ≡ v.verdict before.check image) → IsOf v.verdict first (Some new)
+      by None before of steady = absurd of
+      by (Some entry) before of steady = λ image. steady image ∙ of image
 
-  pub vouches_on : {B : Type 0} (tells : Type 0) (now : B → List ℕ) (tells_moments : Type 0) (clock : B → ℕ) (left_since : B → ℕ → List ℕ → Type 0) (faults stops : B → ℕ) (old new : CoreView B C) (actor : Actor) (request : Request) (result : Result Unit StepFault)
-      → Plays tells now tells_moments clock left_since faults stops verdict asked old new actor request result
-      → (opening : State) (given : List (Option (KitEntry C))) → Vouches tells now verdict given opening old → Vouches tells now verdict given opening new
-  vouches_on tells now tells_moments clock left_since faults stops old new actor request result p opening given vouched = record {
-    stands = plays_on tells now tells_moments clock left_since faults stops verdict asked old new actor request result p opening vouched.stands;
+  pub vouches_on : {B : Type 0} (g : Ghosts B) (old new : CoreView B C) (actor : Actor) (request : Request) (result : Result Unit StepFault)
+      → Plays g v old new actor request result
+      → (opening : State) (given : List (Option (KitEntry C))) → Vouches g v.verdict given opening old → Vouches g v.verdict given opening new
+  vouches_on g old new actor request result p opening given vouched = record {
+    stands = plays_on g v old new actor request result p opening vouched.stands;
     verdicts = λ told.
         let judged = p.judged told (run_from (begins_at opening) old.entries) (vouched.stands.shows told) in
-        subst (λ (es : List Entry). AreGiven verdict given (begins_at opening) es) (sym p.added)
-        (given_push verdict given (begins_at opening) old.entries p.entry (vouched.verdicts told) (each_first verdict given old.state.kit vouched.functions _ p.entry.verdicts judged.gives));
-    functions = λ number. of_before _ (entry_at given number) (entry_at old.state.kit number) (entry_at new.state.kit number) (vouched.functions number) (p.kit.1.each number);
+        subst (λ (es : List Entry). AreGiven v.verdict given (begins_at opening) es) (sym p.added)
+        (given_push v.verdict given (begins_at opening) old.entries p.entry (vouched.verdicts told) (each_first v.verdict given old.state.kit vouched.functions _ p.entry.verdicts judged.gives));
+    functions = λ number. of_before (count_by (is_for number) p.kit.0) (entry_at given number) (entry_at old.state.kit number) (entry_at new.state.kit number) (vouched.functions number) (p.kit.1.each number);
   }

@@ -1,4 +1,4 @@
--- The boot behind a request that was stopped, and how its step ends.
+-- The boot after a request that was stopped, and how its step ends.
 use Rattle.std.specs.Prelude.{◌≡◌, ◌≢◌, ℕ, List, [], Bool, Result, Ok, Err, if◌then◌else◌}
 use Rattle.tbl_kinds.specs.Notes.{untouched}
 use Rattle.tbl_kinds.specs.declared.note.BankNote.{BankNote}
@@ -23,7 +23,7 @@ boot_only Untouched note = untouched
 boot_only Done note = untouched
 boot_only Failed note = untouched
 
--- how a step ends behind which the service has this note
+-- how a step ends after which the service has this note
 abbrev pub session_end : BankNote → Result Unit StepFault
 session_end note = if note.ended then (if note.stopped then Err BootStopped else Err BootFault) else Ok tt
 

@@ -15,7 +15,7 @@ use Rattle.request_effects.specs.declared.clock.Clock.{Clock}
 abbrev pub notice_room : Asked → ℕ
 notice_room asked = if asks_notice asked then 12 else 0
 
--- an event of 24 bytes for a command and for each deed, the packet behind them, and a notice
+-- an event of 24 bytes for a command and for each deed, the packet after them, and a notice
 abbrev pub packets_room : Request → Asked → ℕ
 packets_room request asked = (if is_some asked then 24 else 0) + 24 * most_deeds request asked + shown_room asked + notice_room asked
 

@@ -11,7 +11,8 @@ use Rattle.tbl_model.specs.Validations.{first_pending, do_validation}
 use Rattle.tbl_model.specs.Management.{managed_effect, manage_answer, all_done}
 use Rattle.std.specs.Option.{option_map}
 use Rattle.tbl_model.specs.Copies.{then_copy}
-use Rattle.table_requests.specs.RowEffects.{filled_effect, edited_effect, noticed_effect}
+use Rattle.tbl_model.specs.Dumps.{filled_effect, edited_effect}
+use Rattle.tbl_model.specs.Sharing.{noticed_effect}
 use Rattle.tbl_kinds.specs.declared.note.BankNote.{BankNote}
 use Rattle.tbl_kinds.specs.declared.request.Request.{Request}
 use Rattle.tbl_kinds.specs.declared.request.Request.TheVariants as ask
@@ -32,7 +33,7 @@ abbrev pub owned_at : Option Table → State → ℕ → Request → Given → O
 owned_at None s row request given = None
 owned_at (Some t) s row request given = owned_effect s row t request given
 
--- behind a call by which an image can go active, that of a critical table is copied
+-- after a call by which an image can go active, that of a critical table is copied
 abbrev pub copied_at : Request → ℕ → BankNote → Option Effect → Option Effect
 copied_at (ask.LoadImage handle image) row note o = option_map (then_copy row note) o
 copied_at (ask.LoadFile handle name) row note o = option_map (then_copy row note) o

@@ -3,11 +3,12 @@ use Rattle.std.specs.Prelude.{◌≡◌, ◌⊎◌, ℕ, suc, ◌+◌, ◌*◌, 
 use Rattle.std.specs.Option.{ForSome}
 use Rattle.std.proofs.Common.{ℤ}
 use Rattle.tbl_model.specs.State.{State, Tables, no_tables}
-use Rattle.tbl_laws.specs.Fit.{AreFit}
+use Rattle.tbl_model.specs.Tables.{table_at}
+use Rattle.tbl_model.specs.Fit.{AreFit}
 use Rattle.tbl_kinds.specs.Blocks.{Store as Blocks, empty_store}
 use Rattle.tbl_kinds.specs.StoreCalls.{StoreCall}
 use Rattle.tbl_kinds.specs.StoreSteps.{Shows as ShowsBlocks}
-use Rattle.tbl_laws.specs.Crashes.{DuringCalls, UnderWay, writes}
+use Rattle.tbl_session.specs.Crashes.{DuringCalls, UnderWay, writes, all_calls_in}
 use Rattle.tbl_kinds.specs.Drawer.{File}
 use Rattle.tbl_model.specs.Effects as model
 use Rattle.tbl_model.specs.Counts.{Counts, counts_of}
@@ -37,20 +38,27 @@ use Rattle.tbl_kinds.specs.declared.request.Request.TheVariants as ask
 use Rattle.tbl_kinds.specs.declared.request.ResetKind.TheVariants.{Processor, PowerOn}
 use Rattle.tbl_kinds.specs.declared.status.TheConstants.Status.{INFO_STOPPED}
 use Rattle.tbl_model.specs.Copies.{then_copy}
-use Rattle.store_requests.specs.Called.{NoBoot, boots_behind, Troubled, RestoresHeld, Leaving, CallsBehind}
+use Rattle.store_requests.specs.Called.{NoBoot, boots_after, Troubled, Leaving, done_first, CallsAfter}
+use Rattle.tbl_session.specs.Restores.{RestoresHeld}
+use Rattle.request_effects.specs.Asked.{asks_notice, shown_room, owned_deeds, most_deeds}
+use Rattle.tbl_model.specs.Commands.{Asked}
 use Rattle.tbl_core.specs.Ended.{Follows, session_end}
+use Rattle.tbl_core.specs.Owned.{owned_at}
 use Rattle.table_requests.specs.Limits.{AreCounted, AreSendable}
 use Rattle.store_requests.specs.Copying.{IsCopyCall}
 use Rattle.request_effects.specs.Effects.{IsEffect, IsWithin, uncalled, given_of, told_at}
 use Rattle.tbl_kinds.specs.Notes.{untouched}
 use Rattle.tbl_model.specs.Given.{Given}
-use Rattle.tbl_core.specs.Verdicts.{Judged, questions_in, all_calls_in, AreGiven, AreOf}
+use Rattle.tbl_core.specs.Verdicts.{Judged}
+use Rattle.tbl_session.specs.Verdicts.{questions_in, AreGiven, AreOf}
 use Rattle.request_effects.specs.declared.effect.Effect.{Effect}
 use Rattle.request_effects.specs.declared.clock.Clock.{Clock}
 use Rattle.tbl_core.specs.declared.parts.Parts.{Parts}
 use Rattle.tbl_core.specs.declared.service.StartFault.{StartFault}
 use Rattle.tbl_core.specs.declared.service.StartFault.TheVariants.{Memory, BootFault, BootStopped}
 use Rattle.tbl_core.specs.declared.service.StepFault.{StepFault}
+use Rattle.tbl_outside.specs.declared.bank.Bank.{Ghosts}
+use Rattle.tbl_outside.specs.declared.validator.Validator.{Ghosts as ValidatorGhosts}
 
 -- ---- what is kept
 
@@ -117,24 +125,24 @@ state_of held = record {
 }
 
 -- and the store stands for its blocks. After a boot that failed or was stopped it stands for none
-pub record HoldsAll {B C : Type 0} (tells : Type 0) (now : B → List ℕ) (held : Held B C) (s : State) : Type 0 where
+pub record HoldsAll {B C : Type 0} (g : Ghosts B) (held : Held B C) (s : State) : Type 0 where
   pub parts : Stands s.store held s
-  pub blocks : held.ended ≡ false → HasBlocks tells now held.store s.store
+  pub blocks : held.ended ≡ false → HasBlocks g.tells g.now held.store s.store
 
 -- the core stands for a run: its state, and what is counted over what was told
-pub record Shows {B C : Type 0} (tells : Type 0) (now : B → List ℕ) (core : CoreView B C) (r : Run) : Type 0 where
-  pub state : HoldsAll tells now core.state r.state
+pub record Shows {B C : Type 0} (g : Ghosts B) (core : CoreView B C) (r : Run) : Type 0 where
+  pub state : HoldsAll g core.state r.state
   pub counts : counts_of r.past ≡ core.counts
 
 -- where the bank tells its bytes, the core's history is legal from the opening state on, and the core stands for what it leads to
-pub record StandsFor {B C : Type 0} (tells : Type 0) (now : B → List ℕ) (opening : State) (core : CoreView B C) : Type 0 where
-  pub legal : tells → IsLegal opening core.entries (run_from (begins_at opening) core.entries).state
-  pub shows : tells → Shows tells now core (run_from (begins_at opening) core.entries)
+pub record StandsFor {B C : Type 0} (g : Ghosts B) (opening : State) (core : CoreView B C) : Type 0 where
+  pub legal : g.tells → IsLegal opening core.entries (run_from (begins_at opening) core.entries).state
+  pub shows : g.tells → Shows g core (run_from (begins_at opening) core.entries)
 
 -- and the verdicts in it are those of these functions, of which each that stands in the kit is one
-pub record Vouches {B C : Type 0} (tells : Type 0) (now : B → List ℕ) (verdict : C → List ℕ → ℤ) (given : List (Option (KitEntry C))) (opening : State) (core : CoreView B C) : Type 0 where
-  pub stands : StandsFor tells now opening core
-  pub verdicts : tells → AreGiven verdict given (begins_at opening) core.entries
+pub record Vouches {B C : Type 0} (g : Ghosts B) (verdict : C → List ℕ → ℤ) (given : List (Option (KitEntry C))) (opening : State) (core : CoreView B C) : Type 0 where
+  pub stands : StandsFor g opening core
+  pub verdicts : g.tells → AreGiven verdict given (begins_at opening) core.entries
   pub functions : AreOf verdict given core.state.kit
 
 -- ---- what is kept of it
@@ -145,20 +153,44 @@ AskedBelow asked most kit = (number : ℕ) → ForSome (entry_at kit number) (λ
 
 -- no table has had more images than there are entries, what is pending can be done, the store was booted unless the service has
 -- ended, and no function was asked more than twice for each entry since it was given
-pub record IsReady {B C : Type 0} (asked : C → ℕ) (core : CoreView B C) : Type 0 where
+pub record IsReady {B C : Type 0} (v : ValidatorGhosts C) (core : CoreView B C) : Type 0 where
   pub fit : AreFit (length core.entries) (state_of core.state)
   pub booted : core.state.store.booted ≡ not core.state.ended
-  pub kit : AskedBelow asked (2 ^ 62 + 2 * length core.entries) core.state.kit
+  pub kit : AskedBelow v.asked (2 ^ 62 + 2 * length core.entries) core.state.kit
 
 -- what each request may rely on
-pub record MayPlay {B C : Type 0} (asked : C → ℕ) (held : Held B C) : Type 0 where
+pub record MayPlay {B C : Type 0} (v : ValidatorGhosts C) (held : Held B C) : Type 0 where
   pub booted : held.store.booted ≡ true
   pub counted : AreCounted held.tables
   pub notices : AreSendable held.tables
   pub functions : HaveFunctions held.tables held.kit
-  pub few : FewAsked asked 2 held.kit
+  pub few : FewAsked v.asked 2 held.kit
   pub pending : ArePending held.tables held.pending
   pub loads : HaveLoads held.tables
+
+-- ---- what a step does
+
+-- a request, with the parts before and after it
+pub record Step (B C : Type 0) : Type 0 where
+  pub old : Held B C
+  pub new : Held B C
+  pub request : Request
+
+abbrev pub step_of : {B C : Type 0} → Held B C → Held B C → Request → Step B C
+step_of old new request = record { old = old; new = new; request = request }
+
+-- how much may be told of a request: so many deeds, a packet after the events of so many bytes, and a notice, if it owes one
+pub record Bounds : Type 0 where
+  pub most : ℕ
+  pub room : ℕ
+  pub owes : Bool
+
+abbrev pub bounds_of : Request → Asked → Bounds
+bounds_of request asked = record { most = most_deeds request asked; room = shown_room asked; owes = asks_notice asked }
+
+-- so many deeds, and nothing else
+abbrev pub deeds_alone : ℕ → Bounds
+deeds_alone most = record { most = most; room = 0; owes = false }
 
 -- ---- one request about tables
 
@@ -167,87 +199,99 @@ abbrev pub Leaves : {B C : Type 0} → Blocks → Effect → Held B C → Option
 Leaves blocks done held None = ⊥
 Leaves blocks done held (Some e) = IsEffect done e.asked e.next e × Stands blocks held e.next
 
--- in it the kit was asked what the request asks, and gave these verdicts
-abbrev pub Asks : {C : Type 0} → (C → List ℕ → ℤ) → (C → ℕ) → List (Option (KitEntry C)) → List (Option (KitEntry C)) → List (Option ℤ) → Option model.Effect → Type 0
-Asks verdict asked old new verdicts None = ⊥
-Asks verdict asked old new verdicts (Some e) = Judged verdict asked old new e.asked verdicts
+-- the kit was asked the questions of this effect, and gave these verdicts
+abbrev pub IsJudged : {C : Type 0} → ValidatorGhosts C → List (Option (KitEntry C)) → List (Option (KitEntry C)) → List (Option ℤ) → Option model.Effect → Type 0
+IsJudged v old new verdicts None = ⊥
+IsJudged v old new verdicts (Some e) = Judged v old new e.asked verdicts
 
 -- the request was done: this was its effect, the kit gave what it was asked for, no more is told than there is room for, and
--- the store stayed untouched
-pub record Does {B C : Type 0} (verdict : C → List ℕ → ℤ) (asked : C → ℕ) (most room : ℕ) (owes : Bool) (old new : Held B C) (means : State → Given → Option model.Effect) (done : Effect) : Type 0 where
+-- the store wasn't called
+pub record Does {B C : Type 0} (v : ValidatorGhosts C) (bounds : Bounds) (old new : Held B C) (means : State → Given → Option model.Effect) (done : Effect) : Type 0 where
   pub effect : (s : State) → Stands s.store old s → Leaves s.store done new (means s (given_of done))
-  pub asks : (s : State) → Stands s.store old s → Asks verdict asked old.kit new.kit done.verdicts (means s (given_of done))
+  pub judged : (s : State) → Stands s.store old s → IsJudged v old.kit new.kit done.verdicts (means s (given_of done))
   pub store : new.store ≡ old.store
   pub note : done.note ≡ untouched
   pub two : length done.verdicts ≡ 2
-  pub within : IsWithin most room owes done
+  pub within : IsWithin bounds.most bounds.room bounds.owes done
 
--- the request did this to the table in this row, and an image that went active by it was copied
-pub record DoesAndCopies {B C : Type 0} (tells : Type 0) (now : B → List ℕ) (tells_moments : Type 0) (clock : B → ℕ) (left_since : B → ℕ → List ℕ → Type 0) (faults stops : B → ℕ) (verdict : C → List ℕ → ℤ) (asked : C → ℕ) (most room : ℕ) (owes : Bool) (old new : Held B C) (row : ℕ) (means : State → Given → Option model.Effect) (done : Effect) : Type 0 where
-  pub before : Effect
-  pub does : Does verdict asked most room owes old (record new { store = old.store }) means before
-  pub copied : tells → (e : model.Effect) → IsEffect before e.asked e.next e → e.next.tables ≡ new.tables → HasBlocks tells now old.store e.next.store → CallsBehind tells now tells_moments clock left_since old.store new.store e.next e.asked done (λ n. then_copy row n e)
-  pub call : IsCopyCall faults stops old.store new.store before done
+-- what the owner of the table in a row asks for it
+abbrev pub owned_in : ℕ → Request → State → Given → Option model.Effect
+owned_in row request s given = owned_at (table_at s.tables row) s row request given
 
--- ---- any request, before the boot behind a stop of it
+-- the request was done to the table in this row, and an image that went active by it was copied
+pub record DoesAndCopies {B C : Type 0} (g : Ghosts B) (v : ValidatorGhosts C) (old new : Held B C) (row : ℕ) (request : Request) (done : Effect) : Type 0 where
+  pub before : Effect  -- the copy
+  pub does : Does v (deeds_alone (owned_deeds request)) old (record new { store = old.store }) (owned_in row request) before
+  pub copied : g.tells → (e : model.Effect) → IsEffect before e.asked e.next e → e.next.tables ≡ new.tables → HasBlocks g.tells g.now old.store e.next.store
+      → CallsAfter g old.store new.store (done_first e) done (λ n. then_copy row n e)
+  pub call : IsCopyCall g old.store new.store before done
+
+-- ---- any request, before the boot after a stop of it
 
 -- its calls are under way; or it is a power-on, which empties the store
 abbrev pub EndsIn : Request → List StoreCall → Blocks → Blocks → Type 0
 EndsIn request calls store left = DuringCalls (writes calls) store left ⊎ ((request ≡ ask.Reset PowerOn) × ShowsBlocks empty_store left)
 
--- in this state it has this effect, where the service has this note behind it
-pub record HasEffect {B C : Type 0} (tells : Type 0) (now : B → List ℕ) (tells_moments : Type 0) (clock : B → ℕ) (left_since : B → ℕ → List ℕ → Type 0) (verdict : C → List ℕ → ℤ) (asked : C → ℕ) (old new : Held B C) (request : Request) (s : State) (done : Effect) (note : BankNote) (e : model.Effect) : Type 0 where
+-- in this state it has this effect, where the service has this note after it
+pub record HasEffect {B C : Type 0} (g : Ghosts B) (v : ValidatorGhosts C) (step : Step B C) (s : State) (done : Effect) (note : BankNote) (e : model.Effect) : Type 0 where
   pub before : State  -- the boot
-  pub holds : HoldsAll tells now new before
-  pub effect : IsEffect done e.asked (boots_behind note.outcome note before) (uncalled e)
-  pub judged : Judged verdict asked old.kit new.kit e.asked done.verdicts
-  pub gave : RestoresHeld (now old.store.bank) e.calls s.store note
+  pub holds : HoldsAll g step.new before
+  pub effect : IsEffect done e.asked (boots_after note.outcome note before) (uncalled e)
+  pub judged : Judged v step.old.kit step.new.kit e.asked done.verdicts
+  pub gave : RestoresHeld (g.now step.old.store.bank) e.calls s.store note
   pub left : note.outcome ≡ Stopped → before.store ≡ left_by e.calls note s.store
   pub writing : note.outcome ≡ Stopped → writes e.calls ≡ e.calls
-  pub moments : Leaving tells_moments clock left_since old.store new.store (EndsIn request e.calls s.store)
-  pub noted : (note.outcome ≡ Stopped → Boots (Some Processor) before.store note) → IsNoteOf request e.calls s.store note
+  pub moments : Leaving g step.old.store step.new.store (EndsIn step.request e.calls s.store)
+  pub noted : (note.outcome ≡ Stopped → Boots (Some Processor) before.store note) → IsNoteOf step.request e.calls s.store note
 
-abbrev pub Has : {B C : Type 0} → Type 0 → (B → List ℕ) → Type 0 → (B → ℕ) → (B → ℕ → List ℕ → Type 0) → (C → List ℕ → ℤ) → (C → ℕ) → Held B C → Held B C → Request → State → Effect → BankNote → Option model.Effect → Type 0
-Has tells now tells_moments clock left_since verdict asked old new request s done note None = ⊥
-Has tells now tells_moments clock left_since verdict asked old new request s done note (Some e) = HasEffect tells now tells_moments clock left_since verdict asked old new request s done note e
+abbrev pub Has : {B C : Type 0} → Ghosts B → ValidatorGhosts C → Step B C → State → Effect → BankNote → Option model.Effect → Type 0
+Has g v step s done note None = ⊥
+Has g v step s done note (Some e) = HasEffect g v step s done note e
 
 -- the request was made. This holds over a bank that doesn't tell its bytes too
-pub record Makes {B C : Type 0} (asked : C → ℕ) (verdict : C → List ℕ → ℤ) (faults stops : B → ℕ) (most room : ℕ) (owes : Bool) (old new : Held B C) (done : Effect) : Type 0 where
+pub record Makes {B C : Type 0} (g : Ghosts B) (v : ValidatorGhosts C) (bounds : Bounds) (old new : Held B C) (done : Effect) : Type 0 where
   pub fit : (n : ℕ) → AreFit n (state_of old) → AreFit (suc n) (state_of new)
-  pub judged : (questions : List Question) × Judged verdict asked old.kit new.kit questions done.verdicts
+  pub judged : (questions : List Question) × Judged v old.kit new.kit questions done.verdicts
   pub two : length done.verdicts ≡ 2
-  pub within : IsWithin most room owes done
+  pub within : IsWithin bounds.most bounds.room bounds.owes done
   pub booted : new.store.booted ≡ not new.ended
   pub ended : new.ended ≡ done.note.ended
   pub stopped : done.note.outcome ≡ Stopped → (done.answer.status ≡ INFO_STOPPED) × NoBoot done.note
-  pub trouble : Troubled faults stops old.store.bank new.store.bank done.note
+  pub trouble : Troubled g old.store.bank new.store.bank done.note
   pub cause : HasCause done.answer.status done.note
 
 -- and this where it tells them: with any note that a boot may have told more, this was its effect
-abbrev pub Meets : {B C : Type 0} → Type 0 → (B → List ℕ) → Type 0 → (B → ℕ) → (B → ℕ → List ℕ → Type 0) → (C → List ℕ → ℤ) → (C → ℕ) → Held B C → Held B C → Request → (State → Given → Option model.Effect) → Effect → Type 0
-Meets tells now tells_moments clock left_since verdict asked old new request means done = tells → (s : State) → HoldsAll tells now old s → (note : BankNote) → Follows done.note note
-    → Has tells now tells_moments clock left_since verdict asked old new request s done note (means s (record { note = note; verdicts = done.verdicts }))
+abbrev pub Meets : {B C : Type 0} → Ghosts B → ValidatorGhosts C → Step B C → (State → Given → Option model.Effect) → Effect → Type 0
+Meets g v step means done = g.tells → (s : State) → HoldsAll g step.old s → (note : BankNote) → Follows done.note note
+    → Has g v step s done note (means s (record { note = note; verdicts = done.verdicts }))
 
 -- ---- the boot
 
--- behind a call that was stopped no tables are left, and the service has ended where the boot failed
+-- after a call that was stopped no tables are left, and the service has ended where the boot failed
 abbrev pub after_stop : {B C : Type 0} → Outcome → BankNote → StoreParts B → Held B C → Held B C
 after_stop Stopped note store held = record held { tables = no_tables; pending = []; store = store; ended = note.ended }
 after_stop Untouched note store held = held
 after_stop Done note store held = held
 after_stop Failed note store held = held
 
--- the request was made, and the service booted behind it where it was stopped
-pub record IsMade {B C : Type 0} (tells : Type 0) (now : B → List ℕ) (tells_moments : Type 0) (clock : B → ℕ) (left_since : B → ℕ → List ℕ → Type 0) (faults stops : B → ℕ) (verdict : C → List ℕ → ℤ) (asked : C → ℕ) (old new : Held B C) (request : Request) (means : State → Given → Option model.Effect) (done : Effect) : Type 0 where
-  pub effect : tells → (s : State) → HoldsAll tells now old s → (e : model.Effect) × (means s (given_of done) ≡ Some e) × IsEffect done e.asked e.next (uncalled e) × HoldsAll tells now new e.next
-      × Judged verdict asked old.kit new.kit e.asked done.verdicts × IsNoteOf request e.calls s.store done.note × RestoresHeld (now old.store.bank) e.calls s.store done.note
-      × Leaving tells_moments clock left_since old.store new.store (EndsIn request e.calls s.store)
-  pub fit : (n : ℕ) → AreFit n (state_of old) → AreFit (suc n) (state_of new)
-  pub judged : (questions : List Question) × Judged verdict asked old.kit new.kit questions done.verdicts
+-- in this state its effect was this, which the parts stand for
+pub record HadEffect {B C : Type 0} (g : Ghosts B) (v : ValidatorGhosts C) (step : Step B C) (s : State) (done : Effect) (e : model.Effect) : Type 0 where
+  pub told : IsEffect done e.asked e.next (uncalled e)
+  pub holds : HoldsAll g step.new e.next
+  pub judged : Judged v step.old.kit step.new.kit e.asked done.verdicts
+  pub noted : IsNoteOf step.request e.calls s.store done.note
+  pub gave : RestoresHeld (g.now step.old.store.bank) e.calls s.store done.note
+  pub moments : Leaving g step.old.store step.new.store (EndsIn step.request e.calls s.store)
+
+-- the request was made, and the service booted after it where it was stopped
+pub record IsMade {B C : Type 0} (g : Ghosts B) (v : ValidatorGhosts C) (step : Step B C) (means : State → Given → Option model.Effect) (done : Effect) : Type 0 where
+  pub effect : g.tells → (s : State) → HoldsAll g step.old s → (e : model.Effect) × (means s (given_of done) ≡ Some e) × HadEffect g v step s done e
+  pub fit : (n : ℕ) → AreFit n (state_of step.old) → AreFit (suc n) (state_of step.new)
+  pub judged : (questions : List Question) × Judged v step.old.kit step.new.kit questions done.verdicts
   pub two : length done.verdicts ≡ 2
-  pub booted : new.store.booted ≡ not new.ended
-  pub ended : new.ended ≡ done.note.ended
-  pub trouble : Troubled faults stops old.store.bank new.store.bank done.note
+  pub booted : step.new.store.booted ≡ not step.new.ended
+  pub ended : step.new.ended ≡ done.note.ended
+  pub trouble : Troubled g step.old.store.bank step.new.store.bank done.note
   pub cause : HasCause done.answer.status done.note
 
 -- ---- one entry
@@ -263,34 +307,34 @@ pub record Finishes (old new : Logged) (clock : Clock) (tables : Tables) (actor 
   pub entries : new.entries ≡ old.entries ++ entry_of actor request reply (given_of done) ∷ []
 
 -- one request was played: one entry more, answered rightly whatever run the core stood for
-pub record Plays {B C : Type 0} (tells : Type 0) (now : B → List ℕ) (tells_moments : Type 0) (clock : B → ℕ) (left_since : B → ℕ → List ℕ → Type 0) (faults stops : B → ℕ) (verdict : C → List ℕ → ℤ) (asked : C → ℕ) (old new : CoreView B C) (actor : Actor) (request : Request) (result : Result Unit StepFault) : Type 0 where
+pub record Plays {B C : Type 0} (g : Ghosts B) (v : ValidatorGhosts C) (old new : CoreView B C) (actor : Actor) (request : Request) (result : Result Unit StepFault) : Type 0 where
   pub entry : Entry
   pub actor_is : entry.actor ≡ actor
   pub request_is : entry.request ≡ request
   pub added : new.entries ≡ old.entries ++ entry ∷ []
-  pub answered : tells → (r : Run) → Shows tells now old r → IsAnswered r entry
-  pub shows : tells → (r : Run) → Shows tells now old r → Shows tells now new (onward r entry)
+  pub answered : g.tells → (r : Run) → Shows g old r → IsAnswered r entry
+  pub shows : g.tells → (r : Run) → Shows g old r → Shows g new (onward r entry)
   pub ended : new.state.ended ≡ entry.note.ended
   pub ends : result ≡ session_end entry.note
-  pub ready : IsReady asked new
-  pub judged : tells → (r : Run) → Shows tells now old r → Judged verdict asked old.state.kit new.state.kit (questions_in r entry) entry.verdicts
-  pub kit : (questions : List Question) × Judged verdict asked old.state.kit new.state.kit questions entry.verdicts
-  pub gave : tells → (r : Run) → Shows tells now old r → RestoresHeld (now old.state.store.bank) (all_calls_in r entry) r.state.store entry.note
-  pub trouble : Troubled faults stops old.state.store.bank new.state.store.bank entry.note
+  pub ready : IsReady v new
+  pub judged : g.tells → (r : Run) → Shows g old r → Judged v old.state.kit new.state.kit (questions_in r entry) entry.verdicts
+  pub kit : (questions : List Question) × Judged v old.state.kit new.state.kit questions entry.verdicts
+  pub gave : g.tells → (r : Run) → Shows g old r → RestoresHeld (g.now old.state.store.bank) (all_calls_in r entry) r.state.store entry.note
+  pub trouble : Troubled g old.state.store.bank new.state.store.bank entry.note
   pub cause : HasCause entry.reply.status entry.note
-  pub moments : tells → (r : Run) → Shows tells now old r → Leaving tells_moments clock left_since old.state.store new.state.store (UnderWay r entry)
+  pub moments : g.tells → (r : Run) → Shows g old r → Leaving g old.state.store new.state.store (UnderWay r entry)
 
 -- ---- the core
 
--- one entry more, which has its causes: the counts of the bank rose by what its note tells, and so where its answer tells trouble
-pub record AddsOne {B C : Type 0} (faults stops : B → ℕ) (old new : CoreView B C) (actor : Actor) (request : Request) (result : Result Unit StepFault) : Type 0 where
+-- one entry more, which has its causes: the counts of the bank moved as its note tells, and so where its answer tells of trouble
+pub record AddsOne {B C : Type 0} (g : Ghosts B) (old new : CoreView B C) (actor : Actor) (request : Request) (result : Result Unit StepFault) : Type 0 where
   pub entry : Entry
   pub actor_is : entry.actor ≡ actor
   pub request_is : entry.request ≡ request
   pub added : new.entries ≡ old.entries ++ entry ∷ []
   pub ended : new.state.ended ≡ entry.note.ended
   pub ends : result ≡ session_end entry.note
-  pub trouble : Troubled faults stops old.state.store.bank new.state.store.bank entry.note
+  pub trouble : Troubled g old.state.store.bank new.state.store.bank entry.note
   pub cause : HasCause entry.reply.status entry.note
 
 -- why a start isn't done
@@ -299,7 +343,7 @@ start_fault (Fault gate old) = BootFault
 start_fault (Cut gate old) = BootStopped
 
 -- a start that isn't done moved the count that it tells
-abbrev pub StartCounted : {B : Type 0} → (B → ℕ) → (B → ℕ) → B → B → StartFault → Type 0
-StartCounted faults stops old new Memory = Still faults stops old new
-StartCounted faults stops old new BootFault = RoseAlone faults stops old new
-StartCounted faults stops old new BootStopped = RoseAlone stops faults old new
+abbrev pub StartCounted : {B : Type 0} → Ghosts B → B → B → StartFault → Type 0
+StartCounted g old new Memory = Still g.faults g.stops old new
+StartCounted g old new BootFault = RoseAlone g.faults g.stops old new
+StartCounted g old new BootStopped = RoseAlone g.stops g.faults old new

@@ -14,8 +14,8 @@ ghost use Rattle.cds_store.specs.Standing.{StandsFor as HasBlocks};
 ghost use Rattle.tbl_kinds.specs.StoreSteps.{Shows as ShowsBlocks};
 ghost use Rattle.tbl_outside.specs.Bank.{LeavesOnly};
 ghost use Rattle.tbl_core.specs.Ended.{Follows, boot_only, session_end};
-ghost use Rattle.store_requests.specs.Called.{NoBoot, Leaving, boots_behind, with_boot, Troubled};
-ghost use Rattle.tbl_core.specs.Service.{HoldsAll, Makes, Meets, held_of, after_stop};
+ghost use Rattle.store_requests.specs.Called.{NoBoot, Leaving, boots_after, with_boot, Troubled};
+ghost use Rattle.tbl_core.specs.Service.{HoldsAll, Makes, Meets, deeds_alone, held_of, step_of, after_stop};
 
 use crate::parts::Parts;
 use crate::service::StepFault;
@@ -35,7 +35,7 @@ fn boot_store<B: Bank>(store: &mut Store<B>, kind: ResetKind, note: &mut BankNot
     ensures blocks { B.tells → (blocks : Blocks) → HasBlocks B.tells B.now store.old blocks → note.exit.now.ended ≡ false
         → HasBlocks B.tells B.now store.new (blocks_after kind note.exit.now blocks) }
     ensures found { B.tells → (blocks : Blocks) → HasBlocks B.tells B.now store.old blocks → Boots (Some kind) blocks note.exit.now }
-    ensures trouble { Troubled B.faults B.stops store.old.bank store.new.bank (with_boot note.exit.now.ended note.exit.now.stopped [] untouched) }
+    ensures trouble { Troubled B.Bank store.old.bank store.new.bank (with_boot note.exit.now.ended note.exit.now.stopped [] untouched) }
     ensures moments { B.tells_moments → (blocks : Blocks) → HasBlocks B.tells B.now store.old blocks
         → LeavesOnly B.clock B.left_since store.old.bank store.new.bank (BootLeaves kind blocks) }
 {
@@ -83,7 +83,7 @@ impl<B: Bank, C: Validator> Parts<B, C> {
         ensures blocks { B.tells → (blocks : Blocks) → HasBlocks B.tells B.now self.old.store blocks → note.exit.now.ended ≡ false
             → HasBlocks B.tells B.now self.new.store (blocks_after kind note.exit.now blocks) }
         ensures found { B.tells → (blocks : Blocks) → HasBlocks B.tells B.now self.old.store blocks → Boots (Some kind) blocks note.exit.now }
-        ensures trouble { Troubled B.faults B.stops self.old.store.bank self.new.store.bank (with_boot note.exit.now.ended note.exit.now.stopped [] untouched) }
+        ensures trouble { Troubled B.Bank self.old.store.bank self.new.store.bank (with_boot note.exit.now.ended note.exit.now.stopped [] untouched) }
         ensures moments { B.tells_moments → (blocks : Blocks) → HasBlocks B.tells B.now self.old.store blocks
             → LeavesOnly B.clock B.left_since self.old.store.bank self.new.store.bank (BootLeaves kind blocks) }
         ensures log { self.new.log ≡ self.old.log }
@@ -112,8 +112,8 @@ impl<B: Bank, C: Validator> Parts<B, C> {
     pub(crate) fn reset(&mut self, kind: ResetKind, empty: Bytes) -> Result<Effect, Memory>
         requires empty { empty.list ≡ [] }
         requires live { self.old.ended ≡ false }
-        ensures makes { IfOk result (Makes C.asked C.verdict B.faults B.stops 0 0 false (held_of self.old) (held_of self.new)) }
-        ensures meets { IfOk result (Meets B.tells B.now B.tells_moments B.clock B.left_since C.verdict C.asked (held_of self.old) (held_of self.new) (ask.Reset kind) (λ s given. Some (reset_effect s kind given.note))) }
+        ensures makes { IfOk result (Makes B.Bank C.Validator (deeds_alone 0) (held_of self.old) (held_of self.new)) }
+        ensures meets { IfOk result (Meets B.Bank C.Validator (step_of (held_of self.old) (held_of self.new) (ask.Reset kind)) (λ s given. Some (reset_effect s kind given.note))) }
         ensures log { self.new.log ≡ self.old.log }
         ensures err { OnErr result (held_of self.new ≡ held_of self.old) }
     {
@@ -125,7 +125,8 @@ impl<B: Bank, C: Validator> Parts<B, C> {
     }
 
     /// Boots as after a reset of the processor where a call of the store was stopped in the request of this effect. What the
-    /// request did before stays in the effect, and is told by no packet; the note tells how the boot went.
+    /// request did before stays in the effect, and is told by no packet, as the processor was reset; the note tells how the boot
+    /// went.
     pub(crate) fn boot_if_stopped(&mut self, effect: &mut Effect)
         requires fresh { effect.old.note.outcome ≡ Stopped → NoBoot effect.old.note }
         requires live { effect.old.note.outcome ≡ Stopped → self.old.ended ≡ false }
@@ -133,13 +134,13 @@ impl<B: Bank, C: Validator> Parts<B, C> {
         ensures note { Follows effect.old.note effect.new.note }
         ensures held { held_of self.new ≡ after_stop effect.old.note.outcome effect.new.note self.new.store (held_of self.old) }
         ensures booted { effect.old.note.outcome ≡ Stopped → self.new.store.booted ≡ not effect.new.note.ended }
-        ensures boots { B.tells → (s : State) → HoldsAll B.tells B.now (held_of self.old) s
-            → HoldsAll B.tells B.now (held_of self.new) (boots_behind effect.old.note.outcome effect.new.note s) }
-        ensures found { B.tells → (s : State) → HoldsAll B.tells B.now (held_of self.old) s → effect.old.note.outcome ≡ Stopped
+        ensures boots { B.tells → (s : State) → HoldsAll B.Bank (held_of self.old) s
+            → HoldsAll B.Bank (held_of self.new) (boots_after effect.old.note.outcome effect.new.note s) }
+        ensures found { B.tells → (s : State) → HoldsAll B.Bank (held_of self.old) s → effect.old.note.outcome ≡ Stopped
             → Boots (Some Processor) s.store effect.new.note }
-        ensures trouble { Troubled B.faults B.stops self.old.store.bank self.new.store.bank (boot_only effect.old.note.outcome effect.new.note) }
-        ensures moments { B.tells → (s : State) → HoldsAll B.tells B.now (held_of self.old) s → effect.old.note.outcome ≡ Stopped
-            → Leaving B.tells_moments B.clock B.left_since self.old.store self.new.store (ShowsBlocks s.store) }
+        ensures trouble { Troubled B.Bank self.old.store.bank self.new.store.bank (boot_only effect.old.note.outcome effect.new.note) }
+        ensures moments { B.tells → (s : State) → HoldsAll B.Bank (held_of self.old) s → effect.old.note.outcome ≡ Stopped
+            → Leaving B.Bank self.old.store self.new.store (ShowsBlocks s.store) }
         ensures log { self.new.log ≡ self.old.log }
     {
         if effect.note.outcome() != Outcome::Stopped {

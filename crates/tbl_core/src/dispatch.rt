@@ -2,14 +2,13 @@
 
 ghost use Rattle.std.specs.Prelude.{◌≡◌, [], length, true, false, None, Some, IsSome, vec_capacity, IfOk, OnErr};
 ghost use Rattle.tbl_kinds.specs.Requests.{Fits};
-ghost use Rattle.tbl_laws.specs.Fit.{AreFit};
+ghost use Rattle.tbl_model.specs.Fit.{AreFit};
 ghost use Rattle.tbl_model.specs.Tables.{table_at};
 ghost use Rattle.tbl_model.specs.Commands.{asked_in};
 ghost use Rattle.tbl_kinds.specs.declared.request.Actor.TheVariants as by;
 ghost use Rattle.tbl_model.specs.Dispatch.{ground_effect, app_effect, effect_of};
-ghost use Rattle.request_effects.specs.Asked.{asked_of, asks_notice, asks_store, activates, shown_room, owners_handle, owned_deeds, most_deeds};
-ghost use Rattle.tbl_core.specs.Owned.{owned_at};
-ghost use Rattle.tbl_core.specs.Service.{MayPlay, Does, DoesAndCopies, Makes, Meets, held_of, state_of};
+ghost use Rattle.request_effects.specs.Asked.{asked_of, asks_store, activates, owners_handle, owned_deeds, most_deeds};
+ghost use Rattle.tbl_core.specs.Service.{MayPlay, Does, DoesAndCopies, Makes, Meets, bounds_of, deeds_alone, held_of, owned_in, state_of, step_of};
 
 use crate::parts::Parts;
 use cmd_packets::Ground;
@@ -38,11 +37,11 @@ impl<B: Bank, C: Validator> Parts<B, C> {
         requires fits { Fits by.Ground request.now }
         requires asked { asked_of asked.now ≡ asked_in request.now }
         requires no_call { asks_store request.now (asked_of asked.now) ≡ false }
-        requires ready { MayPlay C.asked (held_of self.old) }
+        requires ready { MayPlay C.Validator (held_of self.old) }
         requires no_deeds { deeds.items ≡ [] }
         requires room { vec_capacity deeds ≡ most_deeds request.now (asked_of asked.now) }
         requires empty { empty.list ≡ [] }
-        ensures does { IfOk result (Does C.verdict C.asked (most_deeds request.now (asked_of asked.now)) (shown_room (asked_of asked.now)) (asks_notice (asked_of asked.now)) (held_of self.old) (held_of self.new) (λ s given. ground_effect s request.now given)) }
+        ensures does { IfOk result (Does C.Validator (bounds_of request.now (asked_of asked.now)) (held_of self.old) (held_of self.new) (λ s given. ground_effect s request.now given)) }
         ensures log { self.new.log ≡ self.old.log }
         ensures err { OnErr result (held_of self.new ≡ held_of self.old) }
     {
@@ -85,11 +84,11 @@ impl<B: Bank, C: Validator> Parts<B, C> {
     ) -> Result<Effect, Memory>
         requires owners { IsSome (owners_handle request.now) }
         requires table { IsSome (table_at self.old.tables row) }
-        requires ready { MayPlay C.asked (held_of self.old) }
+        requires ready { MayPlay C.Validator (held_of self.old) }
         requires no_deeds { deeds.items ≡ [] }
         requires room { vec_capacity deeds ≡ most_deeds request.now None }
         requires empty { empty.list ≡ [] }
-        ensures does { IfOk result (Does C.verdict C.asked (owned_deeds request.now) 0 false (held_of self.old) (held_of self.new) (λ s given. owned_at (table_at s.tables row) s row request.now given)) }
+        ensures does { IfOk result (Does C.Validator (deeds_alone (owned_deeds request.now)) (held_of self.old) (held_of self.new) (owned_in row request.now)) }
         ensures log { self.new.log ≡ self.old.log }
         ensures err { OnErr result (held_of self.new ≡ held_of self.old) }
     {
@@ -127,7 +126,8 @@ impl<B: Bank, C: Validator> Parts<B, C> {
     }
 
     /// Does what the owner of the table of a row asks for it, by which an image can go active. Where one did and the table is
-    /// critical, the image is copied into its block.
+    /// critical, the image is copied into its block. The memory for the copy is taken first, as nothing can be taken back then; the
+    /// copy comes last, so that no image is kept that didn't go active.
     fn owned_and_copied(
         &mut self,
         row: u8,
@@ -137,11 +137,11 @@ impl<B: Bank, C: Validator> Parts<B, C> {
     ) -> Result<Effect, Memory>
         requires activates { activates request.now ≡ true }
         requires table { IsSome (table_at self.old.tables row) }
-        requires ready { MayPlay C.asked (held_of self.old) }
+        requires ready { MayPlay C.Validator (held_of self.old) }
         requires no_deeds { deeds.items ≡ [] }
         requires room { vec_capacity deeds ≡ most_deeds request.now None }
         requires empty { empty.list ≡ [] }
-        ensures does { IfOk result (DoesAndCopies B.tells B.now B.tells_moments B.clock B.left_since B.faults B.stops C.verdict C.asked (owned_deeds request.now) 0 false (held_of self.old) (held_of self.new) row (λ s given. owned_at (table_at s.tables row) s row request.now given)) }
+        ensures does { IfOk result (DoesAndCopies B.Bank C.Validator (held_of self.old) (held_of self.new) row request.now) }
         ensures log { self.new.log ≡ self.old.log }
         ensures err { OnErr result (held_of self.new ≡ held_of self.old) }
     {
@@ -150,7 +150,8 @@ impl<B: Bank, C: Validator> Parts<B, C> {
         Ok(then_copy(&self.tables, &mut self.store, row, room, effect))
     }
 
-    /// Does what an application asks for the table of a handle, whose owner alone may.
+    /// Does what an application asks for the table of a handle, whose owner alone may. The handle is tested here, once for all
+    /// these calls.
     fn owner(
         &mut self,
         app: u8,
@@ -160,14 +161,14 @@ impl<B: Bank, C: Validator> Parts<B, C> {
         empty: Bytes,
     ) -> Result<Effect, Memory>
         requires owners { owners_handle request.now ≡ Some handle }
-        requires ready { MayPlay C.asked (held_of self.old) }
+        requires ready { MayPlay C.Validator (held_of self.old) }
         requires fit { AreFit (length self.old.log.entries) (state_of (held_of self.old)) }
         requires live { self.old.ended ≡ false }
         requires no_deeds { deeds.items ≡ [] }
         requires room { vec_capacity deeds ≡ most_deeds request.now None }
         requires empty { empty.list ≡ [] }
-        ensures makes { IfOk result (Makes C.asked C.verdict B.faults B.stops (most_deeds request.now None) 0 false (held_of self.old) (held_of self.new)) }
-        ensures meets { IfOk result (Meets B.tells B.now B.tells_moments B.clock B.left_since C.verdict C.asked (held_of self.old) (held_of self.new) request.now (λ s given. app_effect s app request.now given)) }
+        ensures makes { IfOk result (Makes B.Bank C.Validator (deeds_alone (most_deeds request.now None)) (held_of self.old) (held_of self.new)) }
+        ensures meets { IfOk result (Meets B.Bank C.Validator (step_of (held_of self.old) (held_of self.new) request.now) (λ s given. app_effect s app request.now given)) }
         ensures log { self.new.log ≡ self.old.log }
         ensures err { OnErr result (held_of self.new ≡ held_of self.old) }
     {
@@ -184,9 +185,9 @@ impl<B: Bank, C: Validator> Parts<B, C> {
         requires users { owners_handle request.now ≡ None }
         requires no_call { asks_store request.now None ≡ false }
         requires fits { Fits (by.App app) request.now }
-        requires ready { MayPlay C.asked (held_of self.old) }
+        requires ready { MayPlay C.Validator (held_of self.old) }
         requires empty { empty.list ≡ [] }
-        ensures does { IfOk result (Does C.verdict C.asked 0 0 false (held_of self.old) (held_of self.new) (λ s given. app_effect s app request.now given)) }
+        ensures does { IfOk result (Does C.Validator (deeds_alone 0) (held_of self.old) (held_of self.new) (λ s given. app_effect s app request.now given)) }
         ensures log { self.new.log ≡ self.old.log }
         ensures err { OnErr result (held_of self.new ≡ held_of self.old) }
     {
@@ -235,8 +236,8 @@ impl<B: Bank, C: Validator> Parts<B, C> {
         requires booted { self.old.store.booted ≡ true }
         requires live { self.old.ended ≡ false }
         requires empty { empty.list ≡ [] }
-        ensures makes { IfOk result (Makes C.asked C.verdict B.faults B.stops 0 0 false (held_of self.old) (held_of self.new)) }
-        ensures meets { IfOk result (Meets B.tells B.now B.tells_moments B.clock B.left_since C.verdict C.asked (held_of self.old) (held_of self.new) request.now (λ s given. app_effect s app request.now given)) }
+        ensures makes { IfOk result (Makes B.Bank C.Validator (deeds_alone 0) (held_of self.old) (held_of self.new)) }
+        ensures meets { IfOk result (Meets B.Bank C.Validator (step_of (held_of self.old) (held_of self.new) request.now) (λ s given. app_effect s app request.now given)) }
         ensures log { self.new.log ≡ self.old.log }
         ensures err { OnErr result (held_of self.new ≡ held_of self.old) }
     {
@@ -288,8 +289,8 @@ impl<B: Bank, C: Validator> Parts<B, C> {
         requires booted { self.old.store.booted ≡ true }
         requires live { self.old.ended ≡ false }
         requires empty { empty.list ≡ [] }
-        ensures makes { IfOk result (Makes C.asked C.verdict B.faults B.stops 0 0 false (held_of self.old) (held_of self.new)) }
-        ensures meets { IfOk result (Meets B.tells B.now B.tells_moments B.clock B.left_since C.verdict C.asked (held_of self.old) (held_of self.new) request.now (λ s given. effect_of s actor request.now given)) }
+        ensures makes { IfOk result (Makes B.Bank C.Validator (deeds_alone 0) (held_of self.old) (held_of self.new)) }
+        ensures meets { IfOk result (Meets B.Bank C.Validator (step_of (held_of self.old) (held_of self.new) request.now) (λ s given. effect_of s actor request.now given)) }
         ensures log { self.new.log ≡ self.old.log }
         ensures err { OnErr result (held_of self.new ≡ held_of self.old) }
     {
@@ -317,11 +318,11 @@ impl<B: Bank, C: Validator> Parts<B, C> {
     ) -> Result<Effect, Memory>
         requires fits { Fits actor request.now }
         requires asked { asked_of asked.now ≡ asked_in request.now }
-        requires ready { MayPlay C.asked (held_of self.old) }
+        requires ready { MayPlay C.Validator (held_of self.old) }
         requires fit { AreFit (length self.old.log.entries) (state_of (held_of self.old)) }
         requires live { self.old.ended ≡ false }
-        ensures makes { IfOk result (Makes C.asked C.verdict B.faults B.stops (most_deeds request.now (asked_of asked.now)) (shown_room (asked_of asked.now)) (asks_notice (asked_of asked.now)) (held_of self.old) (held_of self.new)) }
-        ensures meets { IfOk result (Meets B.tells B.now B.tells_moments B.clock B.left_since C.verdict C.asked (held_of self.old) (held_of self.new) request.now (λ s given. effect_of s actor request.now given)) }
+        ensures makes { IfOk result (Makes B.Bank C.Validator (bounds_of request.now (asked_of asked.now)) (held_of self.old) (held_of self.new)) }
+        ensures meets { IfOk result (Meets B.Bank C.Validator (step_of (held_of self.old) (held_of self.new) request.now) (λ s given. effect_of s actor request.now given)) }
         ensures log { self.new.log ≡ self.old.log }
         ensures err { OnErr result (held_of self.new ≡ held_of self.old) }
     {

@@ -13,14 +13,14 @@ ghost use Rattle.request_effects.specs.Effects.{reply_limit};
 ghost use Rattle.tbl_core.specs.Service.{Finishes, held_of};
 
 use crate::parts::Parts;
-use request_effects::{Asked, Clock, Effect, asks_notice, most_deeds, shown_room};
-use tbl_kinds::{Actor, Bytes, Entry, Reply, Request, Status};
-use tbl_model::Shown;
-use tbl_outside::{Bank, Validator};
 use reply_packets::{
     Counters, EVENT_LENGTH, NOTICE_LENGTH, head_at, loaded_file, loaded_name, put_events,
     put_notice, put_shown, tally,
 };
+use request_effects::{Asked, Clock, Effect, asks_notice, most_deeds, shown_room};
+use tbl_kinds::{Actor, Bytes, Entry, Reply, Request, Status};
+use tbl_model::Shown;
+use tbl_outside::{Bank, Validator};
 
 /// How many bytes of packets a request can send.
 pub(crate) fn packets_room(request: &Request, asked: &Asked) -> usize
@@ -77,6 +77,7 @@ impl<B: Bank, C: Validator> Parts<B, C> {
         ensures len { length packets.new.list ≤ reply_limit }
         ensures stays { held_of self.new ≡ held_of self.old }
     {
+        // The processor was reset before it could send anything.
         if effect.answer.status == Status::INFO_STOPPED {
             self.count(clock, request, asked, effect);
             return;

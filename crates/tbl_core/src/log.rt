@@ -6,12 +6,12 @@ ghost use Rattle.tbl_model.specs.Counts.{no_counts};
 ghost use Rattle.tbl_model.specs.CountsAfter.{counts_after};
 ghost use Rattle.tbl_core.specs.Log.{IsSmall};
 
+use reply_packets::{Counters, Tally};
 use request_effects::Clock;
 use std::alloc::Global;
 use std::marker::Model;
 use tbl_kinds::{Entry, Memory, Name40, Name64};
 use tbl_model::Deed;
-use reply_packets::{Counters, Tally};
 
 /// The entries in their order, the running numbers of telemetry, and reserved room for further entries.
 #[derive(Drop)]

@@ -1,6 +1,6 @@
 //! What the service keeps, and how it plays a request.
 
-ghost use Rattle.std.specs.Prelude.{◌≡◌, false, ◌<◌, ◌↔◌, [], length, replicate, None, Err, IsTrue, OnOk, OnErr, IfOk, IfErr, ◌≤◌};
+ghost use Rattle.std.specs.Prelude.{◌≡◌, false, ◌<◌, ◌↔◌, [], length, replicate, None, Err, IsTrue, OnOk, IfOk, IfErr, ◌≤◌};
 ghost use Rattle.tbl_kinds.specs.Places.{bank_size};
 ghost use Rattle.tbl_model.specs.State.{no_tables};
 ghost use Rattle.tbl_kinds.specs.Requests.{Fits};
@@ -8,10 +8,9 @@ ghost use Rattle.tbl_kinds.specs.Records.{record_limit};
 ghost use Rattle.tbl_model.specs.Counts.{no_counts};
 ghost use Rattle.tbl_core.specs.Ended.{OnPlayed};
 ghost use Rattle.tbl_model.specs.Commands.{asked_in};
-ghost use Rattle.tbl_model.specs.Dispatch.{effect_of};
-ghost use Rattle.request_effects.specs.Asked.{asked_of, asks_notice, shown_room, most_deeds};
+ghost use Rattle.request_effects.specs.Asked.{asked_of};
 ghost use Rattle.tbl_core.specs.Finish.{packets_room};
-ghost use Rattle.tbl_core.specs.Service.{Makes, Meets, Plays, IsReady, held_of, view_of};
+ghost use Rattle.tbl_core.specs.Service.{Plays, IsReady, held_of, view_of};
 
 use crate::boots::session_end;
 use crate::finish::packets_room;
@@ -62,7 +61,8 @@ impl Room {
     }
 }
 
-/// Takes the memory for the entry of a request, and for the packets of its reply.
+/// Takes the memory for the entry of a request, and for the packets of its reply. This comes before the request is played, since
+/// what it does, as an image that goes active, can't be taken back.
 fn room_for_entry(
     alloc: Global,
     log: &mut Log,
@@ -136,9 +136,9 @@ impl<B: Bank, C: Validator> Parts<B, C> {
     pub(crate) fn play(&mut self, actor: Actor, request: Request) -> Result<(), StepFault>
         requires fits { Fits actor request }
         requires room { length self.old.log.entries < record_limit }
-        requires ready { IsReady C.asked (view_of self.old) }
+        requires ready { IsReady C.Validator (view_of self.old) }
         requires live { self.old.ended ≡ false }
-        ensures plays { OnPlayed result (Plays B.tells B.now B.tells_moments B.clock B.left_since B.faults B.stops C.verdict C.asked (view_of self.old) (view_of self.new) actor request result) }
+        ensures plays { OnPlayed result (Plays B.Bank C.Validator (view_of self.old) (view_of self.new) actor request result) }
         ensures err { result ≡ Err StepFault.Memory → view_of self.new ≡ view_of self.old }
     {
         let asked = asked_in(&request);

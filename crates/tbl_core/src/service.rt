@@ -4,34 +4,35 @@ ghost use Rattle.std.specs.Prelude.{◌≡◌, ◌≢◌, ℕ, false, ◌+◌, �
 ghost use Rattle.tbl_model.specs.State.{State, first_state, no_tables};
 ghost use Rattle.tbl_model.specs.Vouched.{IsVouched};
 ghost use Rattle.tbl_model.specs.Whole.{IsWhole};
-ghost use Rattle.tbl_laws.specs.Crashes.{AfterCrash, calls_in};
-ghost use Rattle.tbl_laws.specs.Completed.{Holds, LeaveAlone};
+ghost use Rattle.tbl_session.specs.Crashes.{AfterCrash, calls_in, all_calls_in};
+ghost use Rattle.tbl_session.specs.Completed.{Holds, LeaveAlone};
 ghost use Rattle.cds_store.specs.Moments.{ShowsIn};
 ghost use Rattle.tbl_kinds.specs.declared.block.Block.{Block};
 ghost use Rattle.tbl_kinds.specs.declared.request.Request.TheVariants as ask;
 ghost use Rattle.tbl_kinds.specs.declared.request.ResetKind.TheVariants.{PowerOn};
 ghost use Rattle.tbl_outside.specs.Bank.{LeavesOnly};
-ghost use Rattle.tbl_laws.specs.Backed.{AreSingle, AreBacked};
+ghost use Rattle.tbl_session.specs.Backed.{AreSingle, AreBacked};
 ghost use Rattle.tbl_kinds.specs.Requests.{Fits};
 ghost use Rattle.tbl_kinds.specs.Records.{record_limit};
 ghost use Rattle.tbl_kinds.specs.Places.{bank_size};
 ghost use Rattle.cds_layout.specs.Images.{store_of};
 ghost use Rattle.tbl_core.specs.Ended.{OnPlayed};
-ghost use Rattle.store_requests.specs.Called.{RestoresHeld};
+ghost use Rattle.tbl_session.specs.Restores.{RestoresHeld};
 ghost use Rattle.tbl_core.specs.Log.{IsSmall};
 ghost use Rattle.tbl_model.specs.History.{begins_at, run_from};
 ghost use Rattle.validation.specs.Kits.{owners};
 ghost use Rattle.tbl_outside.specs.Counts.{Still};
 ghost use Rattle.tbl_outside.specs.declared.validator.KitEntry.{KitEntry as Function};
 ghost use Rattle.tbl_core.specs.Service.{StandsFor, Vouches, AskedBelow, AddsOne, start_fault, StartCounted};
-ghost use Rattle.tbl_core.specs.Verdicts.{Judged, questions_in, all_calls_in, KeepsToFunctions};
+ghost use Rattle.tbl_core.specs.Verdicts.{Judged};
+ghost use Rattle.tbl_session.specs.Verdicts.{questions_in, KeepsToFunctions};
 ghost use Rattle.tbl_kinds.specs.declared.entry.Entry.{Entry};
 
 use crate::parts::Parts;
 use cds_store::BankFault;
 use std::alloc::Global;
 use std::marker::Model;
-use tbl_kinds::{Actor, Entry, Memory, Request, ResetKind};
+use tbl_kinds::{Actor, Entry, Request, ResetKind};
 use tbl_outside::{Back, Bank, Validator};
 use validation::Kit;
 
@@ -68,12 +69,6 @@ impl From<BankFault> for StartFault {
     }
 }
 
-impl From<Memory> for StepFault {
-    fn from(_: Memory) -> StepFault {
-        StepFault::Memory
-    }
-}
-
 /// The table service: its state, the validation functions of its applications, the bank that it keeps blocks in, and the
 /// history of all that was asked and answered.
 #[derive(Drop)]
@@ -90,18 +85,19 @@ impl<B: Bank, C: Validator> Model for Core<B, C> {
 
     ghost view = { λ c. view_of c.parts };
 
-    ghost invariant = { λ c. IsReady C.asked (view_of c.parts) };
+    ghost invariant = { λ c. IsReady C.Validator (view_of c.parts) };
 }
 
 impl<B: Bank, C: Validator> Core<B, C> {
     /// The service at its start, with an empty history and these validation functions. It boots as after a reset of the
-    /// processor; the bank again where that fails or is stopped, or where memory runs out.
+    /// processor, since the bank may have blocks of an earlier session; the bank again where that fails or is stopped, or where
+    /// memory runs out.
     #[tactic(auto, unfolding(tbl_model::specs::Counts::counts_of))]
     pub fn start(alloc: Global, bank: B, kit: Kit<C>) -> Result<Core<B, C>, Back<StartFault, B>>
         requires room { bank_size ≤ B.size bank }
         requires asked { AskedBelow C.asked (2 ^ 62) kit }
         // The blocks are those that the bank shows.
-        ensures stands { IfOk result (StandsFor B.tells B.now (first_state (store_of (B.now bank)) (owners kit))) }
+        ensures stands { IfOk result (StandsFor B.Bank (first_state (store_of (B.now bank)) (owners kit))) }
         ensures kit { IfOk result (λ core. core.state.kit ≡ kit) }
         ensures empty { IfOk result (λ core. core.entries ≡ []) }
         ensures live { IfOk result (λ core. core.state.ended ≡ false) }
@@ -109,7 +105,7 @@ impl<B: Bank, C: Validator> Core<B, C> {
         // A reset at any moment in it leaves the blocks that the bank showed, also where there is no service then.
         ensures crash { IfOk result (λ core. B.tells_moments → LeavesOnly B.clock B.left_since bank core.state.store.bank (ShowsIn (store_of (B.now bank)))) }
         ensures crash_err { IfErr result (λ back. B.tells_moments → LeavesOnly B.clock B.left_since bank back.bank (ShowsIn (store_of (B.now bank)))) }
-        ensures cause { IfErr result (λ back. StartCounted B.faults B.stops bank back.bank back.cause) }
+        ensures cause { IfErr result (λ back. StartCounted B.Bank bank back.bank back.cause) }
     {
         let mut parts = match Parts::make(alloc, bank, kit) {
             Ok(parts) => parts,
@@ -159,34 +155,37 @@ impl<B: Bank, C: Validator> Core<B, C> {
         requires room { length self.old.entries < record_limit }
         // One entry more, also where a boot in the request was the last; its note and its answer have their causes in the counts
         // of the bank.
-        ensures adds { OnPlayed result (AddsOne B.faults B.stops self.old self.new actor request result) }
-        ensures legal { OnPlayed result ((opening : State) → StandsFor B.tells B.now opening self.old → StandsFor B.tells B.now opening self.new) }
-        ensures whole { OnPlayed result (B.tells → (opening : State) → opening.tables ≡ no_tables → opening.pending ≡ [] → StandsFor B.tells B.now opening self.old → IsWhole opening self.new.entries) }
+        ensures adds { OnPlayed result (AddsOne B.Bank self.old self.new actor request result) }
+        ensures legal { OnPlayed result ((opening : State) → StandsFor B.Bank opening self.old → StandsFor B.Bank opening self.new) }
+        ensures whole { OnPlayed result (B.tells → (opening : State) → opening.tables ≡ no_tables → opening.pending ≡ [] → StandsFor B.Bank opening self.old → IsWhole opening self.new.entries) }
         // Each critical table has its block in the store, and at most 32 are critical.
-        ensures backed { OnPlayed result (B.tells → (opening : State) → opening.tables ≡ no_tables → AreSingle opening.store → StandsFor B.tells B.now opening self.old → AreBacked (run_from (begins_at opening) self.new.entries).state) }
+        ensures backed { OnPlayed result (B.tells → (opening : State) → opening.tables ≡ no_tables → AreSingle opening.store → StandsFor B.Bank opening self.old
+            → AreBacked (run_from (begins_at opening) self.new.entries).state) }
         // The functions were asked what the request asks, and the entry has their verdicts.
-        ensures judged { OnPlayed result ((e : Entry) × (self.new.entries ≡ self.old.entries ++ e ∷ []) × (B.tells → (opening : State) → StandsFor B.tells B.now opening self.old
-            → Judged C.verdict C.asked self.old.state.kit self.new.state.kit (questions_in (run_from (begins_at opening) self.old.entries) e) e.verdicts)) }
+        ensures judged { OnPlayed result ((e : Entry) × (self.new.entries ≡ self.old.entries ++ e ∷ []) × (B.tells → (opening : State) → StandsFor B.Bank opening self.old
+            → Judged C.Validator self.old.state.kit self.new.state.kit (questions_in (run_from (begins_at opening) self.old.entries) e) e.verdicts)) }
         // No image went active that its table's function didn't answer for.
-        ensures vouched { OnPlayed result (B.tells → (opening : State) → opening.tables ≡ no_tables → opening.pending ≡ [] → StandsFor B.tells B.now opening self.old → IsVouched opening self.new.entries) }
+        ensures vouched { OnPlayed result (B.tells → (opening : State) → opening.tables ≡ no_tables → opening.pending ≡ [] → StandsFor B.Bank opening self.old → IsVouched opening self.new.entries) }
         // Whatever functions it was given at first, the history's verdicts are still theirs.
-        ensures verdicts { OnPlayed result ((opening : State) (given : List (Option (Function C))) → Vouches B.tells B.now C.verdict given opening self.old → Vouches B.tells B.now C.verdict given opening self.new) }
+        ensures verdicts { OnPlayed result ((opening : State) (given : List (Option (Function C))) → Vouches B.Bank C.verdict given opening self.old
+            → Vouches B.Bank C.verdict given opening self.new) }
         // And so each verdict that is told of an image.
-        ensures kept { OnPlayed result (B.tells → (opening : State) (given : List (Option (Function C))) → Vouches B.tells B.now C.verdict given opening self.old → KeepsToFunctions C.verdict given opening self.new.entries) }
+        ensures kept { OnPlayed result (B.tells → (opening : State) (given : List (Option (Function C))) → Vouches B.Bank C.verdict given opening self.old
+            → KeepsToFunctions C.verdict given opening self.new.entries) }
         // What a restore gave is what its block held in the bank as the step began.
-        ensures gave { OnPlayed result ((e : Entry) × (self.new.entries ≡ self.old.entries ++ e ∷ []) × (B.tells → (opening : State) → StandsFor B.tells B.now opening self.old
+        ensures gave { OnPlayed result ((e : Entry) × (self.new.entries ≡ self.old.entries ++ e ∷ []) × (B.tells → (opening : State) → StandsFor B.Bank opening self.old
             → RestoresHeld (B.now self.old.state.store.bank) (all_calls_in (run_from (begins_at opening) self.old.entries) e) (run_from (begins_at opening) self.old.entries).state.store e.note)) }
-        // A reset at any moment in it leaves the store as it was behind the entries before, or what this request made of it so far.
-        ensures crash { OnPlayed result (B.tells_moments → (opening : State) → StandsFor B.tells B.now opening self.old
+        // A reset at any moment in it leaves the store as it was after the entries before, or what this request made of it so far.
+        ensures crash { OnPlayed result (B.tells_moments → (opening : State) → StandsFor B.Bank opening self.old
             → LeavesOnly B.clock B.left_since self.old.state.store.bank self.new.state.store.bank (λ image. AfterCrash opening self.new.entries (length self.old.entries) (store_of image))) }
         // A completed copy of an image stays, each moment, through a request that neither copies into its block nor deletes it and
         // is no power-on.
-        ensures completed { OnPlayed result ((e : Entry) × (self.new.entries ≡ self.old.entries ++ e ∷ []) × (B.tells_moments → (opening : State) → StandsFor B.tells B.now opening self.old
+        ensures completed { OnPlayed result ((e : Entry) × (self.new.entries ≡ self.old.entries ++ e ∷ []) × (B.tells_moments → (opening : State) → StandsFor B.Bank opening self.old
             → (slot : ℕ) (block : Block) (copied : List ℕ) → Holds (run_from (begins_at opening) self.old.entries).state.store slot block copied
             → LeaveAlone slot (calls_in (run_from (begins_at opening) self.old.entries) e) → request ≢ ask.Reset PowerOn
             → LeavesOnly B.clock B.left_since self.old.state.store.bank self.new.state.store.bank (λ image. Holds (store_of image) slot block copied))) }
         // The bytes that it began with, and that a restore in it read, are some that a reset may have left.
-        ensures left { OnPlayed result (B.tells_moments → (opening : State) → StandsFor B.tells B.now opening self.old
+        ensures left { OnPlayed result (B.tells_moments → (opening : State) → StandsFor B.Bank opening self.old
             → B.left_since self.new.state.store.bank (B.clock self.old.state.store.bank) (B.now self.old.state.store.bank)) }
         ensures live { OnOk result (self.new.state.ended ≡ false) }
         ensures err { result ≡ Err StepFault.Memory → self.new ≡ self.old }

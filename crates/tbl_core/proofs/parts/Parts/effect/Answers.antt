@@ -10,23 +10,23 @@ use Rattle.tbl_core.proofs.parts.Parts.effect.Goals as goal
 pub returns-then-asks_store-clause-makes : goal.returns-then-asks_store-clause-makes
 returns-then-asks_store-clause-makes g c =
     let b = g.B.Bank in
-    IfOk-weaker c.store_request.result _ _ (λ done makes. wider g.C.Validator.asked g.C.Validator.verdict b.faults b.stops 0 _ _ _ _ _ done (omega arith) makes) c.store_request.ensures.makes
+    IfOk-weaker c.store_request.result _ _ (λ done makes. wider b g.C.Validator 0 _ _ _ done (omega arith) makes) c.store_request.ensures.makes
 
 pub returns-in-Ground-clause-makes : goal.returns-in-Ground-clause-makes
 returns-in-Ground-clause-makes g c =
     let b = g.B.Bank in
-    IfOk-weaker c.ground.result _ _ (λ done does. table_makes b.tells b.now b.faults b.stops g.C.Validator.verdict g.C.Validator.asked _ _ _ _ _ Ground c.args.request.now done does c.requires.live _ c.requires.fit c.requires.ready.booted) c.ground.ensures.does
+    IfOk-weaker c.ground.result _ _ (λ done does. table_makes b g.C.Validator _ _ _ Ground c.args.request.now done does c.requires.live _ c.requires.fit c.requires.ready.booted) c.ground.ensures.does
 
 pub returns-in-Ground-clause-meets : goal.returns-in-Ground-clause-meets
 returns-in-Ground-clause-meets g c =
     let b = g.B.Bank in
     rw c.in-Ground.is
-    (IfOk-weaker c.ground.result _ _ (λ done does. table_meets b.tells b.now b.faults b.stops g.C.Validator.verdict g.C.Validator.asked _ _ _ _ _ Ground c.args.request.now done does c.requires.live _ c.requires.fit b.tells_moments b.clock b.left_since (λ told blocks stands. uncalled_leaves b.tells_moments b.clock b.left_since b.now b.may_leave g.met.B.Bank.leaves_only_now g.met.B.Bank.only_now c.args.self.now.store _ blocks does.store (stands.shows told)) (no_reset c.args.request.now (asked_of c.args.asked.now) (search rules))) c.ground.ensures.does)
+    (IfOk-weaker c.ground.result _ _ (λ done does. table_meets b g.C.Validator _ _ _ Ground c.args.request.now done does c.requires.live _ c.requires.fit (λ told blocks stands. uncalled_leaves b g.met.B.Bank.leaves_only_now g.met.B.Bank.only_now c.args.self.now.store _ blocks does.store (stands.shows told)) (no_reset c.args.request.now (asked_of c.args.asked.now) (search rules))) c.ground.ensures.does)
 
 pub returns-in-Some-clause-makes : goal.returns-in-Some-clause-makes
 returns-in-Some-clause-makes g c =
     let b = g.B.Bank in
-    IfOk-weaker c.owner.result _ _ (λ done makes. wider g.C.Validator.asked g.C.Validator.verdict b.faults b.stops (most_deeds c.args.request.now None) _ _ _ _ _ done (owners_deeds c.args.request.now (asked_of c.args.asked.now) c.in-Some.handle (search rules)) makes) c.owner.ensures.makes
+    IfOk-weaker c.owner.result _ _ (λ done makes. wider b g.C.Validator (most_deeds c.args.request.now None) _ _ _ done (owners_deeds c.args.request.now (asked_of c.args.asked.now) c.in-Some.handle (search rules)) makes) c.owner.ensures.makes
 
 pub returns-in-Some-clause-meets : goal.returns-in-Some-clause-meets
 returns-in-Some-clause-meets g c = rw c.in-App.is c.owner.ensures.meets
@@ -34,11 +34,11 @@ returns-in-Some-clause-meets g c = rw c.in-App.is c.owner.ensures.meets
 pub returns-in-None-clause-makes : goal.returns-in-None-clause-makes
 returns-in-None-clause-makes g c =
     let b = g.B.Bank in
-    IfOk-weaker c.user.result _ _ (λ done does. wider g.C.Validator.asked g.C.Validator.verdict b.faults b.stops 0 _ _ _ _ _ done (omega arith)
-    (table_makes b.tells b.now b.faults b.stops g.C.Validator.verdict g.C.Validator.asked _ _ _ _ _ (App c.in-App.app) c.args.request.now done does c.requires.live _ c.requires.fit c.requires.ready.booted)) c.user.ensures.does
+    IfOk-weaker c.user.result _ _ (λ done does. wider b g.C.Validator 0 _ _ _ done (omega arith)
+    (table_makes b g.C.Validator _ _ _ (App c.in-App.app) c.args.request.now done does c.requires.live _ c.requires.fit c.requires.ready.booted)) c.user.ensures.does
 
 pub returns-in-None-clause-meets : goal.returns-in-None-clause-meets
 returns-in-None-clause-meets g c =
     let b = g.B.Bank in
     rw c.in-App.is
-    (IfOk-weaker c.user.result _ _ (λ done does. table_meets b.tells b.now b.faults b.stops g.C.Validator.verdict g.C.Validator.asked _ _ _ _ _ (App c.in-App.app) c.args.request.now done does c.requires.live _ c.requires.fit b.tells_moments b.clock b.left_since (λ told blocks stands. uncalled_leaves b.tells_moments b.clock b.left_since b.now b.may_leave g.met.B.Bank.leaves_only_now g.met.B.Bank.only_now c.args.self.now.store _ blocks does.store (stands.shows told)) (no_reset c.args.request.now (asked_of c.args.asked.now) (search rules))) c.user.ensures.does)
+    (IfOk-weaker c.user.result _ _ (λ done does. table_meets b g.C.Validator _ _ _ (App c.in-App.app) c.args.request.now done does c.requires.live _ c.requires.fit (λ told blocks stands. uncalled_leaves b g.met.B.Bank.leaves_only_now g.met.B.Bank.only_now c.args.self.now.store _ blocks does.store (stands.shows told)) (no_reset c.args.request.now (asked_of c.args.asked.now) (search rules))) c.user.ensures.does)

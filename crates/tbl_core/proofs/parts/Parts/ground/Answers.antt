@@ -6,15 +6,15 @@ use Rattle.tbl_core.proofs.parts.Parts.ground.Goals as goal
 
 pub returns-in-File-clause-does : goal.returns-in-File-clause-does
 returns-in-File-clause-does g c = both c.file.result _ _ _ c.file.ensures.effect c.file.ensures.quiet (λ done is quiet.
-    let none = none_judged g.C.Validator.verdict g.C.Validator.asked in
-    quietly g.C.Validator.verdict g.C.Validator.asked _ _ _ _ _ _ done
+    let none = none_judged g.C.Validator in
+    quietly g.C.Validator _ _ _ _ done
     (λ s stands. let e = is s stands.drawer in search rules)
     (λ s stands. let e = is s stands.drawer in search rules) refl quiet)
 
 pub returns-in-Some-clause-does : goal.returns-in-Some-clause-does
 returns-in-Some-clause-does g c = three c.command.result _ _ _ _ c.command.ensures.effect c.command.ensures.within c.command.ensures.given (λ done is within given.
-    let none = none_judged g.C.Validator.verdict g.C.Validator.asked in
-    plainly g.C.Validator.verdict g.C.Validator.asked _ _ _ _ _ _ done
+    let none = none_judged g.C.Validator in
+    plainly g.C.Validator _ _ _ _ done
     (λ s stands. let e = is s stands.tables stands.pending stands.drawer stands.seconds stands.sub in search rules)
     (λ s stands. let e = is s stands.tables stands.pending stands.drawer stands.seconds stands.sub in search rules)
     refl (search rules) given)

@@ -13,8 +13,8 @@ returns-in-LoadImage-clause-does g c = five c.load_image.result _ _ _ _ _ _ c.lo
     let t = some_is (table_at c.args.self.now.tables c.args.row) c.requires.table in record {
       effect = λ s stands. rw (ap (λ (tables : Tables). table_at tables c.args.row) stands.tables ∙ t.1, c.in-LoadImage.is, ← c.bytes-image.ensures)
           (leaves_of s.store done _ _ _ _ (effect s stands.tables stands.seconds stands.sub t.0 t.1) (record { tables = refl; pending = stands.pending; store = refl; drawer = stands.drawer; apps = stands.apps; kit = stands.kit ∙ sym c.load_image.ensures.owners; seconds = stands.seconds; sub = stands.sub; ended = stands.ended }));
-      asks = λ s stands. rw (ap (λ (tables : Tables). table_at tables c.args.row) stands.tables ∙ t.1, c.in-LoadImage.is, ← c.bytes-image.ensures)
-          (was_judged g.C.Validator.verdict g.C.Validator.asked _ _ _ _ (asks s stands.tables t.0 t.1));
+      judged = λ s stands. rw (ap (λ (tables : Tables). table_at tables c.args.row) stands.tables ∙ t.1, c.in-LoadImage.is, ← c.bytes-image.ensures)
+          (was_judged g.C.Validator _ _ _ _ (asks s stands.tables t.0 t.1));
       store = refl;
       note = note;
       two = two;
@@ -26,8 +26,8 @@ returns-in-LoadFile-clause-does g c = five c.load_file.result _ _ _ _ _ _ c.load
     let t = some_is (table_at c.args.self.now.tables c.args.row) c.requires.table in record {
       effect = λ s stands. rw (ap (λ (tables : Tables). table_at tables c.args.row) stands.tables ∙ t.1, c.in-LoadFile.is)
           (leaves_of s.store done _ _ _ _ (effect s stands.tables stands.drawer stands.seconds stands.sub t.0 t.1) (record { tables = refl; pending = stands.pending; store = refl; drawer = stands.drawer; apps = stands.apps; kit = stands.kit ∙ sym c.load_file.ensures.owners; seconds = stands.seconds; sub = stands.sub; ended = stands.ended }));
-      asks = λ s stands. rw (ap (λ (tables : Tables). table_at tables c.args.row) stands.tables ∙ t.1, c.in-LoadFile.is)
-          (was_judged g.C.Validator.verdict g.C.Validator.asked _ _ _ _ (asks s stands.tables stands.drawer t.0 t.1));
+      judged = λ s stands. rw (ap (λ (tables : Tables). table_at tables c.args.row) stands.tables ∙ t.1, c.in-LoadFile.is)
+          (was_judged g.C.Validator _ _ _ _ (asks s stands.tables stands.drawer t.0 t.1));
       store = refl;
       note = note;
       two = two;
@@ -39,8 +39,8 @@ returns-in-Manage-clause-does g c = five c.manage.result _ _ _ _ _ _ c.manage.en
     let t = some_is (table_at c.args.self.now.tables c.args.row) c.requires.table in record {
       effect = λ s stands. rw (ap (λ (tables : Tables). table_at tables c.args.row) stands.tables ∙ t.1, c.in-Manage.is)
           (leaves_of s.store done _ _ _ _ (effect s stands.tables stands.pending stands.seconds stands.sub t.0 t.1) (record { tables = refl; pending = refl; store = refl; drawer = stands.drawer; apps = stands.apps; kit = stands.kit ∙ sym c.manage.ensures.owners; seconds = stands.seconds; sub = stands.sub; ended = stands.ended }));
-      asks = λ s stands. rw (ap (λ (tables : Tables). table_at tables c.args.row) stands.tables ∙ t.1, c.in-Manage.is)
-          (was_judged g.C.Validator.verdict g.C.Validator.asked _ _ _ _ (asks s stands.tables stands.pending t.0 t.1));
+      judged = λ s stands. rw (ap (λ (tables : Tables). table_at tables c.args.row) stands.tables ∙ t.1, c.in-Manage.is)
+          (was_judged g.C.Validator _ _ _ _ (asks s stands.tables stands.pending t.0 t.1));
       store = refl;
       note = note;
       two = two;
@@ -53,8 +53,8 @@ returns-in-Update-clause-does g c =
     let given = c.update.ensures.given in record {
       effect = λ s stands. rw (ap (λ (tables : Tables). table_at tables c.args.row) stands.tables ∙ t.1, c.in-Update.is)
           (leaves_of s.store c.update.result _ _ _ _ (c.update.ensures.effect s stands.tables stands.seconds stands.sub t.0 t.1) (record { tables = refl; pending = stands.pending; store = refl; drawer = stands.drawer; apps = stands.apps; kit = stands.kit; seconds = stands.seconds; sub = stands.sub; ended = stands.ended }));
-      asks = λ s stands. rw (ap (λ (tables : Tables). table_at tables c.args.row) stands.tables ∙ t.1, c.in-Update.is)
-          (none_judged g.C.Validator.verdict g.C.Validator.asked _ _ _ _ (c.update.ensures.effect s stands.tables stands.seconds stands.sub t.0 t.1).asked given);
+      judged = λ s stands. rw (ap (λ (tables : Tables). table_at tables c.args.row) stands.tables ∙ t.1, c.in-Update.is)
+          (none_judged g.C.Validator _ _ _ _ (c.update.ensures.effect s stands.tables stands.seconds stands.sub t.0 t.1).asked given);
       store = refl;
       note = ap (λ (given : Given). given.note) given;
       two = ap (λ (given : Given). length given.verdicts) given;
@@ -66,8 +66,8 @@ returns-in-Edit-clause-does g c = both c.edit.result _ _ _ c.edit.ensures.effect
     let t = some_is (table_at c.args.self.now.tables c.args.row) c.requires.table in record {
       effect = λ s stands. rw (ap (λ (tables : Tables). table_at tables c.args.row) stands.tables ∙ t.1, c.in-Edit.is, ← c.bytes.ensures)
           (leaves_of s.store done _ _ _ _ (effect s stands.tables t.0 t.1) (record { tables = refl; pending = stands.pending; store = refl; drawer = stands.drawer; apps = stands.apps; kit = stands.kit; seconds = stands.seconds; sub = stands.sub; ended = stands.ended }));
-      asks = λ s stands. rw (ap (λ (tables : Tables). table_at tables c.args.row) stands.tables ∙ t.1, c.in-Edit.is, ← c.bytes.ensures)
-          (none_judged g.C.Validator.verdict g.C.Validator.asked _ _ _ _ (effect s stands.tables t.0 t.1).asked quiet.given);
+      judged = λ s stands. rw (ap (λ (tables : Tables). table_at tables c.args.row) stands.tables ∙ t.1, c.in-Edit.is, ← c.bytes.ensures)
+          (none_judged g.C.Validator _ _ _ _ (effect s stands.tables t.0 t.1).asked quiet.given);
       store = refl;
       note = ap (λ (given : Given). given.note) quiet.given;
       two = ap (λ (given : Given). length given.verdicts) quiet.given;

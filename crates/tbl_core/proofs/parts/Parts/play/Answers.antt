@@ -1,9 +1,9 @@
 use Rattle.std.proofs.Common.{refl, sym, ap, subst, ◌∙◌}
 use Rattle.tbl_model.specs.Dispatch.{effect_of}
 use Rattle.tbl_core.specs.Log.{Logged}
-use Rattle.tbl_core.specs.Service.{Held, Finishes, IsMade, held_of}
+use Rattle.tbl_core.specs.Service.{Held, step_of, Finishes, IsMade, held_of}
 use Rattle.request_effects.specs.declared.effect.Effect.{Effect}
-use Rattle.tbl_core.proofs.Behind.{is_made}
+use Rattle.tbl_core.proofs.BootedAfter.{is_made}
 use Rattle.tbl_core.proofs.Steps.{did_play, played}
 use Rattle.tbl_core.proofs.parts.Parts.play.Goals as goal
 
@@ -17,12 +17,12 @@ returns-clause-plays g c =
     let after = c.finish.new.self.log in
     let clock = c.args.self.now.clock in
     let old = held_of c.args.self.now in
-    let left = is_made b.tells b.now b.tells_moments b.clock b.left_since b.faults b.stops v.verdict v.asked _ _ _ old (held_of c.effect.new.self) (held_of boot.new.self) c.args.request (λ s given. effect_of s c.args.actor c.args.request given) c.in-Ok-effect.effect done.note
+    let left = is_made b v _ old (held_of c.effect.new.self) (held_of boot.new.self) c.args.request (λ s given. effect_of s c.args.actor c.args.request given) c.in-Ok-effect.effect done.note
     c.in-Ok-effect.ensures.makes c.in-Ok-effect.ensures.meets boot.ensures.note boot.ensures.held boot.ensures.boots boot.ensures.found boot.ensures.moments boot.ensures.trouble boot.ensures.booted in
-    let told = subst (λ (e : Effect). IsMade b.tells b.now b.tells_moments b.clock b.left_since b.faults b.stops v.verdict v.asked old (held_of boot.new.self) c.args.request (λ s given. effect_of s c.args.actor c.args.request given) e) (sym boot.ensures.effect) left in
-    let made = subst (λ (h : Held _ _). IsMade b.tells b.now b.tells_moments b.clock b.left_since b.faults b.stops v.verdict v.asked old h c.args.request (λ s given. effect_of s c.args.actor c.args.request given) done) (sym c.finish.ensures.stays) told in
+    let told = subst (λ (e : Effect). IsMade b v (step_of old (held_of boot.new.self) c.args.request) (λ s given. effect_of s c.args.actor c.args.request given) e) (sym boot.ensures.effect) left in
+    let made = subst (λ (h : Held _ _). IsMade b v (step_of old h c.args.request) (λ s given. effect_of s c.args.actor c.args.request given) done) (sym c.finish.ensures.stays) told in
     played c.session_end-end.result
-    (did_play b.tells b.now b.tells_moments b.clock b.left_since b.faults b.stops v.verdict v.asked _ _ c.args.actor c.args.request clock done
+    (did_play b v _ _ c.args.actor c.args.request clock done
     (record {
       fits = c.requires.fits;
       live = c.requires.live;

@@ -8,7 +8,7 @@ pub returns-clause-makes : goal.returns-clause-makes
 returns-clause-makes g c =
     let b = g.B.Bank in
     let note = c.boot.new.note in
-    reset_makes b.tells b.now b.faults b.stops g.C.Validator.verdict g.C.Validator.asked _ _ c.args.kind c.noted.result c.boot.new.self.store note.ended note.stopped note.found
+    reset_makes b g.C.Validator _ _ c.args.kind c.noted.result c.boot.new.self.store note.ended note.stopped note.found
     (c.clear_at_power_on.ensures.held ∙ ap (λ (h : Held _ _). record h { drawer = if_processor c.args.kind h.drawer []; apps = if_processor c.args.kind h.apps (replicate 16 None) }) c.boot.ensures.held)
     (search rules) (search rules) (search rules) c.noted.ensures.quiet c.boot.ensures.booted c.boot.ensures.trouble
 
@@ -16,6 +16,6 @@ pub returns-clause-meets : goal.returns-clause-meets
 returns-clause-meets g c =
     let b = g.B.Bank in
     let note = c.boot.new.note in
-    reset_meets b.tells b.now b.faults b.stops g.C.Validator.verdict g.C.Validator.asked _ _ c.args.kind c.noted.result c.boot.new.self.store note.ended note.stopped note.found
+    reset_meets b g.C.Validator _ _ c.args.kind c.noted.result c.boot.new.self.store note.ended note.stopped note.found
     (c.clear_at_power_on.ensures.held ∙ ap (λ (h : Held _ _). record h { drawer = if_processor c.args.kind h.drawer []; apps = if_processor c.args.kind h.apps (replicate 16 None) }) c.boot.ensures.held)
-    (search rules) (search rules) (search rules) c.noted.ensures.quiet b.tells_moments b.clock b.left_since c.boot.ensures.moments (search rules) (search rules) c.requires.live
+    (search rules) (search rules) (search rules) c.noted.ensures.quiet c.boot.ensures.moments (search rules) (search rules) c.requires.live

@@ -21,7 +21,7 @@ pub returns-in-Ok-boot-clause-stands : goal.returns-in-Ok-boot-clause-stands
 returns-in-Ok-boot-clause-stands g c =
     let b = g.B.Bank in
     let bytes = b.now c.args.bank in
-    stands_first b.tells b.now c.args.kit (store_of bytes) _ (record {
+    stands_first b c.args.kit (store_of bytes) _ (record {
       entries = c.in-Ok.ensures.entries;
       counts = c.in-Ok.ensures.counts;
       tables = c.in-Ok.ensures.tables;
@@ -39,22 +39,22 @@ returns-in-Ok-boot-clause-stands g c =
 pub returns-in-Err-boot-clause-cause : goal.returns-in-Err-boot-clause-cause
 returns-in-Err-boot-clause-cause g c =
     let b = g.B.Bank in
-    subst (λ bank. StartCounted b.faults b.stops bank c.end.result c.from.result) c.in-Ok.ensures.bank
-    (rw (c.end.ensures, c.from.ensures) (start_counted b.faults b.stops c.in-Ok.parts.store.bank c.boot.new.self.bank c.boot.result c.in-Err-boot.fault c.in-Err-boot.is c.boot.ensures.counted))
+    subst (λ bank. StartCounted b bank c.end.result c.from.result) c.in-Ok.ensures.bank
+    (rw (c.end.ensures, c.from.ensures) (start_counted b c.in-Ok.parts.store.bank c.boot.new.self.bank c.boot.result c.in-Err-boot.fault c.in-Err-boot.is c.boot.ensures.counted))
 
 pub returns-in-Ok-boot-clause-crash : goal.returns-in-Ok-boot-clause-crash
 returns-in-Ok-boot-clause-crash g c told =
     let b = g.B.Bank in
-    start_leaves b.tells b.now b.tells_moments b.clock b.left_since c.in-Ok.parts.store c.boot.new.self c.args.bank c.in-Ok.ensures.bank c.boot.ensures.moments g.met.B.Bank.tells_both told
+    start_leaves b c.in-Ok.parts.store c.boot.new.self c.args.bank c.in-Ok.ensures.bank c.boot.ensures.moments g.met.B.Bank.tells_both told
 
 pub returns-in-Err-boot-clause-crash_err : goal.returns-in-Err-boot-clause-crash_err
 returns-in-Err-boot-clause-crash_err g c told =
     let b = g.B.Bank in
     rw c.end.ensures
-    (start_leaves b.tells b.now b.tells_moments b.clock b.left_since c.in-Ok.parts.store c.boot.new.self c.args.bank c.in-Ok.ensures.bank c.boot.ensures.moments g.met.B.Bank.tells_both told)
+    (start_leaves b c.in-Ok.parts.store c.boot.new.self c.args.bank c.in-Ok.ensures.bank c.boot.ensures.moments g.met.B.Bank.tells_both told)
 
 pub returns-in-Err-clause-crash_err : goal.returns-in-Err-clause-crash_err
 returns-in-Err-clause-crash_err g c told =
     let b = g.B.Bank in
     rw c.in-Err.ensures.err
-    (stays_shown b.now b.tells_moments b.clock b.left_since b.may_leave g.met.B.Bank.leaves_only_now g.met.B.Bank.only_now c.args.bank told)
+    (stays_shown b g.met.B.Bank.leaves_only_now g.met.B.Bank.only_now c.args.bank told)

@@ -22,30 +22,30 @@ returns-clause-adds g c = rw (← c.self.view_is) (on_played c.play.result (λ p
 
 pub returns-clause-legal : goal.returns-clause-legal
 returns-clause-legal g c = rw (← c.self.view_is)
-    (on_played c.play.result (λ p opening stood. plays_on _ _ g.B.Bank.tells_moments g.B.Bank.clock g.B.Bank.left_since g.B.Bank.faults g.B.Bank.stops _ _ _ _ c.args.actor c.args.request c.play.result p opening stood) c.play.ensures.plays)
+    (on_played c.play.result (λ p opening stood. plays_on g.B.Bank g.C.Validator _ _ c.args.actor c.args.request c.play.result p opening stood) c.play.ensures.plays)
 
 pub returns-clause-whole : goal.returns-clause-whole
 returns-clause-whole g c = rw (← c.self.view_is)
-    (on_played c.play.result (λ p told opening none unasked stood. whole opening _ _ none unasked ((plays_on _ _ g.B.Bank.tells_moments g.B.Bank.clock g.B.Bank.left_since g.B.Bank.faults g.B.Bank.stops _ _ _ _ c.args.actor c.args.request c.play.result p opening stood).legal told)) c.play.ensures.plays)
+    (on_played c.play.result (λ p told opening none unasked stood. whole opening _ _ none unasked ((plays_on g.B.Bank g.C.Validator _ _ c.args.actor c.args.request c.play.result p opening stood).legal told)) c.play.ensures.plays)
 
 pub returns-clause-backed : goal.returns-clause-backed
 returns-clause-backed g c = rw (← c.self.view_is)
-    (on_played c.play.result (λ p told opening none single stood. backed opening _ _ none single ((plays_on _ _ g.B.Bank.tells_moments g.B.Bank.clock g.B.Bank.left_since g.B.Bank.faults g.B.Bank.stops _ _ _ _ c.args.actor c.args.request c.play.result p opening stood).legal told)) c.play.ensures.plays)
+    (on_played c.play.result (λ p told opening none single stood. backed opening _ _ none single ((plays_on g.B.Bank g.C.Validator _ _ c.args.actor c.args.request c.play.result p opening stood).legal told)) c.play.ensures.plays)
 
 pub returns-clause-judged : goal.returns-clause-judged
 returns-clause-judged g c = rw (← c.self.view_is) (on_played c.play.result (λ p. (p.entry, p.added, λ told opening stood. p.judged told _ (stood.shows told))) c.play.ensures.plays)
 
 pub returns-clause-vouched : goal.returns-clause-vouched
 returns-clause-vouched g c = rw (← c.self.view_is)
-    (on_played c.play.result (λ p told opening none unasked stood. vouched opening _ _ none unasked ((plays_on _ _ g.B.Bank.tells_moments g.B.Bank.clock g.B.Bank.left_since g.B.Bank.faults g.B.Bank.stops _ _ _ _ c.args.actor c.args.request c.play.result p opening stood).legal told)) c.play.ensures.plays)
+    (on_played c.play.result (λ p told opening none unasked stood. vouched opening _ _ none unasked ((plays_on g.B.Bank g.C.Validator _ _ c.args.actor c.args.request c.play.result p opening stood).legal told)) c.play.ensures.plays)
 
 pub returns-clause-verdicts : goal.returns-clause-verdicts
 returns-clause-verdicts g c = rw (← c.self.view_is)
-    (on_played c.play.result (λ p opening given stood. vouches_on g.C.Validator.verdict g.C.Validator.asked _ _ g.B.Bank.tells_moments g.B.Bank.clock g.B.Bank.left_since g.B.Bank.faults g.B.Bank.stops _ _ c.args.actor c.args.request c.play.result p opening given stood) c.play.ensures.plays)
+    (on_played c.play.result (λ p opening given stood. vouches_on g.C.Validator g.B.Bank _ _ c.args.actor c.args.request c.play.result p opening given stood) c.play.ensures.plays)
 
 pub returns-clause-kept : goal.returns-clause-kept
 returns-clause-kept g c = rw (← c.self.view_is)
-    (on_played c.play.result (λ p told opening given stood. keeps g.C.Validator.verdict given opening _ ((vouches_on g.C.Validator.verdict g.C.Validator.asked _ _ g.B.Bank.tells_moments g.B.Bank.clock g.B.Bank.left_since g.B.Bank.faults g.B.Bank.stops _ _ c.args.actor c.args.request c.play.result p opening given stood).verdicts told)) c.play.ensures.plays)
+    (on_played c.play.result (λ p told opening given stood. keeps g.C.Validator.verdict given opening _ ((vouches_on g.C.Validator g.B.Bank _ _ c.args.actor c.args.request c.play.result p opening given stood).verdicts told)) c.play.ensures.plays)
 
 pub returns-clause-gave : goal.returns-clause-gave
 returns-clause-gave g c = rw (← c.self.view_is) (on_played c.play.result (λ p. (p.entry, p.added, λ told opening stood. p.gave told _ (stood.shows told))) c.play.ensures.plays)
@@ -53,16 +53,16 @@ returns-clause-gave g c = rw (← c.self.view_is) (on_played c.play.result (λ p
 pub returns-clause-crash : goal.returns-clause-crash
 returns-clause-crash g c =
     let b = g.B.Bank in
-    rw (← c.self.view_is) (on_played c.play.result (λ p moments opening stood. crash b.tells b.now b.tells_moments b.clock b.left_since b.faults b.stops g.C.Validator.verdict g.C.Validator.asked _ _ c.args.actor c.args.request c.play.result p opening stood g.met.B.Bank.tells_both moments) c.play.ensures.plays)
+    rw (← c.self.view_is) (on_played c.play.result (λ p moments opening stood. crash b g.C.Validator _ _ c.args.actor c.args.request c.play.result p opening stood g.met.B.Bank.tells_both moments) c.play.ensures.plays)
 
 pub returns-clause-completed : goal.returns-clause-completed
 returns-clause-completed g c =
     let b = g.B.Bank in
-    rw (← c.self.view_is) (on_played c.play.result (λ p. (p.entry, p.added, λ moments opening stood. completed b.tells b.now b.tells_moments b.clock b.left_since b.faults b.stops g.C.Validator.verdict g.C.Validator.asked _ _ c.args.actor c.args.request c.play.result p opening stood g.met.B.Bank.tells_both moments)) c.play.ensures.plays)
+    rw (← c.self.view_is) (on_played c.play.result (λ p. (p.entry, p.added, λ moments opening stood. completed b g.C.Validator _ _ c.args.actor c.args.request c.play.result p opening stood g.met.B.Bank.tells_both moments)) c.play.ensures.plays)
 
 pub returns-clause-left : goal.returns-clause-left
 returns-clause-left g c =
     let b = g.B.Bank in
     rw (← c.self.view_is) (on_played c.play.result (λ p moments opening stood.
-    let step = moments_of b.tells b.now b.tells_moments b.clock b.left_since b.faults b.stops g.C.Validator.verdict g.C.Validator.asked _ _ c.args.actor c.args.request c.play.result p opening stood g.met.B.Bank.tells_both moments in
+    let step = moments_of b g.C.Validator _ _ c.args.actor c.args.request c.play.result p opening stood g.met.B.Bank.tells_both moments in
     step.keeps _ _ (omega arith) (g.met.B.Bank.counts_now _ _ _ moments (omega arith) (g.met.B.Bank.leaves_now _ moments))) c.play.ensures.plays)

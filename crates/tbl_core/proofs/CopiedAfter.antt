@@ -1,5 +1,5 @@
--- A call of a table's owner, behind which an image that went active was copied: what is made of it, over any bank and over one that tells.
-use Rattle.std.proofs.Common.{◌≡◌, ◌∙◌, ℕ, suc, List, [], ◌∷◌, length, Bool, true, false, not, Option, Some, None, ℤ, refl, sym, ap, subst, ◌⊎◌, inl, inr, arith}
+-- A call of a table's owner, after which an image that went active was copied: what is made of it, over any bank and over one that tells.
+use Rattle.std.proofs.Common.{◌≡◌, ◌∙◌, ℕ, suc, List, [], ◌∷◌, length, true, false, not, Option, Some, None, ℤ, refl, sym, ap, subst, ◌⊎◌, inl, inr, arith}
 use Rattle.std.specs.Option.{option_map}
 use Rattle.std.proofs.lemmas.Bool.{cond_both}
 use Rattle.tbl_kinds.specs.Blocks.{Store as Blocks}
@@ -27,20 +27,23 @@ use Rattle.tbl_model.specs.Subjects.{if_file}
 use Rattle.tbl_model.specs.AppLoads.{activate_effect, by_function, from_file, file_image, load_file_of}
 use Rattle.tbl_model.specs.Dispatch.{effect_of}
 use Rattle.tbl_model.specs.Counts.{is_reset}
-use Rattle.tbl_laws.specs.Fit.{AreFit}
+use Rattle.tbl_model.specs.Fit.{AreFit}
 use Rattle.tbl_laws.proofs.Cases.{OfEffect}
 use Rattle.tbl_laws.proofs.Causes.{caused}
 use Rattle.tbl_laws.proofs.Ordinary.{IsOrdinary, ordinary}
-use Rattle.request_effects.specs.Asked.{activates}
-use Rattle.store_requests.specs.Called.{with_boot, RestoresHeld}
+use Rattle.request_effects.specs.Asked.{activates, owned_deeds}
+use Rattle.store_requests.specs.Called.{with_boot}
+use Rattle.tbl_session.specs.Restores.{RestoresHeld}
 use Rattle.request_effects.specs.Effects.{IsEffect, given_of}
 use Rattle.tbl_core.specs.Owned.{owned_effect, owned_at}
-use Rattle.tbl_core.specs.Service.{Held, Stands, state_of, DoesAndCopies, Has, HasEffect, Makes, Meets}
+use Rattle.tbl_core.specs.Service.{Held, Stands, state_of, step_of, deeds_alone, DoesAndCopies, Has, HasEffect, Makes, Meets}
 use Rattle.tbl_core.specs.Verdicts.{Judged}
 use Rattle.cds_store.specs.Standing.{StandsFor as HasBlocks}
 use Rattle.request_effects.specs.declared.effect.Effect.{Effect}
 use Rattle.tbl_core.proofs.StoreRequests.{has_called}
-use Rattle.tbl_core.proofs.TableRequests.{stands_in, state_is, effect_left, asked_there, fit_without}
+use Rattle.tbl_core.proofs.TableRequests.{stands_in, state_is, effect_left, judged_there, fit_without}
+use Rattle.tbl_outside.specs.declared.bank.Bank.{Ghosts}
+use Rattle.tbl_outside.specs.declared.validator.Validator.{Ghosts as ValidatorGhosts}
 
 -- ---- the model
 
@@ -113,8 +116,8 @@ module _ (s : State) (row : ℕ) (one other : BankNote) (verdicts : List (Option
 
 -- ---- the request
 
-module _ {B C : Type 0} (tells : Type 0) (now : B → List ℕ) (tells_moments : Type 0) (clock : B → ℕ) (left_since : B → ℕ → List ℕ → Type 0) (faults stops : B → ℕ) (verdict : C → List ℕ → ℤ) (asked : C → ℕ) (most room : ℕ) (owes : Bool) (old new : Held B C) (actor : Actor) (request : Request) (row : ℕ) (done : Effect)
-    (does : DoesAndCopies tells now tells_moments clock left_since faults stops verdict asked most room owes old new row (λ s given. owned_at (table_at s.tables row) s row request given) done)
+module _ {B C : Type 0} (g : Ghosts B) (v : ValidatorGhosts C) (old new : Held B C) (actor : Actor) (request : Request) (row : ℕ) (done : Effect)
+    (does : DoesAndCopies g v old new row request done)
     (can : activates request ≡ true) (live : old.ended ≡ false) (so_many : ℕ) (fits : AreFit so_many (state_of old))
     (taken : (s : State) → Stands s.store old s → (given : Given) → effect_of s actor request given ≡ option_map (then_copy row given.note) (owned_at (table_at s.tables row) s row request given)) where
   mid : Held B C
@@ -152,16 +155,16 @@ module _ {B C : Type 0} (tells : Type 0) (now : B → List ℕ) (tells_moments :
       boot = λ is. let same = ap (λ (status : Status). status.0) (sym cut.0 ∙ is) in absurd (omega (arith, same));
     }
 
-  pub copies_makes : Makes asked verdict faults stops (suc most) room owes old new done
+  pub copies_makes : Makes g v (deeds_alone (suc (owned_deeds request))) old new done
   copies_makes = record {
     fit = λ n fit. fit_without (suc n) [] (state_of new) (subst (AreFit (suc n)) (state_is (record new { store = old.store }) [] left.0.next left.3) (ordinary_left n fit).fit);
     judged = (
       left.0.asked,
-      subst (λ (verdicts : List (Option ℤ)). Judged verdict asked old.kit new.kit left.0.asked verdicts) (sym does.call.verdicts)
-          (asked_there verdict asked old.kit new.kit does.before.verdicts _ left.0 left.1 (does.does.asks (state_of old) (stands_in old))),
+      subst (λ (verdicts : List (Option ℤ)). Judged v old.kit new.kit left.0.asked verdicts) (sym does.call.verdicts)
+          (judged_there v old.kit new.kit does.before.verdicts _ left.0 left.1 (does.does.judged (state_of old) (stands_in old))),
     );
     two = ap length does.call.verdicts ∙ does.does.two;
-    within = does.call.within most room owes does.does.within;
+    within = does.call.within (owned_deeds request) 0 false does.does.within;
     booted = does.call.booted ∙ sym (ap not goes);
     ended = goes ∙ sym does.call.no_boot.ended;
     stopped = λ is. (does.call.stopped is, does.call.no_boot);
@@ -169,7 +172,7 @@ module _ {B C : Type 0} (tells : Type 0) (now : B → List ℕ) (tells_moments :
     cause = cause;
   }
 
-  pub copies_meets : is_reset request ≡ false → Meets tells now tells_moments clock left_since verdict asked old new request (λ s given. effect_of s actor request given) done
+  pub copies_meets : is_reset request ≡ false → Meets g v (step_of old new request) (λ s given. effect_of s actor request given) done
   copies_meets plain told s holds note follows =
       let found = effect_left s.store does.before (record new { store = old.store }) _ (does.does.effect s holds.parts) in
       let e = found.0 in
@@ -189,10 +192,10 @@ module _ {B C : Type 0} (tells : Type 0) (now : B → List ℕ) (tells_moments :
         sub = found.3.sub;
         ended = found.3.ended;
       } in
-      let c = does.copied told e found.2 found.3.tables (subst (λ (blocks : Blocks). HasBlocks tells now old.store blocks) (sym found.3.store) (holds.blocks live)) follows.ended follows.stopped follows.found in
-      subst (Has tells now tells_moments clock left_since verdict asked old new request s done note) (sym means)
-      (subst (λ (n : BankNote). HasEffect tells now tells_moments clock left_since verdict asked old new request s done n (then_copy row n e)) (sym follows.is)
-      (has_called tells now tells_moments clock left_since faults stops verdict asked old new request done plain does.call.no_boot s e.next e.asked (then_copy row n e) follows.ended follows.stopped follows.found (λ goes. sym follows.is ∙ follows.same goes) c
+      let c = does.copied told e found.2 found.3.tables (subst (λ (blocks : Blocks). HasBlocks g.tells g.now old.store blocks) (sym found.3.store) (holds.blocks live)) follows.ended follows.stopped follows.found in
+      subst (Has g v (step_of old new request) s done note) (sym means)
+      (subst (λ (n : BankNote). HasEffect g v (step_of old new request) s done n (then_copy row n e)) (sym follows.is)
+      (has_called g v old new request done plain does.call.no_boot s e.next e.asked (then_copy row n e) follows.ended follows.stopped follows.found (λ goes. sym follows.is ∙ follows.same goes) c
       found.3.store stands
-      (subst (λ (verdicts : List (Option ℤ)). Judged verdict asked old.kit new.kit e.asked verdicts) (sym does.call.verdicts) (asked_there verdict asked old.kit new.kit does.before.verdicts _ e found.1 (does.does.asks s holds.parts)))
-      (copies_hold (now old.store.bank) s.store row n e found.2.calls)))
+      (subst (λ (verdicts : List (Option ℤ)). Judged v old.kit new.kit e.asked verdicts) (sym does.call.verdicts) (judged_there v old.kit new.kit does.before.verdicts _ e found.1 (does.does.judged s holds.parts)))
+      (copies_hold (g.now old.store.bank) s.store row n e found.2.calls)))

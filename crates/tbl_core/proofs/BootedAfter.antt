@@ -1,0 +1,143 @@
+-- A request was made: what it did, and the boot after it where a call of the store was stopped.
+use Rattle.std.proofs.Common.{◌≡◌, ◌≢◌, ◌∙◌, ℕ, suc, List, not, Option, Some, None, refl, sym, ap, subst, inl}
+use Rattle.tbl_kinds.specs.Blocks.{Store as Blocks}
+use Rattle.tbl_kinds.specs.StoreCalls.{StoreCall}
+use Rattle.tbl_model.specs.State.{State}
+use Rattle.tbl_model.specs.Effects as model
+use Rattle.tbl_model.specs.Given.{Given}
+use Rattle.tbl_model.specs.StoreNotes.{Boots, Ends}
+use Rattle.tbl_model.specs.Fit.{AreFit}
+use Rattle.tbl_laws.proofs.Ordinary.{fit_at_first}
+use Rattle.tbl_kinds.specs.declared.note.BankNote.{BankNote}
+use Rattle.tbl_kinds.specs.declared.note.Outcome.{Outcome}
+use Rattle.tbl_kinds.specs.declared.note.Outcome.TheVariants.{Untouched, Done, Failed, Stopped}
+use Rattle.tbl_kinds.specs.declared.request.Request.{Request}
+use Rattle.tbl_kinds.specs.declared.request.ResetKind.TheVariants.{Processor}
+use Rattle.tbl_outside.specs.declared.validator.KitEntry.{KitEntry}
+use Rattle.tbl_session.specs.Crashes.{DuringCalls}
+use Rattle.tbl_kinds.specs.StoreSteps.{Shows as ShowsBlocks}
+use Rattle.tbl_outside.proofs.Moments.{goes_on}
+use Rattle.tbl_laws.proofs.Crashes.{behind_calls}
+use Rattle.cds_layout.specs.Images.{store_of}
+use Rattle.store_requests.specs.Called.{Leaving, boots_after, Troubled}
+use Rattle.tbl_core.specs.Ended.{Follows, boot_only}
+use Rattle.request_effects.specs.Effects.{given_of}
+use Rattle.tbl_core.specs.Service.{Held, HoldsAll, state_of, step_of, Bounds, EndsIn, HasEffect, Has, Makes, Meets, IsMade, after_stop}
+use Rattle.tbl_core.specs.Verdicts.{Judged}
+use Rattle.request_effects.specs.declared.effect.Effect.{Effect}
+use Rattle.tbl_core.proofs.Trouble.{troubled_after, caused_after}
+use Rattle.tbl_outside.specs.declared.bank.Bank.{Ghosts}
+use Rattle.tbl_outside.specs.declared.validator.Validator.{Ghosts as ValidatorGhosts}
+
+module _ {B C : Type 0} (g : Ghosts B) (v : ValidatorGhosts C) (bounds : Bounds) (old mid new : Held B C) (request : Request) (means : State → Given → Option model.Effect)
+    (called : Effect) (note : BankNote) (makes : Makes g v bounds old mid called) (meets : Meets g v (step_of old mid request) means called)
+    (follows : Follows called.note note) (held : new ≡ after_stop called.note.outcome note new.store mid)
+    (boots : g.tells → (s : State) → HoldsAll g mid s → HoldsAll g new (boots_after called.note.outcome note s))
+    (found : g.tells → (s : State) → HoldsAll g mid s → called.note.outcome ≡ Stopped → Boots (Some Processor) s.store note)
+    (boot_leaves : g.tells → (s : State) → HoldsAll g mid s → called.note.outcome ≡ Stopped → Leaving g mid.store new.store (ShowsBlocks s.store)) where
+  abbrev pub done : Effect
+  done = record called { note = note }
+
+  same_kit : new.kit ≡ mid.kit
+  same_kit = by called.note.outcome held where
+    by : (outcome : Outcome) → new ≡ after_stop outcome note new.store mid → new.kit ≡ mid.kit
+    by Untouched is = ap (λ (h : Held B C). h.kit) is
+    by Done is = ap (λ (h : Held B C). h.kit) is
+    by Failed is = ap (λ (h : Held B C). h.kit) is
+    by Stopped is = ap (λ (h : Held B C). h.kit) is
+
+  fit_on : (n : ℕ) → AreFit n (state_of mid) → AreFit n (state_of new)
+  fit_on n fit = by called.note.outcome held where
+    by : (outcome : Outcome) → new ≡ after_stop outcome note new.store mid → AreFit n (state_of new)
+    by Untouched is = rw is fit
+    by Done is = rw is fit
+    by Failed is = rw is fit
+    by Stopped is = fit_at_first n (state_of new) (ap (λ (h : Held B C). h.tables) is) (ap (λ (h : Held B C). h.pending) is)
+
+  ended : new.ended ≡ note.ended
+  ended = by called.note.outcome refl held where
+    stays : called.note.outcome ≢ Stopped → new.ended ≡ mid.ended → new.ended ≡ note.ended
+    stays goes is = is ∙ makes.ended ∙ sym (ap (λ (n : BankNote). n.ended) (follows.same goes))
+
+    by : (outcome : Outcome) → called.note.outcome ≡ outcome → new ≡ after_stop outcome note new.store mid → new.ended ≡ note.ended
+    by Untouched at is = stays (λ stop. cc (at, stop)) (ap (λ (h : Held B C). h.ended) is)
+    by Done at is = stays (λ stop. cc (at, stop)) (ap (λ (h : Held B C). h.ended) is)
+    by Failed at is = stays (λ stop. cc (at, stop)) (ap (λ (h : Held B C). h.ended) is)
+    by Stopped at is = ap (λ (h : Held B C). h.ended) is
+
+  booted_on : (called.note.outcome ≡ Stopped → new.store.booted ≡ not note.ended) → new.store.booted ≡ not new.ended
+  booted_on boots_store = by called.note.outcome refl held where
+    by : (outcome : Outcome) → called.note.outcome ≡ outcome → new ≡ after_stop outcome note new.store mid → new.store.booted ≡ not new.ended
+    by Untouched at is = rw is makes.booted
+    by Done at is = rw is makes.booted
+    by Failed at is = rw is makes.booted
+    by Stopped at is = boots_store at ∙ sym (ap not ended)
+
+  has_left : g.tells → (s : State) → HoldsAll g old s → (e : model.Effect) × (means s (given_of done) ≡ Some e) × HasEffect g v (step_of old mid request) s called note e
+  has_left told s holds = by (means s (given_of done)) refl (meets told s holds note follows) where
+    by : (is : Option model.Effect) → means s (given_of done) ≡ is → Has g v (step_of old mid request) s called note is
+        → (e : model.Effect) × (means s (given_of done) ≡ Some e) × HasEffect g v (step_of old mid request) s called note e
+    by None at has = absurd has
+    by (Some e) at has = (e, at, has)
+
+  -- a reset inside the request leaves what its calls make of the blocks, also while the service boots after one that was stopped
+  moments_after : g.tells → (s : State) → HoldsAll g old s → (e : model.Effect) → HasEffect g v (step_of old mid request) s called note e
+      → Leaving g old.store new.store (EndsIn request e.calls s.store)
+  moments_after told s holds e has = by called.note.outcome refl held where
+    outcome : note.outcome ≡ called.note.outcome
+    outcome = ap (λ (n : BankNote). n.outcome) follows.is
+
+    ends : Ends note.outcome e.calls s.store note
+    ends = (has.noted (λ stopped. found told has.before has.holds (sym outcome ∙ stopped))).ends
+
+    stays : new ≡ mid → Leaving g old.store new.store (EndsIn request e.calls s.store)
+    stays is = subst (λ (h : Held B C). Leaving g old.store h.store (EndsIn request e.calls s.store)) (sym is) has.moments
+
+    booted_after : called.note.outcome ≡ Stopped → (left : Blocks) → ShowsBlocks has.before.store left → EndsIn request e.calls s.store left
+    booted_after at left shows =
+        inl (subst (λ (calls : List StoreCall). DuringCalls calls s.store left) (sym (has.writing (outcome ∙ at)))
+        (behind_calls e.calls note s.store left ends (subst (λ (blocks : Blocks). ShowsBlocks blocks left) (has.left (outcome ∙ at)) shows)))
+
+    by : (outcome : Outcome) → called.note.outcome ≡ outcome → new ≡ after_stop outcome note new.store mid → Leaving g old.store new.store (EndsIn request e.calls s.store)
+    by Untouched at is = stays is
+    by Done at is = stays is
+    by Failed at is = stays is
+    by Stopped at is = λ m. goes_on (has.moments m) (boot_leaves told has.before has.holds at m) (λ image shows. booted_after at (store_of image) shows)
+
+  pub is_made : Troubled g mid.store.bank new.store.bank (boot_only called.note.outcome note) → (called.note.outcome ≡ Stopped → new.store.booted ≡ not note.ended)
+      → IsMade g v (step_of old new request) means done
+  is_made trouble boots_store = record {
+    effect = λ told s holds.
+        let e = has_left told s holds in
+        let has = e.2 in
+        let outcome : note.outcome ≡ called.note.outcome = ap (λ (n : BankNote). n.outcome) follows.is in (
+          e.0,
+          e.1,
+          record {
+            told = record {
+              status = has.effect.status;
+              detail = has.effect.detail;
+              bytes = has.effect.bytes;
+              table = has.effect.table;
+              deeds = has.effect.deeds;
+              shown = has.effect.shown;
+              asked = refl;
+              calls = refl;
+              notice = has.effect.notice;
+              next = refl;
+            };
+            holds = subst (HoldsAll g new) (sym (has.effect.next ∙ ap (λ (o : Outcome). boots_after o note has.before) outcome)) (boots told has.before has.holds);
+            judged = subst (λ (kit : List (Option (KitEntry C))). Judged v old.kit kit e.0.asked called.verdicts) (sym same_kit) has.judged;
+            noted = has.noted (λ stopped. found told has.before has.holds (sym outcome ∙ stopped));
+            gave = has.gave;
+            moments = moments_after told s holds e.0 has;
+          },
+        );
+    fit = λ n fits. fit_on (suc n) (makes.fit n fits);
+    judged = (makes.judged.0, subst (λ (kit : List (Option (KitEntry C))). Judged v old.kit kit makes.judged.0 called.verdicts) (sym same_kit) makes.judged.1);
+    two = makes.two;
+    booted = booted_on boots_store;
+    ended = ended;
+    trouble = troubled_after g old.store.bank mid.store.bank new.store.bank called.note note follows (λ is. (makes.stopped is).1) makes.trouble trouble;
+    cause = caused_after called.answer.status called.note note follows (λ is. (makes.stopped is).1) makes.cause;
+  }
