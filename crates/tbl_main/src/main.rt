@@ -14,7 +14,7 @@ use std::thread::Threads;
 use tbl_adapters::{StandardInput, StandardOutput, StoreFile};
 use tbl_kinds::{Bytes, Memory};
 use tbl_outside::{Bank, Gate, Sink, Source};
-use tbl_top::run_with;
+use tbl_top::run;
 use words::{WordsFault, given_words};
 
 /// What `--help` answers.
@@ -84,7 +84,7 @@ fn play<R: Threads + Wait + Sync, S: Source, K: Sink, B: Bank + Send>(
     requires { bank_size ≤ B.size bank }
 {
     let kit = shipped_entries(alloc)?;
-    let (status, _bank) = run_with(rt, alloc, words, source, sink, bank, kit, &OpenGate);
+    let (status, _bank) = run(rt, alloc, words, source, sink, bank, kit, &OpenGate);
     Ok(status)
 }
 

@@ -5,10 +5,12 @@ use Rattle.std.specs.List.{AllByRecursion}
 use Rattle.tbl_kinds.specs.Records.{Pair, IsRecord, spelling, joined, record_limit}
 use Rattle.tbl_kinds.specs.declared.request.Request.{Request}
 use Rattle.tbl_kinds.proofs.RecordLaws.{joined-snoc, each-snoc}
-use Rattle.tbl_crew.specs.Scripts.{actor_count, pushed}
+use Rattle.tbl_session.specs.Actors.{actor_count}
+use Rattle.tbl_crew.specs.Scripts.{pushed}
 use Rattle.tbl_top.specs.Collecting.{Collecting, HasTaken, TakesOne, put_last, scripts_of}
 use Rattle.tbl_top.specs.Feeding.{IsKept}
-use Rattle.tbl_top.specs.Reading.{StopsReading, HasRead}
+use Rattle.tbl_session.specs.Inputs.{StopsReading}
+use Rattle.tbl_top.specs.Reading.{HasRead}
 use Rattle.tbl_top.specs.Standing.{Leaves}
 use Rattle.tbl_top.proofs.PlayingLemmas.{joined_bound, slice_is}
 use Rattle.tbl_top.proofs.FeedingLemmas.{beginning_length}

@@ -8,10 +8,11 @@ use Rattle.tbl_core.specs.declared.service.StepFault.{StepFault}
 use Rattle.tbl_core.specs.declared.service.StepFault.TheVariants.{Memory as NoMemory, BootFault as Faulted, BootStopped as Stopped}
 use Rattle.tbl_crew.specs.Histories.{HasPlayed, HavePlayed}
 use Rattle.tbl_crew.specs.Holding.{TellsFault}
-use Rattle.tbl_crew.specs.Scripts.{part, script_of}
-use Rattle.tbl_top.specs.Orders.{AskedBy, ByActor}
+use Rattle.tbl_session.specs.Actors.{part}
+use Rattle.tbl_crew.specs.Scripts.{script_of}
+use Rattle.tbl_session.specs.Orders.{AskedBy, ByActor}
 use Rattle.tbl_top.specs.Reading.{HasRead}
-use Rattle.tbl_top.specs.Session.{IsEnded}
+use Rattle.tbl_session.specs.Session.{IsEnded}
 use Rattle.tbl_top.specs.Feeding.{IsKept}
 use Rattle.tbl_top.specs.Playing.{IsWritten}
 use Rattle.tbl_top.specs.Standing.{Leaves, HasPlayedAll, IsOfInput, IsStop, StandsBehind, TellsBoot, TellsWhy, TellsWritten, TellsCause, standing_behind}

@@ -6,7 +6,8 @@ use Rattle.tbl_kinds.specs.Heads.{EndsBefore}
 use Rattle.tbl_kinds.specs.Transcript.{pair_of, pairs_of}
 use Rattle.tbl_kinds.proofs.RecordLaws.{short-length, bad-append, are_records}
 use Rattle.tbl_core.specs.Service.{CoreView}
-use Rattle.tbl_top.specs.Playing.{played_before, IsBeginning, IsSession}
+use Rattle.tbl_top.specs.Playing.{played_before, IsSession}
+use Rattle.tbl_session.specs.Inputs.{IsBeginning}
 use Rattle.tbl_top.specs.Standing.{Leaves, HasPlayedAll}
 use Rattle.tbl_top.specs.Feeding.{answer_of, Feeds, IsKept}
 use Rattle.tbl_top.specs.declared.playback.Standing.{Standing}

@@ -4,9 +4,10 @@ use Rattle.std.proofs.lemmas.List.{append-nil, length-append, length-map}
 use Rattle.std.specs.Io.KnownBytes.{prepend_known}
 use Rattle.tbl_kinds.specs.Records.{joined}
 use Rattle.tbl_kinds.specs.Transcript.{pair_of, pairs_of}
-use Rattle.tbl_top.specs.Playing.{Playing, IsBeginning, bytes_fed, IsSession}
+use Rattle.tbl_top.specs.Playing.{Playing, bytes_fed, IsSession}
+use Rattle.tbl_session.specs.Inputs.{IsBeginning, StopsReading}
 use Rattle.tbl_top.specs.Feeding.{Feeds, answer_of}
-use Rattle.tbl_top.specs.Reading.{StopsReading, EndsReading}
+use Rattle.tbl_top.specs.Reading.{EndsReading}
 use Rattle.tbl_top.proofs.PlayingLemmas.{joined_bound}
 use Rattle.tbl_top.proofs.FeedingLemmas.{beginning_length, feeds_more}
 use Rattle.tbl_top.specs.declared.playback.Standing.{Standing}

@@ -1,10 +1,9 @@
 -- Recovery over two sessions: from the moments of the first one, and the history of the second.
-use Rattle.std.proofs.Common.{◌≡◌, ℕ, zero, suc, List, [], ◌∷◌, take, Bool, true, false, not, ◌||◌, Option, Some, refl, sym, ap, ◌∙◌, subst, inl, inr, ℤ, arith}
+use Rattle.std.proofs.Common.{◌≡◌, ℕ, zero, suc, List, [], ◌∷◌, take, Bool, true, false, not, ◌||◌, Option, Some, None, refl, sym, ap, ◌∙◌, subst, inl, inr, ℤ, arith}
 use Rattle.std.specs.Prelude.{◌-◌, if◌then◌else◌, is_some, slice_get, slice_set}
 use Rattle.std.proofs.lemmas.Option.{same_Some}
 use Rattle.tbl_kinds.specs.Blocks.{Store}
 use Rattle.tbl_kinds.specs.Names.{is_name}
-use Rattle.tbl_kinds.specs.Records.{Pair}
 use Rattle.tbl_kinds.specs.Requests.{Fits}
 use Rattle.tbl_model.specs.State.{State, first_state}
 use Rattle.tbl_model.specs.Tables.{table_at}
@@ -14,10 +13,9 @@ use Rattle.tbl_model.specs.Effects.{Effect, answered}
 use Rattle.tbl_model.specs.Dispatch.{effect_of}
 use Rattle.tbl_model.specs.StoreNotes.{IsNoteOf}
 use Rattle.tbl_model.specs.History.{Run, begins_at, given_in, effect_in, onward, onward_by, run_from, IsAnswered, AreAnswered}
-use Rattle.tbl_laws.specs.Recovery.{IsHistory, Registration, registering, request_of, Registers, Begins, ComesBack, started}
-use Rattle.tbl_laws.proofs.RecoveryLaws.{recovers, recovers_or_begins, recovers_copied, registers_at_start}
+use Rattle.tbl_session.specs.Recovery.{IsHistory, Registration, registering, request_of, Registers, Begins, ComesBack, started}
+use Rattle.tbl_laws.proofs.RecoveryLaws.{StartsWith, recovers, gives_what_it_holds, recovers_or_begins, recovers_copied, registers_at_start}
 use Rattle.cds_layout.specs.Images.{store_of}
-use Rattle.cds_layout.proofs.SingleBlocks.{store-single}
 use Rattle.validation.specs.Kits.{owners}
 use Rattle.tbl_outside.specs.declared.validator.KitEntry.{KitEntry}
 use Rattle.tbl_kinds.specs.declared.entry.Entry.{Entry}
@@ -28,9 +26,9 @@ use Rattle.tbl_kinds.specs.declared.request.Request.{Request}
 use Rattle.tbl_kinds.specs.declared.request.Request.TheVariants as ask
 use Rattle.tbl_kinds.specs.declared.status.Status.{Status}
 use Rattle.tbl_kinds.specs.declared.status.TheConstants.Status.{SUCCESS, ERR_APP_RUNNING, ERR_INVALID_NAME}
-use Rattle.tbl_crew.specs.Crashes.{run_at, AtSomePlace}
-use Rattle.tbl_top.specs.Recovered.{Asks, RegistersAt, RegistersFirst, TableBegins, IsRecoveredOrEmpty, RecoversFrom}
-use Rattle.tbl_top.specs.Session.{Session, given_of, opening_of}
+use Rattle.tbl_session.specs.Moments.{run_at, AtSomePlace}
+use Rattle.tbl_session.specs.Recovered.{Asks, RegistersAt, RegistersFirst, TableBegins, IsRecoveredOrEmpty, IsGivenBack, RecoversFrom, RecoversBoth}
+use Rattle.tbl_session.specs.Session.{given_of, state_from}
 
 -- ---- an entry of an answered history
 
@@ -73,6 +71,10 @@ module _ (run : Run) (e : Entry) (r : Registration) (asks : Asks e r) (is : IsAn
       (subst (λ (request : Request). IsNoteOf request (registering run.state r).calls run.state.store e.note) asks.request
       (subst (λ (x : Effect). IsNoteOf e.request x.calls run.state.store e.note) same is.given.note))
 
+  gives_back : (left : Store) (name : List ℕ) (held : Option (List ℕ)) → StartsWith left (registering run.state r) name held → IsGivenBack held run e name
+  gives_back left name None starts = begins left name _ _ starts.status starts.begins
+  gives_back left name (Some image) starts = begins left name _ _ starts.status starts.begins
+
 -- ---- over an image that a reset left at a place of a history
 
 recovers_from : (opening : State) (entries : List Entry) (image : List ℕ) → IsHistory opening entries → AtSomePlace opening entries image
@@ -90,11 +92,12 @@ recovers_from opening entries image history at next_opening next answered place 
       completed = λ slot block copied of holds.
           let recovered = recovers opening entries at.0 left at.2 history run.state name r registers.over slot block copied of holds in
           begins run e r registers.asks is left name _ _ recovered.status recovered.begins;
-      broken = λ slot b of doubt. comes_back run e r registers.asks is _ left name (recovers_or_begins opening entries at.0 left at.2 history run.state name r registers.over slot b of doubt);
-      copied = λ slot b of doubt not_by_chance. comes_back run e r registers.asks is _ left name (recovers_copied opening entries at.0 left at.2 history run.state name r registers.over slot b of doubt not_by_chance);
+      sure = λ slot b of shown none. gives_back run e r registers.asks is left name b.held (gives_what_it_holds opening entries at.0 left at.2 history run.state name r registers.over slot b of shown none);
+      broken = λ slot b of shown tried. comes_back run e r registers.asks is _ left name (recovers_or_begins opening entries at.0 left at.2 history run.state name r registers.over slot b of shown tried);
+      copied = λ slot b of shown not_by_chance. comes_back run e r registers.asks is _ left name (recovers_copied opening entries at.0 left at.2 history run.state name r registers.over slot b of shown not_by_chance);
     }
 
--- ---- behind the start of one application
+-- ---- after the start of one application
 
 -- it runs, and nothing else has changed
 start_next : (s next : State) (running bad : Bool)
@@ -136,31 +139,13 @@ registers_first left kit entries are first e app_name r begun =
 
 -- ---- two sessions
 
--- the first, over a bank that tells its moments
-module _ {B C : Type 0} (plays : ℕ → List Pair → List Entry → Type 0) (tells tells_moments : Type 0) (now : B → List ℕ) (faults stops : B → ℕ) (may_leave : B → List ℕ → Type 0) (clock : B → ℕ) (left_since : B → ℕ → List ℕ → Type 0) (verdict : C → List ℕ → ℤ) (kit : List (KitEntry C)) (bank bank_then : B) (read : List ℕ) (at_end read_failed : Type 0) (status : ℕ) (before after : Option (List ℕ))
-    (tells_both : tells_moments → tells) (told : tells_moments)
-    (s : Session plays tells tells_moments faults stops may_leave clock left_since verdict (given_of kit) (opening_of (now bank) kit) bank bank_then read at_end read_failed status before after) where
-  abbrev First : State
-  First = opening_of (now bank) kit
-
-  is_history : IsHistory First s.entries
-  is_history = record { tables = refl; single = store-single (now bank); answered = (s.served.legal (tells_both told)).answered }
-
-  -- and the second, over a bank of which the bytes are an image that a reset in the first one, or behind it, may have left
-  module _ {B' C' : Type 0} (plays' : ℕ → List Pair → List Entry → Type 0) (tells' tells_moments' : Type 0) (now' : B' → List ℕ) (faults' stops' : B' → ℕ) (may_leave' : B' → List ℕ → Type 0) (clock' : B' → ℕ) (left_since' : B' → ℕ → List ℕ → Type 0) (verdict' : C' → List ℕ → ℤ) (kit' : List (KitEntry C')) (bank' bank_then' : B') (read' : List ℕ) (at_end' read_failed' : Type 0) (status' : ℕ) (before' after' : Option (List ℕ))
-      (told' : tells') (over : left_since bank_then (clock bank) (now' bank'))
-      (s' : Session plays' tells' tells_moments' faults' stops' may_leave' clock' left_since' verdict' (given_of kit') (opening_of (now' bank') kit') bank' bank_then' read' at_end' read_failed' status' before' after') where
-    abbrev Second : State
-    Second = opening_of (now' bank') kit'
-
-    -- a critical table is registered at a place of it
-    pub recovered : (place : ℕ) (e : Entry) (name : List ℕ) (r : Registration) → RegistersAt (store_of (now' bank')) Second s'.entries place e name r
-        → RecoversFrom First s.entries (now' bank') (run_at Second s'.entries place) e name r.size
-    recovered place e name r registers =
-        recovers_from First s.entries (now' bank') is_history ((s.served.moments told).each (now' bank') over) Second s'.entries (s'.served.legal told').answered place e name r registers
-
-    -- as the first thing behind the start of its application
-    pub recovered_first : (first e : Entry) (app_name : List ℕ) (r : Registration) → RegistersFirst (owners (given_of kit')) s'.entries first e app_name r
-        → RecoversFrom First s.entries (now' bank') (run_at Second s'.entries 1) e (full_name app_name r.short) r.size
-    recovered_first first e app_name r begun =
-        recovered 1 e (full_name app_name r.short) r (registers_first (store_of (now' bank')) (owners (given_of kit')) s'.entries (s'.served.legal told').answered first e app_name r begun)
+-- the second began with the blocks that a reset in the first one, or after it, left
+pub recovers_both : {C : Type 0} (opening : State) (entries : List Entry) (image : List ℕ) (kit : List (KitEntry C)) (next : List Entry) → IsHistory opening entries → AtSomePlace opening entries image
+    → AreAnswered (begins_at (state_from image kit)) next → RecoversBoth opening entries image kit next
+recovers_both opening entries image kit next history at answered = record {
+  recovered = by_place;
+  recovered_first = λ start e app_name r begun. by_place 1 e (full_name app_name r.short) r (registers_first (store_of image) (owners (given_of kit)) next answered start e app_name r begun);
+} where
+  by_place : (place : ℕ) (e : Entry) (name : List ℕ) (r : Registration) → RegistersAt (store_of image) (state_from image kit) next place e name r
+      → RecoversFrom opening entries image (run_at (state_from image kit) next place) e name r.size
+  by_place place e name r registers = recovers_from opening entries image history at (state_from image kit) next answered place e name r registers

@@ -11,7 +11,8 @@ use Rattle.tbl_kinds.specs.Requests.{Fits}
 use Rattle.tbl_kinds.specs.declared.request.Actor.{Actor}
 use Rattle.tbl_kinds.specs.declared.request.Actor.TheVariants.{Ground, App}
 use Rattle.tbl_kinds.specs.declared.request.Request.{Request}
-use Rattle.tbl_crew.specs.Scripts.{actor_count, actor_of, part, script_of, pushed, request_count, OfEach, AllFit}
+use Rattle.tbl_session.specs.Actors.{actor_count, actor_of, part}
+use Rattle.tbl_crew.specs.Scripts.{script_of, pushed, request_count, OfEach, AllFit}
 use Rattle.tbl_crew.proofs.PushLemmas.{fit_none, count_none, pushed_actors, pushed_count, pushed_fit}
 use Rattle.tbl_top.specs.Collecting.{put_last, scripts_of}
 

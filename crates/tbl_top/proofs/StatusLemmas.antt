@@ -11,14 +11,16 @@ use Rattle.tbl_kinds.specs.Transcript.{entries_bytes, end_bytes, offset_of, tran
 use Rattle.tbl_core.specs.Service.{CoreView}
 use Rattle.tbl_laws.proofs.WholeLaws.{whole}
 use Rattle.tbl_outside.specs.Streams.{TakesFront}
+use Rattle.tbl_outside.specs.declared.bank.Bank.{Ghosts}
 use Rattle.tbl_outside.proofs.Streams.{written_more, front_of_first, front_of_second, front_of_whole}
-use Rattle.tbl_top.specs.Playing.{IsBeginning, IsWritten}
+use Rattle.tbl_session.specs.Inputs.{IsBeginning}
+use Rattle.tbl_top.specs.Playing.{IsWritten}
 use Rattle.tbl_top.specs.Standing.{Leaves, HasPlayedAll, TellsBoot}
-use Rattle.tbl_crew.specs.Trouble.{IsCaused}
-use Rattle.tbl_crew.proofs.TroubleLemmas.{still_lives, one_boot}
+use Rattle.tbl_history.specs.Trouble.{IsCaused}
+use Rattle.tbl_history.proofs.TroubleLemmas.{still_lives, one_boot}
 use Rattle.tbl_top.specs.Feeding.{IsKept}
 use Rattle.tbl_top.specs.Finishing.{status_of, WritesEnd}
-use Rattle.tbl_top.specs.Session.{IsStatus, IsEnded, IsBooted, IsBrokenOff, EndsAs, BootsAs, IsExact, WouldEnd, Tells}
+use Rattle.tbl_session.specs.Session.{IsStatus, IsEnded, IsBooted, IsBrokenOff, EndsAs, BootsAs, IsExact, WouldEnd, Tells}
 use Rattle.tbl_top.proofs.CompletenessLemmas.{bad_is_some}
 use Rattle.tbl_top.specs.declared.playback.Standing.{Standing}
 use Rattle.tbl_top.specs.declared.playback.Standing.TheVariants.{Open, Bad, Full, BootFault, BootStopped, SinkFailed, Memory, Unwritten}
@@ -126,27 +128,27 @@ ends_as Memory failed played rest kept at_end read_failed leaves is end cause = 
 ends_as Unwritten failed played rest kept at_end read_failed leaves is end cause = tells_none 1 played rest at_end read_failed (not_ended 1 (inl refl))
 
 -- which boot it was
-calm : {B C : Type 0} (status : ℕ) (faults stops : B → ℕ) (bank : B) (core : CoreView B C) (read : List ℕ) (bank_failed bank_stopped : Type 0) → (status ≢ 7) → (status ≢ 8) → IsCaused faults stops bank core → core.state.ended ≡ false
+calm : {B C : Type 0} (status : ℕ) (g : Ghosts B) (bank : B) (core : CoreView B C) (read : List ℕ) (bank_failed bank_stopped : Type 0) → (status ≢ 7) → (status ≢ 8) → IsCaused g bank core → core.state.ended ≡ false
     → BootsAs status core.entries read bank_failed bank_stopped
-calm status faults stops bank core read bank_failed bank_stopped not_fault not_stop caused live = record {
+calm status g bank core read bank_failed bank_stopped not_fault not_stop caused live = record {
   fault = λ e. absurd (not_fault e);
   stop = λ e. absurd (not_stop e);
-  told_fault = λ boot. absurd (still_lives faults stops bank core false caused live boot);
-  told_stop = λ boot. absurd (still_lives faults stops bank core true caused live boot);
+  told_fault = λ boot. absurd (still_lives g bank core false caused live boot);
+  told_stop = λ boot. absurd (still_lives g bank core true caused live boot);
 }
 
-pub boots_as : {B C : Type 0} (standing : Standing) (failed whole : Bool) (faults stops : B → ℕ) (bank : B) (core : CoreView B C) (read : List ℕ) (bank_failed bank_stopped : Type 0) → IsCaused faults stops bank core → TellsBoot standing core
+pub boots_as : {B C : Type 0} (standing : Standing) (failed whole : Bool) (g : Ghosts B) (bank : B) (core : CoreView B C) (read : List ℕ) (bank_failed bank_stopped : Type 0) → IsCaused g bank core → TellsBoot standing core
     → BootsAs (status_of standing failed whole) core.entries read bank_failed bank_stopped
-boots_as Open true whole faults stops bank core read bank_failed bank_stopped caused boot = calm 3 faults stops bank core read bank_failed bank_stopped (λ e. omega (arith, e)) (λ e. omega (arith, e)) caused boot
-boots_as Open false true faults stops bank core read bank_failed bank_stopped caused boot = calm 0 faults stops bank core read bank_failed bank_stopped (λ e. omega (arith, e)) (λ e. omega (arith, e)) caused boot
-boots_as Open false false faults stops bank core read bank_failed bank_stopped caused boot = calm 5 faults stops bank core read bank_failed bank_stopped (λ e. omega (arith, e)) (λ e. omega (arith, e)) caused boot
-boots_as Bad failed whole faults stops bank core read bank_failed bank_stopped caused boot = calm 5 faults stops bank core read bank_failed bank_stopped (λ e. omega (arith, e)) (λ e. omega (arith, e)) caused boot
-boots_as Full failed whole faults stops bank core read bank_failed bank_stopped caused boot = calm 6 faults stops bank core read bank_failed bank_stopped (λ e. omega (arith, e)) (λ e. omega (arith, e)) caused boot
-boots_as BootFault failed whole faults stops bank core read bank_failed bank_stopped caused boot = record { fault = λ _. inl boot; stop = λ e. absurd (omega (arith, e)); told_fault = λ _. inl refl; told_stop = λ other. absurd (one_boot core.entries boot other) }
-boots_as BootStopped failed whole faults stops bank core read bank_failed bank_stopped caused boot = record { fault = λ e. absurd (omega (arith, e)); stop = λ _. inl boot; told_fault = λ other. absurd (one_boot core.entries other boot); told_stop = λ _. inl refl }
-boots_as SinkFailed failed whole faults stops bank core read bank_failed bank_stopped caused boot = no_boot 4 core.entries read bank_failed bank_stopped (inr refl)
-boots_as Memory failed whole faults stops bank core read bank_failed bank_stopped caused boot = no_boot 1 core.entries read bank_failed bank_stopped (inl refl)
-boots_as Unwritten failed whole faults stops bank core read bank_failed bank_stopped caused boot = no_boot 1 core.entries read bank_failed bank_stopped (inl refl)
+boots_as Open true whole g bank core read bank_failed bank_stopped caused boot = calm 3 g bank core read bank_failed bank_stopped (λ e. omega (arith, e)) (λ e. omega (arith, e)) caused boot
+boots_as Open false true g bank core read bank_failed bank_stopped caused boot = calm 0 g bank core read bank_failed bank_stopped (λ e. omega (arith, e)) (λ e. omega (arith, e)) caused boot
+boots_as Open false false g bank core read bank_failed bank_stopped caused boot = calm 5 g bank core read bank_failed bank_stopped (λ e. omega (arith, e)) (λ e. omega (arith, e)) caused boot
+boots_as Bad failed whole g bank core read bank_failed bank_stopped caused boot = calm 5 g bank core read bank_failed bank_stopped (λ e. omega (arith, e)) (λ e. omega (arith, e)) caused boot
+boots_as Full failed whole g bank core read bank_failed bank_stopped caused boot = calm 6 g bank core read bank_failed bank_stopped (λ e. omega (arith, e)) (λ e. omega (arith, e)) caused boot
+boots_as BootFault failed whole g bank core read bank_failed bank_stopped caused boot = record { fault = λ _. inl boot; stop = λ e. absurd (omega (arith, e)); told_fault = λ _. inl refl; told_stop = λ other. absurd (one_boot core.entries boot other) }
+boots_as BootStopped failed whole g bank core read bank_failed bank_stopped caused boot = record { fault = λ e. absurd (omega (arith, e)); stop = λ _. inl boot; told_fault = λ other. absurd (one_boot core.entries other boot); told_stop = λ _. inl refl }
+boots_as SinkFailed failed whole g bank core read bank_failed bank_stopped caused boot = no_boot 4 core.entries read bank_failed bank_stopped (inr refl)
+boots_as Memory failed whole g bank core read bank_failed bank_stopped caused boot = no_boot 1 core.entries read bank_failed bank_stopped (inl refl)
+boots_as Unwritten failed whole g bank core read bank_failed bank_stopped caused boot = no_boot 1 core.entries read bank_failed bank_stopped (inl refl)
 
 -- ---- and the other way
 
@@ -154,7 +156,7 @@ short_not_bad : (rest : List ℕ) → IsShort rest → IsBad rest → ⊥
 unfolding is_short is_bad
 short_not_bad rest short bad = grind (arith, nat_tests)
 
-pub exact_of : (status played : ℕ) (rest : List ℕ) (at_end read_failed : Type 0) → IsStatus status → EndsAs status played rest at_end read_failed → IsExact status played rest at_end
+pub exact_of : (status played : ℕ) (rest : List ℕ) (at_end read_failed : Type 0) → IsStatus status → EndsAs status played rest at_end read_failed → IsExact status played rest
 exact_of status played rest at_end read_failed (inl (inl zero)) ends = record {
   bad = λ lt bad. absurd (bad_is_some rest bad (ends.done zero).0);
   full = λ all some. absurd (omega (arith, some, ap (λ (xs : List ℕ). length xs) (ends.done zero).0));
@@ -178,7 +180,7 @@ ends_before status pairs rest at_end read_failed (inr (inr (inr six))) ends = in
 
 module _ (status result : ℕ) (entries : List Entry) (would_end : ℕ → Type 0) (before mid after : Option (List ℕ)) (faults faults_then : ℕ) where
   -- behind whole entries
-  pub tells_end : (status ≢ 4) → would_end status → IsWritten before entries mid → WritesEnd status result entries mid after faults faults_then → Tells result entries would_end before after
+  pub tells_end : (status ≢ 4) → would_end status → IsWritten before entries mid → WritesEnd status result entries (mid, faults) (after, faults_then) → Tells result entries would_end before after
   tells_end not_four ends_status written (inl w) =
       let all : after ≡ append_known before (transcript entries status) = written_more before mid after (entries_bytes 0 entries) (end_bytes status (length entries) (offset_of entries)) written w.1 in
       record {

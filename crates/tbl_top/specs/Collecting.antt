@@ -3,7 +3,8 @@ use Rattle.std.specs.Prelude.{◌≡◌, ℕ, ◌+◌, ◌<◌, ◌≤◌, List,
 use Rattle.std.specs.List.{AllByRecursion}
 use Rattle.tbl_kinds.specs.Records.{Pair, IsRecord, spelling, joined, record_limit}
 use Rattle.tbl_kinds.specs.declared.request.Request.{Request}
-use Rattle.tbl_crew.specs.Scripts.{actor_count, pushed}
+use Rattle.tbl_session.specs.Actors.{actor_count}
+use Rattle.tbl_crew.specs.Scripts.{pushed}
 use Rattle.tbl_top.specs.Feeding.{IsKept}
 use Rattle.tbl_top.specs.Standing.{IsOfInput, Leaves}
 use Rattle.tbl_top.specs.Reading.{HasRead}

@@ -5,7 +5,3 @@ pub mod Feeding
 pub mod Finishing
 pub mod Reading
 pub mod Collecting
-pub mod Session
-pub mod Orders
-pub mod Begun
-pub mod Recovered

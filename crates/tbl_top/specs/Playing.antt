@@ -1,9 +1,8 @@
 -- A session that is being played: the core, and the bytes that were fed and not yet played.
-use Rattle.std.specs.Prelude.{◌≡◌, ◌⊎◌, ℕ, ◌<◌, ◌≤◌, List, [], ◌++◌, length, Option}
+use Rattle.std.specs.Prelude.{◌≡◌, ℕ, ◌≤◌, List, ◌++◌, length, Option}
 use Rattle.std.specs.Io.KnownBytes.{append_known}
 use Rattle.std.specs.List.{AllByRecursion}
 use Rattle.tbl_kinds.specs.Records.{IsRecord, joined, record_limit}
-use Rattle.tbl_kinds.specs.Heads.{IsShort}
 use Rattle.tbl_kinds.specs.Transcript.{pairs_of, entries_bytes}
 use Rattle.tbl_outside.specs.Streams.{TakesFront}
 use Rattle.tbl_core.specs.Service.{CoreView}
@@ -15,17 +14,13 @@ pub record Playing (B C : Type 0) : Type 0 where
   pub rest : List ℕ
   pub standing : Standing
 
--- the spellings of what was played, and these bytes behind them
+-- the spellings of what was played, and these bytes after them
 abbrev pub played_before : {B C : Type 0} → CoreView B C → List ℕ → List ℕ
 played_before core behind = joined (pairs_of core.entries) ++ behind
 
 -- all bytes that were fed, as long as the session is open
 abbrev pub bytes_fed : {B C : Type 0} → Playing B C → List ℕ
 bytes_fed p = played_before p.core p.rest
-
--- behind so many played records stands nothing, or the beginning of one that a session may still have
-abbrev pub IsBeginning : ℕ → List ℕ → Type 0
-IsBeginning played rest = (rest ≡ []) ⊎ (IsShort rest × (played < record_limit))
 
 -- what was played are records, no more than a session may have
 pub record IsSession {B C : Type 0} (core : CoreView B C) : Type 0 where

@@ -2,27 +2,12 @@
 use Rattle.std.specs.Prelude.{◌≡◌, ℕ, ◌<◌, ◌≤◌, List, ◌++◌, length, Bool, false, Option, Some, None}
 use Rattle.std.specs.List.{AllByRecursion}
 use Rattle.tbl_kinds.specs.Records.{Pair, IsRecord, joined, record_limit}
-use Rattle.tbl_top.specs.Playing.{Playing, IsBeginning, bytes_fed}
+use Rattle.tbl_top.specs.Playing.{Playing, bytes_fed}
+use Rattle.tbl_session.specs.Inputs.{IsBeginning, StopsReading}
 use Rattle.tbl_top.specs.Feeding.{Feeds, IsKept}
 use Rattle.tbl_top.specs.Standing.{Leaves}
 use Rattle.tbl_top.specs.declared.playback.Standing.{Standing}
 use Rattle.tbl_top.specs.declared.playback.Standing.TheVariants.{Open}
-
--- how many bytes are asked for at a time
-abbrev pub piece_limit : ℕ
-piece_limit = 4096
-
--- Before the last piece stood records, and at most the beginning of a further one: nothing was read behind a piece with
--- which a bad record, or a byte too many, was there.
-pub record StopsReading (read : List ℕ) : Type 0 where
-  pub records : List Pair
-  pub beginning : List ℕ
-  pub last : List ℕ
-  pub parts : read ≡ joined records ++ beginning ++ last
-  pub each : AllByRecursion IsRecord records
-  pub few : length records ≤ record_limit
-  pub begun : IsBeginning (length records) beginning
-  pub short : length last ≤ piece_limit
 
 -- This was read: these records, and behind them what a standing tells. What is kept of it is what stands behind them as long as more
 -- could follow; and more could only where the input ended or a read failed.

@@ -5,8 +5,9 @@ use Rattle.tbl_kinds.specs.Heads.{IsBad}
 use Rattle.tbl_outside.specs.Streams.{TakesFront}
 use Rattle.tbl_core.specs.Service.{CoreView}
 use Rattle.tbl_outside.specs.Counts.{Rose}
-use Rattle.tbl_crew.specs.Trouble.{EndsInBoot}
-use Rattle.tbl_top.specs.Playing.{IsBeginning, IsWritten, IsFrontWritten}
+use Rattle.tbl_session.specs.Trouble.{EndsInBoot}
+use Rattle.tbl_session.specs.Inputs.{IsBeginning}
+use Rattle.tbl_top.specs.Playing.{IsWritten, IsFrontWritten}
 use Rattle.tbl_top.specs.declared.playback.Standing.{Standing}
 use Rattle.tbl_top.specs.declared.playback.Standing.TheVariants.{Open, Bad, Full, BootFault, BootStopped, SinkFailed, Memory, Unwritten}
 use Rattle.tbl_core.specs.declared.service.StepFault.{StepFault}

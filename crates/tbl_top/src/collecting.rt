@@ -5,7 +5,8 @@ ghost use Rattle.std.specs.Io.KnownBytes.{prepend_known, IsAtEnd};
 ghost use Rattle.tbl_kinds.specs.Records.{Pair};
 ghost use Rattle.tbl_outside.specs.Counts.{Rose};
 ghost use Rattle.tbl_top.specs.Collecting.{HasTaken, TakesMore, TakesNone, TakesOne, scripts_of};
-ghost use Rattle.tbl_top.specs.Reading.{HasRead, piece_limit};
+ghost use Rattle.tbl_top.specs.Reading.{HasRead};
+ghost use Rattle.tbl_session.specs.Inputs.{piece_limit};
 ghost use Rattle.tbl_top.specs.Standing.{IsOfInput};
 ghost use Rattle.tbl_top.specs.declared.playback.Standing.TheVariants.{Open};
 

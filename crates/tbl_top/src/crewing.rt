@@ -1,23 +1,18 @@
 //! Plays the records of an input with a thread for each actor.
 
-ghost use Rattle.std.specs.Prelude.{◌≡◌, ◌≢◌, ◌≤◌, ◌<◌, ◌^◌, ℕ, Option, List, [], false, All, IfOk, IfErr};
-ghost use Rattle.std.specs.Io.KnownBytes.{prepend_known, IsAtEnd};
+ghost use Rattle.std.specs.Prelude.{◌≡◌, ◌≢◌, ◌≤◌, ◌<◌, ◌^◌, Option, List, [], false, All, IfOk, IfErr};
 ghost use Rattle.tbl_kinds.specs.Places.{bank_size};
 ghost use Rattle.tbl_kinds.specs.StoreSteps.{Shows};
-ghost use Rattle.tbl_model.specs.State.{State};
 ghost use Rattle.cds_layout.specs.Images.{store_of};
-ghost use Rattle.tbl_core.specs.Service.{Vouches, StartCounted};
+ghost use Rattle.tbl_core.specs.Service.{StartCounted};
 ghost use Rattle.tbl_outside.specs.Bank.{LeavesOnly};
-ghost use Rattle.tbl_outside.specs.Counts.{Rose};
 ghost use Rattle.tbl_outside.specs.declared.validator.KitEntry.{KitEntry as Entry};
-ghost use Rattle.tbl_crew.specs.Crashes.{Survives};
+ghost use Rattle.tbl_session.specs.Openings.{Opening};
+ghost use Rattle.tbl_session.specs.Orders.{ByActor};
+ghost use Rattle.tbl_session.specs.Session.{Session, opening_of, ran};
+ghost use Rattle.tbl_history.specs.Serving.{Serves};
 ghost use Rattle.tbl_crew.specs.Holding.{TellsFault};
-ghost use Rattle.tbl_crew.specs.Openings.{IsFirst};
-ghost use Rattle.tbl_crew.specs.Trouble.{IsCaused};
-ghost use Rattle.tbl_top.specs.Begun.{IsBegun};
 ghost use Rattle.tbl_top.specs.Collecting.{HasTaken};
-ghost use Rattle.tbl_top.specs.Orders.{ByActor};
-ghost use Rattle.tbl_top.specs.Session.{Session, given_of, opening_of};
 ghost use Rattle.tbl_top.specs.Standing.{IsOfInput, StandsBehind, TellsBoot, TellsCause, TellsWritten, standing_behind};
 ghost use Rattle.tbl_top.specs.declared.playback.Standing.TheVariants.{Open};
 
@@ -84,14 +79,10 @@ pub(crate) fn play_crew<
 ) -> (u8, Core<B, C>)
     requires live { playback.state.ended ≡ false }
     requires empty { playback.entries ≡ [] }
-    requires begun { IsBegun B.tells B.tells_moments B.now B.faults B.stops B.may_leave B.clock B.left_since C.verdict playback }
+    requires begun { (o : Opening B C) × Serves B.Bank C.verdict o playback }
     requires fresh { HasTaken Open [] 0 [] collector }
-    ensures session { (given : List (Option (Entry C))) (opening : State) (bank : B) → IsFirst opening → Vouches B.tells B.now C.verdict given opening playback
-        → IsCaused B.faults B.stops bank playback → Survives B.tells B.tells_moments B.now B.may_leave B.clock B.left_since opening bank playback
-        → (read : List ℕ) × (S.left source.old ≡ prepend_known read (S.left source.new))
-        × Session ByActor B.tells B.tells_moments B.faults B.stops B.may_leave B.clock B.left_since C.verdict given opening bank result.1.state.store.bank read (IsAtEnd (S.left source.new)) (Rose (S.faults source.old) (S.faults source.new)) result.0 (K.taken sink.old) (K.taken sink.new) }
-    ensures source_failed { result.0 ≡ 3 → Rose (S.faults source.old) (S.faults source.new) }
-    ensures sink_failed { result.0 ≡ 4 → Rose (K.faults sink.old) (K.faults sink.new) }
+    ensures session { (o : Opening B C) → Serves B.Bank C.verdict o playback
+        → Session ByActor B.Bank C.verdict o (ran S.Source K.Sink (source.old, sink.old) (source.new, sink.new) (result.0, result.1.state.store.bank)) }
     ensures not_usage { result.0 ≢ 2 }
 {
     let (read, read_failed) = collector.read_all(source);
@@ -112,12 +103,10 @@ fn begin_crew<B: Bank, C: Validator>(
     requires asked { All (λ (e : Entry C). C.asked e.check < 2 ^ 62) kit.items }
     ensures empty { IfOk result (λ begun. begun.0.entries ≡ []) }
     ensures live { IfOk result (λ begun. begun.0.state.ended ≡ false) }
-    ensures vouched { IfOk result (λ begun. Vouches B.tells B.now C.verdict (given_of kit.items) (opening_of (B.now bank) kit.items) begun.0) }
-    ensures trouble { IfOk result (λ begun. IsCaused B.faults B.stops bank begun.0) }
-    ensures survives { IfOk result (λ begun. Survives B.tells B.tells_moments B.now B.may_leave B.clock B.left_since (opening_of (B.now bank) kit.items) bank begun.0) }
+    ensures serves { IfOk result (λ begun. Serves B.Bank C.verdict (opening_of B.Bank bank kit.items) begun.0) }
     ensures fresh { IfOk result (λ begun. HasTaken Open [] 0 [] begun.1) }
     ensures crash_err { IfErr result (λ back. B.tells_moments → LeavesOnly B.clock B.left_since bank back.bank (λ image. Shows (store_of (B.now bank)) (store_of image))) }
-    ensures cause { IfErr result (λ back. StartCounted B.faults B.stops bank back.bank back.cause) }
+    ensures cause { IfErr result (λ back. StartCounted B.Bank bank back.bank back.cause) }
 {
     match Collector::make(alloc) {
         Err(_) => Err(Back {
@@ -128,8 +117,8 @@ fn begin_crew<B: Bank, C: Validator>(
     }
 }
 
-/// Plays a session with a thread for each actor, with validation functions of one type.
-pub(crate) fn run_crew_with<
+/// Plays a session with a thread for each actor.
+pub(crate) fn run_crew<
     R: Threads + Wait + Sync,
     B: Bank + Send,
     C: Validator + Send,
@@ -148,10 +137,7 @@ pub(crate) fn run_crew_with<
     requires room { bank_size ≤ B.size bank }
     requires asked { All (λ (e : Entry C). C.asked e.check < 2 ^ 62) kit.items }
     ensures not_usage { result.0 ≢ 2 }
-    ensures session { (read : List ℕ) × (S.left source.old ≡ prepend_known read (S.left source.new))
-        × Session ByActor B.tells B.tells_moments B.faults B.stops B.may_leave B.clock B.left_since C.verdict (given_of kit.items) (opening_of (B.now bank) kit.items) bank result.1 read (IsAtEnd (S.left source.new)) (Rose (S.faults source.old) (S.faults source.new)) result.0 (K.taken sink.old) (K.taken sink.new) }
-    ensures source_failed { result.0 ≡ 3 → Rose (S.faults source.old) (S.faults source.new) }
-    ensures sink_failed { result.0 ≡ 4 → Rose (K.faults sink.old) (K.faults sink.new) }
+    ensures session { Session ByActor B.Bank C.verdict (opening_of B.Bank bank kit.items) (ran S.Source K.Sink (source.old, sink.old) (source.new, sink.new) result) }
 {
     match begin_crew(alloc, bank, kit) {
         Err(Back { cause, bank }) => (finish_unbegun(alloc, cause, sink), bank),

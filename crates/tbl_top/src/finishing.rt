@@ -65,7 +65,7 @@ pub(crate) fn finish<B: Bank, C: Validator, K: Sink>(
     is_whole: bool,
     sink: &mut K,
 ) -> u8
-    ensures finishes { Finishes standing (status_of standing read_failed is_whole) result playback.old.entries (K.taken sink.old) (K.taken sink.new) (K.faults sink.old) (K.faults sink.new) }
+    ensures finishes { Finishes standing (status_of standing read_failed is_whole) result playback.old.entries (K.taken sink.old, K.faults sink.old) (K.taken sink.new, K.faults sink.new) }
     ensures same { playback.new ≡ playback.old }
     ensures count { K.faults sink.old ≤ K.faults sink.new }
 {
@@ -86,7 +86,7 @@ pub(crate) fn finish<B: Bank, C: Validator, K: Sink>(
 
 /// Writes the end record of a session that has no entry.
 fn tell_empty_end<K: Sink>(alloc: Global, status: u8, sink: &mut K) -> u8
-    ensures finishes { WritesEndAlone status result (K.taken sink.old) (K.taken sink.new) (K.faults sink.old) (K.faults sink.new) }
+    ensures finishes { WritesEndAlone status result (K.taken sink.old, K.faults sink.old) (K.taken sink.new, K.faults sink.new) }
     ensures count { K.faults sink.old ≤ K.faults sink.new }
 {
     let Ok(mut end) = Bytes::make(alloc, END_LENGTH) else {
@@ -101,7 +101,7 @@ fn tell_empty_end<K: Sink>(alloc: Global, status: u8, sink: &mut K) -> u8
 
 /// Ends a session whose service didn't begin: its transcript is the end record alone. Where memory ran out there is none.
 pub(crate) fn finish_unbegun<K: Sink>(alloc: Global, fault: StartFault, sink: &mut K) -> u8
-    ensures finishes { FinishesUnbegun fault result (K.taken sink.old) (K.taken sink.new) (K.faults sink.old) (K.faults sink.new) }
+    ensures finishes { FinishesUnbegun fault result (K.taken sink.old, K.faults sink.old) (K.taken sink.new, K.faults sink.new) }
     ensures count { K.faults sink.old ≤ K.faults sink.new }
 {
     match fault {

@@ -10,9 +10,12 @@ mod playing;
 mod reading;
 mod running;
 mod session;
+mod twice;
 mod words;
 mod writing;
 
 pub use player::{Fed, Player};
-pub use running::{run, run_with};
-pub use session::{run_in_order, run_in_order_with};
+pub use running::run;
+pub use session::run_in_order;
+pub use twice::{Reset, run_again};
+pub use words::Word;

@@ -1,23 +1,18 @@
 //! Plays whole records at the front of bytes, and writes each entry before the next record is looked for.
 
 ghost use Rattle.std.specs.Prelude.{◌≡◌, ⊤, ℕ, ◌<◌, ◌≤◌, Option, List, [], ◌++◌, length, drop, false, IfOk, IfErr, OnOk, MatchOption, OnErr};
-ghost use Rattle.tbl_model.specs.State.{State};
 ghost use Rattle.tbl_kinds.specs.Records.{IsRecord, spelling, joined, record_limit};
-ghost use Rattle.tbl_core.specs.Service.{StandsFor, Vouches};
-ghost use Rattle.tbl_outside.specs.declared.validator.KitEntry.{KitEntry as Function};
 ghost use Rattle.std.specs.Io.KnownBytes.{append_known};
 ghost use Rattle.tbl_kinds.specs.Transcript.{pairs_of, end_bytes, offset_of};
 ghost use Rattle.tbl_outside.specs.Counts.{Rose};
 ghost use Rattle.tbl_outside.specs.Streams.{TakesFront};
+ghost use Rattle.tbl_session.specs.Openings.{Opening};
+ghost use Rattle.tbl_history.specs.Serving.{Continues, Serves};
 ghost use Rattle.tbl_top.specs.Playing.{played_before, IsSession, IsWritten};
 ghost use Rattle.tbl_top.specs.Standing.{Leaves, TellsWritten, TellsCause, TellsBoot, TellsService, TellsWhy, TellsLast};
 ghost use Rattle.std.specs.List.{AllByRecursion};
-ghost use Rattle.tbl_crew.specs.Crashes.{Survives};
 ghost use Rattle.tbl_crew.specs.Histories.{OneHistory};
-ghost use Rattle.tbl_crew.specs.Openings.{IsFirst};
 ghost use Rattle.tbl_crew.specs.Scripts.{request_count, AllFit, OfEach};
-ghost use Rattle.tbl_crew.specs.Trouble.{IsCaused};
-ghost use Rattle.tbl_top.specs.Begun.{IsBegun};
 
 use crate::playing::play;
 use crate::writing::write;
@@ -115,7 +110,8 @@ impl<B: Bank, C: Validator> Playback<B, C> {
     /// Writes each entry of the history; None where the sink took all of them.
     pub(crate) fn tell_all<K: Sink>(&mut self, sink: &mut K) -> Option<Standing>
         ensures same { self.new ≡ self.old }
-        ensures written { MatchOption result (IsWritten (K.taken sink.old) self.old.entries (K.taken sink.new)) (λ standing. TellsWritten standing (K.taken sink.old) self.old.entries (K.taken sink.new)) }
+        ensures written { MatchOption result (IsWritten (K.taken sink.old) self.old.entries (K.taken sink.new))
+            (λ standing. TellsWritten standing (K.taken sink.old) self.old.entries (K.taken sink.new)) }
         ensures why { TellsWhy result (K.faults sink.old) (K.faults sink.new) }
         ensures count { K.faults sink.old ≤ K.faults sink.new }
     {
@@ -149,10 +145,7 @@ impl<B: Bank, C: Validator> Playback<B, C> {
         requires live { self.old.state.ended ≡ false }
         requires room { length self.old.entries < record_limit }
         ensures plays { OnOk result (joined (pairs_of self.new.entries) ≡ joined (pairs_of self.old.entries) ++ spelling (record { actor = actor; request = request })) }
-        ensures stands { (opening : State) → StandsFor B.tells B.now opening self.old → StandsFor B.tells B.now opening self.new }
-        ensures vouched { (opening : State) (given : List (Option (Function C))) → Vouches B.tells B.now C.verdict given opening self.old → Vouches B.tells B.now C.verdict given opening self.new }
-        ensures trouble { (bank : B) → IsCaused B.faults B.stops bank self.old → IsCaused B.faults B.stops bank self.new }
-        ensures survives { (opening : State) (bank : B) → Survives B.tells B.tells_moments B.now B.may_leave B.clock B.left_since opening bank self.old → Survives B.tells B.tells_moments B.now B.may_leave B.clock B.left_since opening bank self.new }
+        ensures continues { Continues B.Bank C.verdict self.old self.new }
         ensures boot { IfOk result (λ stop. TellsService stop self.new) }
         ensures written { (first : Option (List ℕ)) → IsWritten first self.old.entries (K.taken sink.old)
             → IfOk result (λ stop. MatchOption stop (IsWritten first self.new.entries (K.taken sink.new)) (λ standing. TellsWritten standing first self.new.entries (K.taken sink.new))) }
@@ -180,10 +173,7 @@ impl<B: Bank, C: Validator> Playback<B, C> {
         ensures stream { played_before self.new (drop at.new bytes.now) ≡ played_before self.old (drop at.old bytes.now) }
         ensures further { MatchOption result (at.old < at.new) (λ _. at.old ≤ at.new) }
         ensures leaves { MatchOption result ⊤ (λ standing. Leaves standing (length self.new.entries) (drop at.new bytes.now)) }
-        ensures stands { (opening : State) → StandsFor B.tells B.now opening self.old → StandsFor B.tells B.now opening self.new }
-        ensures vouched { (opening : State) (given : List (Option (Function C))) → Vouches B.tells B.now C.verdict given opening self.old → Vouches B.tells B.now C.verdict given opening self.new }
-        ensures trouble { (bank : B) → IsCaused B.faults B.stops bank self.old → IsCaused B.faults B.stops bank self.new }
-        ensures survives { (opening : State) (bank : B) → Survives B.tells B.tells_moments B.now B.may_leave B.clock B.left_since opening bank self.old → Survives B.tells B.tells_moments B.now B.may_leave B.clock B.left_since opening bank self.new }
+        ensures continues { Continues B.Bank C.verdict self.old self.new }
         ensures boot { TellsService result self.new }
         ensures written { (first : Option (List ℕ)) → IsWritten first self.old.entries (K.taken sink.old)
             → MatchOption result (IsWritten first self.new.entries (K.taken sink.new)) (λ standing. TellsWritten standing first self.new.entries (K.taken sink.new)) }
@@ -234,10 +224,7 @@ impl<B: Bank, C: Validator> Playback<B, C> {
         ensures further { at.old ≤ at.new }
         ensures stream { played_before self.new (drop at.new bytes.now) ≡ played_before self.old (drop at.old bytes.now) }
         ensures leaves { Leaves result (length self.new.entries) (drop at.new bytes.now) }
-        ensures stands { (opening : State) → StandsFor B.tells B.now opening self.old → StandsFor B.tells B.now opening self.new }
-        ensures vouched { (opening : State) (given : List (Option (Function C))) → Vouches B.tells B.now C.verdict given opening self.old → Vouches B.tells B.now C.verdict given opening self.new }
-        ensures trouble { (bank : B) → IsCaused B.faults B.stops bank self.old → IsCaused B.faults B.stops bank self.new }
-        ensures survives { (opening : State) (bank : B) → Survives B.tells B.tells_moments B.now B.may_leave B.clock B.left_since opening bank self.old → Survives B.tells B.tells_moments B.now B.may_leave B.clock B.left_since opening bank self.new }
+        ensures continues { Continues B.Bank C.verdict self.old self.new }
         ensures boot { TellsBoot result self.new }
         ensures written { (first : Option (List ℕ)) → IsWritten first self.old.entries (K.taken sink.old) → TellsWritten result first self.new.entries (K.taken sink.new) }
         ensures cause { TellsCause result (K.faults sink.old) (K.faults sink.new) }
@@ -291,13 +278,11 @@ impl<B: Bank + Send, C: Validator + Send> Playback<B, C> {
     ) -> (Playback<B, C>, Option<StepFault>)
         requires live { self.state.ended ≡ false }
         requires empty { self.entries ≡ [] }
-        requires begun { IsBegun B.tells B.tells_moments B.now B.faults B.stops B.may_leave B.clock B.left_since C.verdict self }
+        requires begun { (o : Opening B C) × Serves B.Bank C.verdict o self }
         requires fits { AllFit scripts }
         requires records { OfEach IsRecord scripts }
         requires few { request_count scripts ≤ record_limit }
-        ensures history { (opening : State) (bank : B) (given : List (Option (Function C))) → IsFirst opening → Vouches B.tells B.now C.verdict given opening self
-            → Survives B.tells B.tells_moments B.now B.may_leave B.clock B.left_since opening bank self → IsCaused B.faults B.stops bank self
-            → OneHistory B.tells B.tells_moments B.faults B.stops B.may_leave B.clock B.left_since C.verdict (record { state = opening; bank = bank; given = given; scripts = scripts }) result.1 result.0 }
+        ensures history { (o : Opening B C) → Serves B.Bank C.verdict o self → OneHistory B.Bank C.verdict o scripts result.1 result.0 }
     {
         let (core, fault) = workers::crew(rt, self.alloc, self.core, scripts, gate);
         let offset = offset_of(core.history());

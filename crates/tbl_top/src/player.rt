@@ -1,6 +1,6 @@
 //! A session as a stream of bytes, in pieces that may be cut anywhere.
 
-ghost use Rattle.std.specs.Prelude.{◌≡◌, ◌≢◌, ℕ, ◌+◌, ◌-◌, ◌<◌, ◌≤◌, ◌==◌, Option, List, [], ◌++◌, length, drop, vec_len, false, IfOk, IfErr};
+ghost use Rattle.std.specs.Prelude.{◌≡◌, ◌≢◌, ℕ, ◌+◌, ◌-◌, ◌<◌, ◌≤◌, ◌==◌, Option, List, [], ◌++◌, length, drop, false, IfOk, IfErr};
 ghost use Rattle.tbl_model.specs.State.{State, no_tables};
 ghost use Rattle.tbl_model.specs.History.{begins_at, run_from};
 ghost use Rattle.tbl_model.specs.Vouched.{IsVouched};
@@ -8,13 +8,12 @@ ghost use Rattle.tbl_model.specs.Whole.{IsWhole as HasWholeReads};
 ghost use Rattle.tbl_kinds.specs.Records.{AreRecords, BeginsWith};
 ghost use Rattle.tbl_kinds.specs.Heads.{IsShort};
 ghost use Rattle.tbl_kinds.specs.Transcript.{pairs_of};
-ghost use Rattle.tbl_laws.specs.Backed.{AreSingle, AreBacked};
-ghost use Rattle.tbl_core.specs.Service.{StandsFor, Vouches};
-ghost use Rattle.tbl_outside.specs.declared.validator.KitEntry.{KitEntry as Function};
-ghost use Rattle.tbl_top.specs.Playing.{played_before, bytes_fed, IsBeginning, IsSession, IsWritten};
+ghost use Rattle.tbl_session.specs.Backed.{AreSingle, AreBacked};
+ghost use Rattle.tbl_core.specs.Service.{StandsFor};
+ghost use Rattle.tbl_history.specs.Serving.{Continues};
+ghost use Rattle.tbl_top.specs.Playing.{played_before, bytes_fed, IsSession, IsWritten};
+ghost use Rattle.tbl_session.specs.Inputs.{IsBeginning};
 ghost use Rattle.tbl_top.specs.Standing.{Leaves, HasPlayedAll, TellsWritten, TellsCause, TellsBoot};
-ghost use Rattle.tbl_crew.specs.Trouble.{IsCaused};
-ghost use Rattle.tbl_crew.specs.Crashes.{Survives};
 ghost use Rattle.tbl_top.specs.Feeding.{answer_of, Feeds};
 ghost use Rattle.tbl_top.specs.Finishing.{Finishes, status_of};
 ghost use Rattle.tbl_top.specs.declared.playback.Standing.TheVariants.{Open};
@@ -55,7 +54,8 @@ impl<B: Bank, C: Validator> Model for Player<B, C> {
     ghost Value = { Playing B C };
 
     ghost use Rattle.std.specs.Prelude.{◌≡◌, length, false};
-    ghost use Rattle.tbl_top.specs.Playing.{IsBeginning, IsSession};
+    ghost use Rattle.tbl_session.specs.Inputs.{IsBeginning};
+    ghost use Rattle.tbl_top.specs.Playing.{IsSession};
     ghost use Rattle.tbl_top.specs.declared.playback.Standing.TheVariants.{Open};
 
     ghost view = { λ p. record { core = p.playback; rest = p.kept.items; standing = p.standing } };
@@ -98,20 +98,18 @@ impl<B: Bank, C: Validator> Player<B, C> {
 
         // Where the bank tells its bytes, the history stays legal, each read of it is whole, no image goes active unjudged, the
         // verdicts are the functions', and each critical table has its block.
-        ensures stands { (opening : State) → StandsFor B.tells B.now opening self.old.core → StandsFor B.tells B.now opening self.new.core }
-        ensures verdicts { (opening : State) (given : List (Option (Function C))) → Vouches B.tells B.now C.verdict given opening self.old.core → Vouches B.tells B.now C.verdict given opening self.new.core }
-        ensures vouched { B.tells → (opening : State) → opening.tables ≡ no_tables → opening.pending ≡ [] → StandsFor B.tells B.now opening self.old.core → IsVouched opening self.new.core.entries }
-        ensures whole { B.tells → (opening : State) → opening.tables ≡ no_tables → opening.pending ≡ [] → StandsFor B.tells B.now opening self.old.core → HasWholeReads opening self.new.core.entries }
-        ensures backed { B.tells → (opening : State) → opening.tables ≡ no_tables → AreSingle opening.store → StandsFor B.tells B.now opening self.old.core → AreBacked (run_from (begins_at opening) self.new.core.entries).state }
+        ensures continues { Continues B.Bank C.verdict self.old.core self.new.core }
+        ensures vouched { B.tells → (opening : State) → opening.tables ≡ no_tables → opening.pending ≡ [] → StandsFor B.Bank opening self.old.core → IsVouched opening self.new.core.entries }
+        ensures whole { B.tells → (opening : State) → opening.tables ≡ no_tables → opening.pending ≡ [] → StandsFor B.Bank opening self.old.core → HasWholeReads opening self.new.core.entries }
+        ensures backed { B.tells → (opening : State) → opening.tables ≡ no_tables → AreSingle opening.store → StandsFor B.Bank opening self.old.core
+            → AreBacked (run_from (begins_at opening) self.new.core.entries).state }
         ensures session { IsSession self.new.core }
 
         // The counts of the bank rise by what the entries tell at least, and a boot that ended the service is told by the last one.
-        ensures trouble { (bank : B) → IsCaused B.faults B.stops bank self.old.core → IsCaused B.faults B.stops bank self.new.core }
         ensures boot { TellsBoot self.new.standing self.new.core }
 
         // Where the bank tells its moments, a reset at any of them leaves the blocks of a place of the history, or what the entry under
         // way there made of them, and what a restore gave stood in one of these images.
-        ensures survives { (opening : State) (bank : B) → Survives B.tells B.tells_moments B.now B.may_leave B.clock B.left_since opening bank self.old.core → Survives B.tells B.tells_moments B.now B.may_leave B.clock B.left_since opening bank self.new.core }
 
         // The sink took the entries' spellings; where it failed or memory ran out for a spelling, a front of them.
         ensures written { (first : Option (List ℕ)) → IsWritten first self.old.core.entries (K.taken sink.old) → TellsWritten self.new.standing first self.new.core.entries (K.taken sink.new) }
@@ -130,7 +128,8 @@ impl<B: Bank, C: Validator> Player<B, C> {
     /// Ends the session: writes the end record, unless an entry before it wasn't written whole, and answers the status.
     /// The input is at its end, or a read of it failed.
     pub fn finish<K: Sink>(&mut self, read_failed: bool, sink: &mut K) -> u8
-        ensures finishes { Finishes self.old.standing (status_of self.old.standing read_failed (length self.old.rest == 0)) result self.old.core.entries (K.taken sink.old) (K.taken sink.new) (K.faults sink.old) (K.faults sink.new) }
+        ensures finishes { Finishes self.old.standing (status_of self.old.standing read_failed (length self.old.rest == 0)) result
+            self.old.core.entries (K.taken sink.old, K.faults sink.old) (K.taken sink.new, K.faults sink.new) }
         ensures same { self.new ≡ self.old }
         ensures count { K.faults sink.old ≤ K.faults sink.new }
     {
@@ -186,10 +185,7 @@ fn feed_fields<B: Bank, C: Validator, K: Sink>(
     requires begun { IsBeginning (length playback.old.entries) kept.old.items }
     ensures answer { result ≡ answer_of standing.new }
     ensures feeds { Feeds standing.new (played_before playback.old (kept.old.items ++ piece.now)) (length kept.old.items + length piece.now) playback.new kept.new.items }
-    ensures stands { (opening : State) → StandsFor B.tells B.now opening playback.old → StandsFor B.tells B.now opening playback.new }
-    ensures vouched { (opening : State) (given : List (Option (Function C))) → Vouches B.tells B.now C.verdict given opening playback.old → Vouches B.tells B.now C.verdict given opening playback.new }
-    ensures trouble { (bank : B) → IsCaused B.faults B.stops bank playback.old → IsCaused B.faults B.stops bank playback.new }
-    ensures survives { (opening : State) (bank : B) → Survives B.tells B.tells_moments B.now B.may_leave B.clock B.left_since opening bank playback.old → Survives B.tells B.tells_moments B.now B.may_leave B.clock B.left_since opening bank playback.new }
+    ensures continues { Continues B.Bank C.verdict playback.old playback.new }
     ensures boot { TellsBoot standing.new playback.new }
     ensures session { IsSession playback.new }
     ensures written { (first : Option (List ℕ)) → IsWritten first playback.old.entries (K.taken sink.old) → TellsWritten standing.new first playback.new.entries (K.taken sink.new) }
@@ -211,10 +207,7 @@ fn play_piece<B: Bank, C: Validator, K: Sink>(
     requires live { playback.old.state.ended ≡ false }
     requires begun { IsBeginning (length playback.old.entries) kept.old.items }
     ensures feeds { Feeds result (played_before playback.old (kept.old.items ++ piece.now)) (length kept.old.items + length piece.now) playback.new kept.new.items }
-    ensures stands { (opening : State) → StandsFor B.tells B.now opening playback.old → StandsFor B.tells B.now opening playback.new }
-    ensures vouched { (opening : State) (given : List (Option (Function C))) → Vouches B.tells B.now C.verdict given opening playback.old → Vouches B.tells B.now C.verdict given opening playback.new }
-    ensures trouble { (bank : B) → IsCaused B.faults B.stops bank playback.old → IsCaused B.faults B.stops bank playback.new }
-    ensures survives { (opening : State) (bank : B) → Survives B.tells B.tells_moments B.now B.may_leave B.clock B.left_since opening bank playback.old → Survives B.tells B.tells_moments B.now B.may_leave B.clock B.left_since opening bank playback.new }
+    ensures continues { Continues B.Bank C.verdict playback.old playback.new }
     ensures boot { TellsBoot result playback.new }
     ensures session { IsSession playback.new }
     ensures written { (first : Option (List ℕ)) → IsWritten first playback.old.entries (K.taken sink.old) → TellsWritten result first playback.new.entries (K.taken sink.new) }
@@ -252,10 +245,7 @@ fn complete<B: Bank, C: Validator, K: Sink>(
     ensures bound { length kept.new.items + at.old ≤ length kept.old.items + at.new }
     ensures stream { played_before playback.new (kept.new.items ++ drop at.new piece.now) ≡ played_before playback.old (kept.old.items ++ drop at.old piece.now) }
     ensures leaves { Leaves result (length playback.new.entries) kept.new.items }
-    ensures stands { (opening : State) → StandsFor B.tells B.now opening playback.old → StandsFor B.tells B.now opening playback.new }
-    ensures vouched { (opening : State) (given : List (Option (Function C))) → Vouches B.tells B.now C.verdict given opening playback.old → Vouches B.tells B.now C.verdict given opening playback.new }
-    ensures trouble { (bank : B) → IsCaused B.faults B.stops bank playback.old → IsCaused B.faults B.stops bank playback.new }
-    ensures survives { (opening : State) (bank : B) → Survives B.tells B.tells_moments B.now B.may_leave B.clock B.left_since opening bank playback.old → Survives B.tells B.tells_moments B.now B.may_leave B.clock B.left_since opening bank playback.new }
+    ensures continues { Continues B.Bank C.verdict playback.old playback.new }
     ensures boot { TellsBoot result playback.new }
     ensures session { IsSession playback.new }
     ensures written { (first : Option (List ℕ)) → IsWritten first playback.old.entries (K.taken sink.old) → TellsWritten result first playback.new.entries (K.taken sink.new) }
@@ -284,10 +274,7 @@ fn play_kept<B: Bank, C: Validator, K: Sink>(
     ensures bound { length kept.new.items ≤ length kept.old.items }
     ensures stream { played_before playback.new kept.new.items ≡ played_before playback.old kept.old.items }
     ensures leaves { Leaves result (length playback.new.entries) kept.new.items }
-    ensures stands { (opening : State) → StandsFor B.tells B.now opening playback.old → StandsFor B.tells B.now opening playback.new }
-    ensures vouched { (opening : State) (given : List (Option (Function C))) → Vouches B.tells B.now C.verdict given opening playback.old → Vouches B.tells B.now C.verdict given opening playback.new }
-    ensures trouble { (bank : B) → IsCaused B.faults B.stops bank playback.old → IsCaused B.faults B.stops bank playback.new }
-    ensures survives { (opening : State) (bank : B) → Survives B.tells B.tells_moments B.now B.may_leave B.clock B.left_since opening bank playback.old → Survives B.tells B.tells_moments B.now B.may_leave B.clock B.left_since opening bank playback.new }
+    ensures continues { Continues B.Bank C.verdict playback.old playback.new }
     ensures boot { TellsBoot result playback.new }
     ensures session { IsSession playback.new }
     ensures written { (first : Option (List ℕ)) → IsWritten first playback.old.entries (K.taken sink.old) → TellsWritten result first playback.new.entries (K.taken sink.new) }
@@ -312,10 +299,7 @@ fn play_rest<B: Bank, C: Validator, K: Sink>(
     requires empty { kept.old.items ≡ [] }
     requires within { from ≤ length piece.now }
     ensures feeds { Feeds result (played_before playback.old (drop from piece.now)) (length piece.now - from) playback.new kept.new.items }
-    ensures stands { (opening : State) → StandsFor B.tells B.now opening playback.old → StandsFor B.tells B.now opening playback.new }
-    ensures vouched { (opening : State) (given : List (Option (Function C))) → Vouches B.tells B.now C.verdict given opening playback.old → Vouches B.tells B.now C.verdict given opening playback.new }
-    ensures trouble { (bank : B) → IsCaused B.faults B.stops bank playback.old → IsCaused B.faults B.stops bank playback.new }
-    ensures survives { (opening : State) (bank : B) → Survives B.tells B.tells_moments B.now B.may_leave B.clock B.left_since opening bank playback.old → Survives B.tells B.tells_moments B.now B.may_leave B.clock B.left_since opening bank playback.new }
+    ensures continues { Continues B.Bank C.verdict playback.old playback.new }
     ensures boot { TellsBoot result playback.new }
     ensures session { IsSession playback.new }
     ensures written { (first : Option (List ℕ)) → IsWritten first playback.old.entries (K.taken sink.old) → TellsWritten result first playback.new.entries (K.taken sink.new) }

@@ -1,15 +1,11 @@
 //! Plays one record.
 
 ghost use Rattle.std.specs.Prelude.{◌≡◌, ℕ, ◌<◌, ◌≤◌, Option, List, ◌∷◌, [], ◌++◌, length, false, IfOk, OnOk, OnErr, MatchOption};
-ghost use Rattle.tbl_model.specs.State.{State};
 ghost use Rattle.tbl_kinds.specs.Requests.{Fits};
 ghost use Rattle.tbl_kinds.specs.Records.{record_limit};
-ghost use Rattle.tbl_core.specs.Service.{StandsFor, Vouches};
-ghost use Rattle.tbl_outside.specs.declared.validator.KitEntry.{KitEntry as Function};
+ghost use Rattle.tbl_history.specs.Serving.{Continues};
 ghost use Rattle.tbl_top.specs.Playing.{IsWritten};
 ghost use Rattle.tbl_top.specs.Standing.{IsEnding, TellsWritten, TellsService, TellsLast};
-ghost use Rattle.tbl_crew.specs.Trouble.{IsCaused};
-ghost use Rattle.tbl_crew.specs.Crashes.{Survives};
 ghost use Rattle.tbl_kinds.specs.declared.entry.Entry.{Entry};
 
 use crate::playback::Standing;
@@ -55,10 +51,7 @@ pub(crate) fn play<B: Bank, C: Validator, K: Sink>(
     requires live { core.old.state.ended ≡ false }
     requires room { length core.old.entries < record_limit }
     ensures adds { OnOk result ((e : Entry) × (core.new.entries ≡ core.old.entries ++ e ∷ []) × (e.actor ≡ actor) × (e.request ≡ request)) }
-    ensures stands { OnOk result ((opening : State) → StandsFor B.tells B.now opening core.old → StandsFor B.tells B.now opening core.new) }
-    ensures vouched { OnOk result ((opening : State) (given : List (Option (Function C))) → Vouches B.tells B.now C.verdict given opening core.old → Vouches B.tells B.now C.verdict given opening core.new) }
-    ensures trouble { OnOk result ((bank : B) → IsCaused B.faults B.stops bank core.old → IsCaused B.faults B.stops bank core.new) }
-    ensures survives { OnOk result ((opening : State) (bank : B) → Survives B.tells B.tells_moments B.now B.may_leave B.clock B.left_since opening bank core.old → Survives B.tells B.tells_moments B.now B.may_leave B.clock B.left_since opening bank core.new) }
+    ensures continues { OnOk result (Continues B.Bank C.verdict core.old core.new) }
     ensures boot { IfOk result (λ stop. TellsService stop core.new) }
     ensures written { (first : Option (List ℕ)) → IsWritten first core.old.entries (K.taken sink.old)
         → IfOk result (λ stop. MatchOption stop (IsWritten first core.new.entries (K.taken sink.new)) (λ standing. TellsWritten standing first core.new.entries (K.taken sink.new))) }

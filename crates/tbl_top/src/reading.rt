@@ -1,16 +1,13 @@
 //! Reads the input piece by piece, and feeds it to the session.
 
-ghost use Rattle.std.specs.Prelude.{◌≡◌, ℕ, ◌+◌, ◌<◌, ◌≤◌, Option, List, [], ◌++◌, length, true, false, IfSome, IfNone, Some};
+ghost use Rattle.std.specs.Prelude.{◌≡◌, ℕ, ◌+◌, ◌<◌, ◌≤◌, Option, List, [], ◌++◌, length, true, false, Some};
 ghost use Rattle.std.specs.Io.KnownBytes.{prepend_known, IsAtEnd};
-ghost use Rattle.tbl_model.specs.State.{State};
-ghost use Rattle.tbl_core.specs.Service.{StandsFor, Vouches};
-ghost use Rattle.tbl_outside.specs.declared.validator.KitEntry.{KitEntry as Function};
 ghost use Rattle.tbl_outside.specs.Counts.{Rose};
-ghost use Rattle.tbl_top.specs.Playing.{bytes_fed, IsBeginning, IsSession, IsWritten};
+ghost use Rattle.tbl_history.specs.Serving.{Continues};
+ghost use Rattle.tbl_top.specs.Playing.{bytes_fed, IsSession, IsWritten};
+ghost use Rattle.tbl_session.specs.Inputs.{IsBeginning, piece_limit};
 ghost use Rattle.tbl_top.specs.Standing.{TellsWritten, TellsCause, TellsBoot};
-ghost use Rattle.tbl_crew.specs.Trouble.{IsCaused};
-ghost use Rattle.tbl_crew.specs.Crashes.{Survives};
-ghost use Rattle.tbl_top.specs.Reading.{ReadsOn, EndsReading, piece_limit};
+ghost use Rattle.tbl_top.specs.Reading.{ReadsOn, EndsReading};
 ghost use Rattle.tbl_top.specs.declared.playback.Standing.TheVariants.{Open};
 
 use crate::player::{Fed, Player};
@@ -37,10 +34,7 @@ fn read_piece<B: Bank, C: Validator, S: Source, K: Sink>(
     requires room { length piece.old ≡ piece_limit }
     ensures room { length piece.new ≡ piece_limit }
     ensures reads { (read : List ℕ) × (S.left source.old ≡ prepend_known read (S.left source.new)) × ReadsOn result player.old player.new read (IsAtEnd (S.left source.new)) }
-    ensures stands { (opening : State) → StandsFor B.tells B.now opening player.old.core → StandsFor B.tells B.now opening player.new.core }
-    ensures vouched { (opening : State) (given : List (Option (Function C))) → Vouches B.tells B.now C.verdict given opening player.old.core → Vouches B.tells B.now C.verdict given opening player.new.core }
-    ensures trouble { (bank : B) → IsCaused B.faults B.stops bank player.old.core → IsCaused B.faults B.stops bank player.new.core }
-    ensures survives { (opening : State) (bank : B) → Survives B.tells B.tells_moments B.now B.may_leave B.clock B.left_since opening bank player.old.core → Survives B.tells B.tells_moments B.now B.may_leave B.clock B.left_since opening bank player.new.core }
+    ensures continues { Continues B.Bank C.verdict player.old.core player.new.core }
     ensures boot { TellsBoot player.new.standing player.new.core }
     ensures written { (first : Option (List ℕ)) → IsWritten first player.old.core.entries (K.taken sink.old) → TellsWritten player.new.standing first player.new.core.entries (K.taken sink.new) }
     ensures source_failed { result ≡ Some true → Rose (S.faults source.old) (S.faults source.new) }
@@ -74,10 +68,7 @@ pub(crate) fn read_all<B: Bank, C: Validator, S: Source, K: Sink>(
     requires session { IsSession player.old.core }
     requires live { player.old.core.state.ended ≡ false }
     ensures reads { (read : List ℕ) × (S.left source.old ≡ prepend_known read (S.left source.new)) × EndsReading player.new read result (IsAtEnd (S.left source.new)) }
-    ensures stands { (opening : State) → StandsFor B.tells B.now opening player.old.core → StandsFor B.tells B.now opening player.new.core }
-    ensures vouched { (opening : State) (given : List (Option (Function C))) → Vouches B.tells B.now C.verdict given opening player.old.core → Vouches B.tells B.now C.verdict given opening player.new.core }
-    ensures trouble { (bank : B) → IsCaused B.faults B.stops bank player.old.core → IsCaused B.faults B.stops bank player.new.core }
-    ensures survives { (opening : State) (bank : B) → Survives B.tells B.tells_moments B.now B.may_leave B.clock B.left_since opening bank player.old.core → Survives B.tells B.tells_moments B.now B.may_leave B.clock B.left_since opening bank player.new.core }
+    ensures continues { Continues B.Bank C.verdict player.old.core player.new.core }
     ensures boot { TellsBoot player.new.standing player.new.core }
     ensures written { (first : Option (List ℕ)) → IsWritten first player.old.core.entries (K.taken sink.old) → TellsWritten player.new.standing first player.new.core.entries (K.taken sink.new) }
     ensures source_failed { result ≡ true → Rose (S.faults source.old) (S.faults source.new) }

@@ -1,26 +1,32 @@
 //! The words of the command line.
 
-ghost use Rattle.std.specs.Prelude.{◌↔◌, IsTrue};
-ghost use Rattle.tbl_top.specs.Words.{IsCrew, IsPlay};
+ghost use Rattle.std.specs.Prelude.{◌≡◌};
+ghost use Rattle.tbl_top.specs.Words.{word_of};
 
 use tbl_kinds::Bytes;
 
-/// Whether the words are `crew` alone.
-pub(crate) fn is_crew(words: &[Bytes]) -> bool
-    ensures { IsTrue result ↔ IsCrew words.now }
-{
-    match words {
-        [word] => word.bytes() == b"crew".as_slice(),
-        _ => false,
-    }
+/// What the program is asked to do.
+#[derive(Clone, Copy, PartialEq, Eq)]
+pub enum Word {
+    /// `play`: plays the records in order, as they come in.
+    Play,
+    /// `crew`: plays them with a thread for each actor, once all of them were read.
+    Crew,
 }
 
-/// Whether the words are `play` alone.
-pub(crate) fn is_play(words: &[Bytes]) -> bool
-    ensures { IsTrue result ↔ IsPlay words.now }
+/// What the words ask for; None where they are none that the program knows.
+pub(crate) fn word_of(words: &[Bytes]) -> Option<Word>
+    ensures { result ≡ word_of words.now }
 {
-    match words {
-        [word] => word.bytes() == b"play".as_slice(),
-        _ => false,
+    let [word] = words else {
+        return None;
+    };
+    let word = word.bytes();
+    if word == b"play".as_slice() {
+        Some(Word::Play)
+    } else if word == b"crew".as_slice() {
+        Some(Word::Crew)
+    } else {
+        None
     }
 }

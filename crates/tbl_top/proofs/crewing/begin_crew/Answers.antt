@@ -1,12 +1,9 @@
 use Rattle.tbl_core.proofs.Starting.{stays_shown}
 use Rattle.tbl_top.proofs.crewing.begin_crew.Goals as goal
 
--- where memory ran out before the service began, nothing was asked of the bank
+-- out of memory before the service began, nothing was asked of the bank
 pub returns-in-Err-clause-crash_err : goal.returns-in-Err-clause-crash_err
-returns-in-Err-clause-crash_err g c = let b = g.B.Bank in stays_shown b.now b.tells_moments b.clock b.left_since b.may_leave g.met.B.Bank.leaves_only_now g.met.B.Bank.only_now c.args.bank
+returns-in-Err-clause-crash_err g c = let b = g.B.Bank in stays_shown b g.met.B.Bank.leaves_only_now g.met.B.Bank.only_now c.args.bank
 
-pub returns-in_ok-begin-in-Ok-clause-vouched : goal.returns-in_ok-begin-in-Ok-clause-vouched
-returns-in_ok-begin-in-Ok-clause-vouched g c = rw c.playback.ensures c.in_ok-begin-in-Ok.ensures.vouched
-
-pub returns-in_ok-begin-in-Ok-clause-survives : goal.returns-in_ok-begin-in-Ok-clause-survives
-returns-in_ok-begin-in-Ok-clause-survives g c = rw c.playback.ensures c.in_ok-begin-in-Ok.ensures.survives
+pub returns-in_ok-begin-in-Ok-clause-serves : goal.returns-in_ok-begin-in-Ok-clause-serves
+returns-in_ok-begin-in-Ok-clause-serves g c = rw c.playback.ensures c.in_ok-begin-in-Ok.ensures.serves

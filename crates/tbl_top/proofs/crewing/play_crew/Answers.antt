@@ -1,9 +1,9 @@
 use Rattle.std.proofs.Common.{ap, ◌∙◌, sym, subst, arith}
 use Rattle.std.specs.Io.KnownBytes.{IsAtEnd}
 use Rattle.tbl_kinds.specs.Records.{IsRecord}
-use Rattle.tbl_outside.specs.Counts.{Rose}
+use Rattle.tbl_session.specs.Session.{ran}
 use Rattle.tbl_crew.specs.Scripts.{script_of, request_count, AllFit, OfEach}
-use Rattle.tbl_top.specs.Orders.{ByActor}
+use Rattle.tbl_session.specs.Orders.{ByActor}
 use Rattle.tbl_top.proofs.CrewLemmas.{by_actor, none_behind, read_behind}
 use Rattle.tbl_top.proofs.ScriptsLemmas.{scripts_fit, scripts_count, scripts_each, scripts_part}
 use Rattle.tbl_top.proofs.SessionLemmas.{session_of}
@@ -25,30 +25,26 @@ play_beside-playback-requires-clause-few g c =
     omega (arith, ap request_count (c.scripts.ensures ∙ reads.3), scripts_count reads.2 reads.4.each, reads.4.few)
 
 pub tell_crew-standing-requires-clause-boot : goal.tell_crew-standing-requires-clause-boot
-tell_crew-standing-requires-clause-boot g c =
-    let begun = c.requires.begun in
-    (c.play_beside-playback.ensures.history begun.opening begun.bank begun.given begun.first begun.vouches begun.survives begun.caused).ended
+tell_crew-standing-requires-clause-boot g c = (c.play_beside-playback.ensures.history c.requires.begun.0 c.requires.begun.1).ended
 
 pub returns-clause-session : goal.returns-clause-session
-returns-clause-session g c given opening bank first vouched caused survives =
+returns-clause-session g c o serves =
     let b = g.B.Bank in
     let reads = c.read_all-read.ensures.reads in
     let pairs = reads.2 in
     let scripts = c.scripts.ensures ∙ reads.3 in
     let played = c.play_beside-playback.result.0 in
     let fault = c.play_beside-playback.result.1 in
-    let one = c.play_beside-playback.ensures.history opening bank given first vouched survives caused in
-    let standing = c.tell_crew-standing.result in
+    let one = c.play_beside-playback.ensures.history o serves in
+    let tells = c.tell_crew-standing in
     let failed = c.read_all-read.result.1 in
     let at_end = IsAtEnd (g.S.Source.left c.read_all-read.new.source) in
-    let read = c.read_all-read.result.0 in (
-      reads.0,
-      reads.1,
-      rw (c.end.ensures, c.finish-status.ensures.same, c.tell_crew-standing.ensures.same)
-          (session_of ByActor b.tells b.tells_moments b.faults b.stops b.may_leave b.clock b.left_since g.C.Validator.verdict given opening bank played standing pairs c.read_all-read.new.self.rest reads.0 failed at_end
-          (Rose (g.S.Source.faults c.args.source.now) (g.S.Source.faults c.read_all-read.new.source)) c.finish-status.result (g.K.Sink.taken c.args.sink.now) (g.K.Sink.taken c.tell_crew-standing.new.sink) (g.K.Sink.taken c.finish-status.new.sink)
-          (g.K.Sink.faults c.tell_crew-standing.new.sink) (g.K.Sink.faults c.finish-status.new.sink)
-          one.served one.caused (λ all. by_actor c.finish-status.result fault c.scripts.result pairs played.entries (λ actor. ap (λ s. script_of s actor) scripts ∙ scripts_part pairs reads.4.each actor) (λ ended. none_behind fault read standing c.tell_crew-standing.ensures.behind (all ended)) one.played)
-          (read_behind read pairs c.read_all-read.new.self.rest reads.0 failed at_end reads.4 fault standing c.tell_crew-standing.ensures.behind)
-          c.read_all-read.ensures.source_failed c.tell_crew-standing.ensures.boot c.tell_crew-standing.ensures.written (rw (← c.is_whole-is_whole.ensures, ← c.tell_crew-standing.ensures.same) c.finish-status.ensures.finishes)),
-    )
+    let read = c.read_all-read.result.0 in
+    session_of ByActor b g.C.Validator.verdict o played tells.result pairs c.read_all-read.new.self.rest reads.0 failed
+    (ran g.S.Source g.K.Sink (c.args.source.now, c.args.sink.now) (c.read_all-read.new.source, c.finish-status.new.sink) (c.finish-status.result, c.end.result.state.store.bank))
+    (g.K.Sink.taken tells.new.sink) (g.K.Sink.faults tells.new.sink)
+    (ap (λ core. core.state.store.bank) (c.end.ensures ∙ c.finish-status.ensures.same ∙ tells.ensures.same)) reads.1
+    one.served one.caused
+    (λ all. by_actor c.finish-status.result fault c.scripts.result pairs played.entries (λ actor. ap (λ s. script_of s actor) scripts ∙ scripts_part pairs reads.4.each actor) (λ ended. none_behind fault read tells.result tells.ensures.behind (all ended)) one.played)
+    (read_behind read pairs c.read_all-read.new.self.rest reads.0 failed at_end reads.4 fault tells.result tells.ensures.behind)
+    c.read_all-read.ensures.source_failed tells.ensures.boot tells.ensures.count tells.ensures.written tells.ensures.cause c.finish-status.ensures.count (rw (← c.is_whole-is_whole.ensures, ← tells.ensures.same) c.finish-status.ensures.finishes)

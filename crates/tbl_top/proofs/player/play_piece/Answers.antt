@@ -1,4 +1,5 @@
 use Rattle.std.proofs.Common.{◌+◌, ◌++◌, length, ◌∙◌, arith, rules}
+use Rattle.tbl_history.proofs.ServingLemmas.{then_continues}
 use Rattle.tbl_top.specs.Playing.{played_before}
 use Rattle.tbl_top.proofs.FeedingLemmas.{feeds_over}
 use Rattle.tbl_top.proofs.player.play_piece.Goals as goal
@@ -16,23 +17,14 @@ completes-preserved g c = record {
   stream = search rules;
   begun = search rules;
   session = search rules;
-  stands = search rules;
-  vouched = λ opening given vouched. c.in-Open.ensures.vouched opening given (c.completes.invariant.vouched opening given vouched);
-  trouble = search rules;
-  survives = λ opening bank survives. c.in-Open.ensures.survives opening bank (c.completes.invariant.survives opening bank survives);
+  continues = then_continues g.B.Bank g.C.Validator.verdict _ _ _ c.completes.invariant.continues c.in-Open.ensures.continues;
   live = search rules;
   written = search rules;
   count = search rules;
 }
 
-pub returns-in_default-clause-vouched : goal.returns-in_default-clause-vouched
-returns-in_default-clause-vouched g c = λ opening given vouched. c.complete.ensures.vouched opening given (c.completes.invariant.vouched opening given vouched)
+pub returns-in_default-clause-continues : goal.returns-in_default-clause-continues
+returns-in_default-clause-continues g c = then_continues g.B.Bank g.C.Validator.verdict _ _ _ c.completes.invariant.continues c.complete.ensures.continues
 
-pub returns-clause-vouched : goal.returns-clause-vouched
-returns-clause-vouched g c = λ opening given vouched. c.play_rest.ensures.vouched opening given (c.completes.invariant.vouched opening given vouched)
-
-pub returns-in_default-clause-survives : goal.returns-in_default-clause-survives
-returns-in_default-clause-survives g c = λ opening bank survives. c.complete.ensures.survives opening bank (c.completes.invariant.survives opening bank survives)
-
-pub returns-clause-survives : goal.returns-clause-survives
-returns-clause-survives g c = λ opening bank survives. c.play_rest.ensures.survives opening bank (c.completes.invariant.survives opening bank survives)
+pub returns-clause-continues : goal.returns-clause-continues
+returns-clause-continues g c = then_continues g.B.Bank g.C.Validator.verdict _ _ _ c.completes.invariant.continues c.play_rest.ensures.continues

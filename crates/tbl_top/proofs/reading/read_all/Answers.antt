@@ -2,6 +2,7 @@ use Rattle.std.proofs.Common.{◌++◌, ◌∙◌, length, arith, ap, refl, sym,
 use Rattle.std.proofs.lemmas.List.{length-append}
 use Rattle.std.specs.Io.KnownBytes.{prepend_known}
 use Rattle.tbl_outside.proofs.Streams.{read_more}
+use Rattle.tbl_history.proofs.ServingLemmas.{continues_same, then_continues}
 use Rattle.tbl_top.specs.Playing.{bytes_fed}
 use Rattle.tbl_top.proofs.ReadingLemmas.{left_at_first, begins_empty, session_bound}
 use Rattle.tbl_top.proofs.reading.read_all.Goals as goal
@@ -14,10 +15,7 @@ reads-init g c = record {
   many = omega arith;
   begun = begins_empty c.args.player.now c.requires.none;
   session = c.requires.session;
-  stands = λ opening stood. stood;
-  vouched = λ opening given vouched. vouched;
-  trouble = λ bank caused. caused;
-  survives = λ opening bank survives. survives;
+  continues = continues_same g.B.Bank g.C.Validator.verdict c.args.player.now.core;
   live = c.requires.live;
   written = λ first written. written;
   source_count = omega arith;
@@ -35,11 +33,8 @@ returns-in-Some-clause-reads g c =
 pub unreachable-requires : goal.unreachable-requires
 unreachable-requires g c = omega (arith, session_bound c.reads.player c.reads.invariant.session c.reads.invariant.begun)
 
-pub returns-in-Some-clause-vouched : goal.returns-in-Some-clause-vouched
-returns-in-Some-clause-vouched g c = λ opening given vouched. c.in-Some.ensures.vouched opening given (c.reads.invariant.vouched opening given vouched)
-
-pub returns-in-Some-clause-survives : goal.returns-in-Some-clause-survives
-returns-in-Some-clause-survives g c = λ opening bank survives. c.in-Some.ensures.survives opening bank (c.reads.invariant.survives opening bank survives)
+pub returns-in-Some-clause-continues : goal.returns-in-Some-clause-continues
+returns-in-Some-clause-continues g c = then_continues g.B.Bank g.C.Validator.verdict _ _ _ c.reads.invariant.continues c.in-Some.ensures.continues
 
 pub reads-preserved : goal.reads-preserved
 reads-preserved g c = record {
@@ -58,10 +53,7 @@ reads-preserved g c = record {
       );
   begun = search rules;
   session = search rules;
-  stands = search rules;
-  vouched = λ opening given vouched. c.in_default.ensures.vouched opening given (c.reads.invariant.vouched opening given vouched);
-  trouble = search rules;
-  survives = λ opening bank survives. c.in_default.ensures.survives opening bank (c.reads.invariant.survives opening bank survives);
+  continues = then_continues g.B.Bank g.C.Validator.verdict _ _ _ c.reads.invariant.continues c.in_default.ensures.continues;
   live = search rules;
   written = search rules;
   source_count = search rules;

@@ -2,7 +2,7 @@ use Rattle.std.proofs.Common.{◌≡◌, ℕ, ◌≤◌, List, length}
 use Rattle.std.specs.Io.KnownBytes.{prepend_known}
 use Rattle.tbl_kinds.specs.Records.{Pair}
 use Rattle.tbl_top.specs.Collecting.{HasTaken}
-use Rattle.tbl_top.specs.Reading.{piece_limit}
+use Rattle.tbl_session.specs.Inputs.{piece_limit}
 use Rattle.tbl_top.specs.declared.playback.Standing.TheVariants.{Open}
 use Rattle.tbl_top.proofs.collecting.Collector.read_all.Given as goal
 

@@ -7,7 +7,7 @@ use Rattle.tbl_top.proofs.playback.Playback.play_beside.Goals as goal
 pub offset_of-offset-requires : goal.offset_of-offset-requires
 offset_of-offset-requires g c =
     let begun = rw (← c.self.view_is) at c.requires.begun in
-    let one = c.crew-core.ensures.history begun.opening begun.bank begun.given begun.first begun.vouches begun.survives begun.caused in
+    let one = c.crew-core.ensures.history begun.0 begun.1 in
     record {
       each = rw c.history.ensures.entries (of_each IsRecord c.crew-core.result.1 c.args.scripts c.crew-core.result.0.entries one.played c.requires.records);
       few = rw c.history.ensures.entries one.few;
@@ -16,7 +16,7 @@ offset_of-offset-requires g c =
 pub invariant_of-played : goal.invariant_of-played
 invariant_of-played g c =
     let begun = rw (← c.self.view_is) at c.requires.begun in
-    let one = c.crew-core.ensures.history begun.opening begun.bank begun.given begun.first begun.vouches begun.survives begun.caused in (
+    let one = c.crew-core.ensures.history begun.0 begun.1 in (
       c.self.invariant.0,
       c.self.invariant.1,
       record { each = of_each IsRecord c.crew-core.result.1 c.args.scripts c.crew-core.result.0.entries one.played c.requires.records; few = one.few },

@@ -14,8 +14,5 @@ pub overflow_add-self : goal.overflow_add-self
 overflow_add-self g c =
     omega (arith, used_bound (record { actor = c.args.actor; request = c.args.request }) c.args.used c.requires.is_record c.requires.used, offset_bound c.self.inside.core c.self.invariant.2, c.self.invariant.3)
 
-pub returns-in-Ok-clause-vouched : goal.returns-in-Ok-clause-vouched
-returns-in-Ok-clause-vouched g c = rw (← c.self.view_is) c.in-Ok.ensures.vouched
-
-pub returns-in-Ok-clause-survives : goal.returns-in-Ok-clause-survives
-returns-in-Ok-clause-survives g c = rw (← c.self.view_is) c.in-Ok.ensures.survives
+pub returns-in-Ok-clause-continues : goal.returns-in-Ok-clause-continues
+returns-in-Ok-clause-continues g c = rw (← c.self.view_is) c.in-Ok.ensures.continues

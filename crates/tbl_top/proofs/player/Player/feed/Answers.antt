@@ -26,20 +26,17 @@ returns-clause-records g c =
 pub returns-clause-vouched : goal.returns-clause-vouched
 returns-clause-vouched g c = λ told opening at_first unasked stood.
     let f = c.feed_fields in
-    vouched opening f.new.playback.entries _ at_first unasked ((f.ensures.stands opening (subst (λ (p : Playing g.row.B.Denot g.row.C.Denot). StandsFor g.B.Bank.tells g.B.Bank.now opening p.core) (sym c.self.view_is) stood)).legal told)
+    vouched opening f.new.playback.entries _ at_first unasked ((f.ensures.continues.stands opening (subst (λ (p : Playing g.row.B.Denot g.row.C.Denot). StandsFor g.B.Bank opening p.core) (sym c.self.view_is) stood)).legal told)
 
 pub returns-clause-whole : goal.returns-clause-whole
 returns-clause-whole g c = λ told opening at_first unasked stood.
     let f = c.feed_fields in
-    whole opening f.new.playback.entries _ at_first unasked ((f.ensures.stands opening (subst (λ (p : Playing g.row.B.Denot g.row.C.Denot). StandsFor g.B.Bank.tells g.B.Bank.now opening p.core) (sym c.self.view_is) stood)).legal told)
-
-pub returns-clause-verdicts : goal.returns-clause-verdicts
-returns-clause-verdicts g c = rw (← c.self.view_is) c.feed_fields.ensures.vouched
+    whole opening f.new.playback.entries _ at_first unasked ((f.ensures.continues.stands opening (subst (λ (p : Playing g.row.B.Denot g.row.C.Denot). StandsFor g.B.Bank opening p.core) (sym c.self.view_is) stood)).legal told)
 
 pub returns-clause-backed : goal.returns-clause-backed
 returns-clause-backed g c = λ told opening at_first single stood.
     let f = c.feed_fields in
-    backed opening f.new.playback.entries _ at_first single ((f.ensures.stands opening (subst (λ (p : Playing g.row.B.Denot g.row.C.Denot). StandsFor g.B.Bank.tells g.B.Bank.now opening p.core) (sym c.self.view_is) stood)).legal told)
+    backed opening f.new.playback.entries _ at_first single ((f.ensures.continues.stands opening (subst (λ (p : Playing g.row.B.Denot g.row.C.Denot). StandsFor g.B.Bank opening p.core) (sym c.self.view_is) stood)).legal told)
 
-pub returns-clause-survives : goal.returns-clause-survives
-returns-clause-survives g c = rw (← c.self.view_is) c.feed_fields.ensures.survives
+pub returns-clause-continues : goal.returns-clause-continues
+returns-clause-continues g c = rw (← c.self.view_is) c.feed_fields.ensures.continues
