@@ -1,5 +1,5 @@
 //! Plays a session with a reset of the processor after each byte of each write of its bank, and tells which image of each
-//! critical table comes back behind it.
+//! critical table comes back after it. The row of a write is written as soon as its resets were tried.
 #![tactic(auto)]
 
 mod input;
@@ -14,19 +14,21 @@ mod words;
 use input::{End, Session, read_session};
 use plan::{Plan, tables_of, writes_of};
 use play::{Fault, Room, behind, close};
+use std::alloc::Global;
 use std::process::ExitCode;
 use tbl_adapters::{StandardInput, StandardOutput};
 use tbl_fakes::Span;
 use tbl_kinds::Entry;
 use tbl_outside::Sink;
-use text::{tell_whole, tell_write};
+use text::{tell_end, tell_front, tell_write};
 use tries::{Counts, Sweep, Write, try_write};
 use words::{Words, given_words};
 
 /// What `--help` answers.
-const HELP: &str = "tbl_resets: which image comes back behind a reset
+const HELP: &str = "tbl_resets: which image comes back after a reset
 
-tbl_resets              reads session records from standard input, and writes a table to standard output
+tbl_resets              reads session records from standard input, and writes a table to standard output,
+                        each row as it is known
 tbl_resets --every N    inside writes of more than 64 bytes it tries only the numbers of bytes that N divides
 tbl_resets --help       writes this text to standard output
 
@@ -40,17 +42,56 @@ It ends with one of these statuses:
 6  the input goes on after 32,768 records, or has too many to ask the service for more
 ";
 
-/// What is told of a session: the lines of the writes that were tried, and the whole text behind the last of them.
+/// The table on its way to standard output.
 #[derive(Drop)]
 struct Told {
-    lines: String,
+    sink: StandardOutput,
+    /// What is written next, as one row, and is cleared then.
     text: String,
     counts: Counts,
     /// How many requests had been made by the last write.
     played: Option<usize>,
 }
 
-/// Tries a write, and tells what came back.
+impl Told {
+    fn make(alloc: Global, sink: StandardOutput) -> Told {
+        Told {
+            sink,
+            text: String::new(alloc),
+            counts: Counts::zero(),
+            played: None,
+        }
+    }
+
+    /// Writes the text to standard output, and clears it.
+    fn write_out(&mut self) -> Result<(), Fault> {
+        let written = self.sink.write(self.text.as_bytes());
+        self.text.clear();
+        Ok(written?)
+    }
+
+    /// Writes what stands before the rows.
+    fn write_front(&mut self, plan: &Plan<'_>) -> Result<(), Fault> {
+        tell_front(&mut self.text, plan)?;
+        self.write_out()
+    }
+
+    /// Writes the row of a write that was tried.
+    fn write_row(&mut self, plan: &Plan<'_>, write: Write, sweep: &Sweep) -> Result<(), Fault> {
+        let is_first = self.played != Some(sweep.played);
+        self.played = Some(sweep.played);
+        tell_write(&mut self.text, plan, write, sweep, is_first)?;
+        self.write_out()
+    }
+
+    /// Writes what stands after the rows.
+    fn write_end(&mut self, plan: &Plan<'_>) -> Result<(), Fault> {
+        tell_end(&mut self.text, plan, &self.counts)?;
+        self.write_out()
+    }
+}
+
+/// Tries a write, and writes its row.
 fn tell_tried<R: Eprint>(
     rt: &R,
     plan: &Plan<'_>,
@@ -59,12 +100,10 @@ fn tell_tried<R: Eprint>(
     told: &mut Told,
 ) -> Result<(), Fault> {
     try_write(rt, plan, write, sweep, &mut told.counts)?;
-    let is_first = told.played != Some(sweep.played);
-    told.played = Some(sweep.played);
-    Ok(tell_write(&mut told.lines, plan, write, sweep, is_first)?)
+    told.write_row(plan, write, sweep)
 }
 
-/// Tries the write at this place among those of the session, and tells what came back.
+/// Tries the write at this place among those of the session, and writes its row.
 fn tell_at_place<R: Eprint>(
     rt: &R,
     plan: &Plan<'_>,
@@ -80,12 +119,13 @@ fn tell_at_place<R: Eprint>(
     tell_tried(rt, plan, write, &mut sweep, told)
 }
 
-/// Tries all writes of a session, and tells what came back.
+/// Tries all writes of a session, and writes the table.
 fn tell_all<R: Eprint>(rt: &R, plan: &Plan<'_>, told: &mut Told) -> Result<(), Fault> {
+    told.write_front(plan)?;
     for (at, span) in plan.writes.iter().enumerate() {
         tell_at_place(rt, plan, at, *span, told)?;
     }
-    Ok(tell_whole(&mut told.text, plan, &told.lines, &told.counts)?)
+    told.write_end(plan)
 }
 
 /// Tries a session whose writes and history are known.
@@ -140,52 +180,37 @@ fn status_of(end: End) -> u8 {
     }
 }
 
-/// Writes what was told of a session that was tried, and gives the status.
-fn write_told(told: &Told, end: End, sink: &mut StandardOutput) -> u8 {
-    if sink.write(told.text.as_bytes()).is_err() {
-        4
-    } else if told.counts.mixed > 0 {
-        1
-    } else {
-        status_of(end)
-    }
-}
-
 /// Tries a session, and gives the status for that.
 fn try_session<R: Eprint + AllocGlobal>(
     rt: &R,
     session: &Session,
     every: u32,
     told: &mut Told,
-    sink: &mut StandardOutput,
 ) -> u8 {
     match tried(rt, session, every, told) {
-        Ok(()) => write_told(told, session.end, sink),
+        Ok(()) if told.counts.mixed > 0 => 1,
+        Ok(()) => status_of(session.end),
         Err(Fault::Memory) => 1,
+        Err(Fault::Unwritten) => 4,
         Err(Fault::Full) => 6,
     }
 }
 
 /// Reads a session, tries it, and gives the status for that.
-fn try_input(rt: &HostRuntime, every: u32, sink: &mut StandardOutput) -> u8 {
+fn try_input(rt: &HostRuntime, every: u32, sink: StandardOutput) -> u8 {
     let alloc = rt.alloc();
     let mut source = StandardInput::of(rt.stdin());
     let Ok(session) = read_session(alloc, &mut source) else {
         return 1;
     };
-    let mut told = Told {
-        lines: String::new(alloc),
-        text: String::new(alloc),
-        counts: Counts::zero(),
-        played: None,
-    };
-    try_session(rt, &session, every, &mut told, sink)
+    let mut told = Told::make(alloc, sink);
+    try_session(rt, &session, every, &mut told)
 }
 
 fn main(rt: HostRuntime) -> ExitCode {
     let mut sink = StandardOutput::of(rt.stdout());
     let status = match given_words(&rt) {
-        Words::Try { every } => try_input(&rt, every, &mut sink),
+        Words::Try { every } => try_input(&rt, every, sink),
         Words::Help if sink.write(HELP.as_bytes()).is_ok() => 0,
         Words::Help => 4,
         Words::Unknown => 2,

@@ -10,7 +10,7 @@ use std::alloc::{AllocError, AllocFailed, Global};
 use tbl_core::{Core, StartFault, StepFault};
 use tbl_fakes::{Break, MemBank};
 use tbl_kinds::{Actor, Bytes, Entry, Memory, Request, Status, fits};
-use tbl_outside::Back;
+use tbl_outside::{Back, Failed};
 use validation::Kit;
 
 /// How many bytes a bank has.
@@ -32,6 +32,8 @@ pub(crate) enum Fault {
     Memory,
     /// The service takes no further request.
     Full,
+    /// A row couldn't be written.
+    Unwritten,
 }
 
 impl From<Memory> for Fault {
@@ -43,6 +45,12 @@ impl From<Memory> for Fault {
 impl From<AllocError> for Fault {
     fn from(_error: AllocError) -> Fault {
         Fault::Memory
+    }
+}
+
+impl From<Failed> for Fault {
+    fn from(_failed: Failed) -> Fault {
+        Fault::Unwritten
     }
 }
 

@@ -302,13 +302,13 @@ fn tell_every(text: &mut String, every: u32) -> Result<(), AllocError> {
     )
 }
 
-/// Writes how many resets were tried, and which.
+/// Writes how many resets were tried, and which, after the lines of the last write.
 fn tell_count(text: &mut String, plan: &Plan<'_>, counts: &Counts) -> Result<(), AllocError> {
     let writes = plan.writes.len();
     let (stops, starts) = (counts.stops, counts.starts);
     write!(
         text,
-        "{writes} writes and {stops} resets were tried: after each number of bytes of each write, 0 and all of them too"
+        "\n{writes} writes and {stops} resets were tried: after each number of bytes of each write, 0 and all of them too"
     )?;
     tell_every(text, plan.every)?;
     writeln!(
@@ -347,7 +347,7 @@ fn tell_columns(text: &mut String, plan: &Plan<'_>) -> Result<(), AllocError> {
 }
 
 /// Writes the last line.
-fn tell_end(text: &mut String, counts: &Counts) -> Result<(), AllocError> {
+fn tell_sums(text: &mut String, counts: &Counts) -> Result<(), AllocError> {
     let (completed, broken, none, mixed) = (
         counts.completed,
         counts.broken,
@@ -356,25 +356,22 @@ fn tell_end(text: &mut String, counts: &Counts) -> Result<(), AllocError> {
     );
     writeln!(
         text,
-        "\nCame back: the last image that was copied: {completed}; one whose copy broke off: {broken}; none: {none}; a mix: {mixed}."
+        "Came back: the last image that was copied: {completed}; one whose copy broke off: {broken}; none: {none}; a mix: {mixed}."
     )
 }
 
-/// Writes what stands before the lines of the writes.
-fn tell_front(text: &mut String, plan: &Plan<'_>, counts: &Counts) -> Result<(), AllocError> {
-    tell_count(text, plan, counts)?;
+/// Writes what stands before the lines of the first write.
+pub(crate) fn tell_front(text: &mut String, plan: &Plan<'_>) -> Result<(), AllocError> {
     tell_tables(text, plan)?;
     tell_columns(text, plan)
 }
 
-/// Writes the whole text, of which the lines of the writes are made already.
-pub(crate) fn tell_whole(
+/// Writes what stands after the lines of the last write.
+pub(crate) fn tell_end(
     text: &mut String,
     plan: &Plan<'_>,
-    lines: &str,
     counts: &Counts,
 ) -> Result<(), AllocError> {
-    tell_front(text, plan, counts)?;
-    text.push_str(lines)?;
-    tell_end(text, counts)
+    tell_count(text, plan, counts)?;
+    tell_sums(text, counts)
 }
