@@ -2,8 +2,8 @@ ghost use Rattle.std.specs.Prelude.{◌≡◌, ◌<◌, ◌≤◌, All, IfOk};
 ghost use Rattle.shipped_kit.specs.Verdicts.{asked_of};
 ghost use Rattle.shipped_kit.specs.Kit.{shipped_at, shipped_below};
 
-use std::alloc::{AllocError, Global};
 use crate::validators::{FirstByte, LastXor};
+use std::alloc::{AllocError, Global};
 use tbl_outside::{KitEntry, Validator};
 
 /// How many functions the shipped program has: two for each of the sixteen applications.

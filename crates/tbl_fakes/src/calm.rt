@@ -58,6 +58,7 @@ impl Source for CalmSource {
 pub struct CalmSink;
 
 impl CalmSink {
+    /// A sink that takes all bytes and keeps none.
     pub fn make() -> CalmSink {
         CalmSink
     }

@@ -9,9 +9,9 @@ use crate::records::{tell_end, tell_entry, tell_record};
 use crate::telemetry::{
     tell_event, tell_housekeeping, tell_registry, try_event, try_notice, try_telemetry,
 };
-use test_tables::{CaseFault, Cases, Pieces, kept, number_in, numbers_in};
 use file_drawer::Drawer;
 use std::alloc::Global;
+use test_tables::{CaseFault, Cases, Pieces, kept, number_in, numbers_in};
 
 /// Tries rows, over one drawer.
 #[derive(Drop)]

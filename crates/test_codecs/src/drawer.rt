@@ -1,10 +1,10 @@
 //! The drawer of files.
 
 use crate::line::Line;
-use test_tables::{CaseFault, kept};
 use file_drawer::{Drawer, PutFault};
 use std::alloc::Global;
 use tbl_kinds::{Bytes, Name, Name64};
+use test_tables::{CaseFault, kept};
 
 /// How many bytes the field of a file's name has.
 const FIELD: usize = 64;

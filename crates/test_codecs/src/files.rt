@@ -1,11 +1,11 @@
 //! File headers and table files.
 
 use crate::line::{Line, room_for};
-use test_tables::{CaseFault, Pieces, count_of, number_in, same_bytes};
 use cfe_headers::{FileHeader, read_file_header, write_file_header};
 use std::alloc::Global;
 use table_files::{IMAGE_PLACE, TableFile, read_table_file, write_table_file};
 use tbl_kinds::{Name, Name40};
+use test_tables::{CaseFault, Pieces, count_of, number_in, same_bytes};
 
 /// How many bytes the file header has.
 const HEADER_LENGTH: usize = 64;

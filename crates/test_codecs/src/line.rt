@@ -2,10 +2,10 @@
 
 ghost use Rattle.std.specs.Prelude.{◌≡◌, ◌≤◌, [], IfOk};
 
-use test_tables::CaseFault;
 use std::alloc::{AllocError, Global};
 use std::fmt;
 use tbl_kinds::Bytes;
+use test_tables::CaseFault;
 
 /// Words with spaces between them, or that memory ran out for them.
 #[derive(Drop)]

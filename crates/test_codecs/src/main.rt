@@ -11,9 +11,9 @@ mod packets;
 mod records;
 mod telemetry;
 
-use test_tables::play_table;
 use codecs::Codecs;
 use std::process::ExitCode;
+use test_tables::play_table;
 
 fn main(rt: HostRuntime) -> ExitCode {
     let alloc = rt.alloc();

@@ -1,9 +1,9 @@
 //! Names in their fields, and who may make a request.
 
 use crate::line::{Line, room_for};
-use test_tables::CaseFault;
 use std::alloc::Global;
 use tbl_kinds::{Actor, Name, Name20, Request, ResetKind, fits};
+use test_tables::CaseFault;
 
 /// How many bytes the field of an application's name has.
 const FIELD: usize = 20;

@@ -1,10 +1,10 @@
 //! Command packets.
 
 use crate::line::{Line, room_for};
-use test_tables::{CaseFault, same_bytes};
 use cfe_headers::{read_packet, write_cmd};
 use cmd_packets::{Ground, read_command};
 use std::alloc::Global;
+use test_tables::{CaseFault, same_bytes};
 
 /// What a command asks.
 fn tell_asked(line: &mut Line, command: &Ground) {

@@ -5,10 +5,10 @@ ghost use Rattle.tbl_kinds.specs.Records.{body_limit, body_of};
 ghost use Rattle.tbl_kinds.specs.Requests.{Fits};
 
 use crate::line::{Line, room_for};
-use test_tables::{CaseFault, same_bytes};
 use session_records::{Next, next_record, write_record};
 use std::alloc::Global;
 use tbl_kinds::{Actor, Request};
+use test_tables::{CaseFault, same_bytes};
 use transcript::{read_end, read_entry};
 
 /// The time, a reset, or the end of an application.

@@ -3,10 +3,10 @@
 ghost use Rattle.std.specs.Prelude.{◌<◌, IfOk};
 
 use crate::line::{Line, room_for};
-use test_tables::{CaseFault, same_bytes};
 use cfe_headers::write_tlm;
 use std::alloc::Global;
 use tbl_kinds::{Event, Housekeeping, RegistryRow, Status, TlmHead, u16_at, u32_at};
+use test_tables::{CaseFault, same_bytes};
 use tlm_packets::{
     read_event, read_housekeeping, read_registry, registry_bytes, write_event, write_housekeeping,
     write_notice, write_registry,

@@ -1,8 +1,8 @@
 //! What stands in a bank behind a session.
 
-use test_tables::{CaseFault, Row, bank_bytes, same_text};
 use std::fmt::{self, Write};
 use tbl_fakes::Span;
+use test_tables::{CaseFault, Row, bank_bytes, same_text};
 
 /// Writes where each write begins, and its length.
 fn tell_writes(told: &mut String, writes: &[Span]) -> fmt::Result {

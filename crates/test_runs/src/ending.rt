@@ -2,14 +2,14 @@
 
 ghost use Rattle.std.specs.Prelude.{◌≡◌, ◌≤◌, length, IfOk};
 
-use test_tables::{CaseFault, Row};
 use std::alloc::Global;
 use std::sync::Wait;
 use std::thread::Threads;
 use tbl_fakes::{CalmBank, MemSink, MemSource, OpenGate};
 use tbl_kinds::{Bytes, Memory};
-use tbl_outside::{Sink, Source};
+use tbl_outside::{KitEntry, Sink, Source};
 use tbl_top::run;
+use test_tables::{CaseFault, Row};
 
 /// How many bytes the bank has.
 const BANK_SIZE: u32 = 131_072;
@@ -41,7 +41,7 @@ pub(crate) fn status_of<R: Threads + Wait + Sync, S: Source, K: Sink>(
     sink: &mut K,
 ) -> Result<u8, Memory> {
     let bank = bank(alloc)?;
-    let kit = Vec::new(alloc);
+    let kit: Vec<KitEntry> = Vec::new(alloc);
     let (status, _bank) = run(rt, alloc, words, source, sink, bank, kit, &OpenGate);
     Ok(status)
 }

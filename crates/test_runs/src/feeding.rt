@@ -4,12 +4,12 @@ ghost use Rattle.std.specs.Prelude.{◌≡◌, ◌<◌, [], false, IfOk};
 ghost use Rattle.tbl_top.specs.declared.playback.Standing.TheVariants.{Open};
 
 use crate::ending::bank;
-use test_tables::{CaseFault, Row, count_of};
+use shipped_kit::FirstByte;
 use std::alloc::Global;
 use tbl_core::Core;
-use shipped_kit::FirstByte;
 use tbl_fakes::{CalmBank, MemSink};
 use tbl_top::{Fed, Player};
+use test_tables::{CaseFault, Row, count_of};
 use validation::Kit;
 
 /// Feeds bytes in pieces of so many. The session stays open.

@@ -3,17 +3,19 @@
 #![tactic(auto)]
 
 mod banks;
+mod crews;
 mod ending;
 mod feeding;
 mod meeting;
 mod runs;
 mod second_runs;
 mod sessions;
+mod transcripts;
 mod turns;
 
-use test_tables::play_rows;
 use runs::Runs;
 use std::process::ExitCode;
+use test_tables::play_rows;
 
 fn main(rt: HostRuntime) -> ExitCode {
     match play_rows(&rt, &mut Runs) {

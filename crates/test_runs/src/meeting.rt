@@ -1,10 +1,10 @@
 //! A session of two threads that wait for each other.
 
 use crate::sessions::Session;
-use test_tables::{CaseFault, Row, new_bank};
 use std::sync::Wait;
 use std::thread::Threads;
 use tbl_fakes::MeetingGate;
+use test_tables::{CaseFault, Row, new_bank};
 
 /// Compares a status and an output: one of two, since either thread may have the first turn.
 fn compare(row: &Row, session: &Session, status: u8) -> Result<(), CaseFault> {

@@ -1,16 +1,17 @@
 //! Runs as a table states them.
 
+use crate::crews::{try_free, try_ordered};
 use crate::ending::{status_of, try_ending, try_front};
 use crate::feeding::try_lengths;
 use crate::meeting::try_meeting;
 use crate::second_runs::try_again;
 use crate::sessions::try_session;
 use crate::turns::try_turns;
-use test_tables::{CaseFault, Row, RowCases, count_of, one_word};
 use std::sync::Wait;
 use std::thread::Threads;
 use tbl_fakes::{CalmSink, CalmSource};
 use tbl_kinds::Bytes;
+use test_tables::{CaseFault, Row, RowCases, count_of, one_word};
 
 /// Tries runs.
 #[derive(Drop)]
@@ -80,6 +81,13 @@ impl RowCases for Runs {
     /// actor. `again | NAME | INPUT | INPUT | STOPS | STATUS | OUTPUT | STATUS | OUTPUT` is a session over a bank of zeros with
     /// a stop at each of these places, and then a second one over the bank that the first gave back, with how each ends.
     ///
+    /// `free | NAME | INPUT | BANK | BREAKS | BAD READS | STATUS | OUTPUT | TOLD` is a session with a thread for each actor over such
+    /// a bank, whose entries are those of each actor in the output, in their order, and in any order between actors. The last cell
+    /// has what the gate was told, as `1/5/5/0` for each actor: how many records were about to be played, how many were played, and
+    /// how often it took the bytes of a pinned image. `/disorder` stands behind it where their numbers didn't come from 0 on, each
+    /// first as about to be played and then as played. `ordered` has the cells of `free` but for the last one: the gate lets the
+    /// threads have their turns in the order of the entries in the output, and that is what comes.
+    ///
     /// `meet | INPUT | STATUS | OUTPUT | OUTPUT | PLAYED` is a session in threads, of which those of applications 1 and 2 wait
     /// for each other: the two outputs that may come, and how many records the threads play. `turns | WHAT CAME` are two turns
     /// of application 1 without a thread, of two applications that ask to start: what each comes to, how many entries stand
@@ -93,6 +101,8 @@ impl RowCases for Runs {
             ("fed", 8) => try_lengths(row),
             ("play" | "crew", 10) => try_session(rt, row),
             ("again", 9) => try_again(rt, row),
+            ("free", 9) => try_free(rt, row),
+            ("ordered", 8) => try_ordered(rt, row),
             ("meet", 6) => try_meeting(rt, row),
             ("turns", 2) => try_turns(row),
             _ => Err(CaseFault::Unreadable),

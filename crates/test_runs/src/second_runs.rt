@@ -3,11 +3,11 @@
 ghost use Rattle.std.specs.Prelude.{◌≡◌, length, IfOk};
 
 use crate::sessions::play;
-use test_tables::{BANK_SIZE, CaseFault, Row, bank_over, kept, number_in, zeros};
 use std::alloc::Global;
 use std::sync::Wait;
 use std::thread::Threads;
 use tbl_fakes::{Break, MemBank};
+use test_tables::{BANK_SIZE, CaseFault, Row, bank_over, kept, number_in, zeros};
 
 /// Both sessions are played in order.
 const PLAY: &str = "play";

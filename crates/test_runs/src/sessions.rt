@@ -4,7 +4,6 @@ ghost use Rattle.std.specs.Prelude.{◌≤◌, length};
 ghost use Rattle.tbl_kinds.specs.Places.{bank_size};
 
 use crate::banks::{same_bank, same_writes};
-use test_tables::{CaseFault, Row, bank_in, count_of, one_word};
 use shipped_kit::shipped_entries;
 use std::alloc::Global;
 use std::sync::Wait;
@@ -12,7 +11,8 @@ use std::thread::Threads;
 use tbl_fakes::{MemBank, MemSink, MemSource, OpenGate};
 use tbl_kinds::{Bytes, Memory};
 use tbl_outside::Gate;
-use tbl_top::run_with;
+use tbl_top::run;
+use test_tables::{CaseFault, Row, bank_in, count_of, one_word};
 
 /// For how many bytes the sink has room beside those that are wanted.
 const MORE_OUTPUT: u32 = 512;
@@ -52,7 +52,7 @@ impl Session {
         requires { bank_size ≤ length bank.bytes }
     {
         let kit = shipped_entries(alloc)?;
-        Ok(run_with(
+        Ok(run(
             rt,
             alloc,
             &self.words,

@@ -3,15 +3,16 @@
 ghost use Rattle.std.specs.Prelude.{◌≡◌, ◌≤◌, ◌+◌, [], false, length, IfOk, OnOk};
 ghost use Rattle.tbl_kinds.specs.Records.{record_limit};
 ghost use Rattle.tbl_kinds.specs.Requests.{Fits};
-ghost use Rattle.tbl_crew.specs.Scripts.{actor_count, request_count, AllFit};
+ghost use Rattle.tbl_session.specs.Actors.{actor_count};
+ghost use Rattle.tbl_crew.specs.Scripts.{request_count, AllFit};
 
 use crate::feeding::service;
-use test_tables::{CaseFault, Row, same_text};
 use std::alloc::Global;
 use tbl_core::Core;
 use tbl_crew::{Crew, Scripts, Turn};
 use tbl_kinds::{Actor, Memory, Name20, Request};
 use tbl_outside::{Bank, Validator};
+use test_tables::{CaseFault, Row, same_text};
 
 /// A name in its field of 20 bytes.
 fn name_of(first: u8) -> Name20 {

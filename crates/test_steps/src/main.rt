@@ -5,9 +5,9 @@ mod notes;
 mod stepping;
 mod steps;
 
-use test_tables::play_rows;
 use std::process::ExitCode;
 use steps::Steps;
+use test_tables::play_rows;
 
 fn main(rt: HostRuntime) -> ExitCode {
     let mut steps = Steps::make();

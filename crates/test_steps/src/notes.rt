@@ -1,10 +1,10 @@
 //! The statuses and notes of a session's entries.
 
 use crate::stepping::{Service, started, step_all};
-use test_tables::{CaseFault, Row, bank_in, same_text};
 use std::alloc::Global;
 use std::fmt::{self, Write};
 use tbl_kinds::{BankNote, Bytes, Entry, Outcome};
+use test_tables::{CaseFault, Row, bank_in, same_text};
 
 /// Writes how the calls went and how many were done: `-` where none was made.
 fn tell_calls(told: &mut String, outcome: Outcome, done: u8) -> fmt::Result {

@@ -6,13 +6,13 @@ ghost use Rattle.tbl_kinds.specs.Requests.{Fits};
 ghost use Rattle.tbl_core.specs.Service.{AskedBelow};
 ghost use Rattle.shipped_kit.specs.Verdicts.{asked_of};
 
-use test_tables::CaseFault;
 use session_records::{Next, next_record};
 use shipped_kit::{Shipped, shipped_entries};
 use std::alloc::Global;
 use tbl_core::{Core, StartFault, StepFault};
 use tbl_fakes::MemBank;
 use tbl_kinds::{Actor, Memory, Request};
+use test_tables::CaseFault;
 use validation::Kit;
 
 /// The service that rows are played on.

@@ -2,10 +2,10 @@
 
 use crate::notes::try_notes;
 use crate::stepping::{MOST_ENTRIES, Service, started, step, step_all};
-use test_tables::{CaseFault, Row, RowCases, new_bank};
 use std::sync::Wait;
 use std::thread::Threads;
 use tbl_kinds::{Actor, Bytes, Memory, Name64, Outcome, Request};
+use test_tables::{CaseFault, Row, RowCases, new_bank};
 use transcript::write_entry;
 
 /// How many bytes the field of a file's name has.

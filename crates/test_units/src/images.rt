@@ -56,7 +56,7 @@ fn buffers(rt: HostRuntime) -> Result<(), Fail> {
     put(rt.alloc(), &mut buffers, 1)?;
     put(rt.alloc(), &mut buffers, 2)?;
     assert!(rt; bytes_of(buffers.before()) == [1].as_slice());
-    buffers.let_go();
+    buffers.drop_before();
     assert!(rt; buffers.before().is_none());
     Ok(())
 }
@@ -66,7 +66,7 @@ fn an_image_is_kept(rt: HostRuntime) -> Result<(), Fail> {
     let mut buffers = Buffers::make(Some(Image::of(rt.alloc(), &[1])?), true);
     buffers.keep();
     put(rt.alloc(), &mut buffers, 2)?;
-    buffers.let_go();
+    buffers.drop_before();
     assert!(rt; bytes_of(buffers.kept()) == [1].as_slice());
     buffers.end_keep();
     assert!(rt; buffers.kept().is_none());

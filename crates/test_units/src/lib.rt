@@ -21,4 +21,6 @@ mod recovering;
 #[cfg(test)]
 mod shipped_functions;
 #[cfg(test)]
+mod tables;
+#[cfg(test)]
 mod validations;

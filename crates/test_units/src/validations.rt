@@ -1,5 +1,5 @@
-use std::test::Fail;
 use shipped_kit::FirstByte;
+use std::test::Fail;
 use tbl_outside::KitEntry;
 use validation::{Kit, PendFault, Pending};
 
