@@ -7,8 +7,8 @@ ghost use Rattle.arrayvec.specs.ArrayVec.{array_vec_len};
 
 use crate::primary::primary;
 use arrayvec::ArrayVec;
-use tbl_kinds::fields::put;
 use tbl_kinds::Bytes;
+use tbl_kinds::fields::put;
 
 /// The headers of a telemetry packet of `len` bytes in all.
 fn headers(id: u16, count: u16, len: u16, seconds: u32, sub: u16) -> ArrayVec<u8, 12>
