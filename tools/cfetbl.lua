@@ -2,7 +2,7 @@
 -- Names and places come from names.tsv, which has to stand beside this file. The primary header is that of CCSDS 133.0-B,
 -- the secondary headers are those of cFE's msg module.
 --
---     wireshark -X lua_script:tools/tbl.lua CAPTURE        with a capture of `tbl-show --pcap CAPTURE`
+--     wireshark -X lua_script:tools/cfetbl.lua CAPTURE        with a capture of `cfetbl-show --pcap CAPTURE`
 --
 -- It takes datagrams to UDP port 1234 as commands, and those to 1235 as what the service sends.
 
@@ -11,7 +11,7 @@ local IS_COMMAND, COMMAND_ID, HOUSEKEEPING_ID = 0x1000, 0x1804, 0x180C
 local PRIMARY_HEADER, COMMAND_HEADER, TELEMETRY_HEADER, LENGTH_BIAS = 6, 8, 12, 7
 local REFUSED = 2
 
-local tbl = Proto("tbl", "cFE Table Services")
+local cfetbl = Proto("cfetbl", "cFE Table Services")
 
 -- The rows of names.tsv by section, each as the list of its columns.
 local function read_names()
@@ -58,7 +58,7 @@ local MASKS = { flags = 0xC000, count = 0x3FFF, ["function"] = 0x7F }
 
 -- Wireshark's field for a field of a layout.
 local function proto_field(owner, name, width, form)
-    local abbreviation = "tbl." .. key(owner) .. "." .. key(name)
+    local abbreviation = "cfetbl." .. key(owner) .. "." .. key(name)
     if form == "name" then
         return ProtoField.string(abbreviation, name)
     elseif form == "zeros" or form == "data" then
@@ -94,18 +94,30 @@ end
 
 for _, row in ipairs(names.bit) do
     if row[1] == "registry" then
-        local field = ProtoField.bool("tbl.registry.state." .. key(row[3]), row[3], 8, nil, 2 ^ tonumber(row[2]))
+        local field = ProtoField.bool("cfetbl.registry.state." .. key(row[3]), row[3], 8, nil, 2 ^ tonumber(row[2]))
         all_fields[#all_fields + 1] = field
         bits[#bits + 1] = field
     end
 end
 
-local payload_field = ProtoField.bytes("tbl.payload", "payload")
+local payload_field = ProtoField.bytes("cfetbl.payload", "payload")
 all_fields[#all_fields + 1] = payload_field
-tbl.fields = all_fields
+cfetbl.fields = all_fields
 
-local wrong = ProtoExpert.new("tbl.wrong", "no whole packet", expert.group.MALFORMED, expert.severity.WARN)
-tbl.experts = { wrong }
+local wrong = ProtoExpert.new("cfetbl.wrong", "no whole packet", expert.group.MALFORMED, expert.severity.WARN)
+cfetbl.experts = { wrong }
+
+-- The table of a row, as the comment on a packet of `cfetbl-show --pcap` names it; nothing where no comment does.
+local comment = Field.new("frame.comment")
+
+local function table_of(row)
+    for _, said in ipairs({ comment() }) do
+        local number, name = said.display:match("^row (%d+) (.+)$")
+        if tonumber(number) == row then
+            return name
+        end
+    end
+end
 
 -- What a name field reads as: its bytes before the first zero byte, or all of them; those that don't print as \xNN.
 local function name_in(range)
@@ -181,8 +193,14 @@ local function event_info(buffer, items)
     if told then
         items.detail:append_text(" (" .. told .. ")")
     end
+    local row = buffer(TELEMETRY_HEADER + 6, 2):uint()
+    local name = row ~= NONE.row and table_of(row)
+    if name then
+        items.row:append_text(" (" .. name .. ")")
+    end
     local refusal = status ~= 0 and (statuses[status] or status) or ""
-    local words = { "event " .. number, events[number] or "", refusal, told or "" }
+    local about = row ~= NONE.row and "row " .. row .. " " .. (name or "") or ""
+    local words = { "event " .. number, events[number] or "", refusal, about, told or "" }
     return table.concat(words, " "):gsub("%s+", " "):gsub(" $", "")
 end
 
@@ -248,7 +266,7 @@ end
 
 local function dissect(buffer, pinfo, root, is_sent)
     pinfo.cols.protocol = "TBL"
-    local tree = root:add(tbl, buffer())
+    local tree = root:add(cfetbl, buffer())
     if buffer:len() < COMMAND_HEADER then
         tree:add_proto_expert_info(wrong)
         pinfo.cols.info = "no packet, " .. buffer:len() .. " bytes"
@@ -269,10 +287,10 @@ local function dissect(buffer, pinfo, root, is_sent)
     pinfo.cols.info = told
 end
 
-function tbl.dissector(buffer, pinfo, root)
+function cfetbl.dissector(buffer, pinfo, root)
     dissect(buffer, pinfo, root, pinfo.dst_port ~= COMMAND_PORT)
 end
 
 local ports = DissectorTable.get("udp.port")
-ports:add(COMMAND_PORT, tbl)
-ports:add(TELEMETRY_PORT, tbl)
+ports:add(COMMAND_PORT, cfetbl)
+ports:add(TELEMETRY_PORT, cfetbl)
