@@ -1,0 +1,63 @@
+"""How far a piece of work is, told on standard error while nothing else is written."""
+import shutil
+import sys
+import threading
+import time
+
+# Nothing is silent for longer.
+SECONDS = 4.5
+
+
+def span(seconds):
+    """A number of seconds for people."""
+    minutes, rest = divmod(round(seconds), 60)
+    return f"{minutes} min {rest} s" if minutes else f"{rest} s"
+
+
+class Ticker:
+    """Within a `with` block, writes what `tell` gives for the seconds so far, whenever nothing was written for a while. On a
+    terminal each line takes the place of the one before."""
+
+    def __init__(self, tell):
+        self.tell = tell
+        self.is_terminal = sys.stderr.isatty()
+        self.begun = self.last = time.monotonic()
+        self.lock = threading.Lock()
+        self.done = threading.Event()
+        self.thread = threading.Thread(target=self._tick, daemon=True)
+
+    def __enter__(self):
+        self.thread.start()
+        return self
+
+    def __exit__(self, *_):
+        self.done.set()
+        self.thread.join()
+        with self.lock:
+            self._clear()
+
+    def write(self, output):
+        """Writes other output of the work, as bytes."""
+        with self.lock:
+            self._clear()
+            sys.stdout.buffer.write(output)
+            sys.stdout.buffer.flush()
+            self.last = time.monotonic()
+
+    def _clear(self):
+        if self.is_terminal:
+            print("\r\033[K", end="", file=sys.stderr, flush=True)
+
+    def _tick(self):
+        while not self.done.wait(0.5):
+            now = time.monotonic()
+            with self.lock:
+                if now - self.last < (1 if self.is_terminal else SECONDS):
+                    continue
+                self.last = now
+                self._clear()
+                line = self.tell(now - self.begun)
+                if self.is_terminal:
+                    print(line[:shutil.get_terminal_size().columns - 1], end="", file=sys.stderr, flush=True)
+                else:
+                    print(line, file=sys.stderr, flush=True)
