@@ -1,17 +1,22 @@
 """Answers by name: a request with its answer, its reply bytes and the packets that it sent, for people and for programs."""
 from . import files, names, packets, text
 from .packets import Shown
+from .tables import NONE_KNOWN, SUCCESS, WRONG_HANDLE
 
 LONGEST_DATA = 32
 NO_BUFFER = 57
 BUFFERS = 4
+VALIDATION_FINISHED, IMAGE_ACTIVE, COPY_FAILED = 3, 5, 6
+# The event that tells what a thing came to that a Manage did, by the value of its bit.
+WORK_EVENTS = {0x01: VALIDATION_FINISHED, 0x02: VALIDATION_FINISHED, 0x04: IMAGE_ACTIVE}
 
 
 class Answer:
-    """An entry of a transcript beside its record, where the session is at hand and has one: one that has none is foreign."""
+    """An entry of a transcript beside its record, where the session is at hand and has one: one that has none is foreign.
+    `view` has the tables and handles that were there before it, by which rows and handles are named."""
 
-    def __init__(self, entry, record=None, is_foreign=False):
-        self.entry, self.record, self.is_foreign = entry, record, is_foreign
+    def __init__(self, entry, record=None, is_foreign=False, view=NONE_KNOWN):
+        self.entry, self.record, self.is_foreign, self.view = entry, record, is_foreign, view
         self.status, self.actor = entry.number("status"), entry.number("actor")
         self.packets = [packets.decode(it) for it in packets.split(entry.sent)]
 
@@ -52,9 +57,42 @@ class Answer:
             return []
         if self.status == NO_BUFFER and len(content) == BUFFERS:
             rows = " ".join(map(str, content))
-            return [("buffers used", [Shown("rows", rows, rows)])]
+            named = self.view.rows and ", ".join(self.view.row_words(str(it), it) for it in content)
+            return [("buffers used", [Shown("rows", rows, named or rows)])]
+        if self.request == "Manage" and len(content) == 1:
+            return [("work", [Shown("done", content[0], self._work_words(content[0]), not content[0])])]
         reader = REPLIES.get(self.request, lambda it: [_data("reply", it)])
         return reader(content)
+
+    def _work_words(self, done):
+        """What a Manage did, each thing with what it came to, as its events tell."""
+        events = [it.body for it in self.packets if it.kind == "event"]
+        told = []
+        for bit, word in names.bits("work").items():
+            if not done & bit:
+                continue
+            if events and events[0][0].value == WORK_EVENTS.get(bit):
+                event = events.pop(0)
+                word += f", {event[-1].name} {event[-1].words}"
+            if events and events[0][0].value == COPY_FAILED:
+                word += f", {events.pop(0)[0].words.partition(' ')[2]}"
+            told.append(word)
+        return "; ".join(told)
+
+    def handle(self):
+        """The handle that the request names, as it stood before, or None."""
+        field = next((it for it in names.fields(self.record.request.name) if it.name == "handle"), None) if self.record else None
+        return self.view.handles.get(packets.number(field.of(self.record.body))) if field else None
+
+    def table(self):
+        """The row and the table of which a read gave bytes, in words; empty where they aren't known."""
+        handle = self.handle() if self.request == "Read" and self.status == SUCCESS else None
+        return f"row {handle.row} {handle.table}" if handle and handle.table else ""
+
+    def handles_words(self):
+        """Which handles the application has, where the request was refused for its handle."""
+        is_asked = self.status in WRONG_HANDLE and self.actor and self.record and self.view.is_known
+        return self.view.handle_words(self.actor) if is_asked else ""
 
 
 def _data(kind, content):
@@ -66,11 +104,6 @@ def _data(kind, content):
 def _shortened(content):
     digits = content.hex().upper()
     return digits if len(content) <= LONGEST_DATA else f"{digits[:2 * LONGEST_DATA]}.. ({len(content)} bytes)"
-
-
-def _work(content):
-    field = names.Field("reply", 0, 1, "done", "work")
-    return [("work", [packets.shown_field(field, content)])] if len(content) == 1 else [_data("reply", content)]
 
 
 def _registry(content):
@@ -97,7 +130,7 @@ def _files(content):
     return found
 
 
-REPLIES = {"Manage": _work, "GetInfo": _registry, "DUMP": _files, "DUMP_REGISTRY": _files,
+REPLIES = {"GetInfo": _registry, "DUMP": _files, "DUMP_REGISTRY": _files,
            packets.HOUSEKEEPING: _files}
 
 
@@ -116,7 +149,7 @@ def end_words(end, index=None):
 
 
 def _left_words(end, index):
-    """What of a session wasn't played. Where each actor had a thread and they broke off, records behind that may have been."""
+    """What of a session wasn't played. Where each actor had a thread and they broke off, records after that may have been."""
     number, place = index.first_left() or (end.entries, end.place)
     piece = index.piece_at(place)
     if piece is None:

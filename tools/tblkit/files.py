@@ -43,7 +43,7 @@ def read_table_file(content):
 
 
 def split(content):
-    """The files that stand in reply bytes one behind the other: table files by the number of bytes that each states,
+    """The files that stand in reply bytes one after the other: table files by the number of bytes that each states,
     and a registry file with all that follows it. What is no file comes last, as it stands."""
     while content:
         found = read_table_file(content)

@@ -7,6 +7,8 @@ TABLE = os.path.join(os.path.dirname(os.path.dirname(os.path.realpath(__file__))
 NUMBER_FORMS = ("number", "signed", "hex", "two words", "row", "validator")
 PARTS_OF_BITS = {"flags": (14, 0x3), "count": (0, 0x3FFF), "function": (0, 0x7F)}
 CODED_FORMS = ("status", "event", "command")
+# The sections whose numbers are explained.
+EXPLAINED = ("status", "event", "run")
 
 
 @dataclass(frozen=True)
@@ -57,6 +59,12 @@ def named(section):
     """The statuses, events, commands, messages or run statuses by number."""
     found = (Named(int(number, 0), *more) for number, *more in rows_of(section))
     return {it.number: it for it in found}
+
+
+@functools.cache
+def explained():
+    """What each number of a section means, when it comes, and what to do."""
+    return {(section, int(number)): tuple(said) for section, number, *said in rows_of("explain")}
 
 
 @functools.cache
@@ -141,7 +149,7 @@ def is_blank(form, content):
 def shown(form, content):
     """A field's bytes in words, by its form."""
     if form == "name":
-        return quoted(name_in(content)) + (" (and bytes behind it)" if content.partition(b"\0")[2].strip(b"\0") else "")
+        return quoted(name_in(content)) + (" (and bytes after it)" if content.partition(b"\0")[2].strip(b"\0") else "")
     if form in ("data", "zeros"):
         return content.hex().upper()
     if form in ("row", "validator"):

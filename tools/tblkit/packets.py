@@ -143,7 +143,7 @@ def _event_parts(content, parts):
 
 
 def split(content):
-    """The packets in a reply, one behind the other. Bytes that are no whole packet come last, as they stand."""
+    """The packets in a reply, one after the other. Bytes that are no whole packet come last, as they stand."""
     at = 0
     while at < len(content):
         length = number(content[at + 4:at + PRIMARY]) + 7

@@ -79,14 +79,14 @@ def body_fault(kind, body):
     for field in looked_at:
         content = field.of(body)
         if field.form == "name" and content[len(names.name_in(content)):].strip(b"\0"):
-            return f"kind {kind:02X} {request.name} with bytes behind the name in its field `{field.name}`"
+            return f"kind {kind:02X} {request.name} with bytes after the name in its field `{field.name}`"
         if field.form == "reset" and content[0] not in names.words("reset"):
             return f"kind {kind:02X} {request.name} with the byte {content.hex().upper()}"
     return ""
 
 
 def pieces(stream):
-    """The pieces of a session, in order. What stands behind a bad record is read as records again."""
+    """The pieces of a session, in order. What stands after a bad record is read as records again."""
     at = 0
     while head := stream.read(HEAD):
         if len(head) < HEAD:

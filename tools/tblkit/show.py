@@ -1,20 +1,26 @@
 """Answers as lines for people, and as objects for programs."""
 import functools
 import re
+from dataclasses import replace
 
 from . import names, transcript
 from .answers import Answer, end_words
+from .tables import NONE_KNOWN, Tables
 
 INDENT = "      "
 HEADER_SHOWN = ("sequence count", "seconds", "subseconds")
 
 
-def answers(parts, index):
-    """The parts of a transcript, each entry as an answer beside its record: the next one of its actor."""
+def answers(parts, index, is_named=True):
+    """The parts of a transcript, each entry as an answer beside its record: the next one of its actor. Where they are to be
+    named, each has the tables and handles that were there before it."""
+    tables = Tables()
     for part in parts:
         if isinstance(part, transcript.Entry):
             record = index.next_of(part.number("actor")) if index else None
-            yield Answer(part, record, index is not None and record is None)
+            answer = Answer(part, record, index is not None and record is None, tables.view if is_named else NONE_KNOWN)
+            tables.follow(answer)
+            yield answer
         else:
             yield part
 
@@ -28,6 +34,7 @@ def lines(answer, is_all=False):
     """The lines of an answer: the request with its status, then what it replied and each packet that it sent."""
     detail, replies = answer.detail(), answer.reply()
     told = [answer.status_words()] + ([f"{detail.name} {detail.words}"] if detail else [])
+    told += [answer.table(), answer.handles_words()]
     if len(replies) == 1 and len(replies[0][1]) == 1 and not is_all:
         told.append(listed(replies[0][1]))
         replies = []
@@ -35,13 +42,15 @@ def lines(answer, is_all=False):
     for kind, fields in replies:
         yield from _block(kind, fields, is_all)
     for packet in answer.packets:
-        yield from _packet_lines(packet, is_all)
+        yield from _packet_lines(packet, answer.view, is_all)
 
 
-def _packet_lines(packet, is_all):
-    if is_all:
-        return _block(packet.kind, packet.header + packet.body, True)
+def _packet_lines(packet, view, is_all):
     kind, body = packet.kind, packet.body
+    if kind == "event":
+        body = tuple(replace(it, words=view.row_words(it.words, it.value)) if it.name == "row" else it for it in body)
+    if is_all:
+        return _block(kind, packet.header + body, True)
     if kind == "event":
         kind, body = f"event {body[0].words}", body[1:]
     return _block(kind, body + tuple(_header_shown(packet)), False)
@@ -84,6 +93,12 @@ def _values(fields):
     return found
 
 
+def _table_of(packet, view):
+    """The table of the row that an event tells, where it is known."""
+    row = packet.field("row")
+    return {"table": view.rows[row.value]} if row and row.value in view.rows else {}
+
+
 def as_object(part, index):
     """A part of a transcript for JSON: its fields by name with their numbers, bytes in hexadecimal."""
     if isinstance(part, transcript.End):
@@ -99,5 +114,7 @@ def as_object(part, index):
     told |= _values([detail] if detail else [])
     told["reply"] = entry.reply.hex().upper()
     told["reply_fields"] = [{"kind": kind} | _values(fields) for kind, fields in part.reply()]
-    told["packets"] = [{"kind": it.kind} | _values(it.header) | _values(it.body) for it in part.packets]
+    if part.table():
+        told["table"] = part.handle().table
+    told["packets"] = [{"kind": it.kind} | _values(it.header) | _values(it.body) | _table_of(it, part.view) for it in part.packets]
     return told

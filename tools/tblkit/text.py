@@ -1,12 +1,15 @@
-"""Sessions as text, a line a request, and back. tbl-text tells the forms of the lines."""
+"""Sessions as text, a line a request, and back. cfetbl-text tells the forms of the lines."""
 import functools
 import os
-import re
+import textwrap
 
 from . import names, packets, records, words
 from .words import TextError, Words
 
 LONGEST_LINE = 1 << 20
+LONGEST_SHOWN = 100
+MOST_WRONG = 10
+BYTE_ORDER_MARK = b"\xef\xbb\xbf"
 LABELS = {"size": "size", "offset": "at", "length": "length", "message id": "message", "function code": "code",
           "parameter": "parameter"}
 RAW = "bytes"
@@ -17,8 +20,7 @@ def record_of(line, folder="."):
     left = Words(line, folder)
     if left.is_done():
         return b""
-    what = "app, ground, file, time, reset or bytes at the front of the line"
-    word = left.take_word(("app", *_requests(True), RAW), what)
+    word = left.take_word(("app", *_requests(True), RAW), "app, ground, file, time, reset or bytes")
     if word == RAW:
         content = left.hexadecimal("the bytes")
     elif word == "app":
@@ -42,11 +44,9 @@ def _commands():
 
 
 def _application_record(left):
-    actor = left.number("the number of an application", max(records.APPLICATIONS))
-    if actor not in records.APPLICATIONS:
-        raise TextError(f"expected the number of an application, 1 to {max(records.APPLICATIONS)}, found {actor}")
+    actor = left.number("the number of an application", max(records.APPLICATIONS), min(records.APPLICATIONS))
     known = _requests(False)
-    request = known[left.take_word(known, "one of " + " ".join(known))]
+    request = known[left.take_word(known, "a request of an application")]
     return records.spelling(request, actor, _body(left, request))
 
 
@@ -56,12 +56,9 @@ def _body(left, request):
 
 def _packet(left):
     """The packet of a ground line: a command of its own form, or any bytes."""
-    name = left.take_word(("packet", *_commands()), "packet, or one of " + " ".join(_commands()))
+    name = left.take_word((*_commands(), "packet"), "a command, or packet")
     if name == "packet":
-        packet = left.hexadecimal("the packet")
-        if len(packet) > records.MOST_BODY:
-            raise TextError(f"expected a packet of at most {records.MOST_BODY} bytes, found {len(packet)}")
-        return packet
+        return left.hexadecimal("the packet", records.MOST_BODY)
     payload = b"".join(_field_bytes(left, it) for it in names.fields(name))
     count = left.number("the sequence count", packets.MOST_COUNT) if left.take_if("count") else 0
     return packets.command(name, payload, count)
@@ -91,7 +88,7 @@ def _coded(left, field):
     """A number that has words. The kind of a reset is always a word: no other number makes a record."""
     known = {word: number for number, word in names.words(field.form).items()}
     if field.form != "reset" and not left.is_next(*known):
-        return left.number(f"{' or '.join(known)}, or", (1 << 8 * field.width) - 1)
+        return left.number(", ".join(known), (1 << 8 * field.width) - 1, joint=" or ")
     return known[left.take_word(known, " or ".join(known))]
 
 
@@ -146,7 +143,7 @@ def _packet_words(packet):
 
 
 def _plain(field, content):
-    """A field as its words give it: behind a name only zeros."""
+    """A field as its words give it: after a name only zeros."""
     raw = field.of(content)
     return names.name_in(raw).ljust(field.width, b"\0") if field.form == "name" else raw
 
@@ -169,28 +166,52 @@ def _field_words(field, body):
     return f"{label} {shown}" if label else shown
 
 
-def to_records(lines, into, folder="."):
-    """Writes the records of the lines, which are bytes. A wrong line ends it with a TextError that has its number."""
-    number = 0
-    while line := lines.readline(LONGEST_LINE):
+class WrongLines(Exception):
+    """The lines of a session that are none, each as the lines of its report."""
+
+    def __init__(self, reports):
+        super().__init__("\n".join(reports))
+
+
+def to_records(lines, into, folder=".", name="<stdin>"):
+    """Writes the records of the lines, which are bytes. Lines that are none end it with all of them, or with as many as are
+    told at once."""
+    wrong, number, line = [], 0, b"\n"
+    while len(wrong) < MOST_WRONG and line.endswith(b"\n") and (line := lines.readline(LONGEST_LINE)):
         number += 1
+        if number == 1:
+            line = line.removeprefix(BYTE_ORDER_MARK)
+        text = line.decode("utf-8", "replace")
         try:
             if len(line) == LONGEST_LINE and not line.endswith(b"\n"):
-                raise TextError(f"expected a line of fewer than {LONGEST_LINE} bytes")
-            into.write(record_of(line.decode("utf-8", "replace"), folder))
+                raise TextError(f"expected a line of fewer than {LONGEST_LINE} bytes, found a longer one")
+            into.write(record_of(text, folder))
         except TextError as error:
-            raise TextError(f"line {number}: {error}") from None
+            wrong.append(report(f"{name}:{number}", text, error))
+    if len(wrong) == MOST_WRONG:
+        wrong.append(f"{name}: no line was looked at after the {MOST_WRONG} wrong ones")
+    if wrong:
+        raise WrongLines(wrong)
+
+
+def report(place, line, error):
+    """What is said of a line that is none: where and why, then the line with a caret where it goes wrong, and the words that
+    are allowed there."""
+    said = [f"{place}:{(error.at or 0) + 1}: {error}"]
+    if error.at is not None:
+        plain = "".join(it if it.isprintable() else " " if it.isspace() else "?" for it in line.rstrip())
+        first = max(0, error.at - LONGEST_SHOWN * 2 // 3) if len(plain) > LONGEST_SHOWN else 0
+        said += ["    " + plain[first:first + LONGEST_SHOWN], "    " + " " * (error.at - first) + "^"]
+    if error.allowed:
+        said += textwrap.wrap("allowed here: " + " ".join(error.allowed), LONGEST_SHOWN, initial_indent="    ",
+                              subsequent_indent="      ", break_on_hyphens=False)
+    return "\n".join(said)
 
 
 def to_text(session, into):
     """Writes the lines of a session, each as bytes."""
     for piece in records.pieces(session):
         into.write(line_of(piece).encode("ascii") + b"\n")
-
-
-def looks_like_text(name):
-    """Whether a file is a session as text, by its name."""
-    return re.search(r"\.txt$", name, re.IGNORECASE) is not None
 
 
 def folder_of(name):

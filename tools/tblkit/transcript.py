@@ -45,9 +45,9 @@ def parts(stream):
         head = stream.read(ENTRY_HEAD)
         if head[:4] == END and len(head) == END_SIZE:
             yield End(head[4], int.from_bytes(head[5:9], "big"), int.from_bytes(head[9:], "big"))
-            behind = stream.read(ENTRY_HEAD)
-            if behind:
-                yield Broken("bytes stand behind the end record", behind)
+            further = stream.read(ENTRY_HEAD)
+            if further:
+                yield Broken("bytes stand after the end record", further)
             return
         try:
             reply, sent = _counted(stream, head), _counted(stream, head)
@@ -62,7 +62,7 @@ class _Cut(Exception):
 
 
 def _counted(stream, head):
-    """Bytes behind their length."""
+    """Bytes after their length."""
     if not head:
         raise _Cut("there is no end record")
     length = stream.read(LENGTH)

@@ -9,19 +9,39 @@ WORD = re.compile(r'\s*(?:(#.*)|"((?:[^"\\]|\\.)*)"(?=\s|$)|([^\s"]+)(?=\s|$)|$)
 ESCAPE = re.compile(r'\\(?:x([0-9A-Fa-f]{2})|(["\\]))')
 
 
+NO_ASCII = "a name is made of the bytes 0x21 to 0x7E, and this one has other characters, in UTF-8 (in quotes \\xNN is any byte)"
+
+
 class TextError(Exception):
-    """A line that is none: what was expected, and what stands there."""
+    """A line that is none: what was expected and what stands there, where that stands in the line (none where it is the whole
+    line), and the words that are allowed in its place."""
+
+    def __init__(self, reason, at=None, allowed=()):
+        super().__init__(reason)
+        self.at, self.allowed = at, tuple(allowed)
 
 
 class Word(str):
-    """A word of a line. A quoted one never is a keyword or a number."""
-    is_quoted = False
+    """A word of a line, and where it begins and ends there. A quoted one never is a keyword or a number. `is_ascii` is said
+    of it as it stands in the line: an escape is ASCII, whatever byte it stands for."""
+    at, end, is_quoted, is_ascii = 0, 0, False, True
+
+    def shown(self):
+        """The word as a message names it."""
+        return f'"{self[:40]}"' if self.is_quoted else self[:40]
+
+    def from_wrong_digit(self):
+        """The word from the first character on that is no hexadecimal digit; a quoted one whole."""
+        digits = 0 if self.is_quoted else len(re.match("[0-9A-Fa-f]*", self)[0])
+        left = Word(self[digits:])
+        left.at, left.end, left.is_quoted = self.at + digits, self.end, self.is_quoted
+        return left
 
 
-def _unescaped(text):
-    """The characters of a quoted word: `\\xNN` is the byte NN, and a quote or backslash stands behind a backslash."""
+def _unescaped(text, at):
+    """The characters of a quoted word: `\\xNN` is the byte NN, and a quote or backslash stands after a backslash."""
     if "\\" in ESCAPE.sub("", text):
-        raise TextError(f'expected \\xNN, \\" or \\\\ behind a backslash in "{text}"')
+        raise TextError(f'expected \\xNN, \\" or \\\\ after a backslash in "{text}"', at)
     return ESCAPE.sub(lambda found: chr(int(found[1], 16)) if found[1] else found[2], text)
 
 
@@ -31,14 +51,16 @@ def cut(line):
     while at < len(line):
         match = WORD.match(line, at)
         if match is None:
-            raise TextError(f"expected words, or text between quotes, found {line[at:at + 20].strip()}")
+            at += len(line[at:]) - len(line[at:].lstrip())
+            raise TextError(f"expected words, or text between quotes, found {line[at:at + 20].strip()}", at)
         comment, text, bare = match.groups()
         if comment is not None or not match[0].strip():
             break
-        word = Word(bare if text is None else _unescaped(text))
-        word.is_quoted = text is not None
+        written = match[0].lstrip()
+        begin, at = match.end() - len(written), match.end()
+        word = Word(bare if text is None else _unescaped(text, begin))
+        word.at, word.end, word.is_quoted, word.is_ascii = begin, at, text is not None, written.isascii()
         found.append(word)
-        at = match.end()
     return found
 
 
@@ -47,9 +69,22 @@ class Words:
 
     def __init__(self, line, folder="."):
         self._words, self._at, self.folder = cut(line), 0, folder
+        # The words that were looked for where the next one stands.
+        self._looked_for = {}
+
+    def wrong(self, what, found="", word=None):
+        """The error that another thing was expected where a word stands, or where the next one should."""
+        allowed = ()
+        if word is None:
+            allowed = self._looked_for
+            word = self._words[self._at] if not self.is_done() else None
+        if word is None:
+            return TextError(f"expected {what}, found the end of the line", self._words[-1].end, allowed)
+        return TextError(f"expected {what}, found {found or word.shown()}", word.at, allowed)
 
     def is_next(self, *wanted):
         """Whether the next word is one of these, which are no quoted ones."""
+        self._looked_for |= dict.fromkeys(wanted)
         word = self._words[self._at] if self._at < len(self._words) else None
         return word is not None and not word.is_quoted and word in wanted
 
@@ -59,63 +94,75 @@ class Words:
     def take(self, what):
         """The next word, which should be `what`."""
         if self.is_done():
-            raise TextError(f"expected {what}, found the end of the line")
+            raise self.wrong(what)
         self._at += 1
+        self._looked_for = {}
         return self._words[self._at - 1]
 
     def take_if(self, *wanted):
         """Whether the next word was one of these; then it is taken."""
-        taken = self.is_next(*wanted)
-        self._at += taken
-        return taken
+        is_there = self.is_next(*wanted)
+        if is_there:
+            self.take(wanted[0])
+        return is_there
 
     def take_word(self, known, what):
         """The next word, which has to be one of those that are known."""
-        word = self.take(what)
-        if word.is_quoted or word not in known:
-            raise TextError(f"expected {what}, found {word}")
-        return str(word)
+        if not self.is_next(*known):
+            raise self.wrong(what)
+        return str(self.take(what))
 
     def end(self):
         if not self.is_done():
-            raise TextError(f"expected the end of the line, found {self._words[self._at]}")
+            raise self.wrong("the end of the line")
 
-    def number(self, what, most):
+    def number(self, what, most, least=0, joint=", "):
         """A number, decimal or with 0x hexadecimal."""
-        word = self.take(f"{what}, a number")
+        what = f"{what}{joint}a number from {least} to {most}"
+        if self.is_done():
+            raise self.wrong(what)
+        word = self._words[self._at]
         if word.is_quoted or not re.fullmatch(r"[0-9]{1,20}|0[xX][0-9A-Fa-f]{1,16}", word):
-            raise TextError(f"expected {what}, a number, found {word}")
+            raise self.wrong(what)
         value = int(word, 16 if word[:2] in ("0x", "0X") else 10)
-        if value > most:
-            raise TextError(f"expected {what} of at most {most}, found {word}")
+        if not least <= value <= most:
+            raise self.wrong(what)
+        self.take(what)
         return value
 
     def name(self, what, width):
         """A name, as a bare word or in quotes."""
         word = self.take(what)
-        try:
-            content = word.encode("latin-1" if word.is_quoted else "ascii")
-        except UnicodeEncodeError:
-            raise TextError(f"expected {what} in ASCII, or in quotes with other bytes as \\xNN, found {word}") from None
+        if not word.is_ascii:
+            raise self.wrong(f"{what} in ASCII", f"{word.shown()}: {NO_ASCII}", word)
+        content = word.encode("latin-1")
         if b"\0" in content:
-            raise TextError(f"expected {what} without zero bytes")
+            raise self.wrong(f"{what} without zero bytes", "one", word)
         if len(content) > width:
-            raise TextError(f"expected {what} of at most {width} bytes, found {len(content)}")
+            raise self.wrong(f"{what} of at most {width} bytes", len(content), word)
         return content
 
-    def hexadecimal(self, what):
+    def hexadecimal(self, what, most=None):
         """All words that are left, as hexadecimal digits, or `empty` for no byte."""
         if self.take_if("empty"):
             return b""
-        digits = self.take(f"{what} in hexadecimal, or empty")
+        if self.is_done():
+            raise self.wrong(f"{what} in hexadecimal, or empty")
+        first, digits = self._words[self._at], ""
         while not self.is_done():
-            digits += self.take("hexadecimal digits")
-        if len(digits) % 2 or not re.fullmatch("[0-9A-Fa-f]+", digits):
-            raise TextError(f"expected {what} in hexadecimal, two digits a byte, or empty, found {digits[:40]}")
+            word = self.take("hexadecimal digits")
+            if word.is_quoted or not re.fullmatch("[0-9A-Fa-f]+", word):
+                raise self.wrong(f"{what} in hexadecimal, two digits a byte, or empty", word=word.from_wrong_digit())
+            digits += word
+        if len(digits) % 2:
+            raise self.wrong(f"{what} in hexadecimal, two digits a byte, or empty", f"{len(digits)} digits", first)
+        if most is not None and len(digits) > 2 * most:
+            raise self.wrong(f"{what} of at most {most} bytes", len(digits) // 2, first)
         return bytes.fromhex(digits)
 
     def data(self, what, most):
         """Bytes: `hex ..`, `fill BYTE COUNT`, `from FILE` or `empty`."""
+        first = None if self.is_done() else self._words[self._at]
         how = self.take_word(("hex", "fill", "from", "empty"), f"{what} as hex, fill, from or empty")
         if how == "hex":
             content = self.hexadecimal(what)
@@ -124,13 +171,13 @@ class Words:
         else:
             content = self._file(most) if how == "from" else b""
         if len(content) > most:
-            raise TextError(f"expected {what} of at most {most} bytes, found {len(content)}")
+            raise self.wrong(f"{what} of at most {most} bytes", len(content), first)
         return content
 
     def _filled(self, most):
         byte = self.take("a byte in hexadecimal")
         if not re.fullmatch("[0-9A-Fa-f]{2}", byte):
-            raise TextError(f"expected a byte in hexadecimal, found {byte}")
+            raise self.wrong("a byte in hexadecimal", word=byte)
         return bytes.fromhex(byte) * self.number("how many bytes", most)
 
     def _file(self, most):
@@ -140,7 +187,7 @@ class Words:
                 return file.read(most + 1)
         except (OSError, ValueError) as error:
             reason = getattr(error, "strerror", None) or error
-            raise TextError(f"expected a file that can be read: {name}: {reason}") from None
+            raise TextError(f"expected a file that can be read: {name}: {reason}", name.at) from None
 
 
 def data_words(content):
@@ -178,7 +225,7 @@ def _header_value(field, value):
 
 
 def read_table_file(words):
-    """The bytes of a table file from the words behind `table`."""
+    """The bytes of a table file from the words after `table`."""
     values = {"table": words.name("the full name of a table", names.field("table file header", "table").width)}
     if words.take_if("at"):
         values["offset"] = words.number("the offset", (1 << 32) - 1)

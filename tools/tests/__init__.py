@@ -1,1 +1,1 @@
-"""Tests of tbl-text and tbl-show. Expected values were written from docs/, or recorded from other implementations."""
+"""Tests of cfetbl-text and cfetbl-show. Expected values were written from docs/, or recorded from other implementations."""

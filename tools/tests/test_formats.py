@@ -15,6 +15,8 @@ EDITS = (("docs", "ERR_LOAD_IN_PROGRESS", "ERR_LOAD_PROGRESS", "names.tsv has ER
          ("docs", "handle 2, offset 4, length 4", "handle 2, offset 4, bytes 4", "names.tsv has the body handle 2"),
          ("tools", "command\t9\tABORT_LOAD\n", "", "names.tsv has no such command"),
          ("tools", "event\t5\timage went active", "event\t4\timage went active", "names.tsv has no such event"),
+         ("docs", "| an ACTIVATE |", "| a LOAD |", "its index isn't that of names.tsv"),
+         ("tools", "explain\tevent\t5\t", "explain\tevent\t9\t", "names.tsv doesn't explain the event 5"),
          ("tools", "\tERR_IMAGE_SIZE\n", "\tERR_IMAGE_SIZE\nstatus\t89\tERR_ANY\n", "no table with the status 89"))
 
 
@@ -32,7 +34,7 @@ class Formats(unittest.TestCase):
                 is_changed = is_changed or wanted in text
                 with open(path, "w", encoding="utf-8") as file:
                     file.write(text.replace(wanted, found))
-            done = subprocess.run([sys.executable, os.path.join(copy, "tools", "check-formats")], capture_output=True)
+            done = subprocess.run([sys.executable, os.path.join(copy, "tools", "gate", "check-formats")], capture_output=True)
         self.assertTrue(is_changed, wanted)
         return done.returncode, done.stderr.decode()
 

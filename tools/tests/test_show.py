@@ -38,6 +38,20 @@ def parts(session, output):
     return list(show.answers(transcript.parts(io.BytesIO(output)), index)), index
 
 
+def frames_of(capture):
+    """The frames of a capture in pcapng, each with its comment. Its section and its interface have 28 and 20 bytes."""
+    found, at = [], 28 + 20
+    while at < len(capture):
+        kind, length, *_, count, whole = struct.unpack(">IIIQII", capture[at:at + 28])
+        assert kind == 6 and count == whole and capture[at + length - 4:at + length] == struct.pack(">I", length)
+        options = capture[at + 28 + count + -count % 4:at + length - 4]
+        code, size = struct.unpack(">HH", options[:4]) if options else (0, 0)
+        assert code == (1 if options else 0) and len(options) == (4 + size + -size % 4 + 4 if options else 0)
+        found.append((capture[at + 28:at + 28 + count], options[4:4 + size].decode()))
+        at += length
+    return found
+
+
 class Lines(unittest.TestCase):
     def test_each_answer(self):
         for line, status, detail, reply, sent, wanted in table("shown.tsv"):
@@ -112,7 +126,8 @@ class AnotherOrder(unittest.TestCase):
         capture = pcap.Capture(file)
         for answer in parts(records_of(self.SESSION), entries((2, 1, 0, 1)))[0][:-1]:
             capture.add(answer)
-        self.assertEqual(file.getvalue()[24 + 16 + 28:].hex(), "1804c00000010022")
+        (content, words), = frames_of(file.getvalue())
+        self.assertEqual((content[28:].hex(), words), ("1804c00000010022", ""))
 
 
 class Ends(unittest.TestCase):
@@ -129,7 +144,7 @@ class Ends(unittest.TestCase):
         noop = records_of(b"ground NOOP")
         for bad, words in (("7F000000", "kind 7F, which is none"), ("01010008", "kind 01 Command of actor 1"),
                            ("01008041", "kind 01 Command with a body of 32833 bytes"),
-                           ("10010014 410042 00*17", "kind 10 Start with bytes behind the name in its field `name`"),
+                           ("10010014 410042 00*17", "kind 10 Start with bytes after the name in its field `name`"),
                            ("04000001 03", "kind 04 Reset with the byte 03"),
                            ("0100", "2 bytes, which is less than the head of a record"),
                            ("14010006 0000", "kind 14 cut off: 2 of 6 bytes of its body")):
@@ -189,7 +204,17 @@ class Captures(unittest.TestCase):
         file = io.BytesIO()
         found, _ = parts(None, entry(0, 0, 0, bytes(4), b"", bytes_of("00000000FFFF 00*65536")) + END_OF_NOTHING)
         pcap.Capture(file).add(found[0])
-        self.assertEqual(len(file.getvalue()), 24 + 16 + 65535)
+        (content, _), = frames_of(file.getvalue())
+        self.assertEqual(len(content), 65535)
+
+    def test_an_event_has_the_table_as_comment(self):
+        name = os.path.join(recorded.TOP, "examples", "table.session")
+        found, _ = parts(content_of(name), content_of(name.replace(".session", ".transcript")))
+        file = io.BytesIO()
+        capture = pcap.Capture(file)
+        for answer in found[:-1]:
+            capture.add(answer)
+        self.assertEqual([words for _, words in frames_of(file.getvalue())], ["row 0 A.T"])
 
     def test_frames_of_hello(self):
         """The NOOP, its event, the request for housekeeping, the housekeeping packet, each as a datagram."""
@@ -199,12 +224,9 @@ class Captures(unittest.TestCase):
         capture = pcap.Capture(file)
         for answer in found[:-1]:
             capture.add(answer)
-        self.assertEqual(file.getvalue()[:24].hex(), "a1b2c3d40002000400000000000000000000ffff00000065")
-        frames, at = [], 24
-        while at < len(file.getvalue()):
-            length, = struct.unpack(">I", file.getvalue()[at + 8:at + 12])
-            frames.append(file.getvalue()[at + 16:at + 16 + length])
-            at += 16 + length
+        self.assertEqual(file.getvalue()[:48].hex(), "0a0d0d0a0000001c1a2b3c4d00010000ffffffffffffffff0000001c"
+                         "00000001" "00000014" "0065" "0000" "0000ffff" "00000014")
+        frames = [content for content, _ in frames_of(file.getvalue())]
         self.assertEqual([len(it) for it in frames], [36, 52, 36, 318])
         header = "45000024000000004011f6c5c0000201c0000202" "04d204d200100000"
         self.assertEqual(frames[0].hex(), header + "1804c00000010022")

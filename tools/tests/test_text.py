@@ -59,6 +59,9 @@ class Lines(unittest.TestCase):
     def test_empty_lines_and_comments_stand_for_nothing(self):
         self.assertEqual(records_of(b"\n   \n# app 1 start A\n\t# x\r\n"), b"")
 
+    def test_a_byte_order_mark_is_skipped(self):
+        self.assertEqual(records_of(b"\xef\xbb\xbfground NOOP\r\n"), text.record_of("ground NOOP"))
+
     def test_a_file_is_sought_from_the_folder(self):
         with tempfile.TemporaryDirectory() as folder:
             with open(os.path.join(folder, "a.tbl"), "wb") as file:
@@ -75,19 +78,45 @@ class WrongLines(unittest.TestCase):
                 text.record_of("file /a from long", folder)
 
     def test_each_says_what_was_expected(self):
-        for line, words in table("wrong-lines.tsv"):
+        for line, column, words, *allowed in table("wrong-lines.tsv"):
             with self.subTest(line):
                 with self.assertRaises(text.TextError) as caught:
                     text.record_of(line)
-                self.assertIn(words, str(caught.exception))
+                self.assertEqual(str(caught.exception), words)
+                self.assertEqual(caught.exception.at + 1, int(column))
+                self.assertEqual(" ".join(caught.exception.allowed), "".join(allowed))
 
-    def test_the_number_of_the_line_is_told(self):
-        with self.assertRaisesRegex(text.TextError, "^line 3: expected the name"):
-            records_of(b"# first\napp 1 start A\napp 1 start\n")
+    def reports(self, lines):
+        with self.assertRaises(text.WrongLines) as caught:
+            records_of(lines)
+        return str(caught.exception).splitlines()
+
+    def test_a_line_is_told_with_its_place(self):
+        self.assertEqual(self.reports(b"# first\napp 1 start A\n\tapp 1 load 0 hax 01\napp 2 start\n"), [
+            "<stdin>:3:15: expected the image as hex, fill, from or empty, found hax",
+            "     app 1 load 0 hax 01",
+            "                  ^",
+            "    allowed here: hex fill from empty",
+            "<stdin>:4:12: expected the name, found the end of the line",
+            "    app 2 start",
+            "               ^"])
+
+    def test_a_long_line_is_cut_around_the_place(self):
+        said, line, caret = self.reports(b"app 1 load 0 hex " + b"00" * 200 + b"x" + b"00" * 200)
+        self.assertEqual(said, f"<stdin>:1:418: expected the image in hexadecimal, two digits a byte, or empty, found x{'0' * 39}")
+        self.assertEqual((len(line), line[caret.index("^")]), (104, "x"))
+
+    def test_characters_that_do_not_print(self):
+        self.assertEqual(self.reports(b"app 1 \x1b[31m\n")[1:3], ["    app 1 ?[31m", "          ^"])
+
+    def test_as_many_as_ten_are_told(self):
+        said = self.reports(b"foo\n" * 12)
+        self.assertEqual([it.split(":")[1] for it in said if it.startswith("<stdin>:")][:10], [str(it) for it in range(1, 11)])
+        self.assertEqual(said[-1], "<stdin>: no line was looked at after the 10 wrong ones")
 
     def test_a_line_has_an_end(self):
-        with self.assertRaisesRegex(text.TextError, "^line 2: expected a line of fewer than"):
-            records_of(b"\n" + b" " * text.LONGEST_LINE)
+        self.assertEqual(self.reports(b"\n" + b" " * text.LONGEST_LINE + b"\nfoo"),
+                         ["<stdin>:2:1: expected a line of fewer than 1048576 bytes, found a longer one"])
 
 
 class ThereAndBack(unittest.TestCase):

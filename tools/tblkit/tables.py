@@ -1,0 +1,121 @@
+"""The tables and handles that a session has at each of its requests, as its records and their answers tell."""
+from dataclasses import dataclass, replace
+
+from . import names, packets
+
+SUCCESS, STOPPED = 0, 10
+# The statuses with which a Register has registered its table.
+REGISTERED = (0, 2, 17)
+WRONG_HANDLE = (33, 34, 35)
+POWER_ON = 2
+MOST_HANDLES_TOLD = 16
+
+
+@dataclass(frozen=True)
+class Handle:
+    """A handle that is given: whose it is, its table's name and row, and whether its registration gave it. The table is
+    None where it is gone."""
+    actor: int
+    table: str | None
+    row: int | None
+    is_registration: bool
+
+
+@dataclass(frozen=True)
+class View:
+    """What stands before a request: the tables by their rows, the handles, and the names of the applications. None is known
+    after a request of another session."""
+    rows: dict
+    handles: dict
+    applications: dict
+    is_known: bool = True
+
+    def full_name(self, actor, short_name):
+        """The full name of an application's table, in words."""
+        return names.quoted(self.applications.get(actor, b"") + b"." + names.name_in(short_name))
+
+    def row_words(self, words, row):
+        """A row in words, with its table where one is known."""
+        return f"{words} {self.rows[row]}" if row in self.rows else words
+
+    def handle_words(self, actor):
+        """The handles that an application has."""
+        own = [(number, it) for number, it in sorted(self.handles.items()) if it.actor == actor]
+        if not own:
+            return f"app {actor} has no handle"
+        told = [f"{number} {self._table_words(it)}" for number, it in own[:MOST_HANDLES_TOLD]]
+        more = f", and {len(own) - MOST_HANDLES_TOLD} more" if len(own) > MOST_HANDLES_TOLD else ""
+        return f"app {actor} has {'the handle' if len(own) == 1 else 'the handles'} {', '.join(told)}{more}"
+
+    def _table_words(self, handle):
+        if handle.table is None:
+            return "(its table is gone)"
+        owner = next((it.actor for it in self.handles.values() if it.row == handle.row and it.is_registration), handle.actor)
+        return handle.table if owner == handle.actor else f"{handle.table} (of app {owner})"
+
+
+NONE_KNOWN = View({}, {}, {}, False)
+
+
+class Tables:
+    """Follows the answers of a session. `view` is never changed: each change makes a new one."""
+
+    def __init__(self):
+        self.view = View({}, {}, {})
+
+    def follow(self, answer):
+        """Goes on to what stands after an answer."""
+        if answer.record is None:
+            self.view = NONE_KNOWN
+        elif self.view.is_known and (answer.record.request.name in CHANGES or answer.status == STOPPED):
+            self._change(answer)
+
+    def _change(self, answer):
+        name, body = answer.record.request.name, answer.record.body
+        if name == "Reset" or answer.status == STOPPED:
+            self._reset(name == "Reset" and body[0] == POWER_ON)
+        elif answer.status in (REGISTERED if name == "Register" else (SUCCESS,)):
+            CHANGES[name](self, answer, body)
+
+    def _reset(self, is_power_on):
+        """Tables and handles go with each reset, and the applications that run with a power-on."""
+        self.view = View({}, {}, {} if is_power_on else self.view.applications)
+
+    def _start(self, answer, body):
+        name = names.name_in(names.field("Start", "name").of(body))
+        self.view = replace(self.view, applications=self.view.applications | {answer.actor: name})
+
+    def _register(self, answer, body):
+        row = next(it for it in range(len(self.view.rows) + 1) if it not in self.view.rows)
+        table = self.view.full_name(answer.actor, names.field("Register", "short name").of(body))
+        handles = self.view.handles | {answer.entry.number("detail"): Handle(answer.actor, table, row, True)}
+        self.view = replace(self.view, rows=self.view.rows | {row: table}, handles=handles)
+
+    def _share(self, answer, body):
+        table = names.quoted(names.name_in(names.field("Share", "table").of(body)))
+        row = next((row for row, it in self.view.rows.items() if it == table), None)
+        handle = Handle(answer.actor, table, row, False)
+        self.view = replace(self.view, handles=self.view.handles | {answer.entry.number("detail"): handle})
+
+    def _unregister(self, _, body):
+        self._give_back(packets.number(names.field("Unregister", "handle").of(body)))
+
+    def _exit(self, answer, _):
+        for number in sorted(number for number, it in self.view.handles.items() if it.actor == answer.actor):
+            self._give_back(number)
+        left = {actor: name for actor, name in self.view.applications.items() if actor != answer.actor}
+        self.view = replace(self.view, applications=left)
+
+    def _give_back(self, number):
+        """Takes a handle away, and its table where its registration gave it."""
+        handle = self.view.handles.get(number)
+        rows, handles = dict(self.view.rows), dict(self.view.handles)
+        handles.pop(number, None)
+        if handle and handle.is_registration:
+            rows.pop(handle.row, None)
+            handles = {at: replace(it, table=None, row=None) if it.row == handle.row else it for at, it in handles.items()}
+        self.view = replace(self.view, rows=rows, handles=handles)
+
+
+CHANGES = {"Start": Tables._start, "Register": Tables._register, "Share": Tables._share, "Unregister": Tables._unregister,
+           "Exit": Tables._exit, "Reset": None}
