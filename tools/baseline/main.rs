@@ -1,12 +1,15 @@
-//! A plain Rust program beside which `tools/bench` puts the figures of `tbl play`. Nothing of it is part of the product, and
-//! nothing of it is proved.
+//! A plain Rust program beside which `tools/bench` puts the figures of `cfetbl play` and `cfetbl crew`. Nothing of it is part of the
+//! product, and nothing of it is proved.
 //!
-//! It does what `play` does for the requests of the six sessions of `tools/bench`, as somebody writes it in Rust who needs
-//! no proof: it makes the same system calls, writes the same transcript byte for byte, and keeps its whole history to the
-//! end. Every kind of request and of command is read. Where one comes that is left out, the program says so on standard
-//! error and ends with 2. Left out are validation functions, dumps and what owners do with dump-only tables, notices, blocks
-//! of the Critical Data Store and critical tables, resets, and the words `crew`, `--help` and `--version`.
+//! It does what `play` and `crew` do for the requests of the sessions of `tools/bench`, as somebody writes it in Rust who
+//! needs no proof: it makes the same system calls to read and write, writes the same transcript byte for byte, and keeps its
+//! whole history to the end. Every kind of request and of command is read. Where one comes that is left out, the program says
+//! so on standard error and ends with 2. Left out are validation functions, dumps and what owners do with dump-only tables,
+//! notices, applications' blocks in the Critical Data Store, faults of the store, critical tables whose block is there when
+//! they are registered, resets, and the words `--help` and `--version`.
 
+mod check_word;
+mod crew;
 mod names;
 mod packets;
 mod records;
@@ -14,13 +17,15 @@ mod service;
 mod store;
 mod tables;
 
-use records::{front, Front};
+use crew::{play_beside, Scripts};
+use records::{front, Actor, Front, Request};
 use service::{Entry, Service};
 use std::env;
 use std::fs::File;
 use std::io::{self, ErrorKind, Read, Write};
 use std::os::fd::AsFd;
 use std::process::{self, ExitCode};
+use store::Store;
 
 /// The most bytes that one read takes.
 const PIECE: usize = 4_096;
@@ -48,6 +53,8 @@ struct Input {
     buffer: Vec<u8>,
     start: usize,
     end: usize,
+    /// How many bytes the records had that were taken.
+    taken: u32,
 }
 
 impl Input {
@@ -57,6 +64,7 @@ impl Input {
             buffer: vec![0; LONGEST_RECORD + PIECE],
             start: 0,
             end: 0,
+            taken: 0,
         }
     }
 
@@ -84,9 +92,38 @@ impl Input {
             }
         }
     }
+
+    /// Hands on each record, in order, and gives the status of a run that ends after the last one. An `Err` is one of `take`.
+    fn each_record(
+        &mut self,
+        mut take: impl FnMut(Actor, Request) -> io::Result<()>,
+    ) -> io::Result<u8> {
+        let mut count = 0;
+        loop {
+            if count == RECORD_LIMIT && !self.rest().is_empty() {
+                return Ok(6);
+            }
+            match front(self.rest()) {
+                Front::Record(actor, request, length) => {
+                    self.start += length;
+                    self.taken += length as u32;
+                    count += 1;
+                    take(actor, request)?;
+                }
+                Front::Bad => return Ok(5),
+                Front::Short => match self.read_more() {
+                    Ok(0) if self.rest().is_empty() => return Ok(0),
+                    Ok(0) => return Ok(5),
+                    Ok(_) => {}
+                    Err(_) => return Ok(3),
+                },
+            }
+        }
+    }
 }
 
-/// Spells an entry into a buffer that is used again.
+/// Spells an entry into a buffer that is used again. It is inlined, so that `play` takes no longer for having `crew` beside it.
+#[inline(always)]
 fn spell(out: &mut Vec<u8>, place: usize, entry: &Entry) {
     let reply = &entry.reply;
     out.clear();
@@ -100,50 +137,68 @@ fn spell(out: &mut Vec<u8>, place: usize, entry: &Entry) {
     out.extend_from_slice(&reply.packets);
 }
 
-/// Plays the input, and gives the status of the run and the number of bytes that were played. An `Err` is a failed write.
-fn play(service: &mut Service, input: &mut Input, sink: &mut File) -> io::Result<(u8, u32)> {
+/// Spells the end record.
+fn spell_end(out: &mut Vec<u8>, status: u8, entries: usize, taken: u32) {
+    out.clear();
+    out.extend_from_slice(&u32::MAX.to_be_bytes());
+    out.push(status);
+    out.extend_from_slice(&(entries as u32).to_be_bytes());
+    out.extend_from_slice(&taken.to_be_bytes());
+}
+
+/// Plays the input in order, writes each entry as soon as it is there, and gives the status of the run.
+fn play(mut service: Service, input: &mut Input, sink: &mut File) -> io::Result<u8> {
     let mut out = Vec::new();
-    let mut played = 0;
-    loop {
+    let status = input.each_record(|actor, request| {
         let place = service.history.len();
-        if place == RECORD_LIMIT && !input.rest().is_empty() {
-            return Ok((6, played));
-        }
-        match front(input.rest()) {
-            Front::Record(actor, request, length) => {
-                input.start += length;
-                played += length as u32;
-                spell(&mut out, place, service.play(actor, request));
-                sink.write_all(&out)?;
-            }
-            Front::Bad => return Ok((5, played)),
-            Front::Short => match input.read_more() {
-                Ok(0) if input.rest().is_empty() => return Ok((0, played)),
-                Ok(0) => return Ok((5, played)),
-                Ok(_) => {}
-                Err(_) => return Ok((3, played)),
-            },
-        }
+        spell(&mut out, place, service.play(actor, request));
+        sink.write_all(&out)
+    })?;
+    spell_end(&mut out, status, service.history.len(), input.taken);
+    sink.write_all(&out)?;
+    Ok(status)
+}
+
+/// Reads all records, plays them with a thread for each actor, writes the entries, and gives the status of the run.
+fn crew(service: Service, input: &mut Input, sink: &mut File) -> io::Result<u8> {
+    let mut scripts = Scripts::default();
+    let status = input.each_record(|actor, request| {
+        scripts[usize::from(actor.number())].push((actor, request));
+        Ok(())
+    })?;
+    let service = play_beside(service, scripts);
+    let mut out = Vec::new();
+    for (place, entry) in service.history.iter().enumerate() {
+        spell(&mut out, place, entry);
+        sink.write_all(&out)?;
     }
+    spell_end(&mut out, status, service.history.len(), input.taken);
+    sink.write_all(&out)?;
+    Ok(status)
+}
+
+/// A way to play a session.
+type Way = fn(Service, &mut Input, &mut File) -> io::Result<u8>;
+
+/// The way that the program's words name.
+fn given_way() -> Option<Way> {
+    let mut words = env::args_os().skip(1);
+    let way: Way = match words.next()?.to_str()? {
+        "play" => play,
+        "crew" => crew,
+        _ => return None,
+    };
+    words.next().is_none().then_some(way)
 }
 
 /// Plays the session on standard input, and writes its transcript to standard output.
 fn run() -> Result<u8, u8> {
-    let mut store = store::open().map_err(|_| 7)?;
-    if !env::args_os().skip(1).eq(["play"]) {
-        return Err(2);
-    }
-    let blocks = store::boot(&mut store).map_err(|_| 7)?;
+    let file = store::open().map_err(|_| 7)?;
+    let way = given_way().ok_or(2)?;
+    let store = Store::boot(file).map_err(|_| 7)?;
     let mut input = Input::new(unbuffered(&io::stdin()).map_err(|_| 3)?);
     let mut sink = unbuffered(&io::stdout()).map_err(|_| 4)?;
-    let mut service = Service::new(blocks);
-    let (status, played) = play(&mut service, &mut input, &mut sink).map_err(|_| 4)?;
-    let mut end = u32::MAX.to_be_bytes().to_vec();
-    end.push(status);
-    end.extend_from_slice(&(service.history.len() as u32).to_be_bytes());
-    end.extend_from_slice(&played.to_be_bytes());
-    sink.write_all(&end).map_err(|_| 4)?;
-    Ok(status)
+    way(Service::new(store), &mut input, &mut sink).map_err(|_| 4)
 }
 
 fn main() -> ExitCode {

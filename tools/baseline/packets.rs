@@ -279,12 +279,3 @@ pub fn put_registry(out: &mut Vec<u8>, counters: &Counters, record: &[u8], clock
     out.extend_from_slice(&head(0x080C, counters.registries, 156, clock));
     out.extend_from_slice(record);
 }
-
-/// The check word of an image, CRC-16/ARC.
-pub fn check_word(image: &[u8]) -> u16 {
-    image.iter().fold(0, |word, byte| {
-        (0..8).fold(word ^ u16::from(*byte), |word, _| {
-            (word >> 1) ^ if word & 1 == 1 { 0xA001 } else { 0 }
-        })
-    })
-}

@@ -7,8 +7,9 @@ use crate::packets::{
     Counters, Event,
 };
 use crate::records::{Actor, Request};
-use crate::store::Block;
+use crate::store::Store;
 use crate::tables::{Plan, Tables};
+use std::io;
 
 /// The number that answers a request.
 #[derive(Clone, Copy, PartialEq, Eq)]
@@ -21,6 +22,7 @@ pub enum Status {
     NoValidationPending = 7,
     TableLocked = 9,
     Duplicate = 16,
+    NotCritical = 17,
     BadApp = 32,
     InvalidHandle = 33,
     NoAccess = 34,
@@ -113,10 +115,7 @@ impl From<Answer> for Reply {
 }
 
 /// What a request did to the store: how many calls were done, and the image that a restore gave.
-#[expect(
-    dead_code,
-    reason = "no request that is played makes a call of the store"
-)]
+#[expect(dead_code, reason = "the history keeps all that came of a request")]
 pub struct Note {
     done: u8,
     restored: Option<Vec<u8>>,
@@ -131,6 +130,9 @@ pub struct Entry {
     pub note: Option<Box<Note>>,
     pub verdicts: [Option<i32>; 2],
 }
+
+/// How many tables can be critical.
+const MOST_CRITICAL: usize = 32;
 
 /// The most files of the drawer.
 const FILES: usize = 64;
@@ -148,13 +150,14 @@ pub struct Service {
     clock: Clock,
     counters: Counters,
     pub history: Vec<Entry>,
-    #[expect(dead_code, reason = "the requests about blocks are left out")]
-    blocks: Vec<Option<Block>>,
+    store: Store,
+    /// How many calls of the store the request has made.
+    calls: u8,
 }
 
 impl Service {
-    /// A service over a store that has these blocks.
-    pub fn new(blocks: Vec<Option<Block>>) -> Service {
+    /// A service over a store.
+    pub fn new(store: Store) -> Service {
         Service {
             apps: [None; 16],
             tables: Tables::new(),
@@ -162,22 +165,30 @@ impl Service {
             clock: Clock::default(),
             counters: Counters::new(),
             history: Vec::new(),
-            blocks,
+            store,
+            calls: 0,
         }
     }
 
     /// Plays a request, and gives its entry, which stands in the history.
     pub fn play(&mut self, actor: Actor, request: Request) -> &Entry {
+        self.calls = 0;
         let reply = match actor {
             Actor::Ground => self.ground(&request),
             Actor::App(app) => self.application(app, &request),
         };
+        let note = (self.calls != 0).then(|| {
+            Box::new(Note {
+                done: self.calls,
+                restored: None,
+            })
+        });
         let place = self.history.len();
         self.history.push(Entry {
             actor,
             request,
             reply,
-            note: None,
+            note,
             verdicts: [None; 2],
         });
         &self.history[place]
@@ -418,11 +429,12 @@ impl Service {
         if !(1..=16_384).contains(&size) {
             return Status::InvalidSize.into();
         }
-        let (is_double, is_dump_only) = match options {
-            0x0000 => (false, false),
-            0x0001 => (true, false),
-            0x0002 => (false, true),
-            0x0008 | 0x0009 => left_out("a critical table"),
+        let (is_double, is_dump_only, is_critical) = match options {
+            0x0000 => (false, false, false),
+            0x0001 => (true, false, false),
+            0x0002 => (false, true, false),
+            0x0008 => (false, false, true),
+            0x0009 => (true, false, true),
             _ => return Status::InvalidOptions.into(),
         };
         if validator.is_some() {
@@ -437,7 +449,32 @@ impl Service {
             is_double,
             is_dump_only,
         };
-        self.tables.register(plan).into()
+        let (status, handle) = self.tables.register(plan);
+        let status = if is_critical && status == Status::Success {
+            self.make_critical(&name, size)
+        } else {
+            status
+        };
+        (status, handle).into()
+    }
+
+    /// Makes a block for a table that was registered just now, so that it is critical.
+    fn make_critical(&mut self, name: &Name<40>, size: u32) -> Status {
+        if MOST_CRITICAL <= self.tables.critical_count() {
+            return Status::NotCritical;
+        }
+        if self.store.has_table(name) {
+            left_out("a table whose block is there");
+        }
+        let slot = done(self.store.reserve_table(name, size));
+        match (slot, self.tables.find(name)) {
+            (Some(slot), Some(row)) => {
+                self.calls += 1;
+                self.tables.keep(row, slot);
+                Status::Success
+            }
+            _ => Status::NotCritical,
+        }
     }
 
     /// The owner of a table loads an image of it.
@@ -501,7 +538,7 @@ impl Service {
         }
     }
 
-    /// Tells and counts that the last image of the table in a row went active.
+    /// Tells and counts that the last image of the table in a row went active, and copies that of a critical table.
     fn activated(&mut self, row: u8, answer: Answer) -> Reply {
         let mut reply = Reply::from(answer);
         let table = self.tables.table(row);
@@ -514,6 +551,10 @@ impl Service {
         self.counters.updated = self.clock;
         self.counters.updated_table = table.name;
         self.tell(&mut reply.packets, &event);
+        if let Some((slot, image)) = self.tables.kept(row) {
+            done(self.store.copy(slot, image));
+            self.calls += 1;
+        }
         reply
     }
 
@@ -567,4 +608,9 @@ impl Service {
 /// The answer of a call that has no detail and gives no bytes.
 fn either(status: Result<Status, Status>) -> Answer {
     status.unwrap_or_else(|refusal| refusal).into()
+}
+
+/// What a call of the store gave that was done.
+fn done<T>(outcome: io::Result<T>) -> T {
+    outcome.unwrap_or_else(|_| left_out("a fault of the store"))
 }

@@ -1,5 +1,6 @@
-//! The file of the Critical Data Store, and its boot.
+//! The file of the Critical Data Store: its boot, and the blocks of critical tables.
 
+use crate::check_word::check_word;
 use crate::names::{four_at, Name};
 use std::fs::{File, OpenOptions};
 use std::io;
@@ -13,8 +14,14 @@ const DIRECTORY_END: usize = 8_208;
 const DIRECTORY: usize = 16;
 const ENTRY: usize = 64;
 
+/// How long the head of a block is.
+const HEAD: usize = 8;
+
 /// The first byte of an entry whose block is open.
 const OPEN: u8 = 0xA5;
+
+/// The kind of a table's block.
+const TABLE: u8 = 1;
 
 /// An open block: where it begins, how many bytes its image has, its kind and its full name.
 pub struct Block {
@@ -41,15 +48,34 @@ impl Block {
         fits.then_some(block)
     }
 
+    /// Its entry after the gate.
+    fn entry(&self) -> [u8; ENTRY - 1] {
+        let mut entry = [0; ENTRY - 1];
+        entry[0] = self.kind;
+        entry[3..7].copy_from_slice(&self.offset.to_be_bytes());
+        entry[7..11].copy_from_slice(&self.size.to_be_bytes());
+        entry[11..51].copy_from_slice(self.name.field());
+        entry
+    }
+
     fn end(&self) -> u64 {
-        u64::from(self.offset) + 8 + u64::from(self.size)
+        u64::from(self.offset) + HEAD as u64 + u64::from(self.size)
+    }
+
+    /// Whether they have no byte in common.
+    fn is_apart(&self, other: &Block) -> bool {
+        self.end() <= u64::from(other.offset) || other.end() <= u64::from(self.offset)
     }
 
     /// Whether both can be there together.
     fn agrees(&self, other: &Block) -> bool {
-        let apart = self.end() <= u64::from(other.offset) || other.end() <= u64::from(self.offset);
-        apart && (self.kind != other.kind || self.name != other.name)
+        self.is_apart(other) && (self.kind != other.kind || self.name != other.name)
     }
+}
+
+/// The place of a slot's entry.
+fn entry_place(slot: usize) -> u64 {
+    (DIRECTORY + ENTRY * slot) as u64
 }
 
 /// Opens the store's file, and makes it as long as the store is.
@@ -70,33 +96,90 @@ pub fn open() -> io::Result<File> {
 }
 
 /// Writes an empty directory, and then the byte that makes it count.
-fn clear(store: &mut File, front: &[u8]) -> io::Result<()> {
+fn clear(file: &File, front: &[u8]) -> io::Result<()> {
     if front[0] == b'C' {
-        store.write_all_at(&[0], 0)?;
+        file.write_all_at(&[0], 0)?;
     }
-    store.write_all_at(b"DS1\0\0\0\0\0\0\0\0\0\0\0\0", 1)?;
-    store.write_all_at(&[0; DIRECTORY_END - DIRECTORY], DIRECTORY as u64)?;
-    store.write_all_at(b"C", 0)
+    file.write_all_at(b"DS1\0\0\0\0\0\0\0\0\0\0\0\0", 1)?;
+    file.write_all_at(&[0; DIRECTORY_END - DIRECTORY], DIRECTORY as u64)?;
+    file.write_all_at(b"C", 0)
 }
 
-/// Reads the directory, closes the entries that don't count, and gives the open blocks by their slots.
-pub fn boot(store: &mut File) -> io::Result<Vec<Option<Block>>> {
-    let mut front = [0; DIRECTORY_END];
-    store.read_exact_at(&mut front, 0)?;
-    let is_live = front.starts_with(b"CDS1");
-    if !is_live {
-        clear(store, &front)?;
-    }
-    let mut blocks: Vec<Option<Block>> = Vec::new();
-    for (slot, entry) in front[DIRECTORY..].chunks_exact(ENTRY).enumerate() {
-        let is_open = is_live && entry[0] == OPEN;
-        let stated = if is_open { Block::read(entry) } else { None };
-        let counted =
-            stated.filter(|block| blocks.iter().flatten().all(|other| block.agrees(other)));
-        if is_open && counted.is_none() {
-            store.write_all_at(&[0], (DIRECTORY + ENTRY * slot) as u64)?;
+/// The store after its boot: its file, and the open blocks by their slots.
+pub struct Store {
+    file: File,
+    blocks: Vec<Option<Block>>,
+}
+
+impl Store {
+    /// Reads the directory, and closes the entries that don't count.
+    pub fn boot(file: File) -> io::Result<Store> {
+        let mut front = [0; DIRECTORY_END];
+        file.read_exact_at(&mut front, 0)?;
+        let is_live = front.starts_with(b"CDS1");
+        if !is_live {
+            clear(&file, &front)?;
         }
-        blocks.push(counted);
+        let mut blocks: Vec<Option<Block>> = Vec::new();
+        for (slot, entry) in front[DIRECTORY..].chunks_exact(ENTRY).enumerate() {
+            let is_open = is_live && entry[0] == OPEN;
+            let stated = if is_open { Block::read(entry) } else { None };
+            let counted =
+                stated.filter(|block| blocks.iter().flatten().all(|other| block.agrees(other)));
+            if is_open && counted.is_none() {
+                file.write_all_at(&[0], entry_place(slot))?;
+            }
+            blocks.push(counted);
+        }
+        Ok(Store { file, blocks })
     }
-    Ok(blocks)
+
+    /// Whether an open block of a table has this full name.
+    pub fn has_table(&self, name: &Name<40>) -> bool {
+        let mut blocks = self.blocks.iter().flatten();
+        blocks.any(|block| block.kind == TABLE && block.name == *name)
+    }
+
+    /// A block for a table at the least place where it has no byte in common with another one, if there is such a place.
+    fn placed(&self, name: &Name<40>, size: u32) -> Option<Block> {
+        let ends = self.blocks.iter().flatten().map(Block::end);
+        let mut places: Vec<u64> = ends.chain([DIRECTORY_END as u64]).collect();
+        places.sort_unstable();
+        let at = |place| Block {
+            offset: place as u32,
+            size,
+            kind: TABLE,
+            name: *name,
+        };
+        let fits = |block: &Block| {
+            let mut others = self.blocks.iter().flatten();
+            block.end() <= BANK && others.all(|other| block.is_apart(other))
+        };
+        places.into_iter().map(at).find(fits)
+    }
+
+    /// Makes a block for a table, and gives its slot; none where there is no room.
+    pub fn reserve_table(&mut self, name: &Name<40>, size: u32) -> io::Result<Option<usize>> {
+        let free = self.blocks.iter().position(Option::is_none);
+        let (Some(slot), Some(block)) = (free, self.placed(name, size)) else {
+            return Ok(None);
+        };
+        self.file.write_all_at(&[0; HEAD], block.offset.into())?;
+        let place = entry_place(slot);
+        self.file.write_all_at(&block.entry(), place + 1)?;
+        self.file.write_all_at(&[OPEN], place)?;
+        self.blocks[slot] = Some(block);
+        Ok(Some(slot))
+    }
+
+    /// Copies an image into the block of a slot.
+    pub fn copy(&self, slot: usize, image: &[u8]) -> io::Result<()> {
+        let block = self.blocks[slot].as_ref().expect("the block is open");
+        let place = u64::from(block.offset);
+        self.file.write_all_at(image, place + HEAD as u64)?;
+        let mut head = [0; HEAD];
+        head[..4].copy_from_slice(&block.size.to_be_bytes());
+        head[4..6].copy_from_slice(&check_word(image).to_be_bytes());
+        self.file.write_all_at(&head, place)
+    }
 }

@@ -1,9 +1,10 @@
 //! The registry of tables, and the handles of applications.
 
+use crate::check_word::check_word;
 use crate::names::Name;
-use crate::packets::{check_word, read_table_file, Clock, TableFile};
+use crate::packets::{read_table_file, Clock, TableFile};
 use crate::service::{Answer, Status};
-use std::rc::Rc;
+use std::sync::Arc;
 
 const TABLES: usize = 128;
 const HANDLES: usize = 256;
@@ -27,11 +28,13 @@ pub struct Table {
     pub size: u32,
     is_double: bool,
     is_dump_only: bool,
+    /// The slot of its block in the Critical Data Store, where it is critical.
+    slot: Option<usize>,
     /// The handle that its registration gave.
     handle: u16,
     /// How many images it has had, and the last one. An image doesn't change once it is active.
     pub count: u32,
-    image: Option<Rc<[u8]>>,
+    image: Option<Arc<[u8]>>,
     load: Option<Load>,
     /// How many handles pin an image of it.
     pins: u16,
@@ -42,7 +45,7 @@ pub struct Table {
 /// An image that a handle pins: the how manieth it is of its table, and its bytes.
 struct Pin {
     number: u32,
-    image: Rc<[u8]>,
+    image: Arc<[u8]>,
 }
 
 /// A handle: whose it is, which row it leads to, how many images it was told of, and what it pins.
@@ -74,7 +77,7 @@ impl Table {
     fn new(plan: Plan, handle: u16) -> Table {
         let first = plan
             .is_dump_only
-            .then(|| Rc::from(vec![0; plan.size as usize]));
+            .then(|| Arc::from(vec![0; plan.size as usize]));
         Table {
             name: plan.name,
             owner: plan.owner,
@@ -82,6 +85,7 @@ impl Table {
             size: plan.size,
             is_double: plan.is_double,
             is_dump_only: plan.is_dump_only,
+            slot: None,
             handle,
             count: u32::from(plan.is_dump_only),
             image: first,
@@ -124,7 +128,7 @@ impl Table {
     }
 
     /// Makes an image the last one.
-    fn put(&mut self, image: Rc<[u8]>, clock: Clock) {
+    fn put(&mut self, image: Arc<[u8]>, clock: Clock) {
         self.image = Some(image);
         self.count += 1;
         self.updated = clock;
@@ -136,6 +140,7 @@ impl Table {
             | u8::from(self.is_asked()) << 1
             | u8::from(self.is_dump_only) << 2
             | u8::from(self.is_double) << 3
+            | u8::from(self.slot.is_some()) << 4
             | u8::from(self.load.is_some()) << 5;
         let check = self.image.as_deref().map_or(0, check_word);
         let mut out = Vec::with_capacity(144);
@@ -170,6 +175,12 @@ impl Tables {
             loads.count() as u16,
             (BUFFERS - self.users.len()) as u8,
         )
+    }
+
+    /// How many tables are critical.
+    pub fn critical_count(&self) -> usize {
+        let slots = self.rows.iter().flatten().filter_map(|table| table.slot);
+        slots.count()
     }
 
     /// The row of the table of this full name.
@@ -258,6 +269,17 @@ impl Tables {
         };
         self.rows[row] = Some(Table::new(plan, handle));
         (Status::Success, u32::from(handle))
+    }
+
+    /// Makes the table in a row critical, with its block in a slot.
+    pub fn keep(&mut self, row: u8, slot: usize) {
+        self.table_mut(row).slot = Some(slot);
+    }
+
+    /// The last image of the table in a row, and the slot that it goes into, where the table is critical.
+    pub fn kept(&self, row: u8) -> Option<(usize, &[u8])> {
+        let table = self.table(row);
+        Some((table.slot?, table.image.as_deref()?))
     }
 
     /// Gives a further handle on the table of a full name.
@@ -386,7 +408,7 @@ impl Tables {
         if let Some(refusal) = self.pinned_refusal(row) {
             return refusal;
         }
-        self.table_mut(row).put(Rc::from(image), clock);
+        self.table_mut(row).put(Arc::from(image), clock);
         Status::Success.into()
     }
 
@@ -420,7 +442,7 @@ impl Tables {
         let table = self.table_mut(row);
         let mut image = table.copied_image();
         image[parsed.offset as usize..][..parsed.image.len()].copy_from_slice(parsed.image);
-        table.put(Rc::from(image), clock);
+        table.put(Arc::from(image), clock);
         table.file = *name;
         Status::Success.into()
     }
@@ -537,7 +559,7 @@ impl Tables {
             return (Status::TableLocked, handle);
         }
         if let Some(load) = self.close_load(row) {
-            self.table_mut(row).put(Rc::from(load.image), clock);
+            self.table_mut(row).put(Arc::from(load.image), clock);
         }
         (Status::Success, 0)
     }
