@@ -9,28 +9,11 @@ ghost use Rattle.cds_layout.specs.Texts.{kind_letter};
 ghost use Rattle.cds_layout.specs.Lines.{word_of, told_line, last_line, room_at};
 
 use crate::places::{BANK_SIZE, BLOCKS_BEGIN, room_for};
-use itoa::Buffer;
+use plain_text::{append_decimal, append_text};
 use tbl_kinds::{Block, BlockKind, Bytes, Memory};
 
 /// How many bytes there are for blocks, behind the directory.
 const ROOM: u64 = (BANK_SIZE - BLOCKS_BEGIN) as u64;
-
-/// Appends a piece.
-fn put(out: &mut Bytes, piece: &[u8]) -> Result<(), Memory>
-    ensures { OnOk result (out.new.list ≡ out.old.list ++ piece.now) }
-{
-    out.reserve(piece.len())?;
-    out.append(piece);
-    Ok(())
-}
-
-/// Appends a number in decimal digits.
-fn put_number(out: &mut Bytes, number: u64) -> Result<(), Memory>
-    ensures { OnOk result (out.new.list ≡ out.old.list ++ decimal number) }
-{
-    let mut buffer = Buffer::new();
-    put(out, buffer.format(number).as_bytes())
-}
 
 fn kind_letter(kind: BlockKind) -> &'static [u8]
     ensures { result.now ≡ kind_letter kind }
@@ -51,18 +34,18 @@ fn state_word(whole: bool) -> &'static [u8]
 pub(crate) fn put_line(out: &mut Bytes, slot: u8, block: &Block, whole: bool) -> Result<(), Memory>
     ensures { OnOk result (out.new.list ≡ out.old.list ++ told_line slot block.now whole) }
 {
-    put_number(out, u64::from(slot))?;
-    put(out, b" ")?;
-    put_number(out, u64::from(block.offset))?;
-    put(out, b" ")?;
-    put_number(out, u64::from(block.size))?;
-    put(out, b" ")?;
-    put(out, kind_letter(block.kind))?;
-    put(out, b" ")?;
-    put(out, block.name.bytes())?;
-    put(out, b" ")?;
-    put(out, state_word(whole))?;
-    put(out, b"\n")?;
+    append_decimal(out, u64::from(slot))?;
+    append_text(out, b" ")?;
+    append_decimal(out, u64::from(block.offset))?;
+    append_text(out, b" ")?;
+    append_decimal(out, u64::from(block.size))?;
+    append_text(out, b" ")?;
+    append_text(out, kind_letter(block.kind))?;
+    append_text(out, b" ")?;
+    append_text(out, block.name.bytes())?;
+    append_text(out, b" ")?;
+    append_text(out, state_word(whole))?;
+    append_text(out, b"\n")?;
     Ok(())
 }
 
@@ -99,10 +82,10 @@ pub(crate) fn count_of(blocks: &[Option<Block>]) -> u64
 pub(crate) fn put_last_line(out: &mut Bytes, count: u64, room: u64) -> Result<(), Memory>
     ensures { OnOk result (out.new.list ≡ out.old.list ++ last_line count room) }
 {
-    put(out, b"blocks ")?;
-    put_number(out, count)?;
-    put(out, b" free ")?;
-    put_number(out, ROOM.saturating_sub(room))?;
-    put(out, b"\n")?;
+    append_text(out, b"blocks ")?;
+    append_decimal(out, count)?;
+    append_text(out, b" free ")?;
+    append_decimal(out, ROOM.saturating_sub(room))?;
+    append_text(out, b"\n")?;
     Ok(())
 }
