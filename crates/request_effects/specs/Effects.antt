@@ -1,5 +1,6 @@
 -- The effect of a request as the code has it, and what it stands for.
 use Rattle.std.specs.Prelude.{◌≡◌, ℕ, ◌≤◌, List, [], ◌∷◌, ◌++◌, length, map, Bool, false, Option, None, Some, IfSome}
+use Rattle.tbl_kinds.specs.Admitted.{all_admitted}
 use Rattle.tbl_model.specs.State.{State, Tables, first_state}
 use Rattle.tbl_model.specs.Effects as model
 use Rattle.tbl_model.specs.Deeds.{Question}
@@ -63,14 +64,14 @@ without_images done next = record {
 
 -- a state of which telemetry tells the same: it has the time and the tables
 abbrev pub seen_at : ℕ → ℕ → Tables → State
-seen_at seconds sub tables = record (first_state [] []) { tables = tables; seconds = seconds; sub = sub }
+seen_at seconds sub tables = record (first_state [] [] all_admitted) { tables = tables; seconds = seconds; sub = sub }
 
 -- what telemetry tells of a request with this effect, at this time, which leaves these tables
 abbrev pub told_at : ℕ → ℕ → Tables → Request → Effect → Told
 told_at seconds sub tables request done = told (seen_at seconds sub tables) Ground request (without_images done (seen_at seconds sub tables))
 
 abbrev pub seen : Effect → model.Effect
-seen done = without_images done (first_state [] [])
+seen done = without_images done (first_state [] [] all_admitted)
 
 -- the events of a command, or of another request, with this effect
 abbrev pub told_events : Asked → Effect → List Event

@@ -1,5 +1,5 @@
 -- Table files are read exactly, and written ones are table files.
-use Rattle.std.proofs.Common.{◌≡◌, ℕ, ◌+◌, ◌^◌, ◌<◌, false, not, ltb, List, ◌++◌, length, drop, None, refl, sym, ap, ◌∙◌, append_assoc, eq-eqb, arith}
+use Rattle.std.proofs.Common.{◌≡◌, ℕ, ◌+◌, ◌^◌, ◌<◌, true, false, not, ltb, List, ◌++◌, length, drop, None, refl, sym, ap, ◌∙◌, append_assoc, eq-eqb, arith}
 use Rattle.std.specs.Prelude.{◌==◌, nat_lt}
 use Rattle.std.proofs.lemmas.List.{length-append, length-drop, drop_at}
 use Rattle.std.proofs.lemmas.Nat.{from_be_bytes-to_be_bytes_4}
@@ -9,7 +9,8 @@ use Rattle.tbl_kinds.specs.Fields.{AreBytes}
 use Rattle.tbl_kinds.specs.Numbers.{four, piece, four_at}
 use Rattle.tbl_kinds.specs.Names.{name_in, name_field}
 use Rattle.tbl_kinds.specs.Headers.{Header, IsHeader, content_type, file_header, header_flaw, header_in}
-use Rattle.tbl_kinds.specs.TableFiles.{TableFile, IsWritable, IsTableFile, no_std_header, bad_content, bad_subtype, no_table_header, incomplete, too_big, table_subtype, file_with, table_file, file_flaw, table_file_in, stated_count}
+use Rattle.tbl_kinds.specs.Admitted.{Admitted, Admits, is_admitted, all_admitted}
+use Rattle.tbl_kinds.specs.TableFiles.{TableFile, IsWritable, IsTableFile, no_std_header, bad_content, bad_subtype, bad_spacecraft, bad_processor, no_table_header, incomplete, too_big, table_subtype, file_with, table_file, file_flaw, table_file_in, spacecraft_in, processor_in, stated_count}
 use Rattle.cfe_headers.proofs.Chains.{passed, not_false}
 use Rattle.cfe_headers.proofs.Pieces.{four_below, split_piece, split_four, length-piece, piece_behind}
 use Rattle.cfe_headers.proofs.NameFields.{reads-name_field}
@@ -17,10 +18,12 @@ use Rattle.cfe_headers.proofs.HeaderLaws as headers
 
 -- ---- where the parts of a table file stand
 
-record Stands (bytes : List ℕ) (offset : ℕ) (field image : List ℕ) : Type 0 where
+record Stands (bytes : List ℕ) (header : Header) (offset : ℕ) (field image : List ℕ) : Type 0 where
   len : length bytes ≡ 116 + length image
   content : four_at 0 bytes ≡ content_type
   subtype : four_at 4 bytes ≡ table_subtype
+  spacecraft : spacecraft_in bytes ≡ header.spacecraft
+  processor : processor_in bytes ≡ header.processor
   offset_is : four_at 68 bytes ≡ offset
   stated : stated_count bytes ≡ length image
   field_is : piece 76 40 bytes ≡ field
@@ -31,7 +34,7 @@ number_behind front rest bytes place n len lt e =
     ap (four_at place) e ∙ ap (from_be_bytes w32) (piece_behind front (four n) rest place 4 len refl) ∙ from_be_bytes-to_be_bytes_4 n lt
 
 stands : (header : Header) (reserved : List ℕ) (offset : ℕ) (field image : List ℕ) → IsHeader header → header.subtype ≡ table_subtype → length reserved ≡ 4 → length field ≡ 40 → offset < 2 ^ 32 → length image < 2 ^ 32
-    → Stands (file_with header reserved offset field image) offset field image
+    → Stands (file_with header reserved offset field image) header offset field image
 unfolding file_with
 stands header reserved offset field image is subtype reserved-len field-len offset-fits image-fits =
     let h = file_header header in
@@ -54,45 +57,53 @@ stands header reserved offset field image is subtype reserved-len field-len offs
       len = ap length d-is ∙ length-append d image ∙ ap (λ (k : ℕ). k + n) d-len;
       content = headers.content_of header more;
       subtype = ap (λ (x : Header). x.subtype) (headers.same header more is) ∙ subtype;
+      spacecraft = ap (λ (x : Header). x.spacecraft) (headers.same header more is);
+      processor = ap (λ (x : Header). x.processor) (headers.same header more is);
       offset_is = number_behind a (four n ++ (field ++ image)) (h ++ more) 68 offset a-len offset-fits a-is;
       stated = number_behind b (field ++ image) (h ++ more) 72 n b-len image-fits b-is;
       field_is = ap (piece 76 40) c-is ∙ piece_behind c field image 76 40 c-len field-len;
       image_is = ap (λ (s : List ℕ). drop 116 s) d-is ∙ drop_at d image 116 d-len;
     }
 
-file_stands : (bytes : List ℕ) (file : TableFile) (is : IsTableFile bytes file) → Stands bytes file.offset is.field file.image
-file_stands bytes file is =
+file_stands : (admit : Admitted) (bytes : List ℕ) (file : TableFile) (is : IsTableFile admit bytes file) → Stands bytes is.header file.offset is.field file.image
+file_stands admit bytes file is =
     rw is.parts (stands is.header is.reserved file.offset is.field file.image is.is_header is.subtype is.reserved_len is.name.len is.offset_fits is.image_fits)
 
 -- ---- table files are read
 
-pub accepted : (bytes : List ℕ) (file : TableFile) → IsTableFile bytes file → file_flaw bytes ≡ None
-accepted bytes file is =
-    let s = file_stands bytes file is in
+pub accepted : (admit : Admitted) (bytes : List ℕ) (file : TableFile) → IsTableFile admit bytes file → file_flaw admit bytes ≡ None
+accepted admit bytes file is =
+    let s = file_stands admit bytes file is in
+    let spacecraft : is_admitted admit.spacecraft (spacecraft_in bytes) ≡ true = ap (is_admitted admit.spacecraft) s.spacecraft ∙ is.admitted.spacecraft in
+    let processor : is_admitted admit.processor (processor_in bytes) ≡ true = ap (is_admitted admit.processor) s.processor ∙ is.admitted.processor in
     let one : ltb (length bytes) 64 ≡ false = le-ltb (length bytes) 64 (omega (arith, s.len)) in
     let two : ltb (length bytes) 116 ≡ false = le-ltb (length bytes) 116 (omega (arith, s.len)) in
     let three : ltb (length bytes) (116 + stated_count bytes) ≡ false = le-ltb (length bytes) (116 + stated_count bytes) (omega (arith, s.len, s.stated)) in
     let four : ltb (116 + stated_count bytes) (length bytes) ≡ false = le-ltb (116 + stated_count bytes) (length bytes) (omega (arith, s.len, s.stated)) in
-    rw (one, eq-eqb _ _ s.content, eq-eqb _ _ s.subtype, two, three, four) refl
+    rw (one, eq-eqb _ _ s.content, eq-eqb _ _ s.subtype, spacecraft, processor, two, three, four) refl
 
-pub same : (bytes : List ℕ) (file : TableFile) → IsTableFile bytes file → table_file_in bytes ≡ file
-same bytes file is =
-    let s = file_stands bytes file is in
+pub same : (admit : Admitted) (bytes : List ℕ) (file : TableFile) → IsTableFile admit bytes file → table_file_in bytes ≡ file
+same admit bytes file is =
+    let s = file_stands admit bytes file is in
     rw (s.offset_is, s.field_is, is.name.reads, s.image_is) refl
 
 -- ---- nothing else is read
 
-record Passes (bytes : List ℕ) : Type 0 where
+record Passes (admit : Admitted) (bytes : List ℕ) : Type 0 where
   header : header_flaw bytes ≡ None
   subtype : four_at 4 bytes ≡ table_subtype
+  spacecraft : is_admitted admit.spacecraft (spacecraft_in bytes) ≡ true
+  processor : is_admitted admit.processor (processor_in bytes) ≡ true
   len : length bytes ≡ 116 + stated_count bytes
 
-passes : (bytes : List ℕ) → file_flaw bytes ≡ None → Passes bytes
-passes bytes none =
+passes : (admit : Admitted) (bytes : List ℕ) → file_flaw admit bytes ≡ None → Passes admit bytes
+passes admit bytes none =
     let a = passed (nat_lt (length bytes) 64) no_std_header _ none in
     let b = passed (not (four_at 0 bytes == content_type)) bad_content _ a.1 in
     let c = passed (not (four_at 4 bytes == table_subtype)) bad_subtype _ b.1 in
-    let d = passed (nat_lt (length bytes) 116) no_table_header _ c.1 in
+    let spacecraft = passed (not (is_admitted admit.spacecraft (spacecraft_in bytes))) (bad_spacecraft (spacecraft_in bytes)) _ c.1 in
+    let processor = passed (not (is_admitted admit.processor (processor_in bytes))) (bad_processor (processor_in bytes)) _ spacecraft.1 in
+    let d = passed (nat_lt (length bytes) 116) no_table_header _ processor.1 in
     let e = passed (nat_lt (length bytes) (116 + stated_count bytes)) incomplete _ d.1 in
     let f = passed (nat_lt (116 + stated_count bytes) (length bytes)) too_big None e.1 in
     let least = ltb-false (length bytes) (116 + stated_count bytes) e.0 in
@@ -100,13 +111,15 @@ passes bytes none =
     record {
       header = rw (a.0, b.0) refl;
       subtype = eqb-true (four_at 4 bytes) table_subtype (not_false _ c.0);
+      spacecraft = not_false _ spacecraft.0;
+      processor = not_false _ processor.0;
       len = omega (arith, least, most);
     }
 
-pub only : (bytes : List ℕ) → AreBytes bytes → file_flaw bytes ≡ None → IsTableFile bytes (table_file_in bytes)
+pub only : (admit : Admitted) (bytes : List ℕ) → AreBytes bytes → file_flaw admit bytes ≡ None → IsTableFile admit bytes (table_file_in bytes)
 unfolding file_with
-only bytes fits none =
-    let p = passes bytes none in
+only admit bytes fits none =
+    let p = passes admit bytes none in
     let count-is : stated_count bytes ≡ length (drop 116 bytes) = omega (arith, p.len, length-drop 116 bytes) in
     let s76 : drop 76 bytes ≡ piece 76 40 bytes ++ drop 116 bytes = split_piece 76 40 bytes in
     let s72 : drop 72 bytes ≡ four (length (drop 116 bytes)) ++ (piece 76 40 bytes ++ drop 116 bytes) =
@@ -121,6 +134,7 @@ only bytes fits none =
       parts = headers.spelled bytes fits p.header ∙ ap (λ (s : List ℕ). file_header (header_in bytes) ++ s) s64;
       is_header = headers.is_header bytes fits p.header;
       subtype = p.subtype;
+      admitted = record { spacecraft = p.spacecraft; processor = p.processor };
       reserved_len = length-piece 64 4 bytes (omega (arith, p.len));
       name = record { len = length-piece 76 40 bytes (omega (arith, p.len)); reads = refl };
       offset_fits = four_below 68 bytes fits;
@@ -129,14 +143,15 @@ only bytes fits none =
 
 -- ---- written files
 
-pub written : (header : Header) (file : TableFile) → IsWritable header file → IsTableFile (table_file header file) file
-written header file is = record {
+pub written : (admit : Admitted) (header : Header) (file : TableFile) → IsWritable header file → Admits admit header → IsTableFile admit (table_file header file) file
+written admit header file is admitted = record {
   header = header;
   reserved = four 0;
   field = name_field 40 file.name;
   parts = refl;
   is_header = is.is_header;
   subtype = is.subtype;
+  admitted = admitted;
   reserved_len = refl;
   name = reads-name_field 40 file.name is.name_fits is.no_zero;
   offset_fits = is.offset_fits;
@@ -144,12 +159,16 @@ written header file is = record {
 }
 
 pub length-table_file : (header : Header) (file : TableFile) → IsWritable header file → length (table_file header file) ≡ 116 + length file.image
-length-table_file header file is = (file_stands (table_file header file) file (written header file is)).len
+length-table_file header file is = (file_stands all_admitted (table_file header file) file (written all_admitted header file is (record { spacecraft = refl; processor = refl }))).len
 
 -- ---- what isn't looked at
 
-pub same_flaw : (a b : List ℕ) → length a ≡ length b → four_at 0 a ≡ four_at 0 b → four_at 4 a ≡ four_at 4 b → stated_count a ≡ stated_count b → file_flaw a ≡ file_flaw b
-same_flaw a b len content subtype stated = rw (len, content, subtype, stated) refl
+pub same_flaw : (admit : Admitted) (a b : List ℕ) → length a ≡ length b → four_at 0 a ≡ four_at 0 b → four_at 4 a ≡ four_at 4 b → spacecraft_in a ≡ spacecraft_in b → processor_in a ≡ processor_in b
+    → stated_count a ≡ stated_count b → file_flaw admit a ≡ file_flaw admit b
+same_flaw admit a b len content subtype spacecraft processor stated = rw (len, content, subtype, spacecraft, processor, stated) refl
+
+pub same_where_all_are : (a b : List ℕ) → length a ≡ length b → four_at 0 a ≡ four_at 0 b → four_at 4 a ≡ four_at 4 b → stated_count a ≡ stated_count b → file_flaw all_admitted a ≡ file_flaw all_admitted b
+same_where_all_are a b len content subtype stated = rw (len, content, subtype, stated) refl
 
 pub same_file : (a b : List ℕ) → four_at 68 a ≡ four_at 68 b → name_in (piece 76 40 a) ≡ name_in (piece 76 40 b) → drop 116 a ≡ drop 116 b → table_file_in a ≡ table_file_in b
 same_file a b offset name image = rw (offset, name, image) refl

@@ -26,7 +26,8 @@ fn every_header_fits(header: &FileHeader)
 
 /// Appends a table file, 116 bytes and the image: the file header, four zeros, the offset and the number of image bytes in
 /// four bytes each, the table's name and zeros in 40, and the image bytes (cFE's `CFE_TBL_File_Hdr_t`,
-/// cfe_tbl_extern_typedefs.h). It takes no memory, and can't fail: the room is there before.
+/// cfe_tbl_extern_typedefs.h). It takes no memory, and can't fail: the room is there before. What was appended is read again
+/// under all lists that admit the header's spacecraft and its processor.
 #[tactic(auto, unfolding(tbl_kinds::specs::TableFiles::file_with))]
 pub fn write_table_file(out: &mut Bytes, header: &FileHeader, file: &TableFile, image: &[u8])
     requires room { image_place + length image.now ≤ out.old.spare }
@@ -36,7 +37,7 @@ pub fn write_table_file(out: &mut Bytes, header: &FileHeader, file: &TableFile, 
     ensures room { out.old.spare ≤ out.new.spare + (image_place + length image.now) }
     ensures len { length out.new.list ≡ length out.old.list + (image_place + length image.now) }
 
-    // What was appended is read again as this value.
+    // So it is read again as this value.
     ensures writable { IsWritable (header_of header.now) (with_image file.now image.now) }
 {
     every_header_fits(header);

@@ -21,17 +21,19 @@ use cmd_packets::{CmdFault, Ground};
 use file_drawer::Drawer;
 use request_effects::{Clock, Effect};
 use std::alloc::Global;
-use tbl_kinds::{Answer, Bytes, Memory, Status};
+use tbl_kinds::{Admit, Answer, Bytes, Memory, Status};
 use tbl_model::Deed;
 use tbl_registry::Tables;
 use validation::Pending;
 
-/// Plays a command that calls nothing of the store, by what its packet was read as.
+/// Plays a command that calls nothing of the store, by what its packet was read as. Files are loaded from admitted spacecraft and
+/// processors alone.
 pub fn command(
     alloc: Global,
     tables: &mut Tables,
     pending: &mut Pending,
     drawer: &mut Drawer,
+    admit: &Admit,
     clock: Clock,
     asked: &Result<Ground, CmdFault>,
     deeds: Vec<Deed>,
@@ -43,7 +45,7 @@ pub fn command(
     requires no_deeds { deeds.items ≡ [] }
     requires room { vec_capacity deeds ≡ command_deeds (Some (read_of asked.now)) }
     requires empty { empty.list ≡ [] }
-    ensures effect { IfOk result (λ done. (s : State) → s.tables ≡ tables.old → s.pending ≡ pending.old → s.drawer ≡ drawer.old → s.seconds ≡ clock.seconds → s.sub ≡ clock.sub
+    ensures effect { IfOk result (λ done. (s : State) → s.tables ≡ tables.old → s.pending ≡ pending.old → s.drawer ≡ drawer.old → s.admit ≡ admit.now → s.seconds ≡ clock.seconds → s.sub ≡ clock.sub
         → IsEffect done [] (record s { tables = tables.new; pending = pending.new; drawer = drawer.new }) (effect_by s (read_of asked.now) untouched)) }
     ensures within { IfOk result (IsWithin (command_deeds (Some (read_of asked.now))) (shown_room (Some (read_of asked.now))) (asks_notice (Some (read_of asked.now)))) }
     ensures given { IfOk result (λ done. given_of done ≡ nothing_given) }
@@ -56,7 +58,7 @@ pub fn command(
         Ok(Ground::Housekeeping) => housekeeping(alloc, tables, drawer, clock, deeds, empty),
         Ok(Ground::Noop) => Ok(Effect::of(Answer::plain(Status::SUCCESS), empty)),
         Ok(Ground::ResetCounters) => Ok(Effect::of(Answer::plain(Status::SUCCESS), empty)),
-        Ok(Ground::Load { file }) => load(alloc, tables, drawer, file, empty),
+        Ok(Ground::Load { file }) => load(alloc, tables, drawer, admit, file, empty),
         Ok(
             Ground::Dump {
                 select,

@@ -14,7 +14,7 @@ use partial_load::load_into;
 use request_effects::Effect;
 use std::alloc::Global;
 use table_files::{IMAGE_PLACE, TableFile, read_table_file};
-use tbl_kinds::{Answer, Bytes, Memory, Name64, Status};
+use tbl_kinds::{Admit, Answer, Bytes, Memory, Name64, Status};
 use tbl_model::Named;
 use tbl_registry::Tables;
 
@@ -71,18 +71,20 @@ fn load_parsed(
     load_found(alloc, tables, row, file, parsed, image, empty)
 }
 
-/// Fills the load of a table from a file in the drawer, or answers why not.
+/// Fills the load of a table from a file in the drawer, of an admitted spacecraft and processor, or answers why not.
 #[tactic(auto, unfolding(tbl_model::specs::GroundLoads::load_effect))]
 #[inline(never)]
 pub(crate) fn load(
     alloc: Global,
     tables: &mut Tables,
     drawer: &Drawer,
+    admit: &Admit,
     file: &Name64,
     mut empty: Bytes,
 ) -> Result<Effect, Memory>
     requires { empty.list ≡ [] }
-    ensures effect { IfOk result (λ done. (s : State) → s.tables ≡ tables.old → s.drawer ≡ drawer.now → IsEffect done [] (record s { tables = tables.new }) (load_effect s file.now)) }
+    ensures effect { IfOk result (λ done. (s : State) → s.tables ≡ tables.old → s.drawer ≡ drawer.now → s.admit ≡ admit.now
+        → IsEffect done [] (record s { tables = tables.new }) (load_effect s file.now)) }
     ensures quiet { IfOk result IsQuiet }
     ensures err { OnErr result (tables.new ≡ tables.old) }
 {
@@ -90,11 +92,11 @@ pub(crate) fn load(
     let Some(contents) = drawer.get(file) else {
         return Ok(Effect::of(Answer::plain(Status::ERR_FILE_NOT_FOUND), empty));
     };
-    match read_table_file(contents) {
+    match read_table_file(contents, admit) {
         Ok(parsed) => {
             let (_, image) = contents.split_at(IMAGE_PLACE);
             load_parsed(alloc, tables, file, &parsed, image, empty)
         }
-        Err(fault) => Ok(Effect::of(Answer::plain(fault.status()), empty)),
+        Err(fault) => Ok(Effect::of(fault.answer(), empty)),
     }
 }

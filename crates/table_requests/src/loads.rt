@@ -23,7 +23,7 @@ use partial_load::Loaded;
 use request_effects::{Clock, Effect};
 use std::alloc::Global;
 use table_files::{IMAGE_PLACE, TableFile, read_table_file};
-use tbl_kinds::{Answer, Bytes, Memory, Name64, Note, Status};
+use tbl_kinds::{Admit, Answer, Bytes, Memory, Name64, Note, Status};
 use tbl_model::{Deed, Named, Shown};
 use tbl_outside::Validator;
 use tbl_registry::Tables;
@@ -218,12 +218,14 @@ fn load_part<C: Validator>(
     Ok(done)
 }
 
-/// The owner of the table of a row loads a file of it, or of a part of it (`CFE_TBL_Load` from a file).
+/// The owner of the table of a row loads a file of it, or of a part of it (`CFE_TBL_Load` from a file). The file's spacecraft and
+/// its processor have to be admitted.
 pub fn load_file<C: Validator>(
     alloc: Global,
     tables: &mut Tables,
     kit: &mut Kit<C>,
     drawer: &Drawer,
+    admit: &Admit,
     clock: Clock,
     row: u8,
     file: &Name64,
@@ -237,9 +239,9 @@ pub fn load_file<C: Validator>(
     requires counted { AreCounted tables.old }
     requires functions { HaveFunctions tables.old kit.old }
     requires kit { FewAsked C.asked 2 kit.old }
-    ensures effect { IfOk result (λ done. (s : State) → s.tables ≡ tables.old → s.drawer ≡ drawer.now → s.seconds ≡ clock.seconds → s.sub ≡ clock.sub
+    ensures effect { IfOk result (λ done. (s : State) → s.tables ≡ tables.old → s.drawer ≡ drawer.now → s.admit ≡ admit.now → s.seconds ≡ clock.seconds → s.sub ≡ clock.sub
         → ForSome (table_at tables.old row) (λ t. IsEffectAsking done (record s { tables = tables.new }) (named_file_of s file.now (given_of done) row t))) }
-    ensures asks { IfOk result (λ done. (s : State) → s.tables ≡ tables.old → s.drawer ≡ drawer.now
+    ensures asks { IfOk result (λ done. (s : State) → s.tables ≡ tables.old → s.drawer ≡ drawer.now → s.admit ≡ admit.now
         → ForSome (table_at tables.old row) (λ t. WasAsked C.verdict C.asked kit.old kit.new (named_file_of s file.now (given_of done) row t).asked done.verdicts)) }
     ensures owners { owners kit.new ≡ owners kit.old }
     ensures within { IfOk result (IsWithin 2 0 false) }
@@ -256,13 +258,13 @@ pub fn load_file<C: Validator>(
     let Some(contents) = drawer.get(file) else {
         return Ok(Effect::of(Answer::plain(Status::ERR_FILE_NOT_FOUND), empty));
     };
-    match read_table_file(contents) {
+    match read_table_file(contents, admit) {
         Ok(parsed) => {
             let (_, image) = contents.split_at(IMAGE_PLACE);
             load_part(
                 alloc, tables, kit, clock, row, file, &parsed, image, deeds, empty,
             )
         }
-        Err(fault) => Ok(Effect::of(Answer::plain(fault.status()), empty)),
+        Err(fault) => Ok(Effect::of(fault.answer(), empty)),
     }
 }

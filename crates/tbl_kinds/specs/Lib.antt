@@ -8,6 +8,7 @@ pub mod Requests
 pub mod Fields
 pub mod Packets
 pub mod Headers
+pub mod Admitted
 pub mod TableFiles
 pub mod GroundCommands
 pub mod Telemetry

@@ -38,8 +38,8 @@ pub refusals : numbers (
     ∷ the.ERR_VALIDATION_PENDING ∷ the.ERR_VALIDATIONS_FULL ∷ the.ERR_DUMP_PENDING ∷ the.ERR_DRAWER_FULL ∷ the.ERR_BAD_SELECT ∷ the.ERR_CDS_NOT_FOUND
     ∷ the.ERR_TABLE_ACTIVE ∷ the.ERR_CDS_NO_ROOM ∷ the.ERR_CDS_FAULT ∷ the.ERR_CDS_TORN ∷ the.ERR_NOTICE_ID ∷ the.ERR_APP_RUNNING
     ∷ the.ERR_BAD_PACKET ∷ the.ERR_BAD_MESSAGE_ID ∷ the.ERR_BAD_CODE ∷ the.ERR_BAD_LENGTH ∷ the.ERR_BAD_NAME ∷ the.ERR_BOOT_FAULT
-    ∷ the.ERR_IMAGE_SIZE ∷ []
-    ) ≡ range_with_len 32 55
+    ∷ the.ERR_IMAGE_SIZE ∷ the.ERR_BAD_SPACECRAFT_ID ∷ the.ERR_BAD_PROCESSOR_ID ∷ []
+    ) ≡ range_with_len 32 57
 refusals = refl
 
 -- ---- names

@@ -1,6 +1,7 @@
 //! The types that every other crate speaks of, and in specs/ the definitions that their contracts cite.
 #![tactic(auto)]
 
+mod admit;
 mod block;
 mod bytes;
 mod entry;
@@ -15,6 +16,7 @@ mod slots;
 mod status;
 mod telemetry;
 
+pub use admit::Admit;
 pub use block::{Block, BlockKind};
 pub use bytes::{Bytes, Memory};
 pub use entry::{Answer, Entry, Reply};

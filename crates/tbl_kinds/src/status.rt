@@ -140,4 +140,8 @@ impl Status {
     pub const ERR_BOOT_FAULT: Status = Status(85);
 
     pub const ERR_IMAGE_SIZE: Status = Status(86);
+
+    pub const ERR_BAD_SPACECRAFT_ID: Status = Status(87);
+
+    pub const ERR_BAD_PROCESSOR_ID: Status = Status(88);
 }

@@ -1,5 +1,6 @@
 -- Boots: what the service keeps where it begins anew, and how a request ends in which it does.
 use Rattle.std.specs.Prelude.{ℕ, List, [], replicate, if◌then◌else◌, Option, None}
+use Rattle.tbl_kinds.specs.Admitted.{Admitted}
 use Rattle.tbl_kinds.specs.Blocks.{Store}
 use Rattle.tbl_kinds.specs.StoreSteps.{booted}
 use Rattle.tbl_kinds.specs.Notes.{untouched}
@@ -23,9 +24,9 @@ abbrev pub blocks_after : ResetKind → BankNote → Store → Store
 blocks_after kind note store = if note.ended then store else booted kind note.found store
 
 -- the service begins anew, without tables, handles, pins, loads, dumps and pending validations. A reset of the processor keeps files,
--- applications and blocks, and a power-on none of them; time and kit stay. Where the boot failed or was stopped, the service has ended
+-- applications and blocks, and a power-on none of them; time, kit and admitted identifiers stay. Where the boot failed or was stopped, the service has ended
 abbrev pub boot : ResetKind → BankNote → State → State
-boot kind note s = record (first_state (blocks_after kind note s.store) s.kit) {
+boot kind note s = record (first_state (blocks_after kind note s.store) s.kit s.admit) {
   drawer = if_processor kind s.drawer [];
   apps = if_processor kind s.apps (replicate 16 None);
   seconds = s.seconds;
@@ -34,8 +35,8 @@ boot kind note s = record (first_state (blocks_after kind note s.store) s.kit) {
 }
 
 -- how a session begins: with a boot of the processor over the blocks that the bank shows, where nothing runs and no file is there
-abbrev pub session_start : Store → List (Option ℕ) → State
-session_start shown kit = boot Processor untouched (first_state shown kit)
+abbrev pub session_start : Store → List (Option ℕ) → Admitted → State
+session_start shown kit admit = boot Processor untouched (first_state shown kit admit)
 
 -- ---- how a request ends in one
 

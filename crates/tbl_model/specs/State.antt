@@ -1,5 +1,6 @@
 -- The state of the service.
 use Rattle.std.specs.Prelude.{ℕ, List, [], replicate, Bool, false, Option, None}
+use Rattle.tbl_kinds.specs.Admitted.{Admitted}
 use Rattle.tbl_kinds.specs.Blocks.{Store}
 use Rattle.tbl_model.specs.declared.deeds.Notice.{Notice}
 
@@ -54,6 +55,7 @@ pub record State : Type 0 where
   pub drawer : List (List ℕ × List ℕ)  -- uplinked files, in order of their first uplink
   pub apps : List (Option (List ℕ))  -- the name of application a stands at place a - 1
   pub kit : List (Option ℕ)  -- whose validator stands under each number
+  pub admit : Admitted  -- which spacecraft and processors files may come from
   pub seconds : ℕ
   pub sub : ℕ
   pub ended : Bool  -- a boot failed or was stopped
@@ -61,15 +63,16 @@ pub record State : Type 0 where
 abbrev pub no_tables : Tables
 no_tables = record { rows = replicate 128 None; handles = replicate 256 None }
 
--- how a session begins: time 0, nothing running, an empty drawer, over this store and with this kit
-abbrev pub first_state : Store → List (Option ℕ) → State
-first_state store kit = record {
+-- how a session begins: time 0, nothing running, an empty drawer, over this store, with this kit and these lists
+abbrev pub first_state : Store → List (Option ℕ) → Admitted → State
+first_state store kit admit = record {
   tables = no_tables;
   pending = [];
   store = store;
   drawer = [];
   apps = replicate 16 None;
   kit = kit;
+  admit = admit;
   seconds = 0;
   sub = 0;
   ended = false;

@@ -1,7 +1,7 @@
 -- What a request is about: the application that makes it, the table that its handle leads to or that it names, a file.
 use Rattle.std.specs.Prelude.{ℕ, ◌-◌, List, Bool, true, Option, Some, None, option_and_then, slice_get, Result, Ok, Err}
 use Rattle.tbl_kinds.specs.Drawer.{contents_of}
-use Rattle.tbl_kinds.specs.TableFiles.{TableFile, FileFlaw, file_flaw, file_status, table_file_in}
+use Rattle.tbl_kinds.specs.TableFiles.{TableFile, FileFlaw, file_flaw, file_status, file_detail, table_file_in}
 use Rattle.tbl_model.specs.State.{State, Table}
 use Rattle.tbl_model.specs.Tables.{table_at}
 use Rattle.tbl_model.specs.TableSteps.{find, check}
@@ -50,13 +50,13 @@ abbrev pub if_table : State → List ℕ → (ℕ → Table → Effect) → Effe
 if_table s name effect = by_row s name (find name s.tables) effect
 
 abbrev pub by_flaw : State → List ℕ → Option FileFlaw → (TableFile → Effect) → Effect
-by_flaw s contents (Some flaw) effect = answered s (file_status flaw) 0
+by_flaw s contents (Some flaw) effect = answered s (file_status flaw) (file_detail flaw)
 by_flaw s contents None effect = effect (table_file_in contents)
 
 abbrev pub by_contents : State → Option (List ℕ) → (TableFile → Effect) → Effect
 by_contents s None effect = answered s ERR_FILE_NOT_FOUND 0
-by_contents s (Some contents) effect = by_flaw s contents (file_flaw contents) effect
+by_contents s (Some contents) effect = by_flaw s contents (file_flaw s.admit contents) effect
 
--- what is done with the uplinked table file of this name, by what the file tells
+-- what is done with the uplinked table file of this name, by what the file tells; its spacecraft and its processor have to be admitted
 abbrev pub if_file : State → List ℕ → (TableFile → Effect) → Effect
 if_file s name effect = by_contents s (contents_of s.drawer name) effect

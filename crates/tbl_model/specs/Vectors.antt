@@ -1,6 +1,9 @@
 -- What the definitions say of sessions that are written out: each line is computed by the checker.
-use Rattle.std.specs.Prelude.{◌≡◌, ℕ, List, [], ◌∷◌, ◌++◌, replicate, None, refl}
+use Rattle.std.specs.Prelude.{◌≡◌, ℕ, List, [], ◌∷◌, ◌++◌, take, replicate, None, refl, codes}
 use Rattle.std.proofs.Common.{sym}
+use Rattle.tbl_kinds.specs.Admitted.{all_admitted}
+use Rattle.tbl_kinds.specs.Headers.{file_header}
+use Rattle.tbl_kinds.specs.TableFiles.{file_with, table_file}
 use Rattle.tbl_kinds.specs.Packets.{primary_header, telemetry_packet}
 use Rattle.tbl_kinds.specs.Telemetry.{event_body, housekeeping_body, commands_and_loads, last_validation, validations_and_buffers, last_update}
 use Rattle.tbl_kinds.specs.Records.{spelling}
@@ -9,9 +12,12 @@ use Rattle.tbl_kinds.specs.GroundCommands.{command_in}
 use Rattle.tbl_kinds.specs.Vectors.{noop, ask_housekeeping, command}
 use Rattle.tbl_kinds.specs.declared.entry.Entry.{Entry}
 use Rattle.tbl_kinds.specs.declared.request.Actor.TheVariants.{Ground}
-use Rattle.tbl_kinds.specs.declared.status.TheConstants.Status.{SUCCESS, ERR_BAD_PACKET, ERR_BAD_MESSAGE_ID, ERR_BAD_CODE, ERR_BAD_LENGTH}
+use Rattle.tbl_kinds.specs.declared.request.ResetKind.{ResetKind}
+use Rattle.tbl_kinds.specs.declared.status.TheConstants.Status.{SUCCESS, ERR_BAD_PACKET, ERR_BAD_MESSAGE_ID, ERR_BAD_CODE, ERR_BAD_LENGTH, ERR_NO_TBL_HEADER, ERR_NO_SUCH_TABLE, ERR_BAD_SPACECRAFT_ID, ERR_BAD_PROCESSOR_ID}
 use Rattle.tbl_model.specs.State.{State, first_state}
 use Rattle.tbl_model.specs.Effects.{answered}
+use Rattle.tbl_model.specs.GroundLoads.{load_effect, load_file_effect}
+use Rattle.tbl_model.specs.Boots.{reset_effect}
 use Rattle.tbl_model.specs.Commands.{command_effect}
 use Rattle.tbl_model.specs.Dumps.{housekeeping_effect, dumps_ended}
 use Rattle.tbl_model.specs.StoreNotes.{IsNoteOf}
@@ -23,7 +29,7 @@ use Rattle.tbl_model.specs.History.{Run, begins_at, onward, run_from, IsAnswered
 -- ---- a session of the two commands
 
 abbrev pub start : State
-start = first_state [] []
+start = first_state [] [] all_admitted
 
 abbrev pub entry : List ℕ → List ℕ → Entry
 entry bytes packets = record {
@@ -149,6 +155,56 @@ three_are_refused = refl
 pub none_is_accepted : (counts_of three_refused).accepted ≡ 0
 unfolding counts_of command_in
 none_is_accepted = refl
+
+-- ---- files of admitted spacecraft and processors
+
+-- a file of the table A.T, with one image byte
+abbrev pub file_of : ℕ → ℕ → List ℕ
+file_of spacecraft processor = table_file (record { subtype = 8; length = 64; spacecraft = spacecraft; processor = processor; application = 0; seconds = 0; sub = 0; description = replicate 32 0 })
+    (record { offset = 0; name = codes "A.T"; image = 7 ∷ [] })
+
+-- spacecraft 66 with the processors 1 and 2, and this file in the drawer
+abbrev pub with_file : List ℕ → State
+with_file contents = record start { admit = record { spacecraft = 66 ∷ []; processor = 1 ∷ 2 ∷ [] }; drawer = (codes "/t", contents) ∷ [] }
+
+pub another_spacecraft : load_effect (with_file (file_of 67 1)) (codes "/t") ≡ answered (with_file (file_of 67 1)) ERR_BAD_SPACECRAFT_ID 67
+unfolding load_effect file_header file_with
+another_spacecraft = refl
+
+pub another_processor : load_effect (with_file (file_of 66 3)) (codes "/t") ≡ answered (with_file (file_of 66 3)) ERR_BAD_PROCESSOR_ID 3
+unfolding load_effect file_header file_with
+another_processor = refl
+
+-- the spacecraft goes before the processor
+pub both_are_others : load_effect (with_file (file_of 67 3)) (codes "/t") ≡ answered (with_file (file_of 67 3)) ERR_BAD_SPACECRAFT_ID 67
+unfolding load_effect file_header file_with
+both_are_others = refl
+
+-- the next test is whether the table is there
+pub both_are_admitted : load_effect (with_file (file_of 66 2)) (codes "/t") ≡ answered (with_file (file_of 66 2)) ERR_NO_SUCH_TABLE 0
+unfolding load_effect load_file_effect file_header file_with
+both_are_admitted = refl
+
+-- a header alone is judged by its identifiers before the table file header that isn't there
+pub header_of_another_spacecraft : load_effect (with_file (take 64 (file_of 67 1))) (codes "/t") ≡ answered (with_file (take 64 (file_of 67 1))) ERR_BAD_SPACECRAFT_ID 67
+unfolding load_effect file_header file_with
+header_of_another_spacecraft = refl
+
+pub header_alone : load_effect (with_file (take 64 (file_of 66 1))) (codes "/t") ≡ answered (with_file (take 64 (file_of 66 1))) ERR_NO_TBL_HEADER 0
+unfolding load_effect file_header file_with
+header_alone = refl
+
+-- without lists all are admitted
+abbrev pub without_lists : State
+without_lists = record (with_file (file_of 67 3)) { admit = all_admitted }
+
+pub empty_lists_admit_all : load_effect without_lists (codes "/t") ≡ answered without_lists ERR_NO_SUCH_TABLE 0
+unfolding load_effect load_file_effect file_header file_with
+empty_lists_admit_all = refl
+
+-- and the lists stay at each reset
+pub lists_stay : (kind : ResetKind) (contents : List ℕ) → (reset_effect (with_file contents) kind untouched).next.admit ≡ (with_file contents).admit
+lists_stay kind contents = refl
 
 -- ---- counts
 
