@@ -1,11 +1,27 @@
 -- What contracts see of a source and of a sink in memory.
-use Rattle.std.specs.Prelude.{ℕ, List}
+use Rattle.std.specs.Prelude.{ℕ, ◌-◌, ◌==◌, List, Bool, false, Option, Some, None, min}
 use Rattle.tbl_fakes.specs.Calls.{Calls}
 
--- the bytes that are still to come, and the reads
+-- the bytes that are still to come, the reads, and how many bytes come before each read fails, where that is so
 pub record Reading : Type 0 where
   pub left : List ℕ
   pub calls : Calls
+  pub cut : Option ℕ
+
+-- each read fails from here on
+abbrev pub is_cut : Option ℕ → Bool
+is_cut None = false
+is_cut (Some bytes) = bytes == 0
+
+-- of so many bytes those that come before the cut
+abbrev pub before_cut : Option ℕ → ℕ → ℕ
+before_cut None len = len
+before_cut (Some bytes) len = min len bytes
+
+-- the cut, so many bytes further
+abbrev pub cut_after : Option ℕ → ℕ → Option ℕ
+cut_after None len = None
+cut_after (Some bytes) len = Some (bytes - len)
 
 -- the bytes that were taken, the room that is left, and the writes
 pub record Writing : Type 0 where

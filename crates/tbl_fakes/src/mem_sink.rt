@@ -46,6 +46,15 @@ impl MemSink {
         })
     }
 
+    /// A sink that is cut: it takes this many bytes, and each write fails that has more. Their room is reserved here.
+    pub fn cut(alloc: Global, after: u32) -> Result<MemSink, Memory>
+        ensures taken { IfOk result (λ s. s.taken ≡ []) }
+        ensures room { IfOk result (λ s. s.room ≡ after) }
+        ensures calls { IfOk result (λ s. s.calls ≡ none_made []) }
+    {
+        MemSink::make(alloc, after, &[])
+    }
+
     /// The bytes that it took.
     pub fn taken(&self) -> &[u8]
         ensures { result.now ≡ self.now.taken }

@@ -1,9 +1,9 @@
 // A source in memory.
-ghost use Rattle.std.specs.Prelude.{◌≡◌, ◌<◌, ◌≤◌, ◌++◌, [], length, take, drop, min, Some, IfOk, OnErr, is_err};
+ghost use Rattle.std.specs.Prelude.{◌≡◌, ◌<◌, ◌≤◌, ◌++◌, ◌||◌, [], length, take, drop, min, Some, None, IfOk, OnErr, is_err};
 ghost use Rattle.std.specs.Io.KnownBytes.{prepend_known, IsAtEnd};
 ghost use Rattle.tbl_outside.specs.Counts.{Rose};
 ghost use Rattle.tbl_fakes.specs.Calls.{is_listed, passed, failed, none_made};
-ghost use Rattle.tbl_fakes.specs.Contents.{Reading};
+ghost use Rattle.tbl_fakes.specs.Contents.{Reading, is_cut, before_cut, cut_after};
 
 use crate::plan::Plan;
 use crate::supply::Supply;
@@ -12,11 +12,14 @@ use std::marker::Model;
 use tbl_kinds::{Bytes, Memory};
 use tbl_outside::{Failed, Source};
 
-/// A source of given bytes whose reads fail where their number is listed. A read that fails moves nothing.
+/// A source of given bytes whose reads fail where their number is listed, or from a number of bytes on. A read that fails
+/// moves nothing.
 #[derive(Drop)]
 pub struct MemSource {
     supply: Supply,
     plan: Plan,
+    /// How many bytes come before each read fails.
+    cut: Option<usize>,
 }
 
 impl Model for MemSource {
@@ -24,7 +27,7 @@ impl Model for MemSource {
 
     ghost Value = { Reading };
 
-    ghost view = { λ s. record { left = s.supply; calls = s.plan } };
+    ghost view = { λ s. record { left = s.supply; calls = s.plan; cut = s.cut } };
 }
 
 impl MemSource {
@@ -32,11 +35,28 @@ impl MemSource {
     pub fn make(alloc: Global, bytes: Bytes, fails: &[u32]) -> Result<MemSource, Memory>
         ensures left { IfOk result (λ s. s.left ≡ bytes.list) }
         ensures calls { IfOk result (λ s. s.calls ≡ none_made fails.now) }
+        ensures whole { IfOk result (λ s. s.cut ≡ None) }
     {
         Ok(MemSource {
             supply: Supply::of(bytes),
             plan: Plan::make(alloc, fails)?,
+            cut: None,
         })
+    }
+
+    /// A source of these bytes that is cut: each read fails once this many were taken, and none gives a byte after them. It
+    /// takes no memory.
+    pub fn cut(bytes: Bytes, after: u32) -> MemSource
+        ensures left { result.left ≡ bytes.list }
+        ensures calls { result.calls ≡ none_made [] }
+        ensures cut { result.cut ≡ Some after }
+    {
+        let plan = Plan::empty(bytes.allocator());
+        MemSource {
+            supply: Supply::of(bytes),
+            plan,
+            cut: Some(after as usize),
+        }
     }
 
     /// The bytes that are still to come.
@@ -51,6 +71,34 @@ impl MemSource {
         ensures { result ≡ self.now.calls.faults }
     {
         self.plan.faults()
+    }
+
+    /// Whether each read fails from here on.
+    fn is_cut(&self) -> bool
+        ensures { result ≡ is_cut self.now.cut }
+    {
+        match self.cut {
+            None => false,
+            Some(bytes) => bytes == 0,
+        }
+    }
+
+    /// Moves as much as it can, and no byte after the cut.
+    fn fill(&mut self, into: &mut [u8]) -> usize
+        ensures count { result ≡ before_cut self.old.cut (min (length into.old) (length self.old.left)) }
+        ensures moved { into.new ≡ take result self.old.left ++ drop result into.old }
+        ensures left { self.new.left ≡ drop result self.old.left }
+        ensures cut { self.new.cut ≡ cut_after self.old.cut result }
+        ensures calls { self.new.calls ≡ self.old.calls }
+    {
+        match self.cut {
+            None => self.supply.fill(into),
+            Some(bytes) => {
+                let count = self.supply.fill_up_to(into, bytes);
+                self.cut = Some(bytes - count);
+                count
+            }
+        }
     }
 }
 
@@ -67,17 +115,21 @@ impl Source for MemSource {
         ensures cause { OnErr result (Rose self.old.calls.faults self.new.calls.faults) }
         ensures count { self.old.calls.faults ≤ self.new.calls.faults }
 
-        // It fails exactly where its number is listed, and else moves as much as it can.
-        ensures fails { is_err result ≡ is_listed self.old.calls }
-        ensures most { IfOk result (λ n. n ≡ min (length into.old) (length self.old.left)) }
+        // It fails exactly where its number is listed or as many bytes were taken as come before the cut, and else moves as
+        // much as it can, up to the cut.
+        ensures fails { is_err result ≡ (is_listed self.old.calls || is_cut self.old.cut) }
+        ensures most { IfOk result (λ n. n ≡ before_cut self.old.cut (min (length into.old) (length self.old.left))) }
+        ensures cut_ok { IfOk result (λ n. self.new.cut ≡ cut_after self.old.cut n) }
+        ensures cut_err { OnErr result (self.new.cut ≡ self.old.cut) }
         ensures rest { IfOk result (λ n. drop n into.new ≡ drop n into.old) }
         ensures calls_ok { IfOk result (λ _. self.new.calls ≡ passed self.old.calls) }
         ensures calls_err { OnErr result (self.new.calls ≡ failed (passed self.old.calls)) }
     {
-        if self.plan.fails_next() {
+        let listed = self.plan.fails_next();
+        if listed || self.is_cut() {
             self.plan.fault();
             return Err(Failed);
         }
-        Ok(self.supply.fill(into))
+        Ok(self.fill(into))
     }
 }

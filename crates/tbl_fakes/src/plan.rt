@@ -1,6 +1,6 @@
 // Which calls of an object fail.
-ghost use Rattle.std.specs.Prelude.{◌≡◌, ◌≤◌, IfOk};
-ghost use Rattle.tbl_fakes.specs.Calls.{is_listed, passed, failed};
+ghost use Rattle.std.specs.Prelude.{◌≡◌, ◌≤◌, [], IfOk};
+ghost use Rattle.tbl_fakes.specs.Calls.{is_listed, passed, failed, none_made};
 
 use std::alloc::Global;
 use std::marker::Model;
@@ -23,8 +23,19 @@ impl Model for Plan {
 }
 
 impl Plan {
+    /// No call was made, and none is listed.
+    pub(crate) fn empty(alloc: Global) -> Plan
+        ensures { result ≡ none_made [] }
+    {
+        Plan {
+            listed: Vec::new(alloc),
+            made: 0,
+            faults: 0,
+        }
+    }
+
     pub(crate) fn make(alloc: Global, fails: &[u32]) -> Result<Plan, Memory>
-        ensures { IfOk result (λ p. p ≡ record { listed = fails.now; made = 0; faults = 0 }) }
+        ensures { IfOk result (λ p. p ≡ none_made fails.now) }
     {
         Ok(Plan {
             listed: fails.to_vec(alloc)?,

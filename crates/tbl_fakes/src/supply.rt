@@ -40,8 +40,17 @@ impl Supply {
         ensures moved { into.new ≡ take result self.old ++ drop result into.old }
         ensures left { self.new ≡ drop result self.old }
     {
+        self.fill_up_to(into, into.len())
+    }
+
+    /// Moves as many bytes as there are, or as the piece has, and no more than this many. It answers how many.
+    pub(crate) fn fill_up_to(&mut self, into: &mut [u8], most: usize) -> usize
+        ensures count { result ≡ min (min (length into.old) (length self.old)) most }
+        ensures moved { into.new ≡ take result self.old ++ drop result into.old }
+        ensures left { self.new ≡ drop result self.old }
+    {
         let rest = &self.bytes.bytes()[self.at..];
-        let count = into.len().min(rest.len());
+        let count = into.len().min(rest.len()).min(most);
         into[..count].copy_from_slice(&rest[..count]);
         self.at += count;
         count
