@@ -120,9 +120,10 @@ impl<B: Bank> Store<B> {
         }
     }
 
-    /// The bank.
+    /// The bank, which has room for a further store.
     pub fn end(self) -> B
-        ensures { result ≡ self.bank }
+        ensures bank { result ≡ self.bank }
+        ensures room { bank_size ≤ B.size result }
     {
         self.bank
     }

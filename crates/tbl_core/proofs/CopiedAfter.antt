@@ -188,6 +188,7 @@ module _ {B C : Type 0} (g : Ghosts B) (v : ValidatorGhosts C) (old new : Held B
         drawer = found.3.drawer;
         apps = found.3.apps;
         kit = found.3.kit;
+        admit = found.3.admit;
         seconds = found.3.seconds;
         sub = found.3.sub;
         ended = found.3.ended;

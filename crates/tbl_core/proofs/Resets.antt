@@ -2,6 +2,7 @@
 use Rattle.std.proofs.Common.{◌≡◌, ◌∙◌, ⊎_elim, inl, inr, ℕ, zero, suc, List, [], ◌∷◌, map, ◌&&◌, Bool, false, not, Option, Some, None, is_some, replicate, refl, sym, ap, arith}
 use Rattle.std.specs.List.{filter, range_with_len}
 use Rattle.std.specs.Option.{option_map}
+use Rattle.tbl_kinds.specs.Admitted.{all_admitted}
 use Rattle.tbl_kinds.specs.Blocks.{Store as Blocks}
 use Rattle.tbl_kinds.specs.StoreSteps.{stored_at}
 use Rattle.tbl_kinds.specs.Notes.{untouched}
@@ -97,7 +98,7 @@ module _ {B C : Type 0} (g : Ghosts B) (v : ValidatorGhosts C) (old new : Held B
     ended = rw note (ap (λ (h : Held B C). h.ended) held);
     stopped = rw note (λ is. absurd (cc is));
     trouble = let same : new.store.bank ≡ kept.bank = ap (λ (h : Held B C). h.store.bank) held in rw same (record { fault_count = trouble.fault_count; stop_count = trouble.stop_count; fault = rw note trouble.fault; stop = rw note trouble.stop; no_fault = rw note trouble.no_fault; no_stop = rw note trouble.no_stop });
-    cause = rw (answer, note) (caused (first_state [] []) (record { note = with_boot ended stopped found untouched; verdicts = [] }) Ground (ask.Reset kind));
+    cause = rw (answer, note) (caused (first_state [] [] all_admitted) (record { note = with_boot ended stopped found untouched; verdicts = [] }) Ground (ask.Reset kind));
   }
 
   pub reset_meets : (g.tells_moments → (blocks : Blocks) → HasBlocks g.tells g.now old.store blocks → LeavesOnly g.clock g.left_since old.store.bank kept.bank (BootLeaves kind blocks))
@@ -117,6 +118,7 @@ module _ {B C : Type 0} (g : Ghosts B) (v : ValidatorGhosts C) (old new : Held B
             drawer = ap (λ drawer. if_processor kind drawer []) holds.parts.drawer;
             apps = ap (λ apps. if_processor kind apps (replicate 16 None)) holds.parts.apps;
             kit = holds.parts.kit;
+            admit = holds.parts.admit;
             seconds = holds.parts.seconds;
             sub = holds.parts.sub;
             ended = refl;

@@ -1,5 +1,6 @@
 -- A service at its start.
 use Rattle.std.proofs.Common.{◌≡◌, ⊎_elim, inr, ℕ, List, [], replicate, false, Option, None, Result, Err, refl, sym, ap, subst}
+use Rattle.tbl_kinds.specs.Admitted.{Admitted}
 use Rattle.tbl_kinds.specs.Blocks.{Store as Blocks}
 use Rattle.tbl_model.specs.State.{first_state, no_tables}
 use Rattle.tbl_model.specs.Counts.{counts_of, no_counts}
@@ -20,7 +21,7 @@ use Rattle.tbl_core.specs.Service.{CoreView, StandsFor, start_fault, StartCounte
 use Rattle.tbl_outside.specs.declared.bank.Bank.{Ghosts}
 
 -- nothing is registered, runs, is kept or pending, and nothing was told
-pub record IsNew {B C : Type 0} (kit : List (Option (KitEntry C))) (core : CoreView B C) : Type 0 where
+pub record IsNew {B C : Type 0} (kit : List (Option (KitEntry C))) (admit : Admitted) (core : CoreView B C) : Type 0 where
   pub entries : core.entries ≡ []
   pub counts : core.counts ≡ no_counts
   pub tables : core.state.tables ≡ no_tables
@@ -28,14 +29,15 @@ pub record IsNew {B C : Type 0} (kit : List (Option (KitEntry C))) (core : CoreV
   pub drawer : core.state.drawer ≡ []
   pub apps : core.state.apps ≡ replicate 16 None
   pub functions : core.state.kit ≡ kit
+  pub lists : core.state.admit ≡ admit
   pub seconds : core.state.seconds ≡ 0
   pub sub : core.state.sub ≡ 0
   pub live : core.state.ended ≡ false
 
 -- then it stands for the first state, over the blocks for which its store stands
-pub stands_first : {B C : Type 0} (g : Ghosts B) (kit : List (Option (KitEntry C))) (blocks : Blocks) (core : CoreView B C) → IsNew kit core → (g.tells → HasBlocks g.tells g.now core.state.store blocks) → StandsFor g (first_state blocks (owners kit)) core
+pub stands_first : {B C : Type 0} (g : Ghosts B) (kit : List (Option (KitEntry C))) (admit : Admitted) (blocks : Blocks) (core : CoreView B C) → IsNew kit admit core → (g.tells → HasBlocks g.tells g.now core.state.store blocks) → StandsFor g (first_state blocks (owners kit) admit) core
 unfolding counts_of
-stands_first g kit blocks core new has = record {
+stands_first g kit admit blocks core new has = record {
   legal = λ told. rw new.entries (record { answered = tt; leads = refl });
   shows = λ told. rw new.entries (record {
     state = record {
@@ -46,6 +48,7 @@ stands_first g kit blocks core new has = record {
         drawer = sym new.drawer;
         apps = sym new.apps;
         kit = ap owners (sym new.functions);
+        admit = sym new.lists;
         seconds = sym new.seconds;
         sub = sym new.sub;
         ended = sym new.live;

@@ -84,6 +84,7 @@ module _ {B C : Type 0} (g : Ghosts B) (v : ValidatorGhosts C) (old new : Held B
             drawer = stands.drawer;
             apps = stands.apps;
             kit = stands.kit;
+            admit = stands.admit;
             seconds = stands.seconds;
             sub = stands.sub;
             ended = stands.ended;
@@ -145,6 +146,7 @@ module _ {B C : Type 0} (g : Ghosts B) (v : ValidatorGhosts C) (old new : Held B
           drawer = holds.parts.drawer ∙ sym (ap (λ (h : Held B C). h.drawer) held);
           apps = holds.parts.apps ∙ sym (ap (λ (h : Held B C). h.apps) held);
           kit = holds.parts.kit ∙ sym (ap (λ (h : Held B C). owners h.kit) held);
+          admit = holds.parts.admit ∙ sym (ap (λ (h : Held B C). h.admit) held);
           seconds = holds.parts.seconds ∙ sym (ap (λ (h : Held B C). h.seconds) held);
           sub = holds.parts.sub ∙ sym (ap (λ (h : Held B C). h.sub) held);
           ended = holds.parts.ended ∙ sym (ap (λ (h : Held B C). h.ended) held);

@@ -35,7 +35,7 @@ use Rattle.tbl_outside.specs.declared.validator.Validator.{Ghosts as ValidatorGh
 
 -- over these blocks they stand for such a state
 pub stands_in : {B C : Type 0} (held : Held B C) → Stands [] held (state_of held)
-stands_in held = record { tables = refl; pending = refl; store = refl; drawer = refl; apps = refl; kit = refl; seconds = refl; sub = refl; ended = refl }
+stands_in held = record { tables = refl; pending = refl; store = refl; drawer = refl; apps = refl; kit = refl; admit = refl; seconds = refl; sub = refl; ended = refl }
 
 -- and for no other
 pub state_is : {B C : Type 0} (held : Held B C) (blocks : Blocks) (s : State) → Stands blocks held s → s ≡ record (state_of held) { store = blocks }
@@ -46,6 +46,7 @@ state_is held blocks s stands = λ i. record {
   drawer = stands.drawer i;
   apps = stands.apps i;
   kit = stands.kit i;
+  admit = stands.admit i;
   seconds = stands.seconds i;
   sub = stands.sub i;
   ended = stands.ended i;

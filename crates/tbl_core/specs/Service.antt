@@ -9,6 +9,7 @@ use Rattle.tbl_kinds.specs.Blocks.{Store as Blocks, empty_store}
 use Rattle.tbl_kinds.specs.StoreCalls.{StoreCall}
 use Rattle.tbl_kinds.specs.StoreSteps.{Shows as ShowsBlocks}
 use Rattle.tbl_session.specs.Crashes.{DuringCalls, UnderWay, writes, all_calls_in}
+use Rattle.tbl_kinds.specs.Admitted.{Admitted}
 use Rattle.tbl_kinds.specs.Drawer.{File}
 use Rattle.tbl_model.specs.Effects as model
 use Rattle.tbl_model.specs.Counts.{Counts, counts_of}
@@ -70,6 +71,7 @@ pub record Held (B C : Type 0) : Type 0 where
   pub drawer : List File
   pub apps : List (Option (List ℕ))
   pub kit : List (Option (KitEntry C))
+  pub admit : Admitted
   pub seconds : ℕ
   pub sub : ℕ
   pub ended : Bool
@@ -88,6 +90,7 @@ held_of parts = record {
   drawer = parts.drawer;
   apps = parts.apps;
   kit = parts.kit;
+  admit = parts.admit;
   seconds = parts.clock.seconds;
   sub = parts.clock.sub;
   ended = parts.ended;
@@ -106,6 +109,7 @@ pub record Stands {B C : Type 0} (blocks : Blocks) (held : Held B C) (s : State)
   pub drawer : s.drawer ≡ held.drawer
   pub apps : s.apps ≡ held.apps
   pub kit : s.kit ≡ owners held.kit
+  pub admit : s.admit ≡ held.admit
   pub seconds : s.seconds ≡ held.seconds
   pub sub : s.sub ≡ held.sub
   pub ended : s.ended ≡ held.ended
@@ -119,6 +123,7 @@ state_of held = record {
   drawer = held.drawer;
   apps = held.apps;
   kit = owners held.kit;
+  admit = held.admit;
   seconds = held.seconds;
   sub = held.sub;
   ended = held.ended;

@@ -54,6 +54,7 @@ impl<B: Bank, C: Validator> Parts<B, C> {
                     tables,
                     pending,
                     &mut self.drawer,
+                    &self.admit,
                     self.clock,
                     asked,
                     deeds,
@@ -98,14 +99,15 @@ impl<B: Bank, C: Validator> Parts<B, C> {
         let kit = &mut self.kit;
         let pending = &mut self.pending;
         let drawer = &self.drawer;
+        let admit = &self.admit;
         match request {
             Request::LoadImage { image, .. } => {
                 let image = image.bytes();
                 load_image(alloc, tables, kit, clock, row, image, deeds, empty)
             }
-            Request::LoadFile { name, .. } => {
-                load_file(alloc, tables, kit, drawer, clock, row, name, deeds, empty)
-            }
+            Request::LoadFile { name, .. } => load_file(
+                alloc, tables, kit, drawer, admit, clock, row, name, deeds, empty,
+            ),
             Request::Update { .. } => Ok(update(tables, clock, row, deeds, empty)),
             Request::Validate { .. } => {
                 Ok(app_validate(tables, kit, pending, row, deeds, empty))

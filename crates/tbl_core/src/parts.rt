@@ -21,7 +21,7 @@ use file_drawer::Drawer;
 use request_effects::{Asked, Clock, Effect, asked_in};
 use sharing::Apps;
 use std::alloc::Global;
-use tbl_kinds::{Actor, Bytes, Memory, Request};
+use tbl_kinds::{Actor, Admit, Bytes, Memory, Request};
 use tbl_outside::{Back, Bank, Validator};
 use tbl_registry::Tables;
 use validation::{Kit, Pending};
@@ -34,6 +34,8 @@ pub(crate) struct Parts<B: Bank, C: Validator> {
     pub tables: Tables,
     pub apps: Apps,
     pub kit: Kit<C>,
+    /// The spacecraft and processors that table files may come from.
+    pub admit: Admit,
     pub pending: Pending,
     pub drawer: Drawer,
     pub store: Store<B>,
@@ -83,13 +85,19 @@ fn room_for_entry(
 impl<B: Bank, C: Validator> Parts<B, C> {
     /// Nothing runs, nothing is registered, no validation is pending, no file is there, the history is empty, and the time is
     /// 0. The store isn't booted yet.
-    pub(crate) fn make(alloc: Global, bank: B, kit: Kit<C>) -> Result<Parts<B, C>, Back<Memory, B>>
+    pub(crate) fn make(
+        alloc: Global,
+        bank: B,
+        kit: Kit<C>,
+        admit: Admit,
+    ) -> Result<Parts<B, C>, Back<Memory, B>>
         requires { bank_size ≤ B.size bank }
         ensures entries { IfOk result (λ parts. parts.log.entries ≡ []) }
         ensures counts { IfOk result (λ parts. parts.log.counts ≡ no_counts) }
         ensures tables { IfOk result (λ parts. parts.tables ≡ no_tables) }
         ensures apps { IfOk result (λ parts. parts.apps ≡ replicate 16 None) }
         ensures kit { IfOk result (λ parts. parts.kit ≡ kit) }
+        ensures admit { IfOk result (λ parts. parts.admit ≡ admit) }
         ensures pending { IfOk result (λ parts. parts.pending ≡ []) }
         ensures drawer { IfOk result (λ parts. parts.drawer ≡ []) }
         ensures seconds { IfOk result (λ parts. parts.clock.seconds ≡ 0) }
@@ -108,6 +116,7 @@ impl<B: Bank, C: Validator> Parts<B, C> {
             tables: room.tables,
             apps: Apps::make(),
             kit,
+            admit,
             pending: Pending::make(),
             drawer: room.drawer,
             store: Store::make(alloc, bank)?,
@@ -118,7 +127,8 @@ impl<B: Bank, C: Validator> Parts<B, C> {
 
     /// The bank as it is.
     pub(crate) fn end(self) -> B
-        ensures { result ≡ self.store.bank }
+        ensures bank { result ≡ self.store.bank }
+        ensures room { bank_size ≤ B.size result }
     {
         self.store.end()
     }

@@ -32,7 +32,7 @@ use crate::parts::Parts;
 use cds_store::BankFault;
 use std::alloc::Global;
 use std::marker::Model;
-use tbl_kinds::{Actor, Entry, Request, ResetKind};
+use tbl_kinds::{Actor, Admit, Entry, Request, ResetKind};
 use tbl_outside::{Back, Bank, Validator};
 use validation::Kit;
 
@@ -89,16 +89,22 @@ impl<B: Bank, C: Validator> Model for Core<B, C> {
 }
 
 impl<B: Bank, C: Validator> Core<B, C> {
-    /// The service at its start, with an empty history and these validation functions. It boots as after a reset of the
-    /// processor, since the bank may have blocks of an earlier session; the bank again where that fails or is stopped, or where
-    /// memory runs out.
+    /// The service at its start, with an empty history and these validation functions. Table files may come from these spacecraft
+    /// and processors, also after each reset. It boots as after a reset of the processor, since the bank may have blocks of an
+    /// earlier session; the bank again where that fails or is stopped, or where memory runs out.
     #[tactic(auto, unfolding(tbl_model::specs::Counts::counts_of))]
-    pub fn start(alloc: Global, bank: B, kit: Kit<C>) -> Result<Core<B, C>, Back<StartFault, B>>
+    pub fn start(
+        alloc: Global,
+        bank: B,
+        kit: Kit<C>,
+        admit: Admit,
+    ) -> Result<Core<B, C>, Back<StartFault, B>>
         requires room { bank_size ≤ B.size bank }
         requires asked { AskedBelow C.asked (2 ^ 62) kit }
         // The blocks are those that the bank shows.
-        ensures stands { IfOk result (StandsFor B.Bank (first_state (store_of (B.now bank)) (owners kit))) }
+        ensures stands { IfOk result (StandsFor B.Bank (first_state (store_of (B.now bank)) (owners kit) admit)) }
         ensures kit { IfOk result (λ core. core.state.kit ≡ kit) }
+        ensures admit { IfOk result (λ core. core.state.admit ≡ admit) }
         ensures empty { IfOk result (λ core. core.entries ≡ []) }
         ensures live { IfOk result (λ core. core.state.ended ≡ false) }
         ensures counts { IfOk result (λ core. Still B.faults B.stops bank core.state.store.bank) }
@@ -106,8 +112,9 @@ impl<B: Bank, C: Validator> Core<B, C> {
         ensures crash { IfOk result (λ core. B.tells_moments → LeavesOnly B.clock B.left_since bank core.state.store.bank (ShowsIn (store_of (B.now bank)))) }
         ensures crash_err { IfErr result (λ back. B.tells_moments → LeavesOnly B.clock B.left_since bank back.bank (ShowsIn (store_of (B.now bank)))) }
         ensures cause { IfErr result (λ back. StartCounted B.Bank bank back.bank back.cause) }
+        ensures room_err { IfErr result (λ back. bank_size ≤ B.size back.bank) }
     {
-        let mut parts = match Parts::make(alloc, bank, kit) {
+        let mut parts = match Parts::make(alloc, bank, kit, admit) {
             Ok(parts) => parts,
             Err(Back { bank, .. }) => {
                 return Err(Back {
@@ -125,9 +132,10 @@ impl<B: Bank, C: Validator> Core<B, C> {
         }
     }
 
-    /// The bank as it is.
+    /// The bank as it is, which has room for a further service.
     pub fn end(self) -> B
-        ensures { result ≡ self.state.store.bank }
+        ensures bank { result ≡ self.state.store.bank }
+        ensures room { bank_size ≤ B.size result }
     {
         self.parts.end()
     }

@@ -1,5 +1,6 @@
 -- What a boot leaves: at the start of a session what the bank shows, and of doubtful blocks those that it found.
 use Rattle.std.proofs.Common.{◌≡◌, ℕ, ◌+◌, suc, List, [], ◌∷◌, false, Option, Some, None, refl, ap}
+use Rattle.tbl_kinds.specs.Admitted.{Admitted}
 use Rattle.tbl_kinds.specs.Blocks.{Store}
 use Rattle.tbl_kinds.specs.StoreSteps.{settled, settled_from}
 use Rattle.tbl_model.specs.State.{first_state}
@@ -20,5 +21,5 @@ settled_all found slot (Some b ∷ store) open_all =
     cc (here, rest)
 
 -- a session begins with just the blocks that the bank shows
-pub starts : (shown : Store) (kit : List (Option ℕ)) → AllOpen shown → session_start shown kit ≡ first_state shown kit
-starts shown kit open_all = ap (λ (store : Store). first_state store kit) (settled_all [] 0 shown open_all)
+pub starts : (shown : Store) (kit : List (Option ℕ)) (admit : Admitted) → AllOpen shown → session_start shown kit admit ≡ first_state shown kit admit
+starts shown kit admit open_all = ap (λ (store : Store). first_state store kit admit) (settled_all [] 0 shown open_all)

@@ -14,7 +14,7 @@ use Rattle.tbl_kinds.specs.GroundCommands.{GroundCommand, housekeeping, noop, re
 use Rattle.tbl_kinds.specs.Free.{least_free}
 use Rattle.tbl_kinds.specs.Names.{is_name}
 use Rattle.tbl_kinds.specs.Numbers.{piece, patched}
-use Rattle.tbl_kinds.specs.TableFiles.{TableFile, FileFlaw, no_std_header, bad_content, bad_subtype, no_table_header, incomplete, too_big, file_flaw, file_status, table_file_in}
+use Rattle.tbl_kinds.specs.TableFiles.{TableFile, FileFlaw, no_std_header, bad_content, bad_subtype, bad_spacecraft, bad_processor, no_table_header, incomplete, too_big, file_flaw, file_status, file_detail, table_file_in}
 use Rattle.tbl_kinds.specs.Telemetry.{registry_record}
 use Rattle.tbl_model.specs.State.{State, Table, Handle, Tables}
 use Rattle.tbl_model.specs.Tables.{table_at, is_dump_only, is_critical, critical_count}
@@ -84,6 +84,8 @@ flaw_refuses : (flaw : FileFlaw) → is_refusal (file_status flaw) ≡ true
 flaw_refuses no_std_header = refl
 flaw_refuses bad_content = refl
 flaw_refuses bad_subtype = refl
+flaw_refuses (bad_spacecraft id) = refl
+flaw_refuses (bad_processor id) = refl
 flaw_refuses no_table_header = refl
 flaw_refuses incomplete = refl
 flaw_refuses too_big = refl
@@ -205,12 +207,12 @@ module _ (s : State) (P : Effect → Type 0) (refusal : (e : Effect) → e.next 
   pub by_file_of : (name : List ℕ) (effect : TableFile → Effect) → ((file : TableFile) → P (effect file)) → P (if_file s name effect)
   by_file_of name effect done = there (contents_of s.drawer name) where
     read : (contents : List ℕ) (flaw : Option FileFlaw) → P (by_flaw s contents flaw effect)
-    read contents (Some flaw) = no (file_status flaw) 0 (flaw_refuses flaw)
+    read contents (Some flaw) = no (file_status flaw) (file_detail flaw) (flaw_refuses flaw)
     read contents None = done (table_file_in contents)
 
     there : (contents : Option (List ℕ)) → P (by_contents s contents effect)
     there None = no ERR_FILE_NOT_FOUND 0 refl
-    there (Some contents) = read contents (file_flaw contents)
+    there (Some contents) = read contents (file_flaw s.admit contents)
 
   -- ---- addresses
 

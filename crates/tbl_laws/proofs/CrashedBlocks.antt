@@ -3,6 +3,7 @@ use Rattle.std.proofs.Common.{◌≡◌, ℕ, zero, suc, List, [], ◌∷◌, ta
 use Rattle.std.specs.Prelude.{slice_get, IsSome}
 use Rattle.std.proofs.lemmas.Bool.{and_parts}
 use Rattle.std.proofs.lemmas.Option.{same_Some}
+use Rattle.tbl_kinds.specs.Admitted.{Admitted}
 use Rattle.tbl_kinds.specs.Blocks.{Stored, Store}
 use Rattle.tbl_kinds.specs.StoreSteps.{is_of, is_open_of, open_of, stored_at, shown, MayShow, MayGive, Shows}
 use Rattle.tbl_kinds.specs.StoreCalls.{StoreCall, after, after_first}
@@ -133,13 +134,13 @@ open_found kind name store slot b single there is = by (open_of kind name store)
       is_of_open b is = (and_parts (is_of kind name b.block) (not b.doubtful) is).0
 
 -- a session begins with just these blocks
-pub starts_over : (store left : Store) (kit : List (Option ℕ)) → Shows store left → session_start left kit ≡ first_state left kit
-starts_over store left kit shows = starts left kit (left_open store left shows)
+pub starts_over : (store left : Store) (kit : List (Option ℕ)) (admit : Admitted) → Shows store left → session_start left kit admit ≡ first_state left kit admit
+starts_over store left kit admit shows = starts left kit admit (left_open store left shows)
 
 -- and what it does from there on is a history again
 pub next_history : (opening : State) (entries : List Entry) (place : ℕ) (left : Store) → AfterCrash opening entries place left → IsHistory opening entries
-    → (kit : List (Option ℕ)) (next : List Entry) → AreAnswered (begins_at (session_start left kit)) next → IsHistory (session_start left kit) next
-next_history opening entries place left crash history kit next answered =
+    → (kit : List (Option ℕ)) (admit : Admitted) (next : List Entry) → AreAnswered (begins_at (session_start left kit admit)) next → IsHistory (session_start left kit admit) next
+next_history opening entries place left crash history kit admit next answered =
     let shows = crash_shows opening entries place left crash in
     let single = left_single (blocks_at opening entries place left crash) left shows (crash_single opening entries place left crash history) in
-    record { tables = refl; single = subst (λ (s : State). AreSingle s.store) (sym (starts_over (blocks_at opening entries place left crash) left kit shows)) single; answered = answered }
+    record { tables = refl; single = subst (λ (s : State). AreSingle s.store) (sym (starts_over (blocks_at opening entries place left crash) left kit admit shows)) single; answered = answered }

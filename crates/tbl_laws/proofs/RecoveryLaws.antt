@@ -5,6 +5,7 @@ use Rattle.std.proofs.lemmas.Bool.{eq-eqb}
 use Rattle.std.proofs.lemmas.Bool.Decides.{nat_tests}
 use Rattle.std.proofs.lemmas.List.{get_or-set_same, set-get_or, length-set}
 use Rattle.std.proofs.lemmas.Option.{slice_get_read}
+use Rattle.tbl_kinds.specs.Admitted.{Admitted}
 use Rattle.tbl_kinds.specs.Blocks.{Stored, Store}
 use Rattle.tbl_kinds.specs.Free.{least_free}
 use Rattle.tbl_kinds.specs.Notes.{restored_image}
@@ -205,9 +206,9 @@ runs_at : (n : ℕ) (apps : List (Option (List ℕ))) (name : List ℕ) → n < 
 runs_at n apps name within = rw (slice_get_read (slice_set apps n (Some name)) (length apps) n (Some name) (sym (length-set apps n (Some name))) within (sym (get_or-set_same apps n (Some name) (Some name) within))) refl
 
 -- nothing is registered there, so nothing but what is asked for can stand against a registration
-pub registers_at_start : (left : Store) (kit : List (Option ℕ)) (app_name : List ℕ) (r : Registration) → 1 ≤ r.app → r.app ≤ 16 → plan_refusal kit r.app r.short r.size r.flags r.validator ≡ None → has_option 0x0008 r.flags ≡ true
-    → IsNoteOf (request_of r) (registering (started left kit r.app app_name) r).calls left r.note → r.note.outcome ≡ AllDone → Registers left (started left kit r.app app_name) (full_name app_name r.short) r
-registers_at_start left kit app_name r some most plan critical noted done = record {
+pub registers_at_start : (left : Store) (kit : List (Option ℕ)) (admit : Admitted) (app_name : List ℕ) (r : Registration) → 1 ≤ r.app → r.app ≤ 16 → plan_refusal kit r.app r.short r.size r.flags r.validator ≡ None → has_option 0x0008 r.flags ≡ true
+    → IsNoteOf (request_of r) (registering (started left kit admit r.app app_name) r).calls left r.note → r.note.outcome ≡ AllDone → Registers left (started left kit admit r.app app_name) (full_name app_name r.short) r
+registers_at_start left kit admit app_name r some most plan critical noted done = record {
   store = refl;
   app_name = app_name;
   runs = runs_at (r.app - 1) (replicate 16 None) app_name (omega (arith, some, most));

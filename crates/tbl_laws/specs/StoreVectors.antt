@@ -1,5 +1,6 @@
 -- What the definitions say of sessions with resets and blocks that are written out: each line is computed by the checker.
 use Rattle.std.specs.Prelude.{◌≡◌, ℕ, List, [], ◌∷◌, false, true, Some, None, refl, codes}
+use Rattle.tbl_kinds.specs.Admitted.{all_admitted}
 use Rattle.tbl_kinds.specs.Blocks.{empty_store}
 use Rattle.tbl_kinds.specs.Places.{place}
 use Rattle.tbl_kinds.specs.StoreSteps.{stored_at, new_block}
@@ -35,7 +36,7 @@ one_gave image = record one_done { restored = Some (record { list = image; spare
 
 -- application 1 runs as A
 abbrev pub running : State
-running = (start_effect (first_state empty_store []) 1 (codes "A")).next
+running = (start_effect (first_state empty_store [] all_admitted) 1 (codes "A")).next
 
 abbrev pub registered : Effect
 registered = cds_register_effect running 1 (codes "X") 2 one_done
@@ -117,7 +118,7 @@ pub a_processor_reset_keeps_blocks : (reset_effect with_table Processor untouche
 unfolding cds_register_effect cds_copy_effect register_effect place
 a_processor_reset_keeps_blocks = refl
 
-pub a_power_on_keeps_nothing : (reset_effect with_table PowerOn untouched).next ≡ first_state empty_store []
+pub a_power_on_keeps_nothing : (reset_effect with_table PowerOn untouched).next ≡ first_state empty_store [] all_admitted
 unfolding cds_register_effect cds_copy_effect register_effect place
 a_power_on_keeps_nothing = refl
 

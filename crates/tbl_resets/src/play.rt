@@ -9,7 +9,7 @@ use shipped_kit::{Shipped, shipped_entries};
 use std::alloc::{AllocError, AllocFailed, Global};
 use tbl_core::{Core, StartFault, StepFault};
 use tbl_fakes::{Break, MemBank};
-use tbl_kinds::{Actor, Bytes, Entry, Memory, Request, Status, fits};
+use tbl_kinds::{Actor, Admit, Bytes, Entry, Memory, Request, Status, fits};
 use tbl_outside::{Back, Failed};
 use validation::Kit;
 
@@ -122,7 +122,7 @@ fn start_over(alloc: Global, bank: MemBank, kit: Kit<Shipped>) -> Result<Started
     requires bank { bank_size ≤ length bank.bytes }
     requires kit { AskedBelow asked_of 1 kit }
 {
-    match Core::start(alloc, bank, kit) {
+    match Core::start(alloc, bank, kit, Admit::all()) {
         Ok(core) => Ok(Started::Runs(core)),
         Err(back) => stopped_in(alloc, &back),
     }

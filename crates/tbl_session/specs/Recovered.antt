@@ -1,5 +1,6 @@
 -- Recovery over two sessions: what the second, over an image that a reset in the first one left, has of the first one's tables.
 use Rattle.std.specs.Prelude.{◌≡◌, ◌≢◌, ◌⊎◌, ℕ, ◌≤◌, List, [], ◌∷◌, length, true, Option, Some, None, slice_get}
+use Rattle.tbl_kinds.specs.Admitted.{Admitted}
 use Rattle.tbl_kinds.specs.Blocks.{Stored, Store}
 use Rattle.tbl_kinds.specs.StoreSteps.{stored_at}
 use Rattle.tbl_model.specs.State.{State, Table}
@@ -101,8 +102,8 @@ pub record RecoversFrom (opening : State) (entries : List Entry) (image : List �
 -- Two sessions were played one after the other, the second over what a reset at some moment since the first began left of its bank.
 -- Whichever critical table the second one registers, by an application that runs there or as the first thing after the start of
 -- one, comes back from the first.
-pub record RecoversBoth {C : Type 0} (first : State) (entries : List Entry) (image : List ℕ) (kit : List (KitEntry C)) (next : List Entry) : Type 0 where
-  pub recovered : (place : ℕ) (e : Entry) (name : List ℕ) (r : Registration) → RegistersAt (store_of image) (state_from image kit) next place e name r
-      → RecoversFrom first entries image (run_at (state_from image kit) next place) e name r.size
+pub record RecoversBoth {C : Type 0} (first : State) (entries : List Entry) (image : List ℕ) (kit : List (KitEntry C)) (admit : Admitted) (next : List Entry) : Type 0 where
+  pub recovered : (place : ℕ) (e : Entry) (name : List ℕ) (r : Registration) → RegistersAt (store_of image) (state_from image kit admit) next place e name r
+      → RecoversFrom first entries image (run_at (state_from image kit admit) next place) e name r.size
   pub recovered_first : (start e : Entry) (app_name : List ℕ) (r : Registration) → RegistersFirst (owners (given_of kit)) next start e app_name r
-      → RecoversFrom first entries image (run_at (state_from image kit) next 1) e (full_name app_name r.short) r.size
+      → RecoversFrom first entries image (run_at (state_from image kit admit) next 1) e (full_name app_name r.short) r.size

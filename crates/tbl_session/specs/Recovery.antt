@@ -1,6 +1,7 @@
 -- Recovery: what the registration of a critical table has of the blocks that a reset left.
-use Rattle.std.specs.Prelude.{◌≡◌, ◌⊎◌, ℕ, ◌-◌, ◌<◌, List, [], take, replicate, Contains, true, Option, Some, None, IsSome, IfSome, slice_set}
+use Rattle.std.specs.Prelude.{◌≡◌, ◌⊎◌, ℕ, ◌-◌, ◌<◌, List, take, replicate, Contains, true, Option, Some, None, IsSome, IfSome, slice_set}
 use Rattle.std.proofs.Common.{inl, inr}
+use Rattle.tbl_kinds.specs.Admitted.{Admitted}
 use Rattle.tbl_kinds.specs.Blocks.{Stored, Store, empty_store}
 use Rattle.tbl_kinds.specs.StoreSteps.{stored_at, Shows}
 use Rattle.tbl_kinds.specs.StoreCalls.{StoreCall, broken}
@@ -129,5 +130,5 @@ ComesBack IsSuch left e name = ((image : List ℕ) × IsSuch image × Recovers l
 -- ---- a start
 
 -- the service as it starts over these blocks, once one application runs
-abbrev pub started : Store → List (Option ℕ) → ℕ → List ℕ → State
-started left kit app app_name = record (first_state left kit) { apps = slice_set (replicate 16 None) (app - 1) (Some app_name) }
+abbrev pub started : Store → List (Option ℕ) → Admitted → ℕ → List ℕ → State
+started left kit admit app app_name = record (first_state left kit admit) { apps = slice_set (replicate 16 None) (app - 1) (Some app_name) }

@@ -3,6 +3,7 @@ use Rattle.std.specs.Prelude.{◌≡◌, ◌⊎◌, ℕ, ◌<◌, ◌≤◌, Lis
 use Rattle.std.specs.List.{AllByRecursion}
 use Rattle.std.proofs.Common.{ℤ}
 use Rattle.std.specs.Io.KnownBytes.{append_known, prepend_known, IsAtEnd}
+use Rattle.tbl_kinds.specs.Admitted.{Admitted}
 use Rattle.tbl_model.specs.State.{State, first_state}
 use Rattle.validation.specs.Kits.{owners}
 use Rattle.tbl_kinds.specs.Records.{Pair, IsRecord, joined, record_limit, AreRecords}
@@ -27,12 +28,12 @@ use Rattle.tbl_kinds.specs.declared.entry.Entry.{Entry}
 abbrev pub given_of : {C : Type 0} → List (KitEntry C) → List (Option (KitEntry C))
 given_of entries = map (λ entry. Some entry) entries
 
--- the state that it begins with: the blocks are those that the bytes of the bank show
-abbrev pub state_from : {C : Type 0} → List ℕ → List (KitEntry C) → State
-state_from bytes entries = first_state (store_of bytes) (owners (given_of entries))
+-- the state that it begins with: the blocks are those that the bytes of the bank show, and the admitted identifiers are given
+abbrev pub state_from : {C : Type 0} → List ℕ → List (KitEntry C) → Admitted → State
+state_from bytes entries admit = first_state (store_of bytes) (owners (given_of entries)) admit
 
-abbrev pub opening_of : {B C : Type 0} → Ghosts B → B → List (KitEntry C) → Opening B C
-opening_of g bank entries = record { state = state_from (g.now bank) entries; bank = bank; given = given_of entries }
+abbrev pub opening_of : {B C : Type 0} → Ghosts B → B → List (KitEntry C) → Admitted → Opening B C
+opening_of g bank entries admit = record { state = state_from (g.now bank) entries admit; bank = bank; given = given_of entries }
 
 -- what the source had still to give and what the sink had taken, before and after, where they tell it; how often each failed; the
 -- status, and the bank that was given back

@@ -1,5 +1,5 @@
 -- What went wrong at the bank, as a history tells it.
-use Rattle.std.specs.Prelude.{◌≡◌, ℕ, List, [], ◌∷◌, ◌++◌, Bool, true}
+use Rattle.std.specs.Prelude.{◌≡◌, List, [], ◌∷◌, ◌++◌, Bool, true}
 use Rattle.std.specs.List.{AllByRecursion}
 use Rattle.tbl_model.specs.BankCounts.{HasCause, fault_count, stop_count}
 use Rattle.tbl_outside.specs.Counts.{RoseBy}

@@ -15,6 +15,6 @@ pub returns-in-Some-clause-does : goal.returns-in-Some-clause-does
 returns-in-Some-clause-does g c = three c.command.result _ _ _ _ c.command.ensures.effect c.command.ensures.within c.command.ensures.given (λ done is within given.
     let none = none_judged g.C.Validator in
     plainly g.C.Validator _ _ _ _ done
-    (λ s stands. let e = is s stands.tables stands.pending stands.drawer stands.seconds stands.sub in search rules)
-    (λ s stands. let e = is s stands.tables stands.pending stands.drawer stands.seconds stands.sub in search rules)
+    (λ s stands. let e = is s stands.tables stands.pending stands.drawer stands.admit stands.seconds stands.sub in search rules)
+    (λ s stands. let e = is s stands.tables stands.pending stands.drawer stands.admit stands.seconds stands.sub in search rules)
     refl (search rules) given)

@@ -21,7 +21,7 @@ pub returns-in-Ok-boot-clause-stands : goal.returns-in-Ok-boot-clause-stands
 returns-in-Ok-boot-clause-stands g c =
     let b = g.B.Bank in
     let bytes = b.now c.args.bank in
-    stands_first b c.args.kit (store_of bytes) _ (record {
+    stands_first b c.args.kit c.args.admit (store_of bytes) _ (record {
       entries = c.in-Ok.ensures.entries;
       counts = c.in-Ok.ensures.counts;
       tables = c.in-Ok.ensures.tables;
@@ -29,6 +29,7 @@ returns-in-Ok-boot-clause-stands g c =
       drawer = c.in-Ok.ensures.drawer;
       apps = c.in-Ok.ensures.apps;
       functions = c.in-Ok.ensures.kit;
+      lists = c.in-Ok.ensures.admit;
       seconds = c.in-Ok.ensures.seconds;
       sub = c.in-Ok.ensures.sub;
       live = c.in-Ok.ensures.ended;
@@ -40,7 +41,7 @@ pub returns-in-Err-boot-clause-cause : goal.returns-in-Err-boot-clause-cause
 returns-in-Err-boot-clause-cause g c =
     let b = g.B.Bank in
     subst (λ bank. StartCounted b bank c.end.result c.from.result) c.in-Ok.ensures.bank
-    (rw (c.end.ensures, c.from.ensures) (start_counted b c.in-Ok.parts.store.bank c.boot.new.self.bank c.boot.result c.in-Err-boot.fault c.in-Err-boot.is c.boot.ensures.counted))
+    (rw (c.end.ensures.bank, c.from.ensures) (start_counted b c.in-Ok.parts.store.bank c.boot.new.self.bank c.boot.result c.in-Err-boot.fault c.in-Err-boot.is c.boot.ensures.counted))
 
 pub returns-in-Ok-boot-clause-crash : goal.returns-in-Ok-boot-clause-crash
 returns-in-Ok-boot-clause-crash g c told =
@@ -50,7 +51,7 @@ returns-in-Ok-boot-clause-crash g c told =
 pub returns-in-Err-boot-clause-crash_err : goal.returns-in-Err-boot-clause-crash_err
 returns-in-Err-boot-clause-crash_err g c told =
     let b = g.B.Bank in
-    rw c.end.ensures
+    rw c.end.ensures.bank
     (start_leaves b c.in-Ok.parts.store c.boot.new.self c.args.bank c.in-Ok.ensures.bank c.boot.ensures.moments g.met.B.Bank.tells_both told)
 
 pub returns-in-Err-clause-crash_err : goal.returns-in-Err-clause-crash_err
