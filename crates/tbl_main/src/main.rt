@@ -1,4 +1,4 @@
-//! The program: it plays the session on standard input and writes its transcript to standard output.
+//! The program: it does what its words say, between standard input, standard output and the store file.
 #![tactic(auto)]
 
 mod words;
@@ -24,18 +24,24 @@ tbl play       reads session records from standard input and writes the transcri
                Critical Data Store are kept in the file cds.store of the working folder, which is made where it isn't there
 tbl crew       does the same with a thread for each actor: it reads all records, plays them, and then writes the transcript.
                Each actor's records are played in their order, and the order between actors differs from run to run
+tbl play admit S P, tbl crew admit S P
+               does the same, and loads table files from the spacecraft S and the processors P alone: each is any, or one or
+               two numbers with a comma between them
+tbl store      writes what the store in that file has, a line a block, to standard output
+tbl drill SEED ROUNDS
+               plays a session of 9 and ROUNDS records, which the SEED decides, over that file, and writes a line that sums it up
 tbl --help     writes this text to standard output
 tbl --version  writes the version to standard output
 
 It ends with one of these statuses:
-0  the work is done, and the input was read to its end
+0  the work is done, and of play and crew the input was read to its end
 1  memory ran out
 2  the words are none of the above, and nothing was read or written
 3  reading failed
 4  writing failed
 5  a record of the input is bad or cut short; the records before it were played
 6  the input goes on after 32,768 records, which were played
-7  the store file can't be opened or made longer, or failed in a boot; no record was played behind it
+7  the store file can't be opened or made longer, or failed in a boot; no record was played after it
 ";
 
 /// What `--version` answers.

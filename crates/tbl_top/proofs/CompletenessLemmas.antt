@@ -12,9 +12,6 @@ use Rattle.tbl_session.specs.Inputs.{IsWellFormed}
 use Rattle.tbl_session.specs.Openings.{Opening}
 use Rattle.tbl_session.specs.Session.{Ran, Session, IsStatus, PlaysThrough, IsComplete}
 use Rattle.tbl_kinds.specs.declared.entry.Entry.{Entry}
-use Rattle.tbl_top.specs.Words.{Completes}
-use Rattle.tbl_top.specs.declared.words.Word.{Word}
-use Rattle.tbl_top.specs.declared.words.Word.TheVariants.{Play, Crew}
 
 short_is_some : (rest : List ℕ) → IsShort rest → rest ≡ [] → ⊥
 unfolding is_short
@@ -76,8 +73,3 @@ module _ {B C : Type 0} (plays : ℕ → List Pair → List Entry → Type 0) (g
 
   pub complete : IsComplete g o.bank r
   complete = by_left r.left s.came
-
--- whichever word it was
-pub completes : {B : Type 0} (word : Word) (g : Ghosts B) (bank : B) (r : Ran B) → IsComplete g bank r → Completes word g bank r
-completes Play g bank r is = is
-completes Crew g bank r is = is

@@ -10,3 +10,7 @@ pub mod SessionLemmas
 pub mod CompletenessLemmas
 pub mod RecoveredLaws
 pub mod CrewLemmas
+pub mod SummaryLemmas
+pub mod ListingLemmas
+pub mod DrillLemmas
+pub mod WordsLemmas

@@ -1,7 +1,8 @@
 -- Recovery over two sessions: from the moments of the first one, and the history of the second.
-use Rattle.std.proofs.Common.{◌≡◌, ℕ, zero, suc, List, [], ◌∷◌, take, Bool, true, false, not, ◌||◌, Option, Some, None, refl, sym, ap, ◌∙◌, subst, inl, inr, ℤ, arith}
+use Rattle.std.proofs.Common.{◌≡◌, ℕ, zero, suc, List, [], ◌∷◌, take, Bool, true, false, not, ◌||◌, Option, Some, None, refl, sym, ap, ◌∙◌, subst, inl, inr, arith}
 use Rattle.std.specs.Prelude.{◌-◌, if◌then◌else◌, is_some, slice_get, slice_set}
 use Rattle.std.proofs.lemmas.Option.{same_Some}
+use Rattle.tbl_kinds.specs.Admitted.{Admitted}
 use Rattle.tbl_kinds.specs.Blocks.{Store}
 use Rattle.tbl_kinds.specs.Names.{is_name}
 use Rattle.tbl_kinds.specs.Requests.{Fits}
@@ -118,34 +119,34 @@ module _ (opening : State) (first : Entry) (app : ℕ) (app_name : List ℕ) (ac
       ∙ start_next opening (record opening { apps = slice_set opening.apps (app - 1) (Some app_name) }) (is_some (name_of opening app)) (not (is_name app_name) || has_dot app_name) (sym (ap (λ (x : Effect). x.status) same) ∙ sym is.status ∙ runs)
 
 -- so its registration is one that finds what the reset left
-registers_first : (left : Store) (kit : List (Option ℕ)) (entries : List Entry) → AreAnswered (begins_at (first_state left kit)) entries → (first e : Entry) (app_name : List ℕ) (r : Registration) → RegistersFirst kit entries first e app_name r
-    → RegistersAt left (first_state left kit) entries 1 e (full_name app_name r.short) r
-registers_first left kit entries are first e app_name r begun =
-    let opening = first_state left kit in
+registers_first : (left : Store) (kit : List (Option ℕ)) (admit : Admitted) (entries : List Entry) → AreAnswered (begins_at (first_state left kit admit)) entries → (first e : Entry) (app_name : List ℕ) (r : Registration) → RegistersFirst kit entries first e app_name r
+    → RegistersAt left (first_state left kit admit) entries 1 e (full_name app_name r.short) r
+registers_first left kit admit entries are first e app_name r begun =
+    let opening = first_state left kit admit in
     let at_first : slice_get entries 0 ≡ Some first = ap (λ (es : List Entry). slice_get es 0) begun.parts in
     let at : slice_get entries 1 ≡ Some e = ap (λ (es : List Entry). slice_get es 1) begun.parts in
     let first_is : IsAnswered (begins_at opening) first = answered_at (begins_at opening) entries 0 first are at_first in
     let is = answered_at (begins_at opening) entries 1 e are at in
-    let state : (run_at opening entries 1).state ≡ started left kit r.app app_name =
+    let state : (run_at opening entries 1).state ≡ started left kit admit r.app app_name =
     ap (λ (es : List Entry). (run_at opening es 1).state) begun.parts ∙ started_state opening first r.app app_name begun.actor begun.starts first_is begun.runs in
     let sent = subst (λ (actor : Actor). Fits actor first.request) begun.actor first_is.fits in
     record {
       at = at;
       asks = begun.asks;
       over = subst (λ (s : State). Registers left s (full_name app_name r.short) r) (sym state)
-          (registers_at_start left kit app_name r sent.0 sent.1 begun.taken begun.critical
+          (registers_at_start left kit admit app_name r sent.0 sent.1 begun.taken begun.critical
           (subst (λ (s : State). IsNoteOf (request_of r) (registering s r).calls s.store r.note) state (noted (run_at opening entries 1) e r begun.asks is)) begun.done);
     }
 
 -- ---- two sessions
 
 -- the second began with the blocks that a reset in the first one, or after it, left
-pub recovers_both : {C : Type 0} (opening : State) (entries : List Entry) (image : List ℕ) (kit : List (KitEntry C)) (next : List Entry) → IsHistory opening entries → AtSomePlace opening entries image
-    → AreAnswered (begins_at (state_from image kit)) next → RecoversBoth opening entries image kit next
-recovers_both opening entries image kit next history at answered = record {
+pub recovers_both : {C : Type 0} (opening : State) (entries : List Entry) (image : List ℕ) (kit : List (KitEntry C)) (admit : Admitted) (next : List Entry) → IsHistory opening entries → AtSomePlace opening entries image
+    → AreAnswered (begins_at (state_from image kit admit)) next → RecoversBoth opening entries image kit admit next
+recovers_both opening entries image kit admit next history at answered = record {
   recovered = by_place;
-  recovered_first = λ start e app_name r begun. by_place 1 e (full_name app_name r.short) r (registers_first (store_of image) (owners (given_of kit)) next answered start e app_name r begun);
+  recovered_first = λ start e app_name r begun. by_place 1 e (full_name app_name r.short) r (registers_first (store_of image) (owners (given_of kit)) admit next answered start e app_name r begun);
 } where
-  by_place : (place : ℕ) (e : Entry) (name : List ℕ) (r : Registration) → RegistersAt (store_of image) (state_from image kit) next place e name r
-      → RecoversFrom opening entries image (run_at (state_from image kit) next place) e name r.size
-  by_place place e name r registers = recovers_from opening entries image history at (state_from image kit) next answered place e name r registers
+  by_place : (place : ℕ) (e : Entry) (name : List ℕ) (r : Registration) → RegistersAt (store_of image) (state_from image kit admit) next place e name r
+      → RecoversFrom opening entries image (run_at (state_from image kit admit) next place) e name r.size
+  by_place place e name r registers = recovers_from opening entries image history at (state_from image kit admit) next answered place e name r registers

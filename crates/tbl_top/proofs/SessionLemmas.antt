@@ -1,10 +1,10 @@
 -- From the end of the reading to the session that was told.
-use Rattle.std.proofs.Common.{◌≡◌, ◌≢◌, ◌≤◌, ℕ, eqb, Bool, true, List, [], length, Option, refl, sym, ap, subst, ◌∙◌, arith, ◌⊎◌, inl, inr, ℤ}
+use Rattle.std.proofs.Common.{◌≡◌, ◌≢◌, ◌≤◌, ℕ, eqb, Bool, true, List, [], length, Option, refl, sym, ap, subst, ◌∙◌, arith, inl, inr, ℤ}
 use Rattle.std.proofs.lemmas.List.{length-map}
 use mathlib.Core.Logic.{dite}
 use native.Mathlib.Decide.{ℕ_discrete}
 use Rattle.std.specs.Io.KnownBytes.{prepend_known, IsAtEnd}
-use Rattle.tbl_model.specs.State.{State}
+use Rattle.tbl_kinds.specs.Admitted.{Admitted}
 use Rattle.tbl_kinds.specs.StoreSteps.{Shows}
 use Rattle.cds_layout.specs.Images.{store_of}
 use Rattle.cds_layout.proofs.SingleBlocks.{store-single}
@@ -27,7 +27,7 @@ use Rattle.tbl_outside.proofs.Streams.{append_known-nil}
 use Rattle.tbl_session.specs.Inputs.{StopsReading}
 use Rattle.tbl_session.specs.Openings.{Opening, IsFirst}
 use Rattle.tbl_session.specs.Served.{IsServed}
-use Rattle.tbl_session.specs.Session.{Ran, IsStatus, IsEnded, IsBooted, IsBrokenOff, BootsAs, HasCauses, WouldEnd, Tells, Ends, Boots, Session, state_from}
+use Rattle.tbl_session.specs.Session.{Ran, IsStatus, IsEnded, IsBooted, IsBrokenOff, WouldEnd, Tells, Ends, Boots, Session, state_from}
 use Rattle.tbl_session.specs.Trouble.{Rises}
 use Rattle.tbl_history.specs.Trouble.{IsCaused}
 use Rattle.tbl_history.proofs.CrashLemmas.{no_moments, no_exit}
@@ -172,8 +172,8 @@ has_read p read failed at_end session ends = record {
 }
 
 -- a session begins without a table, and with the blocks that the bank shows
-pub first_opening : {C : Type 0} (bytes : List ℕ) (kit : List (KitEntry C)) → IsFirst (state_from bytes kit)
-first_opening bytes kit = record { tables = refl; pending = refl; single = store-single bytes }
+pub first_opening : {C : Type 0} (bytes : List ℕ) (kit : List (KitEntry C)) (admit : Admitted) → IsFirst (state_from bytes kit admit)
+first_opening bytes kit admit = record { tables = refl; pending = refl; single = store-single bytes }
 
 -- at first nothing is written
 pub nothing_written : (taken : Option (List ℕ)) (entries : List Entry) → entries ≡ [] → IsWritten taken entries taken
@@ -196,15 +196,10 @@ no_reading = record {
 
 -- ---- where the service didn't begin
 
-module _ {B C : Type 0} (plays : ℕ → List Pair → List Entry → Type 0) (g : Ghosts B) (laws : Laws g) (verdict : C → List ℕ → ℤ) (o : Opening B C) (first : IsFirst o.state) (r : Ran B)
-    (same : r.left_then ≡ r.left) (crash : g.tells_moments → LeavesOnly g.clock g.left_since o.bank r.bank_then (λ image. Shows o.state.store (store_of image))) (asked : plays r.status [] []) where
-  abbrev Empty : ℕ → Type 0
-  Empty n = Ends r 0 [] n
-
-  abbrev First : ℕ → Type 0
-  First n = Boots g o.bank r [] [] n
-
-  served_nothing : Rises g o.bank r.bank_then [] → IsServed g verdict o r.bank_then []
+-- nothing was served, and the bank is as it was but for a boot that wasn't done
+module _ {B C : Type 0} (g : Ghosts B) (laws : Laws g) (verdict : C → List ℕ → ℤ) (o : Opening B C) (first : IsFirst o.state) (bank_then : B)
+    (crash : g.tells_moments → LeavesOnly g.clock g.left_since o.bank bank_then (λ image. Shows o.state.store (store_of image))) where
+  pub served_nothing : Rises g o.bank bank_then [] → IsServed g verdict o bank_then []
   served_nothing rises = record {
     state = o.state;
     legal = λ _. record { answered = tt; leads = refl };
@@ -213,12 +208,20 @@ module _ {B C : Type 0} (plays : ℕ → List Pair → List Entry → Type 0) (g
     verdicts = λ _. tt;
     kept = λ _. keeps verdict o.given o.state [] tt;
     backed = λ _. backed o.state [] o.state first.tables first.single (record { answered = tt; leads = refl });
-    moments = no_moments g laws o.state o.bank r.bank_then crash;
-    exit = no_exit g laws o.state o.bank r.bank_then crash;
+    moments = no_moments g laws o.state o.bank bank_then crash;
+    exit = no_exit g laws o.state o.bank bank_then crash;
     restored = λ told place e at. absurd (cc at);
     causes = tt;
     trouble = rises;
   }
+
+module _ {B C : Type 0} (plays : ℕ → List Pair → List Entry → Type 0) (g : Ghosts B) (laws : Laws g) (verdict : C → List ℕ → ℤ) (o : Opening B C) (first : IsFirst o.state) (r : Ran B)
+    (same : r.left_then ≡ r.left) (crash : g.tells_moments → LeavesOnly g.clock g.left_since o.bank r.bank_then (λ image. Shows o.state.store (store_of image))) (asked : plays r.status [] []) where
+  abbrev Empty : ℕ → Type 0
+  Empty n = Ends r 0 [] n
+
+  abbrev First : ℕ → Type 0
+  First n = Boots g o.bank r [] [] n
 
   nothing_came : r.left ≡ prepend_known [] r.left_then
   nothing_came = sym (ap (prepend_known []) same ∙ sym (prepend_nothing r.left))
@@ -238,7 +241,7 @@ module _ {B C : Type 0} (plays : ℕ → List Pair → List Entry → Type 0) (g
     records = λ ended. absurd (never ended);
     entries = [];
     asked = asked;
-    served = served_nothing rises;
+    served = served_nothing g laws verdict o first r.bank_then crash rises;
     known = known;
     ends = tells_none r.status 0 [] _ _ never;
     exact = exact_of r.status 0 [] _ _ known (tells_none r.status 0 [] (IsAtEnd r.left_then) (Rose r.unread r.unread_then) never);

@@ -46,3 +46,9 @@ abbrev pub Finishes : Standing → ℕ → ℕ → List Entry → Taken → Take
 Finishes SinkFailed status result entries before after = (result ≡ 4) × (after.0 ≡ before.0)
 Finishes Unwritten status result entries before after = (result ≡ 1) × (after.0 ≡ before.0)
 Finishes _ status result entries before after = WritesEnd status result entries before after
+
+-- the status of a session whose service didn't begin
+abbrev pub unbegun_status : StartFault → ℕ
+unbegun_status NoMemory = 1
+unbegun_status FirstFault = 7
+unbegun_status FirstStopped = 8

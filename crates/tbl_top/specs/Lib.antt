@@ -5,3 +5,5 @@ pub mod Feeding
 pub mod Finishing
 pub mod Reading
 pub mod Collecting
+pub mod Listing
+pub mod Drilling

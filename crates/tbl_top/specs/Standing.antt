@@ -33,6 +33,14 @@ IsOfInput Full = Unit {0}
 IsOfInput Memory = Unit {0}
 IsOfInput _ = ⊥
 
+-- playing a script alone leads to these
+abbrev pub IsOfScript : Standing → Type 0
+IsOfScript Open = Unit {0}
+IsOfScript BootFault = Unit {0}
+IsOfScript BootStopped = Unit {0}
+IsOfScript Memory = Unit {0}
+IsOfScript _ = ⊥
+
 -- all records of what was fed were played
 abbrev pub HasPlayedAll : Standing → Type 0
 HasPlayedAll Open = Unit {0}

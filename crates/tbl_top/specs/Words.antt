@@ -1,28 +1,57 @@
--- What the words of the program ask for, and what it then does.
-use Rattle.std.specs.Prelude.{ℕ, List, [], ◌∷◌, Option, Some, None, if◌then◌else◌, bytes_eq, codes}
+-- What the program is asked for, how it is spelled on the command line, and what it then does.
+use Rattle.std.specs.Prelude.{◌≡◌, ℕ, ◌<◌, ◌≤◌, ◌^◌, List, [], ◌∷◌, map, codes}
+use Rattle.std.specs.Fmt.{decimal}
 use Rattle.std.proofs.Common.{ℤ}
+use Rattle.tbl_kinds.specs.Admitted.{Admitted, all_admitted}
 use Rattle.tbl_kinds.specs.Buffers.{Buffer}
-use Rattle.tbl_kinds.specs.Records.{Pair}
+use Rattle.admit_lists.specs.Lists.{SpellsAdmit}
 use Rattle.tbl_outside.specs.declared.bank.Bank.{Ghosts}
 use Rattle.tbl_session.specs.Openings.{Opening}
 use Rattle.tbl_session.specs.Orders.{InOrder, ByActor}
 use Rattle.tbl_session.specs.Session.{Ran, Session, IsComplete}
-use Rattle.tbl_kinds.specs.declared.entry.Entry.{Entry}
+use Rattle.tbl_top.specs.Drilling.{Drills, DrillsThrough}
+use Rattle.tbl_top.specs.Listing.{ListsStore, ListsThrough}
 use Rattle.tbl_top.specs.declared.words.Word.{Word}
-use Rattle.tbl_top.specs.declared.words.Word.TheVariants.{Play, Crew}
+use Rattle.tbl_top.specs.declared.words.Word.TheVariants.{Play, Crew, Store, Drill}
 
--- what one word asks for, where it stands alone
-abbrev pub word_of : List Buffer → Option Word
-word_of [] = None
-word_of (word ∷ []) = if bytes_eq word.list (codes "play") then Some Play else if bytes_eq word.list (codes "crew") then Some Crew else None
-word_of (word ∷ other ∷ words) = None
+-- so that the session has at most as many records as one may have
+abbrev pub most_rounds : ℕ
+most_rounds = 32759
 
--- what it does: `play` plays the records in order, as they come in; `crew` with a thread for each actor, once all of them were read
+-- a session is played by one word, and then files of all spacecraft and processors are admitted; or by that word with `admit` and the
+-- lists of those that are
+abbrev pub SpellsSession : List ℕ → List (List ℕ) → Admitted → Type 0
+SpellsSession name (word ∷ []) admit = (word ≡ name) × (admit ≡ all_admitted)
+SpellsSession name (word ∷ more ∷ spacecraft ∷ processors ∷ []) admit = (word ≡ name) × (more ≡ codes "admit") × SpellsAdmit spacecraft processors admit
+SpellsSession name words admit = ⊥
+
+-- these words spell it, under these lists
+abbrev pub Spells : List (List ℕ) → Word → Admitted → Type 0
+Spells words Play admit = SpellsSession (codes "play") words admit
+Spells words Crew admit = SpellsSession (codes "crew") words admit
+Spells words Store admit = (words ≡ codes "store" ∷ []) × (admit ≡ all_admitted)
+Spells words (Drill seed rounds) admit = (words ≡ codes "drill" ∷ decimal seed ∷ decimal rounds ∷ []) × (seed < 2 ^ 64) × (rounds ≤ most_rounds) × (admit ≡ all_admitted)
+
+abbrev pub Asks : List Buffer → Word → Admitted → Type 0
+Asks words word admit = Spells (map (λ (text : Buffer). text.list) words) word admit
+
+-- What it does. `play` plays the records in order, as they come in; `crew` with a thread for each actor, once all of them were read;
+-- `store` writes the store as text; `drill` plays the session of a seed, and writes a line that sums it up
 abbrev pub Outcome : {B C : Type 0} → Word → Ghosts B → (C → List ℕ → ℤ) → Opening B C → Ran B → Type 0
 Outcome Play g verdict o r = Session InOrder g verdict o r
 Outcome Crew g verdict o r = Session ByActor g verdict o r
+Outcome Store g verdict o r = ListsStore g o.bank r.bank_then r.status (r.taken, r.unwritten) (r.taken_then, r.unwritten_then)
+Outcome (Drill seed rounds) g verdict o r = Drills seed rounds g verdict o r
 
 -- and what is never given up early
 abbrev pub Completes : {B : Type 0} → Word → Ghosts B → B → Ran B → Type 0
 Completes Play g bank r = IsComplete g bank r
 Completes Crew g bank r = IsComplete g bank r
+Completes Store g bank r = ListsThrough g bank r.bank_then r.status r.unwritten r.unwritten_then
+Completes (Drill seed rounds) g bank r = DrillsThrough g bank r
+
+-- the source isn't read
+abbrev pub ReadsNothing : Word → Type 0
+ReadsNothing Store = Unit {0}
+ReadsNothing (Drill seed rounds) = Unit {0}
+ReadsNothing _ = ⊥

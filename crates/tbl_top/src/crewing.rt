@@ -24,6 +24,7 @@ use std::alloc::Global;
 use std::sync::Wait;
 use std::thread::Threads;
 use tbl_core::{Core, StartFault, StepFault};
+use tbl_kinds::Admit;
 use tbl_outside::{Back, Bank, Gate, KitEntry, Sink, Source, Validator};
 
 /// How a session stands behind what its crew played.
@@ -98,22 +99,24 @@ fn begin_crew<B: Bank, C: Validator>(
     alloc: Global,
     bank: B,
     kit: Vec<KitEntry<C>>,
+    admit: Admit,
 ) -> Result<(Playback<B, C>, Collector), Back<StartFault, B>>
     requires room { bank_size ≤ B.size bank }
     requires asked { All (λ (e : Entry C). C.asked e.check < 2 ^ 62) kit.items }
     ensures empty { IfOk result (λ begun. begun.0.entries ≡ []) }
     ensures live { IfOk result (λ begun. begun.0.state.ended ≡ false) }
-    ensures serves { IfOk result (λ begun. Serves B.Bank C.verdict (opening_of B.Bank bank kit.items) begun.0) }
+    ensures serves { IfOk result (λ begun. Serves B.Bank C.verdict (opening_of B.Bank bank kit.items admit) begun.0) }
     ensures fresh { IfOk result (λ begun. HasTaken Open [] 0 [] begun.1) }
     ensures crash_err { IfErr result (λ back. B.tells_moments → LeavesOnly B.clock B.left_since bank back.bank (λ image. Shows (store_of (B.now bank)) (store_of image))) }
     ensures cause { IfErr result (λ back. StartCounted B.Bank bank back.bank back.cause) }
+    ensures room_err { IfErr result (λ back. bank_size ≤ B.size back.bank) }
 {
     match Collector::make(alloc) {
         Err(_) => Err(Back {
             cause: StartFault::Memory,
             bank,
         }),
-        Ok(collector) => Ok((begin(alloc, bank, kit)?.playback(), collector)),
+        Ok(collector) => Ok((begin(alloc, bank, kit, admit)?.playback(), collector)),
     }
 }
 
@@ -132,14 +135,16 @@ pub(crate) fn run_crew<
     sink: &mut K,
     bank: B,
     kit: Vec<KitEntry<C>>,
+    admit: Admit,
     gate: &G,
 ) -> (u8, B)
     requires room { bank_size ≤ B.size bank }
     requires asked { All (λ (e : Entry C). C.asked e.check < 2 ^ 62) kit.items }
     ensures not_usage { result.0 ≢ 2 }
-    ensures session { Session ByActor B.Bank C.verdict (opening_of B.Bank bank kit.items) (ran S.Source K.Sink (source.old, sink.old) (source.new, sink.new) result) }
+    ensures session { Session ByActor B.Bank C.verdict (opening_of B.Bank bank kit.items admit) (ran S.Source K.Sink (source.old, sink.old) (source.new, sink.new) result) }
+    ensures room { bank_size ≤ B.size result.1 }
 {
-    match begin_crew(alloc, bank, kit) {
+    match begin_crew(alloc, bank, kit, admit) {
         Err(Back { cause, bank }) => (finish_unbegun(alloc, cause, sink), bank),
         Ok((playback, collector)) => {
             let (status, core) = play_crew(rt, playback, collector, source, sink, gate);

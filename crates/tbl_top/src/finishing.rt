@@ -1,7 +1,7 @@
 //! Ends the transcript.
 
 ghost use Rattle.std.specs.Prelude.{◌≡◌, ◌≤◌, length};
-ghost use Rattle.tbl_top.specs.Finishing.{Finishes, FinishesUnbegun, WritesEndAlone, status_of};
+ghost use Rattle.tbl_top.specs.Finishing.{Finishes, FinishesUnbegun, WritesEndAlone, status_of, unbegun_status};
 
 use crate::playback::{END_LENGTH, Playback, Standing};
 use std::alloc::Global;
@@ -11,7 +11,7 @@ use tbl_outside::{Bank, Failed, Sink, Validator};
 use transcript::write_end;
 
 /// The input was read to its end, and all of it was played.
-const DONE: u8 = 0;
+pub(crate) const DONE: u8 = 0;
 
 /// Memory ran out.
 pub(crate) const NO_MEMORY: u8 = 1;
@@ -20,7 +20,7 @@ pub(crate) const NO_MEMORY: u8 = 1;
 const SOURCE_FAILED: u8 = 3;
 
 /// A write failed.
-const SINK_FAILED: u8 = 4;
+pub(crate) const SINK_FAILED: u8 = 4;
 
 /// A bad record, or the beginning of one at the end of the input.
 const BAD_RECORD: u8 = 5;
@@ -29,13 +29,13 @@ const BAD_RECORD: u8 = 5;
 const TOO_MANY_RECORDS: u8 = 6;
 
 /// The bank failed in a boot.
-const BANK_FAILED: u8 = 7;
+pub(crate) const BANK_FAILED: u8 = 7;
 
 /// The processor was reset in a boot.
 const BANK_STOPPED: u8 = 8;
 
 /// The status of an end, by whether a read failed and whether no byte is left behind the records that were played.
-fn end_status(standing: Standing, read_failed: bool, is_whole: bool) -> u8
+pub(crate) fn end_status(standing: Standing, read_failed: bool, is_whole: bool) -> u8
     ensures { result ≡ status_of standing read_failed is_whole }
 {
     match standing {
@@ -96,6 +96,17 @@ fn tell_empty_end<K: Sink>(alloc: Global, status: u8, sink: &mut K) -> u8
     match sink.write(end.bytes()) {
         Ok(()) => status,
         Err(Failed) => SINK_FAILED,
+    }
+}
+
+/// The status of a session whose service didn't begin.
+pub(crate) fn unbegun_status(fault: StartFault) -> u8
+    ensures { result ≡ unbegun_status fault }
+{
+    match fault {
+        StartFault::Memory => NO_MEMORY,
+        StartFault::BootFault => BANK_FAILED,
+        StartFault::BootStopped => BANK_STOPPED,
     }
 }
 

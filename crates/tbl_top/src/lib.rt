@@ -3,13 +3,17 @@
 
 mod collecting;
 mod crewing;
+mod drilling;
 mod finishing;
+mod listing;
 mod playback;
 mod player;
 mod playing;
 mod reading;
 mod running;
 mod session;
+mod stepping;
+mod summary;
 mod twice;
 mod words;
 mod writing;
@@ -17,5 +21,5 @@ mod writing;
 pub use player::{Fed, Player};
 pub use running::run;
 pub use session::run_in_order;
-pub use twice::{Reset, run_again};
+pub use twice::{BetweenCalls, Reset, run_again};
 pub use words::Word;

@@ -9,8 +9,9 @@ ghost use Rattle.tbl_top.specs.Standing.{IsEnding, TellsWritten, TellsService, T
 ghost use Rattle.tbl_kinds.specs.declared.entry.Entry.{Entry};
 
 use crate::playback::Standing;
+use crate::stepping::step;
 use crate::writing::write;
-use tbl_core::{Core, StepFault};
+use tbl_core::Core;
 use tbl_kinds::{Actor, Bytes, Memory, Request};
 use tbl_outside::{Bank, Sink, Validator};
 
@@ -60,12 +61,6 @@ pub(crate) fn play<B: Bank, C: Validator, K: Sink>(
     ensures err_core { OnErr result (core.new ≡ core.old) }
     ensures err_sink { OnErr result (sink.new ≡ sink.old) }
 {
-    match core.step(actor, request) {
-        Err(StepFault::Memory) => Err(Memory),
-        Err(StepFault::BootFault) => Ok(write_last(core, out, Some(Standing::BootFault), sink)),
-        Err(StepFault::BootStopped) => {
-            Ok(write_last(core, out, Some(Standing::BootStopped), sink))
-        }
-        Ok(()) => Ok(write_last(core, out, None, sink)),
-    }
+    let ending = step(core, actor, request)?;
+    Ok(write_last(core, out, ending, sink))
 }

@@ -1,15 +1,16 @@
 //! A session as its words say.
 
-ghost use Rattle.std.specs.Prelude.{◌≡◌, ◌↔◌, ◌≤◌, ◌<◌, ◌^◌, Some, None, All};
+ghost use Rattle.std.specs.Prelude.{◌≡◌, ◌↔◌, ◌≤◌, ◌<◌, ◌^◌, All};
+ghost use Rattle.tbl_kinds.specs.Admitted.{Admitted};
 ghost use Rattle.tbl_kinds.specs.Places.{bank_size};
 ghost use Rattle.tbl_outside.specs.declared.validator.KitEntry.{KitEntry as Entry};
 ghost use Rattle.tbl_session.specs.Session.{opening_of, ran};
-ghost use Rattle.tbl_top.specs.Words.{word_of, Outcome, Completes};
+ghost use Rattle.tbl_top.specs.Words.{Asks, Outcome, Completes, ReadsNothing};
 ghost use Rattle.tbl_top.specs.declared.words.Word.{Word as Asked};
 
 use crate::crewing::run_crew;
-use crate::session::{USAGE, run_in_order};
-use crate::words::{Word, word_of};
+use crate::session::run_in_order;
+use crate::words::{crew_lists, word_of};
 use std::alloc::Global;
 use std::sync::Wait;
 use std::thread::Threads;
@@ -18,7 +19,7 @@ use tbl_outside::{Bank, Gate, KitEntry, Sink, Source, Validator};
 
 /// Does what the words ask for. `play` and `crew` boot over the bank as after a reset of the processor, read session records from
 /// the source, play them, and write the transcript to the sink: with `play` in order, as they come in, with `crew` with a thread
-/// for each actor, once all of them were read. The applications have the validation functions of the kit, which are numbered from
+/// for each actor, once all of them were read. Table files may come from the spacecraft and processors that the words admit. `store` reads the bank alone, and writes the text of its store. The applications have the validation functions of the kit, which are numbered from
 /// 0; these may be boxes or of any one type. The gate is told of each turn of a thread. The status, which docs/FORMATS.md lists,
 /// and the bank come back.
 pub fn run<
@@ -41,20 +42,25 @@ pub fn run<
     requires room { bank_size ≤ B.size bank }
     requires asked { All (λ (e : Entry C). C.asked e.check < 2 ^ 62) kit.items }
     // 2 exactly where the words are none that it knows; then nothing is read or written.
-    ensures usage { (result.0 ≡ 2) ↔ (word_of words.now ≡ None) }
-    ensures untouched { word_of words.now ≡ None → (source.new ≡ source.old) × (sink.new ≡ sink.old) × (result.1 ≡ bank) }
+    ensures usage { (result.0 ≡ 2) ↔ ((word : Asked) (admit : Admitted) → ¬ Asks words.now word admit) }
+    ensures untouched { ((word : Asked) (admit : Admitted) → ¬ Asks words.now word admit) → (source.new ≡ source.old) × (sink.new ≡ sink.old) × (result.1 ≡ bank) }
+
+    // Where the word needs no records, the source isn't read.
+    ensures unread { (word : Asked) (admit : Admitted) → Asks words.now word admit → ReadsNothing word → source.new ≡ source.old }
 
     // What each word does, from the history that is served to the status and the bytes that the sink took.
-    ensures outcome { (word : Asked) → word_of words.now ≡ Some word
-        → Outcome word B.Bank C.verdict (opening_of B.Bank bank kit.items) (ran S.Source K.Sink (source.old, sink.old) (source.new, sink.new) result) }
+    ensures outcome { (word : Asked) (admit : Admitted) → Asks words.now word admit
+        → Outcome word B.Bank C.verdict (opening_of B.Bank bank kit.items admit) (ran S.Source K.Sink (source.old, sink.old) (source.new, sink.new) result) }
 
-    // Nothing is given up early: a session's records and nothing else are played to their end, unless something outside failed, a boot
-    // was stopped, or memory ran out.
-    ensures complete { (word : Asked) → word_of words.now ≡ Some word → Completes word B.Bank bank (ran S.Source K.Sink (source.old, sink.old) (source.new, sink.new) result) }
+    // Nothing is given up early: a session's records and nothing else are played to their end, and a store is written whole, unless
+    // something outside failed, a boot was stopped, or memory ran out.
+    ensures complete { (word : Asked) (admit : Admitted) → Asks words.now word admit → Completes word B.Bank bank (ran S.Source K.Sink (source.old, sink.old) (source.new, sink.new) result) }
+
+    // The bank that comes back has room for a further call.
+    ensures room { bank_size ≤ B.size result.1 }
 {
-    match word_of(words) {
-        None => (USAGE, bank),
-        Some(Word::Play) => run_in_order(alloc, words, source, sink, bank, kit),
-        Some(Word::Crew) => run_crew(rt, alloc, source, sink, bank, kit, gate),
+    match crew_lists(word_of(words)) {
+        Some(admit) => run_crew(rt, alloc, source, sink, bank, kit, admit, gate),
+        None => run_in_order(alloc, words, source, sink, bank, kit),
     }
 }

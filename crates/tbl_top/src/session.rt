@@ -1,39 +1,72 @@
 //! A session from its first byte to the end of its transcript.
 
-ghost use Rattle.std.specs.Prelude.{◌≡◌, ◌≢◌, ◌↔◌, ◌≤◌, ◌<◌, ◌^◌, List, [], Some, false, All, IfOk, IfErr};
+ghost use Rattle.std.specs.Prelude.{◌≡◌, ◌≢◌, ◌↔◌, ◌≤◌, ◌<◌, ◌^◌, List, [], false, All, IfOk, IfErr};
+ghost use Rattle.tbl_kinds.specs.Admitted.{Admitted};
 ghost use Rattle.tbl_kinds.specs.Places.{bank_size};
 ghost use Rattle.tbl_kinds.specs.StoreSteps.{Shows};
 ghost use Rattle.cds_layout.specs.Images.{store_of};
 ghost use Rattle.tbl_core.specs.Service.{StartCounted};
 ghost use Rattle.tbl_outside.specs.Bank.{LeavesOnly};
+ghost use Rattle.tbl_outside.specs.Counts.{Still};
 ghost use Rattle.tbl_outside.specs.declared.validator.KitEntry.{KitEntry as Entry};
 ghost use Rattle.tbl_session.specs.Openings.{Opening};
 ghost use Rattle.tbl_session.specs.Orders.{InOrder};
-ghost use Rattle.tbl_session.specs.Session.{Session, IsComplete, opening_of, ran};
+ghost use Rattle.tbl_session.specs.Session.{Session, opening_of, ran};
 ghost use Rattle.tbl_history.specs.Serving.{Serves};
 ghost use Rattle.tbl_top.specs.Playing.{bytes_fed, IsSession};
-ghost use Rattle.tbl_top.specs.Words.{word_of};
+ghost use Rattle.tbl_top.specs.Words.{Asks, Outcome, Completes, ReadsNothing};
 ghost use Rattle.tbl_top.specs.declared.playback.Standing.TheVariants.{Open};
-ghost use Rattle.tbl_top.specs.declared.words.Word.TheVariants.{Play};
+ghost use Rattle.tbl_top.specs.declared.words.Word.{Word as Asked};
+ghost use Rattle.tbl_top.specs.declared.words.Word.TheVariants.{Crew};
 
+use crate::drilling::run_drill;
 use crate::finishing::finish_unbegun;
+use crate::listing::list_store;
 use crate::player::Player;
 use crate::reading::read_all;
 use crate::words::{Word, word_of};
 use std::alloc::Global;
 use tbl_core::{Core, StartFault};
-use tbl_kinds::Bytes;
+use tbl_kinds::{Admit, Bytes};
 use tbl_outside::{Back, Bank, KitEntry, Sink, Source, Validator};
 use validation::Kit;
 
 /// The words aren't those that the program knows.
 pub(crate) const USAGE: u8 = 2;
 
+/// A service at its start, with these validation functions, under these lists; or the bank again.
+pub(crate) fn start<B: Bank, C: Validator>(
+    alloc: Global,
+    bank: B,
+    kit: Vec<KitEntry<C>>,
+    admit: Admit,
+) -> Result<Core<B, C>, Back<StartFault, B>>
+    requires room { bank_size ≤ B.size bank }
+    requires asked { All (λ (e : Entry C). C.asked e.check < 2 ^ 62) kit.items }
+    ensures empty { IfOk result (λ core. core.entries ≡ []) }
+    ensures live { IfOk result (λ core. core.state.ended ≡ false) }
+    ensures serves { IfOk result (λ core. Serves B.Bank C.verdict (opening_of B.Bank bank kit.items admit) core) }
+    ensures counts { IfOk result (λ core. Still B.faults B.stops bank core.state.store.bank) }
+    ensures crash { IfOk result (λ core. B.tells_moments → LeavesOnly B.clock B.left_since bank core.state.store.bank (λ image. Shows (store_of (B.now bank)) (store_of image))) }
+    ensures crash_err { IfErr result (λ back. B.tells_moments → LeavesOnly B.clock B.left_since bank back.bank (λ image. Shows (store_of (B.now bank)) (store_of image))) }
+    ensures cause { IfErr result (λ back. StartCounted B.Bank bank back.bank back.cause) }
+    ensures room_err { IfErr result (λ back. bank_size ≤ B.size back.bank) }
+{
+    let Ok(kit) = Kit::make(alloc, kit) else {
+        return Err(Back {
+            cause: StartFault::Memory,
+            bank,
+        });
+    };
+    Ok(Core::start(alloc, bank, kit, admit)?)
+}
+
 /// A session in which nothing was read yet, over a service at its start; or the bank again.
 pub(crate) fn begin<B: Bank, C: Validator>(
     alloc: Global,
     bank: B,
     kit: Vec<KitEntry<C>>,
+    admit: Admit,
 ) -> Result<Player<B, C>, Back<StartFault, B>>
     requires room { bank_size ≤ B.size bank }
     requires asked { All (λ (e : Entry C). C.asked e.check < 2 ^ 62) kit.items }
@@ -42,17 +75,12 @@ pub(crate) fn begin<B: Bank, C: Validator>(
     ensures empty { IfOk result (λ player. player.core.entries ≡ []) }
     ensures session { IfOk result (λ player. IsSession player.core) }
     ensures live { IfOk result (λ player. player.core.state.ended ≡ false) }
-    ensures serves { IfOk result (λ player. Serves B.Bank C.verdict (opening_of B.Bank bank kit.items) player.core) }
+    ensures serves { IfOk result (λ player. Serves B.Bank C.verdict (opening_of B.Bank bank kit.items admit) player.core) }
     ensures crash_err { IfErr result (λ back. B.tells_moments → LeavesOnly B.clock B.left_since bank back.bank (λ image. Shows (store_of (B.now bank)) (store_of image))) }
     ensures cause { IfErr result (λ back. StartCounted B.Bank bank back.bank back.cause) }
+    ensures room_err { IfErr result (λ back. bank_size ≤ B.size back.bank) }
 {
-    let Ok(kit) = Kit::make(alloc, kit) else {
-        return Err(Back {
-            cause: StartFault::Memory,
-            bank,
-        });
-    };
-    match Player::make(alloc, Core::start(alloc, bank, kit)?) {
+    match Player::make(alloc, start(alloc, bank, kit, admit)?) {
         Ok(player) => Ok(player),
         Err(core) => Err(Back {
             cause: StartFault::Memory,
@@ -87,13 +115,15 @@ pub(crate) fn play_in_order<S: Source, K: Sink, B: Bank, C: Validator>(
     sink: &mut K,
     bank: B,
     kit: Vec<KitEntry<C>>,
+    admit: Admit,
 ) -> (u8, B)
     requires room { bank_size ≤ B.size bank }
     requires asked { All (λ (e : Entry C). C.asked e.check < 2 ^ 62) kit.items }
     ensures not_usage { result.0 ≢ 2 }
-    ensures session { Session InOrder B.Bank C.verdict (opening_of B.Bank bank kit.items) (ran S.Source K.Sink (source.old, sink.old) (source.new, sink.new) result) }
+    ensures session { Session InOrder B.Bank C.verdict (opening_of B.Bank bank kit.items admit) (ran S.Source K.Sink (source.old, sink.old) (source.new, sink.new) result) }
+    ensures room { bank_size ≤ B.size result.1 }
 {
-    match begin(alloc, bank, kit) {
+    match begin(alloc, bank, kit, admit) {
         Err(Back { cause, bank }) => (finish_unbegun(alloc, cause, sink), bank),
         Ok(mut player) => {
             let status = play(&mut player, source, sink);
@@ -102,8 +132,7 @@ pub(crate) fn play_in_order<S: Source, K: Sink, B: Bank, C: Validator>(
     }
 }
 
-/// Plays a session in order, which is what `run` does with the word `play`; another word is usage to it. It takes no handle for
-/// waiting.
+/// Does what `run` does with each word but `crew`, which is usage to it. It takes no handle for waiting.
 pub fn run_in_order<S: Source, K: Sink, B: Bank, C: Validator>(
     alloc: Global,
     words: &[Bytes],
@@ -114,14 +143,26 @@ pub fn run_in_order<S: Source, K: Sink, B: Bank, C: Validator>(
 ) -> (u8, B)
     requires room { bank_size ≤ B.size bank }
     requires asked { All (λ (e : Entry C). C.asked e.check < 2 ^ 62) kit.items }
-    ensures usage { (result.0 ≡ 2) ↔ (word_of words.now ≢ Some Play) }
-    ensures untouched { word_of words.now ≢ Some Play → (source.new ≡ source.old) × (sink.new ≡ sink.old) × (result.1 ≡ bank) }
-    ensures session { word_of words.now ≡ Some Play
-        → Session InOrder B.Bank C.verdict (opening_of B.Bank bank kit.items) (ran S.Source K.Sink (source.old, sink.old) (source.new, sink.new) result) }
-    ensures complete { word_of words.now ≡ Some Play → IsComplete B.Bank bank (ran S.Source K.Sink (source.old, sink.old) (source.new, sink.new) result) }
+    ensures usage { (result.0 ≡ 2) ↔ ((word : Asked) (admit : Admitted) → Asks words.now word admit → word ≡ Crew) }
+    ensures untouched { ((word : Asked) (admit : Admitted) → Asks words.now word admit → word ≡ Crew) → (source.new ≡ source.old) × (sink.new ≡ sink.old) × (result.1 ≡ bank) }
+    ensures unread { (word : Asked) (admit : Admitted) → Asks words.now word admit → ReadsNothing word → source.new ≡ source.old }
+    ensures outcome { (word : Asked) (admit : Admitted) → Asks words.now word admit → word ≢ Crew
+        → Outcome word B.Bank C.verdict (opening_of B.Bank bank kit.items admit) (ran S.Source K.Sink (source.old, sink.old) (source.new, sink.new) result) }
+    ensures complete { (word : Asked) (admit : Admitted) → Asks words.now word admit → word ≢ Crew
+        → Completes word B.Bank bank (ran S.Source K.Sink (source.old, sink.old) (source.new, sink.new) result) }
+    ensures room { bank_size ≤ B.size result.1 }
 {
-    match word_of(words) {
-        Some(Word::Play) => play_in_order(alloc, source, sink, bank, kit),
-        Some(Word::Crew) | None => (USAGE, bank),
+    let Some((word, admit)) = word_of(words) else {
+        return (USAGE, bank);
+    };
+    match word {
+        Word::Play => play_in_order(alloc, source, sink, bank, kit, admit),
+        Word::Store => {
+            let mut bank = bank;
+            let status = list_store(alloc, &mut bank, sink);
+            (status, bank)
+        }
+        Word::Drill { seed, rounds } => run_drill(alloc, seed, rounds, sink, bank, kit, admit),
+        Word::Crew => (USAGE, bank),
     }
 }

@@ -1,9 +1,17 @@
 //! The words of the command line.
 
-ghost use Rattle.std.specs.Prelude.{◌≡◌};
-ghost use Rattle.tbl_top.specs.Words.{word_of};
+ghost use Rattle.std.specs.Prelude.{◌≡◌, ◌↔◌, Some, ◌∷◌, []};
+ghost use Rattle.tbl_kinds.specs.Admitted.{Admitted, all_admitted};
+ghost use Rattle.tbl_top.specs.Words.{Asks, Spells};
+ghost use Rattle.tbl_top.specs.declared.words.Word.{Word as Asked};
+ghost use Rattle.tbl_top.specs.declared.words.Word.TheVariants.{Crew};
 
-use tbl_kinds::Bytes;
+use admit_lists::read_admit;
+use plain_text::read_decimal;
+use tbl_kinds::{Admit, Bytes};
+
+/// The most rounds of a drill: with the records that it begins with it has as many as a session may have.
+const MOST_ROUNDS: u64 = 32_759;
 
 /// What the program is asked to do.
 #[derive(Clone, Copy, PartialEq, Eq)]
@@ -12,21 +20,112 @@ pub enum Word {
     Play,
     /// `crew`: plays them with a thread for each actor, once all of them were read.
     Crew,
+    /// `store`: writes the store as text, a line for each block.
+    Store,
+    /// `drill SEED ROUNDS`: plays a session that the seed decides, and writes a line that sums it up.
+    Drill { seed: u64, rounds: u32 },
 }
 
-/// What the words ask for; None where they are none that the program knows.
-pub(crate) fn word_of(words: &[Bytes]) -> Option<Word>
-    ensures { result ≡ word_of words.now }
+/// What a word asks for that stands alone.
+fn lone_word(word: &[u8]) -> Option<Word>
+    ensures { (asked : Asked) → (result ≡ Some asked) ↔ Spells (word.now ∷ []) asked all_admitted }
 {
-    let [word] = words else {
-        return None;
-    };
-    let word = word.bytes();
     if word == b"play".as_slice() {
         Some(Word::Play)
     } else if word == b"crew".as_slice() {
         Some(Word::Crew)
+    } else if word == b"store".as_slice() {
+        Some(Word::Store)
     } else {
         None
+    }
+}
+
+/// What three words ask for: a drill.
+fn drill_of(word: &[u8], seed: &[u8], rounds: &[u8]) -> Option<Word>
+    ensures { (asked : Asked) → (result ≡ Some asked) ↔ Spells (word.now ∷ seed.now ∷ rounds.now ∷ []) asked all_admitted }
+{
+    if word != b"drill".as_slice() {
+        return None;
+    }
+    let seed = read_decimal(seed, u64::MAX)?;
+    let rounds = read_decimal(rounds, MOST_ROUNDS)?;
+    Some(Word::Drill {
+        seed,
+        rounds: rounds as u32,
+    })
+}
+
+/// What four words ask for: to play a session under lists of admitted spacecraft and processors.
+fn four_words(
+    word: &[u8],
+    more: &[u8],
+    spacecraft: &[u8],
+    processors: &[u8],
+) -> Option<(Word, Admit)>
+    ensures { (asked : Asked) (admit : Admitted) → (result ≡ Some (asked, admit)) ↔ Spells (word.now ∷ more.now ∷ spacecraft.now ∷ processors.now ∷ []) asked admit }
+{
+    if more != b"admit".as_slice() {
+        return None;
+    }
+    let admit = read_admit(spacecraft, processors)?;
+    if word == b"play".as_slice() {
+        Some((Word::Play, admit))
+    } else if word == b"crew".as_slice() {
+        Some((Word::Crew, admit))
+    } else {
+        None
+    }
+}
+
+/// The word, with files of all spacecraft and processors admitted.
+fn admitting_all(word: Option<Word>) -> Option<(Word, Admit)>
+    ensures { (asked : Asked) (admit : Admitted) → (result ≡ Some (asked, admit)) ↔ ((word ≡ Some asked) × (admit ≡ all_admitted)) }
+{
+    Some((word?, Admit::all()))
+}
+
+/// What one word asks for.
+fn one_word(word: &[u8]) -> Option<(Word, Admit)>
+    ensures { (asked : Asked) (admit : Admitted) → (result ≡ Some (asked, admit)) ↔ Spells (word.now ∷ []) asked admit }
+{
+    admitting_all(lone_word(word))
+}
+
+/// What three words ask for.
+fn three_words(word: &[u8], seed: &[u8], rounds: &[u8]) -> Option<(Word, Admit)>
+    ensures { (asked : Asked) (admit : Admitted) → (result ≡ Some (asked, admit)) ↔ Spells (word.now ∷ seed.now ∷ rounds.now ∷ []) asked admit }
+{
+    admitting_all(drill_of(word, seed, rounds))
+}
+
+/// What the words ask for, and from which spacecraft and processors files are admitted then; None where they are none that the
+/// program knows.
+pub(crate) fn word_of(words: &[Bytes]) -> Option<(Word, Admit)>
+    ensures { (asked : Asked) (admit : Admitted) → (result ≡ Some (asked, admit)) ↔ Asks words.now asked admit }
+{
+    match words {
+        [word] => one_word(word.bytes()),
+        [word, seed, rounds] => three_words(word.bytes(), seed.bytes(), rounds.bytes()),
+        [word, more, spacecraft, processors] => four_words(
+            word.bytes(),
+            more.bytes(),
+            spacecraft.bytes(),
+            processors.bytes(),
+        ),
+        _ => None,
+    }
+}
+
+/// The lists of a session with a thread for each actor, where the words ask for one.
+pub(crate) fn crew_lists(asked: Option<(Word, Admit)>) -> Option<Admit>
+    ensures { (admit : Admitted) → (result ≡ Some admit) ↔ (asked ≡ Some (Crew, admit)) }
+{
+    let (word, admit) = asked?;
+    match word {
+        Word::Crew => Some(admit),
+        Word::Play => None,
+        Word::Store => None,
+        Word::Drill { .. } => None,
     }
 }

@@ -12,16 +12,16 @@ returns-in-Err-clause-session g c =
     let kit = c.args.kit.items in
     let met = g.met.B.Bank g.world.𝓛 g.world.𝓜 g.world.𝓡 ((λ s x. x), (λ x. x), (λ x. x), λ x. x) in
     let laws : Laws b = record { tells_both = met.tells_both; leaves_now = met.leaves_now; leaves_only_now = met.leaves_only_now; counts_now = met.counts_now } in
-    unbegun ByActor b laws g.C.Validator.verdict (opening_of b c.args.bank kit) (first_opening (b.now c.args.bank) kit)
+    unbegun ByActor b laws g.C.Validator.verdict (opening_of b c.args.bank kit c.args.admit) (first_opening (b.now c.args.bank) kit c.args.admit)
     (ran g.S.Source g.K.Sink (c.args.source.now, c.args.sink.now) (c.args.source.now, c.finish_unbegun.new.sink) (c.finish_unbegun.result, c.in-Err.field-0.bank))
     refl c.in-Err.ensures.crash_err (nothing_asked c.finish_unbegun.result) c.in-Err.field-0.cause c.in-Err.ensures.cause c.finish_unbegun.ensures.finishes
 
 pub returns-in-Ok-clause-session : goal.returns-in-Ok-clause-session
 returns-in-Ok-clause-session g c =
     let b = g.B.Bank in
-    rw (c.end.ensures) (c.play_crew-status.ensures.session (opening_of b c.args.bank c.args.kit.items) c.in-Ok.ensures.serves)
+    rw (c.end.ensures.bank) (c.play_crew-status.ensures.session (opening_of b c.args.bank c.args.kit.items c.args.admit) c.in-Ok.ensures.serves)
 
 pub play_crew-status-requires-clause-begun : goal.play_crew-status-requires-clause-begun
 play_crew-status-requires-clause-begun g c =
     let b = g.B.Bank in
-    λ lifetimes outlive. (opening_of b c.args.bank c.args.kit.items, c.in-Ok.ensures.serves)
+    λ lifetimes outlive. (opening_of b c.args.bank c.args.kit.items c.args.admit, c.in-Ok.ensures.serves)

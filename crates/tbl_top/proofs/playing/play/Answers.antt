@@ -1,41 +1,6 @@
-use Rattle.std.proofs.Common.{Ok, Err}
-use Rattle.tbl_core.specs.declared.service.StepFault.TheVariants.{BootFault, BootStopped}
-use Rattle.tbl_history.proofs.Laws.{Laws}
-use Rattle.tbl_history.proofs.ServingLemmas.{step_continues}
-use Rattle.tbl_history.proofs.TroubleLemmas.{on_fault, on_stop}
 use Rattle.tbl_top.proofs.playing.play.Goals as goal
 
-pub returns-in-Err-BootFault-clause-written : goal.returns-in-Err-BootFault-clause-written
-returns-in-Err-BootFault-clause-written g c = λ first written.
-    let one = on_fault c.in-Err-BootFault.field-0 c.in-Err-BootFault.field-0-is c.in-Err-BootFault.ensures.adds in
-    c.write_last.ensures.written first c.args.core.now.entries one.entry one.added written
-
-pub returns-in-Err-BootStopped-clause-written : goal.returns-in-Err-BootStopped-clause-written
-returns-in-Err-BootStopped-clause-written g c = λ first written.
-    let one = on_stop c.in-Err-BootStopped.field-0 c.in-Err-BootStopped.field-0-is c.in-Err-BootStopped.ensures.adds in
-    c.write_last-in-Err-BootStopped.ensures.written first c.args.core.now.entries one.entry one.added written
-
-pub returns-in-Ok-clause-written : goal.returns-in-Ok-clause-written
-returns-in-Ok-clause-written g c = λ first written.
-    let one = c.in-Ok.ensures.adds in
-    c.write_last-in-Ok.ensures.written first c.args.core.now.entries one.entry one.added written
-
-pub returns-in-Err-BootFault-clause-continues : goal.returns-in-Err-BootFault-clause-continues
-returns-in-Err-BootFault-clause-continues g c =
-    let e = c.in-Err-BootFault in
-    let laws : Laws g.B.Bank = record { tells_both = g.met.B.Bank.tells_both; leaves_now = g.met.B.Bank.leaves_now; leaves_only_now = g.met.B.Bank.leaves_only_now; counts_now = g.met.B.Bank.counts_now } in
-    step_continues g.B.Bank laws g.C.Validator.verdict c.args.core.now c.step.new.self c.requires.live c.args.actor c.args.request _ (on_fault e.field-0 e.field-0-is e.ensures.adds) (on_fault e.field-0 e.field-0-is e.ensures.legal)
-    (on_fault e.field-0 e.field-0-is e.ensures.verdicts) (on_fault e.field-0 e.field-0-is e.ensures.crash) (on_fault e.field-0 e.field-0-is e.ensures.gave)
-
-pub returns-in-Err-BootStopped-clause-continues : goal.returns-in-Err-BootStopped-clause-continues
-returns-in-Err-BootStopped-clause-continues g c =
-    let e = c.in-Err-BootStopped in
-    let laws : Laws g.B.Bank = record { tells_both = g.met.B.Bank.tells_both; leaves_now = g.met.B.Bank.leaves_now; leaves_only_now = g.met.B.Bank.leaves_only_now; counts_now = g.met.B.Bank.counts_now } in
-    step_continues g.B.Bank laws g.C.Validator.verdict c.args.core.now c.step.new.self c.requires.live c.args.actor c.args.request _ (on_stop e.field-0 e.field-0-is e.ensures.adds) (on_stop e.field-0 e.field-0-is e.ensures.legal)
-    (on_stop e.field-0 e.field-0-is e.ensures.verdicts) (on_stop e.field-0 e.field-0-is e.ensures.crash) (on_stop e.field-0 e.field-0-is e.ensures.gave)
-
-pub returns-in-Ok-clause-continues : goal.returns-in-Ok-clause-continues
-returns-in-Ok-clause-continues g c =
-    let e = c.in-Ok.ensures in
-    let laws : Laws g.B.Bank = record { tells_both = g.met.B.Bank.tells_both; leaves_now = g.met.B.Bank.leaves_now; leaves_only_now = g.met.B.Bank.leaves_only_now; counts_now = g.met.B.Bank.counts_now } in
-    step_continues g.B.Bank laws g.C.Validator.verdict c.args.core.now c.step.new.self c.requires.live c.args.actor c.args.request (Ok tt) e.adds e.legal e.verdicts e.crash e.gave
+pub returns-clause-written : goal.returns-clause-written
+returns-clause-written g c = λ first written.
+    let one = c.in_ok-ending.ensures.adds in
+    c.write_last.ensures.written first c.args.core.now.entries one.0 one.1 written

@@ -1,38 +1,11 @@
-use Rattle.tbl_core.specs.Service.{StandsFor}
-use Rattle.tbl_core.proofs.Functions.{seldom_asked}
-use Rattle.tbl_core.proofs.Vouching.{vouch_first}
-use Rattle.std.proofs.Common.{◌∙◌}
-use Rattle.tbl_session.specs.Session.{given_of, state_from}
-use Rattle.tbl_history.proofs.Laws.{Laws}
-use Rattle.tbl_history.proofs.TroubleLemmas.{caused_at_first}
-use Rattle.tbl_top.proofs.SessionLemmas.{first_opening}
-use Rattle.tbl_history.proofs.CrashLemmas.{survives_at_first}
-use Rattle.tbl_core.proofs.Starting.{stays_shown}
 use Rattle.tbl_top.proofs.session.begin.Goals as goal
 
-pub start-requires-clause-asked : goal.start-requires-clause-asked
-start-requires-clause-asked g c = rw c.in-Ok.ensures (seldom_asked g.C.Validator.asked 4611686018427387904 c.args.kit.items c.requires.asked)
+pub returns-in-Ok-clause-serves : goal.returns-in-Ok-clause-serves
+returns-in-Ok-clause-serves g c = rw c.in-Ok.ensures.core c.in_ok-start.ensures.serves
 
-pub returns-in-Ok-make-clause-serves : goal.returns-in-Ok-make-clause-serves
-returns-in-Ok-make-clause-serves g c =
-    let b = g.B.Bank in
-    let kit = c.args.kit.items in
-    let started = c.in_ok-start.ensures in
-    let laws : Laws b = record { tells_both = g.met.B.Bank.tells_both; leaves_now = g.met.B.Bank.leaves_now; leaves_only_now = g.met.B.Bank.leaves_only_now; counts_now = g.met.B.Bank.counts_now } in
-    let stands : StandsFor b (state_from (b.now c.args.bank) kit) c.in_ok-start.field-0 = rw (← c.in-Ok.ensures) started.stands in
-    rw c.in-Ok-make.ensures.core (record {
-      first = first_opening (b.now c.args.bank) kit;
-      vouches = vouch_first g.C.Validator.verdict b (given_of kit) (state_from (b.now c.args.bank) kit) c.in_ok-start.field-0 started.empty (started.kit ∙ c.in-Ok.ensures) stands;
-      survives = survives_at_first b laws (state_from (b.now c.args.bank) kit) c.args.bank c.in_ok-start.field-0 started.empty started.live stands started.crash;
-      caused = caused_at_first b c.args.bank c.in_ok-start.field-0 started.empty started.counts;
-    })
-
--- out of memory before the service began, nothing was asked of the bank
-pub returns-in_default-clause-crash_err : goal.returns-in_default-clause-crash_err
-returns-in_default-clause-crash_err g c = let b = g.B.Bank in stays_shown b g.met.B.Bank.leaves_only_now g.met.B.Bank.only_now c.args.bank
-
--- nor after the start, out of memory for the session
+-- out of memory for the session, a reset leaves what it could after the start
 pub returns-in-Err-clause-crash_err : goal.returns-in-Err-clause-crash_err
-returns-in-Err-clause-crash_err g c told =
-    let b = g.B.Bank in
-    rw (c.end.ensures, c.in-Err.ensures.err) (c.in_ok-start.ensures.crash told)
+returns-in-Err-clause-crash_err g c told = rw (c.end.ensures.bank, c.in-Err.ensures.err) (c.in_ok-start.ensures.crash told)
+
+pub returns-in-Err-clause-cause : goal.returns-in-Err-clause-cause
+returns-in-Err-clause-cause g c = rw (c.end.ensures.bank, c.in-Err.ensures.err) c.in_ok-start.ensures.counts

@@ -1,4 +1,4 @@
-use Rattle.std.proofs.Common.{refl, ap, sym, ◌∙◌}
+use Rattle.std.proofs.Common.{refl, ap}
 use Rattle.std.specs.Io.KnownBytes.{IsAtEnd}
 use Rattle.tbl_kinds.specs.Transcript.{pairs_of}
 use Rattle.tbl_session.specs.Orders.{InOrder}

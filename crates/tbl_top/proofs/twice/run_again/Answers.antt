@@ -4,21 +4,27 @@ use Rattle.tbl_session.specs.Session.{state_from}
 use Rattle.tbl_top.proofs.RecoveredLaws.{recovers_both}
 use Rattle.tbl_top.proofs.twice.run_again.Goals as goal
 
-pub returns-in-Some-clause-recovers : goal.returns-in-Some-clause-recovers
-returns-in-Some-clause-recovers g c =
+pub returns : goal.returns
+returns g c =
     let b = g.B.Bank in
     let n = g.N.Bank in
     let first = c.play_in_order-status.ensures.session in
     let second = c.play_in_order.ensures.session in
-    let opening = state_from (b.now c.args.bank) c.args.kit.items in
-    let image = n.now c.in-Some.next in (
-      c.play_in_order-status.result.1,
-      c.in-Some.next,
-      first,
-      second,
-      λ told told_next.
-          recovers_both opening first.entries image c.args.next_kit.items second.entries
-          (record { tables = refl; single = store-single (b.now c.args.bank); answered = (first.served.legal (g.met.B.Bank.tells_both told)).answered })
-          ((first.served.moments told).each image (rw (← c.of-began.ensures) (c.in-Some.ensures.left told told_next)))
-          (second.served.legal told_next).answered,
-    )
+    let opening = state_from (b.now c.args.bank) c.args.kit.items c.args.admit in
+    let image = n.now c.reset-next.result in record {
+      recovers = (
+        c.play_in_order-status.result.1,
+        c.reset-next.result,
+        first,
+        second,
+        λ told told_next.
+            recovers_both opening first.entries image c.args.next_kit.items c.args.next_admit second.entries
+            (record { tables = refl; single = store-single (b.now c.args.bank); answered = (first.served.legal (g.met.B.Bank.tells_both told)).answered })
+            ((first.served.moments told).each image (rw (← c.of-began.ensures) (c.reset-next.ensures.left told told_next)))
+            (second.served.legal told_next).answered,
+      );
+    }
+
+-- the first session's moments don't fall
+pub reset-next-requires-clause-later : goal.reset-next-requires-clause-later
+reset-next-requires-clause-later g c told = rw c.of-began.ensures (c.play_in_order-status.ensures.session.served.moments told).later

@@ -1,0 +1,97 @@
+//! Plays a drill, and writes the line that sums it up.
+
+ghost use Rattle.std.specs.Prelude.{◌≡◌, ◌≢◌, ◌⊎◌, ℕ, ◌+◌, ◌^◌, ◌<◌, ◌≤◌, Option, List, [], ◌++◌, length, false, true, All};
+ghost use Rattle.std.specs.List.{AllByRecursion};
+ghost use Rattle.tbl_kinds.specs.Places.{bank_size};
+ghost use Rattle.tbl_kinds.specs.Records.{Pair, IsRecord, record_limit};
+ghost use Rattle.tbl_kinds.specs.Transcript.{pairs_of};
+ghost use Rattle.tbl_outside.specs.declared.validator.KitEntry.{KitEntry as Entry};
+ghost use Rattle.tbl_history.specs.Serving.{Continues};
+ghost use Rattle.tbl_session.specs.Session.{opening_of};
+ghost use Rattle.tbl_top.specs.Drilling.{Drills, summary, unread};
+ghost use Rattle.tbl_top.specs.Finishing.{status_of};
+ghost use Rattle.tbl_top.specs.Listing.{TellsText};
+ghost use Rattle.tbl_top.specs.Standing.{IsOfScript, TellsBoot};
+ghost use Rattle.tbl_top.specs.declared.playback.Standing.TheVariants.{Open};
+
+use crate::finishing::{NO_MEMORY, end_status, unbegun_status};
+use crate::listing::write_text;
+use crate::playback::Standing;
+use crate::session::start;
+use crate::stepping::step;
+use crate::summary::sum_up;
+use std::alloc::Global;
+use tbl_core::Core;
+use tbl_drill::{Scripted, drill_session};
+use tbl_kinds::{Admit, Memory};
+use tbl_outside::{Back, Bank, KitEntry, Sink, Validator};
+
+/// Plays a script to its end, or to the request with which a boot ended the service, or for which memory ran out.
+fn play_script<B: Bank, C: Validator>(core: &mut Core<B, C>, script: &mut Scripted) -> Standing
+    requires live { core.old.state.ended ≡ false }
+    requires records { AllByRecursion IsRecord script.old }
+    requires few { length core.old.entries + length script.old ≤ record_limit }
+    ensures known { IsOfScript result }
+    ensures plays { (left : List Pair) × (pairs_of core.old.entries ++ script.old ≡ pairs_of core.new.entries ++ left) × (result ≡ Open → left ≡ []) }
+    ensures continues { Continues B.Bank C.verdict core.old core.new }
+    ensures boot { TellsBoot result core.new }
+{
+    'records: while let Some((actor, request)) = script.next() {
+        match step(core, actor, request) {
+            Err(Memory) => return Standing::Memory,
+            Ok(Some(ending)) => return ending,
+            Ok(None) => {}
+        }
+    }
+    Standing::Open
+}
+
+/// Writes the line of a session that was played, and answers the status.
+fn tell_summary<B: Bank, C: Validator, K: Sink>(
+    alloc: Global,
+    core: &Core<B, C>,
+    standing: Standing,
+    sink: &mut K,
+) -> u8
+    requires known { IsOfScript standing }
+    ensures told { TellsText result (summary core.now.entries) (K.taken sink.old, K.faults sink.old) (K.taken sink.new, K.faults sink.new) }
+    ensures played { standing ≡ Open → (result ≡ 0) ⊎ (result ≡ 1) ⊎ (result ≡ 4) }
+    ensures ended { standing ≢ Open → result ≡ status_of standing false true }
+{
+    match standing {
+        Standing::Open => match sum_up(alloc, core.history()) {
+            Ok(line) => write_text(&line, sink),
+            Err(Memory) => NO_MEMORY,
+        },
+        other => end_status(other, false, true),
+    }
+}
+
+/// Plays a drill: boots over the bank, plays the session of this seed, and writes its line where all of it was played.
+pub(crate) fn run_drill<K: Sink, B: Bank, C: Validator>(
+    alloc: Global,
+    seed: u64,
+    rounds: u32,
+    sink: &mut K,
+    bank: B,
+    kit: Vec<KitEntry<C>>,
+    admit: Admit,
+) -> (u8, B)
+    requires room { bank_size ≤ B.size bank }
+    requires asked { All (λ (e : Entry C). C.asked e.check < 2 ^ 62) kit.items }
+    requires few { 9 + rounds ≤ record_limit }
+    ensures drill { (left : Option (List ℕ)) (faults : ℕ) → Drills seed rounds B.Bank C.verdict (opening_of B.Bank bank kit.items admit) (unread K.Sink left faults sink.old sink.new result) }
+    ensures room { bank_size ≤ B.size result.1 }
+{
+    let Ok(mut script) = drill_session(alloc, seed, rounds) else {
+        return (NO_MEMORY, bank);
+    };
+    match start(alloc, bank, kit, admit) {
+        Err(Back { cause, bank }) => (unbegun_status(cause), bank),
+        Ok(mut core) => {
+            let standing = play_script(&mut core, &mut script);
+            let status = tell_summary(alloc, &core, standing, sink);
+            (status, core.end())
+        }
+    }
+}

@@ -1,0 +1,36 @@
+//! Plays one request of a session.
+
+ghost use Rattle.std.specs.Prelude.{◌≡◌, ◌<◌, ◌∷◌, [], ◌++◌, length, false, IfOk, OnOk, OnErr};
+ghost use Rattle.tbl_kinds.specs.Records.{record_limit};
+ghost use Rattle.tbl_kinds.specs.Requests.{Fits};
+ghost use Rattle.tbl_history.specs.Serving.{Continues};
+ghost use Rattle.tbl_top.specs.Standing.{IsEnding, TellsService};
+ghost use Rattle.tbl_kinds.specs.declared.entry.Entry.{Entry};
+
+use crate::playback::Standing;
+use tbl_core::{Core, StepFault};
+use tbl_kinds::{Actor, Memory, Request};
+use tbl_outside::{Bank, Validator};
+
+/// Plays a request. `Ok(None)` where a further one may follow, `Ok(Some(..))` where a boot in it failed or was stopped.
+pub(crate) fn step<B: Bank, C: Validator>(
+    core: &mut Core<B, C>,
+    actor: Actor,
+    request: Request,
+) -> Result<Option<Standing>, Memory>
+    requires fits { Fits actor request }
+    requires live { core.old.state.ended ≡ false }
+    requires room { length core.old.entries < record_limit }
+    ensures adds { OnOk result ((e : Entry) × (core.new.entries ≡ core.old.entries ++ e ∷ []) × (e.actor ≡ actor) × (e.request ≡ request)) }
+    ensures continues { OnOk result (Continues B.Bank C.verdict core.old core.new) }
+    ensures ending { IfOk result IsEnding }
+    ensures boot { IfOk result (λ stop. TellsService stop core.new) }
+    ensures err { OnErr result (core.new ≡ core.old) }
+{
+    match core.step(actor, request) {
+        Err(StepFault::Memory) => Err(Memory),
+        Err(StepFault::BootFault) => Ok(Some(Standing::BootFault)),
+        Err(StepFault::BootStopped) => Ok(Some(Standing::BootStopped)),
+        Ok(()) => Ok(None),
+    }
+}
