@@ -1,7 +1,8 @@
 //! The rows of the table.
 
 use crate::drawer::{empty_drawer, name_in, tell_get, tell_list, tell_put, try_undone};
-use crate::files::{tell_file, tell_header, try_written_cells};
+use crate::drills::try_drill;
+use crate::files::{tell_admitted, tell_file, tell_header, try_written_cells};
 use crate::line::Line;
 use crate::names::{tell_actors, tell_name};
 use crate::packets::{tell_command, tell_packet, try_written};
@@ -95,6 +96,19 @@ impl Codecs {
         self.line.same(self.alloc, wanted)
     }
 
+    /// A table file is read under lists of spacecraft and processors.
+    fn try_admitted(
+        &mut self,
+        pieces: &Pieces,
+        lists: [&str; 2],
+        bytes: &str,
+        wanted: &str,
+    ) -> Result<(), CaseFault> {
+        let bytes = pieces.bytes(bytes)?;
+        tell_admitted(self.alloc, &mut self.line, lists, &bytes)?;
+        self.line.same(self.alloc, wanted)
+    }
+
     fn try_undone(&mut self, pieces: &Pieces, name: &str, bytes: &str) -> Result<(), CaseFault> {
         let name = pieces.bytes(name)?;
         let contents = pieces.bytes(bytes)?;
@@ -148,6 +162,7 @@ impl Codecs {
     ) -> Result<(), CaseFault> {
         match called {
             "list" | "actors" => self.try_word(called, given, wanted),
+            "drill" => try_drill(self.alloc, given, &pieces.bytes(wanted)?),
             "undone" => self.try_undone(pieces, given, wanted),
             _ => self.try_bytes(pieces, called, given, wanted),
         }
@@ -163,6 +178,9 @@ impl Codecs {
             ["put", name, bytes, wanted] => self.try_put(pieces, name, bytes, wanted),
             [writer, numbers, body, wanted] => {
                 self.try_writer(pieces, writer, [numbers, body], wanted)
+            }
+            ["admitted", spacecraft, processor, bytes, wanted] => {
+                self.try_admitted(pieces, [spacecraft, processor], bytes, wanted)
             }
             ["write-file", header, offset, name, image, wanted] => {
                 try_written_cells(self.alloc, pieces, [header, offset, name, image], wanted)

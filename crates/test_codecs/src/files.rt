@@ -4,8 +4,8 @@ use crate::line::{Line, room_for};
 use cfe_headers::{FileHeader, read_file_header, write_file_header};
 use std::alloc::Global;
 use table_files::{IMAGE_PLACE, TableFile, read_table_file, write_table_file};
-use tbl_kinds::{Name, Name40};
-use test_tables::{CaseFault, Pieces, count_of, number_in, same_bytes};
+use tbl_kinds::{Admit, Name, Name40};
+use test_tables::{CaseFault, Pieces, admit_of, count_of, number_in, numbers_in, same_bytes};
 
 /// How many bytes the file header has.
 const HEADER_LENGTH: usize = 64;
@@ -48,9 +48,10 @@ pub(crate) fn tell_header(alloc: Global, line: &mut Line, bytes: &[u8]) -> Resul
     }
 }
 
-/// A table file is read. A fault is told with the status of a LOAD from such a file.
-pub(crate) fn tell_file(line: &mut Line, bytes: &[u8]) {
-    match read_table_file(bytes) {
+/// A table file is read under these lists. A fault is told with the status of a LOAD from such a file, and with its detail where
+/// there is one.
+fn tell_file_under(line: &mut Line, bytes: &[u8], admit: &Admit) {
+    match read_table_file(bytes, admit) {
         Ok(file) => {
             line.numbered("offset", &[file.offset]);
             line.numbered("count", &[file.count]);
@@ -59,8 +60,30 @@ pub(crate) fn tell_file(line: &mut Line, bytes: &[u8]) {
         Err(fault) => {
             line.shown(&fault);
             line.number(fault.status().0);
+            if fault.detail() != 0 {
+                line.number(fault.detail());
+            }
         }
     }
+}
+
+/// A table file is read where all spacecraft and processors are admitted.
+pub(crate) fn tell_file(line: &mut Line, bytes: &[u8]) {
+    tell_file_under(line, bytes, &Admit::all());
+}
+
+/// A table file is read where the spacecraft and the processors of two cells are admitted.
+pub(crate) fn tell_admitted(
+    alloc: Global,
+    line: &mut Line,
+    lists: [&str; 2],
+    bytes: &[u8],
+) -> Result<(), CaseFault> {
+    let [spacecraft, processor] = lists;
+    let spacecraft = numbers_in(alloc, spacecraft)?;
+    let processor = numbers_in(alloc, processor)?;
+    tell_file_under(line, bytes, &admit_of(&spacecraft, &processor)?);
+    Ok(())
 }
 
 /// The header that the bytes of a cell begin with.

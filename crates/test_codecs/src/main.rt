@@ -4,6 +4,7 @@
 
 mod codecs;
 mod drawer;
+mod drills;
 mod files;
 mod line;
 mod names;

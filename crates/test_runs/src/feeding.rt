@@ -8,6 +8,7 @@ use shipped_kit::FirstByte;
 use std::alloc::Global;
 use tbl_core::Core;
 use tbl_fakes::{CalmBank, MemSink};
+use tbl_kinds::Admit;
 use tbl_top::{Fed, Player};
 use test_tables::{CaseFault, Row, count_of};
 use validation::Kit;
@@ -38,7 +39,7 @@ pub(crate) fn service(alloc: Global) -> Result<Core<CalmBank, FirstByte>, CaseFa
 {
     let kit = Kit::make(alloc, Vec::new(alloc))?;
     let bank = bank(alloc)?;
-    match Core::start(alloc, bank, kit) {
+    match Core::start(alloc, bank, kit, Admit::all()) {
         Ok(core) => Ok(core),
         Err(_) => Err(CaseFault::Memory),
     }

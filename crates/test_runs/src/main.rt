@@ -1,9 +1,10 @@
-//! Plays the sessions of a table, also over banks whose writes break off and whose reads fail, and says which of them ended
-//! otherwise than it states.
+//! Plays the sessions of a table, also over banks whose writes break off and whose reads fail and between streams that are cut,
+//! and says which of them ended otherwise than it states.
 #![tactic(auto)]
 
 mod banks;
 mod crews;
+mod cuts;
 mod ending;
 mod feeding;
 mod meeting;

@@ -1,6 +1,7 @@
 //! Runs as a table states them.
 
 use crate::crews::{try_free, try_ordered};
+use crate::cuts::try_cuts;
 use crate::ending::{status_of, try_ending, try_front};
 use crate::feeding::try_lengths;
 use crate::meeting::try_meeting;
@@ -78,8 +79,11 @@ impl RowCases for Runs {
     /// `play | NAME | INPUT | BANK | BREAKS | BAD READS | STATUS | OUTPUT | WRITES | BANK` is a session over a bank in memory:
     /// what the bank holds before it, which of its writes break off and which of its reads fail, and then how it ends, with the
     /// ranges of all writes and the bank behind it. With `crew` in the place of `play` it is played with a thread for each
-    /// actor. `again | NAME | INPUT | INPUT | STOPS | STATUS | OUTPUT | STATUS | OUTPUT` is a session over a bank of zeros with
-    /// a stop at each of these places, and then a second one over the bank that the first gave back, with how each ends.
+    /// actor, and with `store` or `drill SEED ROUNDS` there is no input. `again | WORD | NAME | INPUT | INPUT | BREAKS | STATUS | OUTPUT
+    /// | STATUS | OUTPUT` is a session with this word over a bank of zeros, a write of which breaks off at each of these places, and
+    /// then a second one in order over the bank that the first gave back, with how each ends. `cut | WORD | NAME | INPUT | CUT | CUT |
+    /// STATUS | OUTPUT` is a session over a bank of zeros with this word, or with `both`, whose source and sink are cut after so many
+    /// bytes, or never where the cell is empty.
     ///
     /// `free | NAME | INPUT | BANK | BREAKS | BAD READS | STATUS | OUTPUT | TOLD` is a session with a thread for each actor over such
     /// a bank, whose entries are those of each actor in the output, in their order, and in any order between actors. The last cell
@@ -99,8 +103,10 @@ impl RowCases for Runs {
             ("rooms", 10) => try_rooms(rt, row),
             ("calm", 5) => try_calm(rt, row),
             ("fed", 8) => try_lengths(row),
-            ("play" | "crew", 10) => try_session(rt, row),
-            ("again", 9) => try_again(rt, row),
+            ("play" | "crew" | "store", 10) => try_session(rt, row),
+            (words, 10) if words.starts_with("drill ") => try_session(rt, row),
+            ("cut", 8) => try_cuts(rt, row),
+            ("again", 10) => try_again(rt, row),
             ("free", 9) => try_free(rt, row),
             ("ordered", 8) => try_ordered(rt, row),
             ("meet", 6) => try_meeting(rt, row),

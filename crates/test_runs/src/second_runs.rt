@@ -1,48 +1,48 @@
-//! A session whose bank is stopped, and a second one over the bank that the first gave back.
+//! A session, a write of whose bank breaks off, and a second one over the bank that the first gave back.
 
 ghost use Rattle.std.specs.Prelude.{◌≡◌, length, IfOk};
 
-use crate::sessions::play;
+use crate::sessions::{Session, play};
 use std::alloc::Global;
 use std::sync::Wait;
 use std::thread::Threads;
 use tbl_fakes::{Break, MemBank};
 use test_tables::{BANK_SIZE, CaseFault, Row, bank_over, kept, number_in, zeros};
 
-/// Both sessions are played in order.
-const PLAY: &str = "play";
-
-/// A write that is stopped, after each number of bytes from one to another.
+/// A write that breaks off, after each number of bytes from one to another.
 #[derive(Clone, Copy)]
-struct Stops {
+struct Breaks {
     write: u32,
     from: u32,
     to: u32,
+    stop: bool,
 }
 
-/// A write that is stopped, as `5/0-63`.
-fn stops_in(word: &str) -> Result<Stops, CaseFault> {
-    if let Some((write, range)) = word.split_once('/') {
+/// A write that breaks off, as `5/0-63/stop` or `5/0-63/fail`.
+fn breaks_in(alloc: Global, word: &str) -> Result<Breaks, CaseFault> {
+    let parts: Vec<&str> = word.split('/').collect(alloc)?;
+    if let [write, range, how] = parts.as_slice() {
         if let Some((from, to)) = range.split_once('-') {
-            return Ok(Stops {
+            return Ok(Breaks {
                 write: number_in(write)?,
                 from: number_in(from)?,
                 to: number_in(to)?,
+                stop: *how == "stop",
             });
         }
     }
     Err(CaseFault::Unreadable)
 }
 
-/// A bank of zeros, one write of which is stopped.
-fn stopped_bank(alloc: Global, stop: Break) -> Result<MemBank, CaseFault>
+/// A bank of zeros, one write of which breaks off.
+fn broken_bank(alloc: Global, place: Break) -> Result<MemBank, CaseFault>
     ensures { IfOk result (λ bank. length bank.bytes ≡ 131072) }
 {
     let zeros = zeros(alloc)?;
-    bank_over(alloc, zeros, &[stop], &[])
+    bank_over(alloc, zeros, &[place], &[])
 }
 
-/// A bank that keeps what another one held, and in which no write is stopped.
+/// A bank that keeps what another one held, and in which no write breaks off.
 fn next_bank(alloc: Global, bank: &MemBank) -> Result<MemBank, CaseFault>
     ensures { IfOk result (λ b. length b.bytes ≡ 131072) }
 {
@@ -54,56 +54,72 @@ fn next_bank(alloc: Global, bank: &MemBank) -> Result<MemBank, CaseFault>
     bank_over(alloc, bytes, &[], &[])
 }
 
-/// Plays the first session with a stop in one place, compares how it ends, and gives its bank back.
+/// Plays the first session over a bank, compares how it ends, and gives its bank back.
 fn play_first<R: Threads + Wait + Sync>(
     rt: &R,
     row: &Row,
-    stop: Break,
-) -> Result<MemBank, CaseFault> {
-    let bank = stopped_bank(row.alloc(), stop)?;
-    play(rt, row, PLAY, 2, 5, bank)
+    bank: MemBank,
+) -> Result<MemBank, CaseFault>
+    requires { length bank.bytes ≡ 131072 }
+{
+    play(rt, row, row.text(1)?, 3, 6, bank)
 }
 
-/// Plays the second session over what a bank holds, and compares how it ends.
+/// Plays the second session in order over what a bank holds, and compares how it ends.
 fn play_second<R: Threads + Wait + Sync>(
     rt: &R,
     row: &Row,
     bank: &MemBank,
 ) -> Result<(), CaseFault> {
     let bank = next_bank(row.alloc(), bank)?;
-    match play(rt, row, PLAY, 3, 7, bank) {
+    match play(rt, row, "play", 4, 8, bank) {
         Ok(_bank) => Ok(()),
         Err(fault) => Err(fault),
     }
 }
 
-/// Plays both sessions with a stop in one place.
-fn try_stop<R: Threads + Wait + Sync>(rt: &R, row: &Row, stop: Break) -> Result<(), CaseFault> {
-    let bank = play_first(rt, row, stop)?;
+/// Plays both sessions in order, the second over the bank that the first gave back, and compares how they end.
+fn play_both(row: &Row, bank: MemBank) -> Result<(), CaseFault>
+    requires { length bank.bytes ≡ 131072 }
+{
+    let mut first = Session::make(row, "play", 3, 7)?;
+    let mut second = Session::make(row, "play", 4, 9)?;
+    let (status, next_status) = first.play_again(&mut second, row.alloc(), bank)?;
+    first.compare(row, 6, status)?;
+    second.compare(row, 8, next_status)
+}
+
+/// Plays both sessions with a break in one place.
+fn try_break<R: Threads + Wait + Sync>(rt: &R, row: &Row, place: Break) -> Result<(), CaseFault> {
+    let bank = broken_bank(row.alloc(), place)?;
+    if row.text(1)? == "play" {
+        return play_both(row, bank);
+    }
+    let bank = play_first(rt, row, bank)?;
     play_second(rt, row, &bank)
 }
 
-/// Plays both with a stop in each of the places of a word, and tells how many there are.
-fn try_stops<R: Threads + Wait + Sync>(rt: &R, row: &Row, word: &str) -> Result<u32, CaseFault> {
-    let Stops { write, from, to } = stops_in(word)?;
+/// Plays both with a break in each of the places of a word, and tells how many there are.
+fn try_breaks<R: Threads + Wait + Sync>(rt: &R, row: &Row, word: &str) -> Result<u32, CaseFault> {
+    let Breaks {
+        write,
+        from,
+        to,
+        stop,
+    } = breaks_in(row.alloc(), word)?;
     let mut count = 0u32;
     for after in from..=to {
-        let stop = Break {
-            write,
-            after,
-            stop: true,
-        };
-        try_stop(rt, row, stop)?;
+        try_break(rt, row, Break { write, after, stop })?;
         count = count.saturating_add(1);
     }
     Ok(count)
 }
 
-/// Plays both with a stop in each place of a cell, as `1/0-15 2/0-8192`, and tells how many places there are.
+/// Plays both with a break in each place of a cell, as `1/0-15/stop 2/0-8192/stop`, and tells how many places there are.
 pub(crate) fn try_again<R: Threads + Wait + Sync>(rt: &R, row: &Row) -> Result<u32, CaseFault> {
     let mut count = 0u32;
-    for word in row.text(4)?.split_ascii_whitespace() {
-        count = count.saturating_add(try_stops(rt, row, word)?);
+    for word in row.text(5)?.split_ascii_whitespace() {
+        count = count.saturating_add(try_breaks(rt, row, word)?);
     }
     Ok(count)
 }

@@ -1,4 +1,4 @@
-//! Sessions over a bank whose writes break off and whose reads fail.
+//! Runs over a bank whose writes break off and whose reads fail.
 
 ghost use Rattle.std.specs.Prelude.{◌≤◌, length};
 ghost use Rattle.tbl_kinds.specs.Places.{bank_size};
@@ -9,10 +9,10 @@ use std::alloc::Global;
 use std::sync::Wait;
 use std::thread::Threads;
 use tbl_fakes::{MemBank, MemSink, MemSource, OpenGate};
-use tbl_kinds::{Bytes, Memory};
+use tbl_kinds::{Admit, Bytes, Memory};
 use tbl_outside::Gate;
-use tbl_top::run;
-use test_tables::{CaseFault, Row, bank_in, count_of, one_word};
+use tbl_top::{BetweenCalls, run, run_again};
+use test_tables::{CaseFault, Row, bank_in, count_of, kept};
 
 /// For how many bytes the sink has room beside those that are wanted.
 const MORE_OUTPUT: u32 = 512;
@@ -25,19 +25,49 @@ pub(crate) struct Session {
     pub(crate) sink: MemSink,
 }
 
+/// The words of a text, each as the bytes that a program is given.
+fn words_of(alloc: Global, text: &str) -> Result<Vec<Bytes>, CaseFault> {
+    let mut words = Vec::new(alloc);
+    for word in text.split_ascii_whitespace() {
+        words.push(kept(alloc, word.as_bytes())?)?;
+    }
+    Ok(words)
+}
+
+/// A source that gives the whole input, which stands in a cell of a row.
+pub(crate) fn whole_source(row: &Row, input: usize) -> Result<MemSource, CaseFault> {
+    Ok(MemSource::make(row.alloc(), row.kept(input)?, &[])?)
+}
+
+/// A sink that takes the whole output, which stands in a cell of a row, and more.
+pub(crate) fn ample_sink(row: &Row, output: usize) -> Result<MemSink, CaseFault> {
+    let room = count_of(&row.bytes(output)?)?;
+    Ok(MemSink::make(row.alloc(), room.saturating_add(MORE_OUTPUT), &[])?)
+}
+
 impl Session {
-    /// A session with a word, whose input stands in a cell of a row, and the output that is wanted in another one.
+    /// A session with these words, whose input stands in a cell of a row, and the output that is wanted in another one.
     pub(crate) fn make(
         row: &Row,
-        word: &str,
+        words: &str,
         input: usize,
         output: usize,
     ) -> Result<Session, CaseFault> {
-        let room = count_of(&row.bytes(output)?)?;
+        let source = whole_source(row, input)?;
+        Session::between(row, words, source, ample_sink(row, output)?)
+    }
+
+    /// A session with these words between a source and a sink.
+    pub(crate) fn between(
+        row: &Row,
+        words: &str,
+        source: MemSource,
+        sink: MemSink,
+    ) -> Result<Session, CaseFault> {
         Ok(Session {
-            words: one_word(row.alloc(), word)?,
-            source: MemSource::make(row.alloc(), row.kept(input)?, &[])?,
-            sink: MemSink::make(row.alloc(), room.saturating_add(MORE_OUTPUT), &[])?,
+            words: words_of(row.alloc(), words)?,
+            source,
+            sink,
         })
     }
 
@@ -64,9 +94,36 @@ impl Session {
         ))
     }
 
+    /// Plays it over a bank, and another one over what a reset between two calls of the bank left of it. Both statuses.
+    pub(crate) fn play_again(
+        &mut self,
+        next: &mut Session,
+        alloc: Global,
+        bank: MemBank,
+    ) -> Result<(u8, u8), Memory>
+        requires { bank_size ≤ length bank.bytes }
+    {
+        let kit = shipped_entries(alloc)?;
+        let next_kit = shipped_entries(alloc)?;
+        let (status, (next_status, _bank)) = run_again(
+            alloc,
+            &mut self.source,
+            &mut self.sink,
+            bank,
+            kit,
+            Admit::all(),
+            &mut BetweenCalls,
+            &mut next.source,
+            &mut next.sink,
+            next_kit,
+            Admit::all(),
+        );
+        Ok((status, next_status))
+    }
+
     /// Compares a status with a cell of a row, and the output with the next one.
     pub(crate) fn compare(&self, row: &Row, at: usize, status: u8) -> Result<(), CaseFault>
-        requires { at ≤ 7 }
+        requires { at ≤ 8 }
     {
         row.same_number(at, u64::from(status))?;
         row.same_bytes(at + 1, self.sink.taken())
@@ -81,7 +138,7 @@ impl Session {
         bank: MemBank,
     ) -> Result<MemBank, CaseFault>
         requires room { bank_size ≤ length bank.bytes }
-        requires cells { at ≤ 7 }
+        requires cells { at ≤ 8 }
     {
         let (status, bank) = self.play(rt, row.alloc(), bank, &OpenGate)?;
         self.compare(row, at, status)?;
@@ -89,20 +146,20 @@ impl Session {
     }
 }
 
-/// Plays a session with a word over a bank, which comes back. Its input stands in a cell of a row, and the status and the
+/// Runs with these words over a bank, which comes back. Its input stands in a cell of a row, and the status and the
 /// output, which are compared, in two others.
 pub(crate) fn play<R: Threads + Wait + Sync>(
     rt: &R,
     row: &Row,
-    word: &str,
+    words: &str,
     input: usize,
     wanted: usize,
     bank: MemBank,
 ) -> Result<MemBank, CaseFault>
     requires room { bank_size ≤ length bank.bytes }
-    requires cells { wanted ≤ 7 }
+    requires cells { wanted ≤ 8 }
 {
-    let mut session = Session::make(row, word, input, wanted + 1)?;
+    let mut session = Session::make(row, words, input, wanted + 1)?;
     session.play_row(rt, row, wanted, bank)
 }
 

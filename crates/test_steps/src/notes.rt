@@ -3,7 +3,7 @@
 use crate::stepping::{Service, started, step_all};
 use std::alloc::Global;
 use std::fmt::{self, Write};
-use tbl_kinds::{BankNote, Bytes, Entry, Outcome};
+use tbl_kinds::{Admit, BankNote, Bytes, Entry, Outcome};
 use test_tables::{CaseFault, Row, bank_in, same_text};
 
 /// Writes how the calls went and how many were done: `-` where none was made.
@@ -98,7 +98,7 @@ fn play_notes(row: &Row, core: &mut Service) -> Result<(), CaseFault> {
 /// A service over the bank of a row.
 fn started_in(row: &Row) -> Result<Service, CaseFault> {
     let bank = bank_in(row)?;
-    started(row.alloc(), bank)
+    started(row.alloc(), bank, Admit::all())
 }
 
 /// Plays a session of its own, and compares the statuses and notes of its entries.

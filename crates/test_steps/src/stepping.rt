@@ -11,7 +11,7 @@ use shipped_kit::{Shipped, shipped_entries};
 use std::alloc::Global;
 use tbl_core::{Core, StartFault, StepFault};
 use tbl_fakes::MemBank;
-use tbl_kinds::{Actor, Memory, Request};
+use tbl_kinds::{Actor, Admit, Memory, Request};
 use test_tables::CaseFault;
 use validation::Kit;
 
@@ -41,12 +41,12 @@ fn fault_of(cause: StartFault) -> CaseFault {
     }
 }
 
-/// A core at its start over a bank.
-pub(crate) fn started(alloc: Global, bank: MemBank) -> Result<Service, CaseFault>
+/// A core at its start over a bank, with these admitted spacecraft and processors.
+pub(crate) fn started(alloc: Global, bank: MemBank, admit: Admit) -> Result<Service, CaseFault>
     requires { bank_size ≤ length bank.bytes }
 {
     let kit = shipped(alloc)?;
-    match Core::start(alloc, bank, kit) {
+    match Core::start(alloc, bank, kit, admit) {
         Ok(core) => Ok(sent(core)),
         Err(back) => Err(fault_of(back.cause)),
     }

@@ -4,8 +4,8 @@ use crate::notes::try_notes;
 use crate::stepping::{MOST_ENTRIES, Service, started, step, step_all};
 use std::sync::Wait;
 use std::thread::Threads;
-use tbl_kinds::{Actor, Bytes, Memory, Name64, Outcome, Request};
-use test_tables::{CaseFault, Row, RowCases, new_bank};
+use tbl_kinds::{Actor, Admit, Bytes, Memory, Name64, Outcome, Request};
+use test_tables::{CaseFault, Row, RowCases, admit_of, new_bank};
 use transcript::write_entry;
 
 /// How many bytes the field of a file's name has.
@@ -73,10 +73,16 @@ impl Steps {
         Steps { core: None }
     }
 
-    fn start(&mut self, row: &Row) -> Result<u32, CaseFault> {
-        let core = started(row.alloc(), new_bank(row.alloc())?)?;
+    fn start(&mut self, row: &Row, admit: Admit) -> Result<u32, CaseFault> {
+        let core = started(row.alloc(), new_bank(row.alloc())?, admit)?;
         close(self.core.replace(core));
         Ok(0)
+    }
+
+    /// Starts a core with the lists of admitted spacecraft and processors that stand in two cells.
+    fn start_with_lists(&mut self, row: &Row) -> Result<u32, CaseFault> {
+        let admit = admit_of(&row.numbers(2)?, &row.numbers(3)?)?;
+        self.start(row, admit)
     }
 
     /// Behind the last row.
@@ -114,13 +120,15 @@ impl Steps {
 }
 
 impl RowCases for Steps {
-    /// The rows are `core | TITLE` for a core at its start, `play | RECORDS | ENTRIES` for steps of it, and
+    /// The rows are `core | TITLE` for a core at its start, `core | TITLE | SPACECRAFT | PROCESSORS` for one with lists of those
+    /// that are admitted, `play | RECORDS | ENTRIES` for steps of it, and
     /// `file | NAME | CONTENTS | ENTRY` for the uplink of a file. `notes | NAME | INPUT | BANK | BREAKS | BAD READS | NOTES` is a
     /// session of its own, over the bank that [`bank_in`](test_tables::bank_in) reads: of its entries the statuses and notes
     /// are told. No row starts a thread.
     fn try_row<R: Threads + Wait + Sync>(&mut self, _rt: &R, row: &Row) -> Result<u32, CaseFault> {
         match (row.text(0)?, row.len()) {
-            ("core", 2) => self.start(row),
+            ("core", 2) => self.start(row, Admit::all()),
+            ("core", 4) => self.start_with_lists(row),
             ("play", 3) => self.play(row),
             ("file", 4) => self.uplink(row),
             ("notes", 7) => try_notes(row),

@@ -5,6 +5,7 @@
 mod answer;
 mod banks;
 mod fault;
+mod lists;
 mod number;
 mod piece;
 mod pieces;
@@ -15,6 +16,7 @@ mod table;
 pub use answer::{kept, one_word, same_bytes, same_text};
 pub use banks::{BANK_SIZE, bank_bytes, bank_in, bank_over, new_bank, zeros};
 pub use fault::CaseFault;
+pub use lists::admit_of;
 pub use number::{byte, count_of, number_in, numbers_in, short};
 pub use pieces::Pieces;
 pub use row::Row;
