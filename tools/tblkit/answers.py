@@ -29,6 +29,16 @@ class Answer:
             return packets.command_name(self.record.body) or "Command"
         return self.record.request.name
 
+    def fields(self):
+        """The fields of the record, and of the command that it is, each with its bytes."""
+        if self.record is None:
+            return []
+        request, body = self.record.request.name, self.record.body
+        found = [(it, it.of(body)) for it in names.fields(request)]
+        if request != "Command" or self.request == "Command":
+            return found
+        return found + [(it, it.of(body[packets.COMMAND_HEADER:])) for it in names.fields(self.request)]
+
     def line(self, is_all=False):
         """The request as a line of session text, long data cut short."""
         if self.record is None:

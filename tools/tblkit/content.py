@@ -16,7 +16,7 @@ class Kind(enum.Enum):
     TEXT = "a session as text", "`cfetbl play --show {0}` plays it, and `cfetbl text {0}` writes its records"
     RECORDS = "a session as records", "`cfetbl play --show {0}` plays it, and `cfetbl text --back {0}` writes it as text"
     TRANSCRIPT = "a transcript", "`cfetbl show SESSION {0}` prints it"
-    STORE = "a store file", "`cfetbl play` takes the one that is called cds.store in the working folder"
+    STORE = "a store file", "`cfetbl map {0}` shows its blocks"
     TABLE_FILE = "a table file", "the line `file NAME from {0}` of a session uplinks it"
     REGISTRY_FILE = "a registry file", "`--show` prints its fields beside the DUMP_REGISTRY that wrote it"
     CAPTURE = "a capture", "Wireshark opens it, with cfetbl.lua"

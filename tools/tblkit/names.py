@@ -68,6 +68,12 @@ def explained():
 
 
 @functools.cache
+def return_codes():
+    """cFE's return codes that say the same as statuses do, by these."""
+    return {int(number): code for number, code in rows_of("return")}
+
+
+@functools.cache
 def requests():
     """The kinds of session records by number."""
     found = {}

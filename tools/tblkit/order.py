@@ -43,34 +43,24 @@ def subjects(answer):
     found = {("handles",)} if answer.request in HANDLES else set()
     if answer.request in BLOCKS or answer.status == NO_BLOCK:
         found.add(("blocks",))
-    for field in _fields(answer):
+    for field, raw in answer.fields():
         if field.name in ("table", "file") or field.owner == "File" and field.form == "name":
-            found.add(("table" if field.name == "table" else "file", names.quoted(names.name_in(_raw(answer, field)))))
+            found.add(("table" if field.name == "table" else "file", names.quoted(names.name_in(raw))))
         elif field.name == "slot":
-            found.add(("slot", packets.number(_raw(answer, field))))
-    return found | _tables_of(answer) | _blocks_of(answer)
+            found.add(("slot", packets.number(raw)))
+    return found | tables_of(answer) | _blocks_of(answer)
 
 
-def _fields(answer):
-    """The fields of the record, and of the command that it is."""
-    return names.fields(answer.record.request.name) + names.fields(answer.request if answer.actor == 0 else "")
-
-
-def _raw(answer, field):
-    is_command = answer.record.request.name == "Command" and field.owner != "Command"
-    return field.of(answer.record.body[packets.COMMAND_HEADER:] if is_command else answer.record.body)
-
-
-def _tables_of(answer):
+def tables_of(answer):
     """The tables of a request by its handle, of an application that ends, and of those that packets tell of."""
     own = [it for it in answer.view.handles.values() if it.actor == answer.actor] if answer.request == "Exit" else []
     found = {("table", it.table) for it in own}
-    if any(it.name == "handle" for it in _fields(answer)):
+    if any(it.name == "handle" for it, _ in answer.fields()):
         handle = answer.handle()
         is_own = handle is not None and handle.actor == answer.actor and handle.table is not None
         found.add(("table", handle.table) if is_own else ("handles",))
     if answer.request == "Register":
-        found.add(("table", answer.view.full_name(answer.actor, _raw(answer, names.field("Register", "short name")))))
+        found.add(("table", answer.view.full_name(answer.actor, names.field("Register", "short name").of(answer.record.body))))
     rows = [it.field("row") for it in answer.packets if it.kind == "event"]
     return found | {("table", answer.view.rows[it.value]) for it in rows if it.value in answer.view.rows}
 
@@ -79,8 +69,10 @@ def _blocks_of(answer):
     """The block that a registration made or found."""
     if answer.request == "CdsRegister":
         return {("slot", answer.entry.number("detail"))}
-    is_critical = answer.request == "Register" and "critical" in names.shown("options", _raw(answer, names.field("Register", "options")))
-    return {("blocks",)} if is_critical else set()
+    if answer.request != "Register":
+        return set()
+    options = names.shown("options", names.field("Register", "options").of(answer.record.body))
+    return {("blocks",)} if "critical" in options else set()
 
 
 class _Segment:

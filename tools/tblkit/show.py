@@ -45,10 +45,15 @@ def lines(answer, is_all=False):
         yield from _packet_lines(packet, answer.view, is_all)
 
 
+def named_rows(fields, view):
+    """Fields in which a row stands beside its table, where one is known."""
+    return tuple(replace(it, words=view.row_words(it.words, it.value)) if it.name == "row" else it for it in fields)
+
+
 def _packet_lines(packet, view, is_all):
     kind, body = packet.kind, packet.body
     if kind == "event":
-        body = tuple(replace(it, words=view.row_words(it.words, it.value)) if it.name == "row" else it for it in body)
+        body = named_rows(body, view)
     if is_all:
         return _block(kind, packet.header + body, True)
     if kind == "event":

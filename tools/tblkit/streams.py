@@ -59,6 +59,13 @@ def created(name):
         raise WriteFailed(f"{name}: {error.strerror}") from None
 
 
+def output_to(name, closing):
+    """A stream of text that writes a file, which `closing` closes; `-` is standard output."""
+    if name == "-":
+        return sys.stdout
+    return closing.enter_context(io.TextIOWrapper(created(name), encoding="utf-8"))
+
+
 def run(tool, main):
     """Calls `main` with the words of the command line. A write that fails is status 4, a file or stream that can't be opened
     or read is 2, and a reader that went away ends the tool silently, as it does others."""

@@ -9,13 +9,15 @@ import unittest
 from . import recorded
 
 EDITS = (("docs", "ERR_LOAD_IN_PROGRESS", "ERR_LOAD_PROGRESS", "names.tsv has ERR_LOAD_IN_PROGRESS"),
+         ("docs", "`CFE_TBL_ERR_DUMP_ONLY`", "`CFE_TBL_ERR_DUMPONLY`", "names.tsv has the return code CFE_TBL_ERR_DUMP_ONLY"),
          ("docs", "| RESET_COUNTERS |", "| RESET_COUNTER |", "names.tsv has RESET_COUNTERS"),
          ("docs", "| 238 | 40 |", "| 238 | 41 |", "names.tsv has table of the last load, 40 bytes"),
          ("docs", "| 110 | 64 | last file loaded", "| 110 | 64 | last file read", "names.tsv has last file loaded"),
          ("docs", "handle 2, offset 4, length 4", "handle 2, offset 4, bytes 4", "names.tsv has the body handle 2"),
          ("tools", "command\t9\tABORT_LOAD\n", "", "names.tsv has no such command"),
          ("tools", "event\t5\timage went active", "event\t4\timage went active", "names.tsv has no such event"),
-         ("docs", "| an ACTIVATE |", "| a LOAD |", "its index isn't that of names.tsv"),
+         ("docs", "| an ACTIVATE |", "| a LOAD |", "its section `Index of statuses and events` isn't that of names.tsv"),
+         ("docs", "| 17 | 40 | `LastValTableName`", "| 18 | 40 | `LastValTableName`", "its section `Packets in cFE's layouts` isn't that"),
          ("tools", "explain\tevent\t5\t", "explain\tevent\t9\t", "names.tsv doesn't explain the event 5"),
          ("tools", "\tERR_IMAGE_SIZE\n", "\tERR_IMAGE_SIZE\nstatus\t89\tERR_ANY\n", "no table with the status 89"))
 

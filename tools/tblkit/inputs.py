@@ -1,0 +1,69 @@
+"""Sessions and transcripts that are named to a tool. What is another file is told, with what reads it."""
+import contextlib
+import os
+import shutil
+import sys
+import tempfile
+
+from . import content, programs, records, text, transcript
+from .streams import WRONG_USE, fail, opened, say
+
+SESSIONS = (content.Kind.TEXT, content.Kind.RECORDS, content.Kind.OTHER)
+
+
+def keep(tool, option, written, read):
+    """Ends where a file that is to be written is one of those that are read, which would be lost."""
+    for name in read:
+        with contextlib.suppress(OSError):
+            if os.path.samestat(os.stat(written), os.fstat(0) if name == "-" else os.stat(name)):
+                fail(tool, f"{option} would write over {name}, which is read", WRONG_USE)
+
+
+def session_of(tool, name, closing):
+    """A session as a file of records that can be read from any place: what is text or a stream is kept in a file of its own."""
+    source = closing.enter_context(opened(name))
+    front = content.front_of(source)
+    kind = content.kind_of(front)
+    if kind not in SESSIONS:
+        fail(tool, kind.said_of(name, front), WRONG_USE)
+    if source.seekable() and kind is not content.Kind.TEXT:
+        return source
+    kept = closing.enter_context(tempfile.TemporaryFile())
+    if kind is content.Kind.TEXT:
+        _keep_records(source, kept, name)
+    else:
+        shutil.copyfileobj(source, kept)
+    kept.seek(0)
+    return kept
+
+
+def _keep_records(source, kept, name):
+    try:
+        text.to_records(source, kept, text.folder_of(name), name)
+    except text.WrongLines as wrong:
+        say(str(wrong))
+        sys.exit(WRONG_USE)
+
+
+def index_of(tool, name, closing):
+    """The places of the records of a session."""
+    return records.Index(session_of(tool, name, closing))
+
+
+def parts_of(tool, name, closing):
+    """The parts of a transcript. What is another file is told, with what reads it."""
+    source = closing.enter_context(opened(name))
+    front = content.front_of(source)
+    if front[:1] not in (b"", b"\x00", b"\xff"):
+        fail(tool, "no transcript: " + content.kind_of(front).said_of(name, front), 1)
+    return transcript.parts(source)
+
+
+def played(tool, session, closing):
+    """The transcript of a session that is played now, in the working folder, and the status of the run."""
+    output = closing.enter_context(tempfile.TemporaryFile())
+    try:
+        status = programs.play(session, output)
+    except programs.NoProgram as none:
+        fail(tool, none, programs.NO_PROGRAM)
+    return transcript.parts(output), status

@@ -1,0 +1,119 @@
+"""A session as a time line: who asked for what at each place, and from where to where each table had which image, load, dump and
+address held. Places are the numbers of the entries; what stands from one on begins there, and ends at the place where it went.
+"""
+from dataclasses import dataclass, field
+
+from . import names, order, states
+from .states import pin_words
+from .records import APPLICATIONS
+from .tables import STOPPED
+
+# From this status on a request is refused; a locked table is one too, and a command is refused by all but 0.
+FIRST_REFUSAL = 32
+
+
+@dataclass(frozen=True)
+class Span:
+    """What a table had from one place to another: `kind` is registered, image, load, dump or pin, `words` says which, and
+    `number` is that of an image, or of the handle of a pin."""
+    first: int
+    last: int
+    kind: str
+    words: str
+    number: int | None = None
+    phase: states.Load | states.Dump | None = None
+
+
+@dataclass(frozen=True)
+class Mark:
+    """A request at its place, with the status that it was answered with."""
+    place: int
+    request: str
+    status: int
+    is_refused: bool
+
+
+@dataclass
+class Lane:
+    """A table with all that it had and was refused, or an actor with its requests."""
+    name: str
+    spans: list = field(default_factory=list)
+    marks: list = field(default_factory=list)
+
+
+def is_refused(answer):
+    """Whether a request is refused. A warning registers its table all the same, and a call may be told that nothing was to do."""
+    if answer.record is not None and answer.record.request.name == "Command":
+        return answer.status != 0
+    return answer.status >= FIRST_REFUSAL or answer.status == states.LOCKED
+
+
+class Timeline:
+    """The lanes of a session, by its answers in their order. `length` is how many there were."""
+
+    def __init__(self):
+        self.actors, self.tables, self.resets, self.length = {}, {}, [], 0
+        self._states, self._begun, self._names = states.States(), {}, {}
+
+    @property
+    def is_known(self):
+        """Whether all requests were of the session at hand, so that tables and handles are known."""
+        return self._states.view.is_known
+
+    @property
+    def standing(self):
+        """The tables that are registered by now, by name."""
+        return self._states.tables
+
+    def actor_words(self, actor):
+        """Who an actor is: an application by its number, and by the last name under which it ran."""
+        if actor not in APPLICATIONS:
+            return "ground"
+        name = self._names.get(actor)
+        return f"app {actor} {names.quoted(name)}" if name else f"app {actor}"
+
+    def add(self, answer):
+        """Goes on to the next answer."""
+        place, before = self.length, self.standing
+        self._states.follow(answer)
+        self.length += 1
+        self._names |= self._states.view.applications
+        mark = Mark(place, answer.request or "", answer.status, is_refused(answer))
+        _lane(self.actors, answer.actor).marks.append(mark)
+        if answer.request == "Reset" or answer.status == STOPPED:
+            self.resets.append(mark)
+        self._change(before, self.standing, place)
+        if mark.is_refused:
+            for kind, subject in (it for it in order.subjects(answer) if len(it) == 2):
+                if kind == "table" and subject in self.standing:
+                    _lane(self.tables, subject).marks.append(mark)
+
+    def end(self):
+        """Ends what still stands at the end of the session."""
+        self._change(self.standing, {}, self.length)
+
+    def _change(self, before, after, place):
+        """Ends the spans of what a table has no more, and begins those of what it has now."""
+        for name in before | after:
+            if before.get(name) is after.get(name):
+                continue
+            had, has = (_had_by(it.get(name)) for it in (before, after))
+            begun = self._begun.setdefault(name, {})
+            ended = [Span(begun.pop(it), place, *it) for it in had if it not in has]
+            _lane(self.tables, name).spans += ended
+            begun |= dict.fromkeys((it for it in has if it not in had), place)
+
+
+def _lane(lanes, name):
+    return lanes.setdefault(name, Lane(name))
+
+
+def _had_by(table):
+    """What a table has: the kind, words, number and phase of each span."""
+    if table is None:
+        return []
+    found = [("registered", table.registered_words(), None, None)]
+    found += [("image", table.image_words(), table.images, None)] if table.images else []
+    found += [("load", table.load.value, None, table.load)] if table.load else []
+    found += [("dump", table.dump.value, None, table.dump)] if table.dump else []
+    return found + [("pin", pin_words(*it), it[0], None) for it in table.pins]

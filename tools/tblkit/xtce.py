@@ -1,0 +1,131 @@
+"""Commands and packets as a definition in XTCE 1.2 (OMG), the exchange format of telemetry and command databases."""
+import re
+from xml.etree import ElementTree
+
+NAMESPACE = "http://www.omg.org/spec/XTCE/20180204"
+SYSTEM = "CFE_TBL"
+NO_CHECKSUM = "the exclusive or of 0xFF and all bytes of the packet has to be 0: a checksum of this kind can't be stated here"
+KINDS = {"name": "String", "zeros": "Binary"}
+
+
+def _child(above, tag, words=None, /, **attributes):
+    below = ElementTree.SubElement(above, tag, {key: str(value) for key, value in attributes.items() if value is not None})
+    below.text = words
+    return below
+
+
+def _type_name(item):
+    """A name of the type of an item: items of one form, width and byte order share one."""
+    return re.sub(r"\W+", "_", f"{item.form}_{item.bits}") + ("_little" if item.is_little else "")
+
+
+class _Types:
+    """The types of parameters or of arguments, each of which is written once."""
+
+    def __init__(self, above, role):
+        self._set, self._role, self._known = _child(above, f"{role}TypeSet"), role, set()
+
+    def of(self, item):
+        """The name of the type of an item."""
+        name = _type_name(item)
+        if name not in self._known:
+            self._known.add(name)
+            self._write(name, item)
+        return name
+
+    def _write(self, name, item):
+        kind = KINDS.get(item.form) or ("Enumerated" if item.states else "Integer")
+        signed = {"signed": str(item.form == "signed").lower()} if kind == "Integer" else {}
+        above = _child(self._set, f"{kind}{self._role}Type", name=name, **signed)
+        if kind == "String":
+            encoding = _child(above, "StringDataEncoding", encoding="US-ASCII")
+            size = _child(encoding, "SizeInBits")
+            _child(_child(size, "Fixed"), "FixedValue", str(item.bits))
+            _child(size, "TerminationChar", "00")
+        elif kind == "Binary":
+            _child(_child(_child(above, "BinaryDataEncoding"), "SizeInBits"), "FixedValue", str(item.bits))
+        else:
+            _child(above, "IntegerDataEncoding", sizeInBits=item.bits,
+                   encoding="twosComplement" if item.form == "signed" else "unsigned",
+                   byteOrder="leastSignificantByteFirst" if item.is_little else None)
+        if kind == "Enumerated":
+            labels = _child(above, "EnumerationList")
+            for value, label in item.states.items():
+                _child(labels, "Enumeration", value=value, label=label)
+
+
+class _Telemetry:
+    """The packets that are sent: parameters, and containers, of which each begins with another one or is the first."""
+
+    def __init__(self, above):
+        above = _child(above, "TelemetryMetaData")
+        self._types = _Types(above, "Parameter")
+        self._parameters, self._containers = _child(above, "ParameterSet"), _child(above, "ContainerSet")
+
+    def packet(self, layout, is_abstract):
+        """Writes the container of a packet, with what tells it from others that begin with the same one."""
+        container = _child(self._containers, "SequenceContainer", name=layout.name, shortDescription=layout.says,
+                           abstract="true" if is_abstract else None)
+        entries = _child(container, "EntryList")
+        for it in layout.items:
+            name = _parameter_name(layout, it.key)
+            _child(self._parameters, "Parameter", name=name, parameterTypeRef=self._types.of(it), shortDescription=it.says)
+            _child(entries, "ParameterRefEntry", parameterRef=name)
+        if layout.base:
+            base = _child(container, "BaseContainer", containerRef=layout.base.name)
+            comparisons = _child(_child(base, "RestrictionCriteria"), "ComparisonList")
+            for it in layout.known_by:
+                _child(comparisons, "Comparison", parameterRef=_parameter_name(layout.base, it.key), value=it.value,
+                       comparisonOperator=None if it.is_equal else "!=", useCalibratedValue="false")
+
+
+def _parameter_name(layout, key):
+    """The name of a parameter: that of the layout that has it, and its key."""
+    return f"{layout.name}_{key}"
+
+
+class _Commands:
+    """The commands, each with its whole packet: values that it always has, and arguments."""
+
+    def __init__(self, above):
+        above = _child(above, "CommandMetaData")
+        self._types, self._commands = _Types(above, "Argument"), _child(above, "MetaCommandSet")
+
+    def command(self, layout):
+        """Writes a command."""
+        command = _child(self._commands, "MetaCommand", name=layout.name, shortDescription=layout.says)
+        arguments = [it for it in layout.items if it.fixed is None]
+        if arguments:
+            listed = _child(command, "ArgumentList")
+            for it in arguments:
+                _child(listed, "Argument", name=it.key, argumentTypeRef=self._types.of(it), shortDescription=it.says)
+        container = _child(command, "CommandContainer", name=f"{layout.name}_packet")
+        entries = _child(container, "EntryList")
+        for it in layout.items:
+            if it.fixed is None:
+                _child(entries, "ArgumentRefEntry", argumentRef=it.key)
+            else:
+                _child(entries, "FixedValueEntry", name=it.key, binaryValue=_binary(it), sizeInBits=it.bits,
+                       shortDescription=NO_CHECKSUM if it.key == "checksum" else None)
+
+
+def _binary(item):
+    """The bits of a value that is always the same, as hexBinary: whole bytes, in whose last bits it stands."""
+    return item.fixed.to_bytes((item.bits + 7) // 8, "big").hex().upper()
+
+
+def definition(known):
+    """The definition as a text."""
+    ElementTree.register_namespace("", NAMESPACE)
+    layout = "in cFE's default layouts" if known.is_cfe else "in the layouts of docs/FORMATS.md"
+    says = f"cFE Table Services, {layout}"
+    root = ElementTree.Element("SpaceSystem", {"xmlns": NAMESPACE, "name": SYSTEM, "shortDescription": says})
+    _child(root, "Header", validationStatus="Working")
+    telemetry, layouts = _Telemetry(root), list(known.telemetry())
+    for layout in layouts:
+        telemetry.packet(layout, any(it.base is layout for it in layouts))
+    commands = _Commands(root)
+    for layout in known.commands():
+        commands.command(layout)
+    ElementTree.indent(root)
+    return '<?xml version="1.0" encoding="UTF-8"?>\n' + ElementTree.tostring(root, encoding="unicode") + "\n"
