@@ -73,7 +73,7 @@ impl Input {
         &self.buffer[self.start..self.end]
     }
 
-    /// Reads a piece behind the rest, and tells how many bytes came.
+    /// Reads a piece after the rest, and tells how many bytes came.
     fn read_more(&mut self) -> io::Result<usize> {
         self.buffer.copy_within(self.start..self.end, 0);
         self.end -= self.start;

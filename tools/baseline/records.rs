@@ -228,7 +228,7 @@ fn table_request(kind: u8, body: &[u8]) -> Option<Request> {
     })
 }
 
-/// A request about a handle, with what stands behind that.
+/// A request about a handle, with what stands after that.
 fn handle_request(kind: u8, handle: u16, body: &[u8]) -> Option<Request> {
     Some(match kind {
         0x13 => Request::Unregister { handle },

@@ -14,7 +14,7 @@ use Rattle.tbl_kinds.specs.declared.block.BlockKind.TheVariants.{Table, App}
 abbrev pub slot_count : ℕ
 slot_count = 128
 
--- the gate byte of a slot's entry, and the bytes behind it
+-- the gate byte of a slot's entry, and the bytes after it
 abbrev pub gate_place : ℕ → ℕ
 gate_place slot = 16 + 64 * slot
 
@@ -59,6 +59,6 @@ block_of_kind tail kind = record { kind = kind; offset = four_at 3 tail; size = 
 abbrev pub if_right : List ℕ → Block → Option Block
 if_right tail b = if is_right b && is_name_field (piece 11 40 tail) then Some b else None
 
--- the block that the bytes behind a gate tell. The zeros aren't looked at, but for those behind the name
+-- the block that the bytes after a gate tell. The zeros aren't looked at, but for those after the name
 unfoldable pub block_in : List ℕ → Option Block
 block_in tail = option_and_then (λ kind. if_right tail (block_of_kind tail kind)) (kind_in (byte_at 0 tail))

@@ -25,7 +25,7 @@ abbrev pub delete_calls : ℕ → List BankCall
 delete_calls slot = write (gate_place slot) (0 ∷ []) ∷ []
 
 -- a reservation closes the gate of the doubtful block, where there is one; then it writes eight zeros as the new block's
--- head, the entry behind the gate, and the gate
+-- head, the entry after the gate, and the gate
 abbrev pub close_calls : Option ℕ → List BankCall
 close_calls None = []
 close_calls (Some slot) = delete_calls slot
@@ -51,7 +51,7 @@ strays_to (suc slot) bytes directory = strays_to slot bytes directory ++ (if is_
 unfoldable pub zeros : ℕ → List ℕ
 zeros count = replicate count 0
 
--- behind the live byte the rest of the live mark and twelve zeros, then the whole directory as zeros, and then the live
+-- after the live byte the rest of the live mark and twelve zeros, then the whole directory as zeros, and then the live
 -- byte
 abbrev pub renew_calls : List ℕ → List BankCall
 renew_calls empty = write 1 (0x44 ∷ 0x53 ∷ 0x31 ∷ replicate 12 0) ∷ write 16 empty ∷ write 0 (0x43 ∷ []) ∷ []

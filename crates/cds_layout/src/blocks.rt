@@ -42,7 +42,7 @@ pub fn head_bytes(length: u32, word: u16) -> [u8; 8]
     [a, b, c, d, e, f, 0, 0]
 }
 
-/// Where the bytes of a block's image begin, behind its head.
+/// Where the bytes of a block's image begin, after its head.
 fn data_offset<B: Bank>(bank: &B, block: &Block) -> u32
     requires { end_of block.now.offset block.now.size ≤ B.size bank.now }
     ensures { result ≡ data_place block.now }
@@ -87,7 +87,7 @@ pub fn read_block<B: Bank>(bank: &mut B, block: &Block, into: &mut [u8]) -> Resu
     ensures counted { RestoreCounted B.faults B.stops bank.old bank.new result }
     ensures fault_count { B.faults bank.old ≤ B.faults bank.new }
     ensures stop_count { B.stops bank.old ≤ B.stops bank.new }
-    ensures asked { Asks B.tells_calls B.calls bank.old bank.new (was_read result) (restore_calls block.now) }
+    ensures bank_calls { Asks B.tells_calls B.calls bank.old bank.new (was_read result) (restore_calls block.now) }
 {
     let mut head = [0; 8];
     if bank.read_at(block.offset, &mut head).is_err() {

@@ -188,7 +188,7 @@ fn read_blocks(bytes: &[u8], blocks: &mut Vec<Option<Block>>)
 }
 
 /// Reads the directory from the first bytes of the bank: the live mark `CDS1`, twelve bytes that aren't looked at, and
-/// 128 entries of 64 bytes. An entry counts where its gate is open, it tells a block that lies behind the directory and
+/// 128 entries of 64 bytes. An entry counts where its gate is open, it tells a block that lies after the directory and
 /// inside the bank, and no earlier one that counts has a byte in common with it, or its kind and name. In a bank that
 /// isn't live none counts. It takes no memory.
 pub fn read_directory(bytes: &[u8], into: &mut Directory)

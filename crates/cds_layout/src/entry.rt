@@ -10,10 +10,10 @@ ghost use Rattle.cds_layout.specs.Entries.{tail_len, kind_byte, entry_tail, is_r
 use crate::places::{BANK_SIZE, BLOCKS_BEGIN, MOST_IMAGE, end_of};
 use tbl_kinds::{Block, BlockKind, Name, Name40, u32_at};
 
-/// How many bytes an entry has behind its gate.
+/// How many bytes an entry has after its gate.
 pub(crate) const TAIL_LENGTH: usize = 63;
 
-/// The name field, behind the kind, two zeros, the offset and the size.
+/// The name field, after the kind, two zeros, the offset and the size.
 const NAME_PLACE: usize = 11;
 
 /// How many bytes the name field has.
@@ -51,7 +51,7 @@ fn name_field(name: &Name40) -> [u8; 40]
     field
 }
 
-/// The bytes of a block's entry behind the gate: the kind, two zeros, the offset and the size with the high byte first,
+/// The bytes of a block's entry after the gate: the kind, two zeros, the offset and the size with the high byte first,
 /// the full name, and zeros.
 #[tactic(auto, unfolding(crate::specs::Entries::entry_tail))]
 pub fn entry_bytes(block: &Block) -> [u8; 63]
@@ -73,7 +73,7 @@ fn all_zero(bytes: &[u8]) -> bool
     bytes.iter().all(|byte| *byte == 0)
 }
 
-/// Whether all bytes of a field behind its name are zero.
+/// Whether all bytes of a field after its name are zero.
 fn is_name_field(field: &[u8], name: &Name40) -> bool
     requires { name.now ≡ name_in field.now }
     ensures { result ≡ is_name_field field.now }
@@ -85,7 +85,7 @@ fn is_name_field(field: &[u8], name: &Name40) -> bool
     }
 }
 
-/// Whether a block with an image of this size can begin at this offset: behind the directory and inside the bank.
+/// Whether a block with an image of this size can begin at this offset: after the directory and inside the bank.
 fn is_inside(offset: u32, size: u32) -> bool
     ensures { result ≡ is_inside offset size }
 {
@@ -100,7 +100,7 @@ fn is_right(block: &Block) -> bool
     0 < size && size <= MOST_IMAGE && is_inside(block.offset, size) && block.name.is_name()
 }
 
-/// The block that the bytes behind a gate tell. The zeros aren't looked at, but for those behind the name.
+/// The block that the bytes after a gate tell. The zeros aren't looked at, but for those after the name.
 #[tactic(auto, unfolding(crate::specs::Entries::block_in))]
 pub(crate) fn block_in(tail: &[u8]) -> Option<Block>
     requires { length tail.now ≡ tail_len }

@@ -22,7 +22,7 @@ pub fn written_parts_fill_their_places()
     ensures head { (size check : ℕ) → length (block_head size check) ≡ head_len }
 {}
 
-/// Whatever the bytes of a bank are, each block of its directory lies in the bank behind the directory, and no two of them
+/// Whatever the bytes of a bank are, each block of its directory lies in the bank after the directory, and no two of them
 /// have a byte, or kind and name, in common.
 pub fn blocks_can_be_there_together()
     ensures slots { (bytes : List ℕ) → length (directory_of bytes) ≡ slot_count }

@@ -233,7 +233,7 @@ fn listed<B: Bank>(
 
 /// The text of the store in a bank: a line for each open block, by slot, with its slot, its offset, its size, T for a
 /// table's and A for an application's, its full name and whether it is whole or torn, and at the end `blocks N free M`
-/// with the number of blocks and the bytes behind the directory that none of them takes. The bank is read and not written.
+/// with the number of blocks and the bytes after the directory that none of them takes. The bank is read and not written.
 pub fn store_text<B: Bank>(alloc: Global, bank: &mut B) -> Result<Bytes, TextFault>
     requires { bank_size ≤ B.size bank.old }
     ensures text { IfOk result (λ text. B.tells → text.list ≡ text_of (store_of (B.now bank.old))) }

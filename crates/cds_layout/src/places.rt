@@ -10,13 +10,13 @@ pub const BANK_SIZE: u32 = 131_072;
 /// The live mark, with which a live bank begins.
 pub const LIVE_MARK: [u8; 4] = *b"CDS1";
 
-/// Where the entries begin, behind the live mark and twelve zeros.
+/// Where the entries begin, after the live mark and twelve zeros.
 pub const ENTRIES_PLACE: u32 = 16;
 
 /// How many entries there are, one for each slot.
 pub const SLOTS: u8 = 128;
 
-/// How many bytes an entry has: its gate, and the bytes behind it.
+/// How many bytes an entry has: its gate, and the bytes after it.
 const ENTRY_LENGTH: u32 = 64;
 
 /// The gate byte of an entry whose block is open.
@@ -25,7 +25,7 @@ pub const GATE_OPEN: u8 = 0xA5;
 /// The gate byte of an entry that was closed. Any other than that of an open one is closed too.
 pub const GATE_CLOSED: u8 = 0;
 
-/// Where the blocks begin, behind the entries.
+/// Where the blocks begin, after the entries.
 pub const BLOCKS_BEGIN: u32 = 8_208;
 
 /// The length of a block's head.

@@ -12,7 +12,7 @@ use crate::places::{BANK_SIZE, BLOCKS_BEGIN, room_for};
 use plain_text::{append_decimal, append_text};
 use tbl_kinds::{Block, BlockKind, Bytes, Memory};
 
-/// How many bytes there are for blocks, behind the directory.
+/// How many bytes there are for blocks, after the directory.
 const ROOM: u64 = (BANK_SIZE - BLOCKS_BEGIN) as u64;
 
 fn kind_letter(kind: BlockKind) -> &'static [u8]

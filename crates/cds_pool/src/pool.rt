@@ -6,7 +6,7 @@ ghost use Rattle.cds_pool.specs.Places.{is_apart, lesser, NoneBelow, Never};
 use cds_layout::{end_of, room_for};
 use tbl_kinds::Block;
 
-/// Where the blocks begin, behind the directory.
+/// Where the blocks begin, after the directory.
 const BLOCKS_BEGIN: u64 = cds_layout::BLOCKS_BEGIN as u64;
 
 /// How many bytes the bank has.
@@ -76,7 +76,7 @@ fn least_place(taken: &[Block], size: u32) -> Option<u64>
     least
 }
 
-/// The least offset at which a block with an image of this size, with its head, lies inside the bank, behind the directory
+/// The least offset at which a block with an image of this size, with its head, lies inside the bank, after the directory
 /// and apart from every block that is taken. None where there is none.
 pub fn place(taken: &[Block], size: u32) -> Option<u32>
     ensures { result ≡ place taken.now size }

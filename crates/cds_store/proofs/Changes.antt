@@ -9,7 +9,7 @@ use Rattle.cds_layout.specs.Entries.{slot_count, gate_open, gate_at, tail_at, bl
 use Rattle.cds_layout.specs.Directory.{is_live}
 use Rattle.cds_layout.specs.Images.{held_in, store_of}
 use Rattle.cds_store.specs.Sound.{slot_at, AreTogether, EntryIs, Matches}
-use Rattle.cds_store.specs.Standing.{slot_of, AreHeld}
+use Rattle.cds_store.specs.StoreBlocks.{slot_of, AreHeld}
 use Rattle.cds_store.specs.declared.slot.Slot.{Slot}
 use Rattle.cds_store.proofs.Showing.{slot_is, length-blocks, shows_of}
 
@@ -33,22 +33,22 @@ entry_stays old image k None gate tail entry = ap (λ g. g == gate_open) gate �
 entry_stays old image k (Some s) gate tail entry = (ap block_in tail ∙ entry.0, λ sure. ap (λ g. g == gate_open) gate ∙ entry.1 sure)
 
 -- bytes that match these slots and hold these blocks
-pub record Stands (bytes : List ℕ) (slots : List (Option Slot)) (blocks : Blocks) : Type 0 where
+pub record MatchesBlocks (bytes : List ℕ) (slots : List (Option Slot)) (blocks : Blocks) : Type 0 where
   pub same : slots ≡ map (option_map slot_of) blocks
   pub together : AreTogether slots
   pub matches : Matches bytes slots
   pub held : AreHeld bytes blocks
 
-pub stands_show : (bytes : List ℕ) (slots : List (Option Slot)) (blocks : Blocks) → Stands bytes slots blocks → Shows blocks (store_of bytes)
+pub stands_show : (bytes : List ℕ) (slots : List (Option Slot)) (blocks : Blocks) → MatchesBlocks bytes slots blocks → Shows blocks (store_of bytes)
 stands_show bytes slots blocks stands = shows_of bytes slots blocks stands.same stands.together stands.matches stands.held
 
-pub stands_long : (bytes : List ℕ) (slots : List (Option Slot)) (blocks : Blocks) → Stands bytes slots blocks → length blocks ≡ slot_count
+pub stands_long : (bytes : List ℕ) (slots : List (Option Slot)) (blocks : Blocks) → MatchesBlocks bytes slots blocks → length blocks ≡ slot_count
 stands_long bytes slots blocks stands = length-blocks bytes slots blocks stands.same ∙ stands.together.all_slots
 
-pub stands_slot : (bytes : List ℕ) (slots : List (Option Slot)) (blocks : Blocks) → Stands bytes slots blocks → (k : ℕ) (b : Stored) → stored_at blocks k ≡ Some b → slot_at slots k ≡ Some (slot_of b)
+pub stands_slot : (bytes : List ℕ) (slots : List (Option Slot)) (blocks : Blocks) → MatchesBlocks bytes slots blocks → (k : ℕ) (b : Stored) → stored_at blocks k ≡ Some b → slot_at slots k ≡ Some (slot_of b)
 stands_slot bytes slots blocks stands k b there = slot_is bytes slots blocks stands.same k ∙ ap (option_map slot_of) there
 
-module _ (n : ℕ) (slots : List (Option Slot)) (blocks : Blocks) (old image : List ℕ) (elsewhere : Elsewhere n slots old image) (within : n < slot_count) (stands : Stands old slots blocks) where
+module _ (n : ℕ) (slots : List (Option Slot)) (blocks : Blocks) (old image : List ℕ) (elsewhere : Elsewhere n slots old image) (within : n < slot_count) (stands : MatchesBlocks old slots blocks) where
   pub matches_after : (o : Option Slot) → EntryIs image n o → Matches image (slice_set slots n o)
   matches_after o entry = record {
     live = elsewhere.live ∙ stands.matches.live;
@@ -69,7 +69,7 @@ module _ (n : ℕ) (slots : List (Option Slot)) (blocks : Blocks) (old image : L
       ]
 
   pub stands_after : (o : Option Stored) → AreTogether (slice_set slots n (option_map slot_of o)) → EntryIs image n (option_map slot_of o) → ForSome o (λ b. MayGive b (held_in image b.block))
-      → Stands image (slice_set slots n (option_map slot_of o)) (slice_set blocks n o)
+      → MatchesBlocks image (slice_set slots n (option_map slot_of o)) (slice_set blocks n o)
   stands_after o together entry gives = record {
     same = ap (λ (l : List (Option Slot)). slice_set l n (option_map slot_of o)) stands.same ∙ sym (map-set (option_map slot_of) blocks n o);
     together = together;

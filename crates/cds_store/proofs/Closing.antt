@@ -13,9 +13,9 @@ use Rattle.cds_layout.specs.Entries.{gate_open, gate_at, gate_place, slot_count}
 use Rattle.cds_layout.specs.Images.{held_in}
 use Rattle.cds_store.specs.Moments.{ShowsIn, LeavesIn}
 use Rattle.cds_store.specs.Sound.{slot_at, AreTogether, Matches, IsSound}
-use Rattle.cds_store.specs.Standing.{StandsFor, kept, slot_of, doubted, closing}
+use Rattle.cds_store.specs.StoreBlocks.{StandsFor, kept, slot_of, doubted, closing}
 use Rattle.cds_store.specs.declared.slot.Slot.{Slot}
-use Rattle.cds_store.proofs.Changes.{Stands, stands_show}
+use Rattle.cds_store.proofs.Changes.{MatchesBlocks, stands_show}
 use Rattle.cds_store.proofs.Showing.{slot_is}
 use Rattle.cds_store.proofs.Steps.{gate_torn, gate_closed, within_slots}
 use Rattle.cds_store.proofs.Together.{together_without, together_same}
@@ -37,7 +37,7 @@ held_as : (bytes : List ℕ) (o : Option Slot) (b : Stored) → option_map (as_h
 held_as bytes None b is = absurd (cc is)
 held_as bytes (Some s) b is = rw (← same_Some (as_held bytes s) b is) (refl, refl)
 
-pub stands_as_held : (bytes : List ℕ) (slots : List (Option Slot)) → AreTogether slots → Matches bytes slots → Stands bytes slots (blocks_in bytes slots)
+pub stands_as_held : (bytes : List ℕ) (slots : List (Option Slot)) → AreTogether slots → Matches bytes slots → MatchesBlocks bytes slots (blocks_in bytes slots)
 stands_as_held bytes slots together matches = record {
   same = slots_again bytes slots;
   together = together;
@@ -50,7 +50,7 @@ stands_as_held bytes slots together matches = record {
 -- ---- a store and its blocks
 
 module _ {B : Type 0} (tells : Type 0) (size : B → ℕ) (now : B → List ℕ) (slots : List (Option Slot)) (bank : B) (sound : IsSound tells size now (kept slots bank)) where
-  pub stands_told : (blocks : Blocks) → StandsFor tells now (kept slots bank) blocks → tells → Stands (now bank) slots blocks
+  pub stands_told : (blocks : Blocks) → StandsFor tells now (kept slots bank) blocks → tells → MatchesBlocks (now bank) slots blocks
   stands_told blocks stands told = record {
     same = stands.slots;
     together = sound.together;
@@ -58,10 +58,10 @@ module _ {B : Type 0} (tells : Type 0) (size : B → ℕ) (now : B → List ℕ)
     held = stands.holds told;
   }
 
-  pub held_told : tells → Stands (now bank) slots (blocks_in (now bank) slots)
+  pub held_told : tells → MatchesBlocks (now bank) slots (blocks_in (now bank) slots)
   held_told told = stands_as_held (now bank) slots sound.together (sound.matches refl told)
 
-pub stands_for : {B : Type 0} (tells : Type 0) (now : B → List ℕ) (slots : List (Option Slot)) (bank : B) (blocks : Blocks) → slots ≡ map (option_map slot_of) blocks → (tells → Stands (now bank) slots blocks) → StandsFor tells now (kept slots bank) blocks
+pub stands_for : {B : Type 0} (tells : Type 0) (now : B → List ℕ) (slots : List (Option Slot)) (bank : B) (blocks : Blocks) → slots ≡ map (option_map slot_of) blocks → (tells → MatchesBlocks (now bank) slots blocks) → StandsFor tells now (kept slots bank) blocks
 stands_for tells now slots bank blocks same stands = record {
   slots = same;
   shows = λ told. stands_show (now bank) slots blocks (stands told);

@@ -18,9 +18,9 @@ use Rattle.cds_layout.specs.declared.blocks.RestoreFault.{RestoreFault}
 use Rattle.cds_layout.specs.declared.blocks.RestoreFault.TheVariants.{Torn as Is_torn, Fault}
 use Rattle.cds_store.specs.Moments.{ShowsIn, LeavesIn, CopyTears}
 use Rattle.cds_store.specs.Sound.{slot_at, EntryIs, Matches, IsSound, IsOpenOf}
-use Rattle.cds_store.specs.Standing.{StandsFor, AreHeld, kept, slot_of, after_fault, held_at, ComesBack}
+use Rattle.cds_store.specs.StoreBlocks.{StandsFor, AreHeld, kept, slot_of, after_fault, held_at, ComesBack}
 use Rattle.cds_store.specs.declared.slot.Slot.{Slot}
-use Rattle.cds_store.proofs.Changes.{Stands, stands_show}
+use Rattle.cds_store.proofs.Changes.{MatchesBlocks, stands_show}
 use Rattle.cds_store.proofs.Closing.{some_there, blocks_in, stands_told, held_told, stands_for, set_alike, stored_for}
 use Rattle.cds_store.proofs.Reading.{is_open, opened, store_at}
 use Rattle.cds_store.proofs.Showing.{slot_is}
@@ -62,7 +62,7 @@ module _ {B : Type 0} (tells : Type 0) (size : B → ℕ) (now : B → List ℕ)
     tears : tells → (image : List ℕ) → CopyTears s.block copy (now bank) image → Torn s.block.offset (8 + s.block.size) (now bank) image
     tears told image torn = copy_in_block s.block copy (now bank) image fits (inside told) torn
 
-    broken_stands : tells → (blocks : Blocks) → StandsFor tells now (kept slots bank) blocks → (image : List ℕ) → CopyTears s.block copy (now bank) image → Stands image slots (copy_broken n copy blocks)
+    broken_stands : tells → (blocks : Blocks) → StandsFor tells now (kept slots bank) blocks → (image : List ℕ) → CopyTears s.block copy (now bank) image → MatchesBlocks image slots (copy_broken n copy blocks)
     broken_stands told blocks stands image torn =
         let at_n = stored_for slots blocks n s stands.slots taken in
         let in_block = tears told image torn in
@@ -131,7 +131,7 @@ module _ {B : Type 0} (tells : Type 0) (size : B → ℕ) (now : B → List ℕ)
     restored_for given holds blocks stands =
         let at_n = stored_for slots blocks n s stands.slots taken in
         stands_for tells now slots new (restored n given blocks) (same_slots (with_held given) slots blocks n (λ b. refl) stands.slots)
-        (λ told. subst (λ (bytes : List ℕ). Stands bytes slots (restored n given blocks)) (sym (same told))
+        (λ told. subst (λ (bytes : List ℕ). MatchesBlocks bytes slots (restored n given blocks)) (sym (same told))
         (settled_to n slots blocks (now bank) (now bank) at_n.stored (stands_told tells size now slots bank sound blocks stands told) at_n.there given
         (torn_same at_n.stored.block.offset (8 + at_n.stored.block.size) (now bank))
         (ap (λ (t : Slot). held_in (now bank) t.block) at_n.is ∙ holds told)))

@@ -40,7 +40,7 @@ first_torn old image there torn = elim (cases_Bool (byte_at 0 image == 0x43)) [
   | inr gone ↦ inr (dead_emptied image (ap not gone))
 ]
 
--- a write behind the first byte
+-- a write after the first byte
 pub still_dead : (at count : ℕ) (old image : List ℕ) → 0 < at → Torn at count old image → is_dead old ≡ true → is_dead image ≡ true
 still_dead at count old image behind torn dead = ap (λ b. not (b == 0x43)) (byte_before at count old image 0 torn behind) ∙ dead
 

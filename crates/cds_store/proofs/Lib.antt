@@ -1,4 +1,4 @@
-pub mod Asked
+pub mod BankCalls
 pub mod Bytes
 pub mod Changes
 pub mod Closing

@@ -11,7 +11,7 @@ use Rattle.cds_layout.specs.Images.{held_in}
 use Rattle.cds_store.specs.Calls.{HasFlags, is_gate}
 use Rattle.cds_store.specs.Moments.{ShowsIn}
 use Rattle.cds_store.specs.Sound.{IsSound, IsNew}
-use Rattle.cds_store.specs.Standing.{StandsFor, kept, with_new}
+use Rattle.cds_store.specs.StoreBlocks.{StandsFor, kept, with_new}
 use Rattle.cds_store.specs.Writes.{Prepares}
 use Rattle.cds_store.specs.declared.fault.BankFault.{BankFault}
 use Rattle.cds_store.specs.declared.slot.Slot.{Slot}

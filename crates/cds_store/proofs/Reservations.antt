@@ -24,7 +24,7 @@ use Rattle.cds_store.specs.Calls.{IfBank, is_gate, is_old}
 use Rattle.cds_store.specs.Moments.{ShowsIn, LeavesIn, MakeLeaves}
 use Rattle.cds_store.specs.Slots.{is_open_slot, is_doubtful_slot, open_slot, doubtful_slot, without_slot, block_of, blocks_of, both, room_in}
 use Rattle.cds_store.specs.Sound.{slot_at, AreTogether, IsNew, IsOpenOf}
-use Rattle.cds_store.specs.Standing.{StandsFor, slot_of, with_new, closing, broken_at}
+use Rattle.cds_store.specs.StoreBlocks.{StandsFor, slot_of, with_new, closing, broken_at}
 use Rattle.cds_store.specs.declared.fault.ReserveFault.{ReserveFault}
 use Rattle.cds_store.specs.declared.fault.ReserveFault.TheVariants.{NoRoom, Bank}
 use Rattle.cds_store.specs.declared.slot.Slot.{Slot}

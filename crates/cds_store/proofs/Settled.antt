@@ -20,9 +20,9 @@ use Rattle.cds_layout.proofs.DirectoryLaws.{directory-right, directory-agree_bot
 use Rattle.cds_store.specs.Boots.{SameStore, IsTidy, IsCleared, Clears, BeginsAt, opened_slot, is_doubtful_slot, is_doubtful_at, is_found, found_open, found_in, found_to}
 use Rattle.cds_store.specs.Moments.{ShowsIn, BootLeaves}
 use Rattle.cds_store.specs.Sound.{slot_at, AreTogether, EntryIs, Matches, IsSound, IsKept}
-use Rattle.cds_store.specs.Standing.{StoreParts, StandsFor, kept, slot_of, AreHeld}
+use Rattle.cds_store.specs.StoreBlocks.{StoreParts, StandsFor, kept, slot_of, AreHeld}
 use Rattle.cds_store.specs.declared.slot.Slot.{Slot}
-use Rattle.cds_store.proofs.Changes.{Stands}
+use Rattle.cds_store.proofs.Changes.{MatchesBlocks}
 use Rattle.cds_store.proofs.Closing.{stands_for}
 use Rattle.cds_store.proofs.Found.{found_has}
 use Rattle.cds_store.proofs.Steps.{may_give_alike}
@@ -144,7 +144,7 @@ module _ (old now : List ℕ) (found : List ℕ) (blocks : Blocks) (tidy : IsTid
         | inr past ↦ absurd (cc (sym (get_or_past (settled_from found 0 blocks) n None (omega (arith, past, long, length-settled found 0 blocks))) ∙ there))
       ]
 
-  pub settled_stands : Stands now (map (option_map opened_slot) (directory_of old)) (settled_from found 0 blocks)
+  pub settled_stands : MatchesBlocks now (map (option_map opened_slot) (directory_of old)) (settled_from found 0 blocks)
   settled_stands = record {
     same = settled_same;
     together = directory_together old;
@@ -229,7 +229,7 @@ none_together k is = record {
 pub no_slots_together : AreTogether (replicate slot_count None)
 no_slots_together = none_together slot_count refl
 
-pub cleared_stands : (now : List ℕ) → IsCleared now → Stands now (replicate slot_count None) empty_store
+pub cleared_stands : (now : List ℕ) → IsCleared now → MatchesBlocks now (replicate slot_count None) empty_store
 cleared_stands now cleared = record {
   same = map-none slot_count;
   together = no_slots_together;
@@ -269,7 +269,7 @@ module _ {B : Type 0} (tells : Type 0) (size : B → ℕ) (now : B → List ℕ)
     pub processor_stands : (found : List ℕ) → found ≡ found_open slots directory → tells → (blocks : Blocks) → BeginsAt tells now (kept slots bank) blocks → StandsFor tells now (kept new_slots new) (booted Processor found blocks)
     processor_stands found found_is told blocks begins =
         let told_is : found ≡ found_open slots (directory_of (now bank)) = found_is ∙ ap (found_open slots) (is told) in
-        let stands : Stands (now new) (map (option_map opened_slot) (directory_of (now bank))) (settled_from found 0 blocks) =
+        let stands : MatchesBlocks (now new) (map (option_map opened_slot) (directory_of (now bank))) (settled_from found 0 blocks) =
         settled_stands (now bank) (now new) found blocks (tidy told) (begins_shows told blocks begins)
         (λ n lt b there doubt. ap (list_any (λ m. m == n)) told_is ∙ finds_open slots (directory_of (now bank)) blocks (begins_known blocks begins) n lt b there doubt) in
         subst (λ (l : List (Option Slot)). StandsFor tells now (kept l new) (settled_from found 0 blocks)) (sym (new_is ∙ ap (map (option_map opened_slot)) (is told)))

@@ -10,7 +10,7 @@ use Rattle.cds_layout.specs.Entries.{slot_count}
 use Rattle.cds_layout.specs.Directory.{directory_of}
 use Rattle.cds_layout.specs.Images.{held_in, stored_in, store_of}
 use Rattle.cds_store.specs.Sound.{slot_at, AreTogether, EntryIs, Matches}
-use Rattle.cds_store.specs.Standing.{slot_of, AreHeld}
+use Rattle.cds_store.specs.StoreBlocks.{slot_of, AreHeld}
 use Rattle.cds_store.specs.declared.slot.Slot.{Slot}
 use Rattle.cds_store.proofs.Reading.{opened, is_open, length-directory, store_at}
 

@@ -13,10 +13,10 @@ use Rattle.cds_layout.specs.Entries.{slot_count, gate_open, gate_at, gate_place,
 use Rattle.cds_layout.specs.Directory.{agree}
 use Rattle.cds_layout.specs.Images.{held_in, is_whole, data_in, data_place}
 use Rattle.cds_store.specs.Sound.{slot_at, AreTogether, EntryIs, IsNew}
-use Rattle.cds_store.specs.Standing.{slot_of}
+use Rattle.cds_store.specs.StoreBlocks.{slot_of}
 use Rattle.cds_store.specs.Writes.{Prepares}
 use Rattle.cds_store.specs.declared.slot.Slot.{Slot}
-use Rattle.cds_store.proofs.Changes.{Elsewhere, elsewhere_on, Stands, stands_slot, stands_after}
+use Rattle.cds_store.proofs.Changes.{Elsewhere, elsewhere_on, MatchesBlocks, stands_slot, stands_after}
 use Rattle.cds_store.proofs.Frames.{gate_stays, tail_stays, held_stays, in_entry, in_block}
 use Rattle.cds_layout.proofs.EntryLaws.{IsRight, right-parts}
 use Rattle.cds_store.proofs.Together.{there_within, together_without, together_same, together_set}
@@ -35,7 +35,7 @@ pub may_give_alike : (tries : List (List ℕ)) (b c : Stored) (given : Option (L
 may_give_alike [] b c given block held gives = gives ∙ sym held
 may_give_alike (try ∷ tries) b c given block held gives = subst (λ (d : Block). IfSome given (λ image. length image ≡ d.size)) (sym block) gives
 
-module _ (n : ℕ) (slots : List (Option Slot)) (blocks : Blocks) (old image : List ℕ) (b : Stored) (stands : Stands old slots blocks) (there : stored_at blocks n ≡ Some b) (torn : Torn (gate_place n) 1 old image) where
+module _ (n : ℕ) (slots : List (Option Slot)) (blocks : Blocks) (old image : List ℕ) (b : Stored) (stands : MatchesBlocks old slots blocks) (there : stored_at blocks n ≡ Some b) (torn : Torn (gate_place n) 1 old image) where
   gate_slot : slot_at slots n ≡ Some (slot_of b)
   gate_slot = stands_slot old slots blocks stands n b there
 
@@ -54,16 +54,16 @@ module _ (n : ℕ) (slots : List (Option Slot)) (blocks : Blocks) (old image : L
       subst (MayGive b) (sym (held_stays (gate_place n) 1 old image torn b.block right.some (inr (omega (arith, gate_within, right.behind))))) (stands.held n b there)
 
   -- it is in doubt
-  pub gate_torn : Stands image (slice_set slots n (Some (slot_of (in_doubt b)))) (delete_broken n blocks)
+  pub gate_torn : MatchesBlocks image (slice_set slots n (Some (slot_of (in_doubt b)))) (delete_broken n blocks)
   gate_torn =
-      subst (λ o. Stands image (slice_set slots n (Some (slot_of (in_doubt b)))) (slice_set blocks n (option_map in_doubt o))) (sym there)
+      subst (λ o. MatchesBlocks image (slice_set slots n (Some (slot_of (in_doubt b)))) (slice_set blocks n (option_map in_doubt o))) (sym there)
       (stands_after n slots blocks old image gate_elsewhere gate_within stands (Some (in_doubt b))
       (together_same slots n (slot_of b) (slot_of (in_doubt b)) stands.together gate_slot refl)
       (gate_tail, λ sure. absurd (cc sure))
       (λ c is. rw (← same_Some (in_doubt b) c is) (may_give_alike b.trying b (in_doubt b) (held_in image b.block) refl refl gate_held)))
 
   -- it is closed
-  pub gate_closed : (gate_at image n == gate_open) ≡ false → Stands image (slice_set slots n None) (deleted n blocks)
+  pub gate_closed : (gate_at image n == gate_open) ≡ false → MatchesBlocks image (slice_set slots n None) (deleted n blocks)
   gate_closed shut =
       stands_after n slots blocks old image gate_elsewhere gate_within stands None
       (together_without slots n stands.together gate_within)
@@ -72,7 +72,7 @@ module _ (n : ℕ) (slots : List (Option Slot)) (blocks : Blocks) (old image : L
 
 -- ---- a new block
 
-module _ (n : ℕ) (slots : List (Option Slot)) (blocks : Blocks) (old image : List ℕ) (block : Block) (stands : Stands old slots blocks) (new : IsNew n slots block) where
+module _ (n : ℕ) (slots : List (Option Slot)) (blocks : Blocks) (old image : List ℕ) (block : Block) (stands : MatchesBlocks old slots blocks) (new : IsNew n slots block) where
   no_block : (o : Option Stored) → stored_at blocks n ≡ o → o ≡ None
   no_block None is = refl
   no_block (Some b) is = absurd (cc (sym new.free ∙ stands_slot old slots blocks stands n b is))
@@ -81,7 +81,7 @@ module _ (n : ℕ) (slots : List (Option Slot)) (blocks : Blocks) (old image : L
   new_agrees k s other there = new.agrees k s there
 
   -- before its gate is opened, nothing has changed
-  pub prepared : Prepares n block old image → Stands image slots blocks
+  pub prepared : Prepares n block old image → MatchesBlocks image slots blocks
   prepared prepares =
       let right = right-parts block new.right in
       let head : Elsewhere n slots old prepares.wiped = in_block block.offset 8 old prepares.wiped n slots block prepares.head stands.together right.behind new_agrees (omega arith) (omega arith) in
@@ -89,18 +89,18 @@ module _ (n : ℕ) (slots : List (Option Slot)) (blocks : Blocks) (old image : L
       let gate : gate_at image n ≡ gate_at old n =
       gate_stays (tail_place n) tail_len prepares.wiped image prepares.entry n (inl (omega arith)) ∙ gate_stays block.offset 8 old prepares.wiped prepares.head n (inl (omega (arith, new.within, right.behind))) in
       let shut : (gate_at old n == gate_open) ≡ false = subst (EntryIs old n) new.free (stands.matches.entries n new.within) in
-      let after : Stands image (slice_set slots n None) (slice_set blocks n None) =
+      let after : MatchesBlocks image (slice_set slots n None) (slice_set blocks n None) =
       stands_after n slots blocks old image (elsewhere_on n slots old prepares.wiped image head entry) new.within stands None
       (together_without slots n stands.together new.within)
       (ap (λ g. g == gate_open) gate ∙ shut)
       (λ c is. absurd (cc is)) in
-      subst (λ (l : List (Option Slot)). Stands image l blocks) (put_back slots n None new.free)
-      (subst (λ (l : Blocks). Stands image (slice_set slots n None) l) (put_back blocks n None (no_block (stored_at blocks n) refl)) after)
+      subst (λ (l : List (Option Slot)). MatchesBlocks image l blocks) (put_back slots n None new.free)
+      (subst (λ (l : Blocks). MatchesBlocks image (slice_set slots n None) l) (put_back blocks n None (no_block (stored_at blocks n) refl)) after)
 
   -- once its entry stands and its head is wiped, the write that opens the gate makes it
   pub made_torn : (doubtful : Bool) → Torn (gate_place n) 1 old image → block_in (tail_at old n) ≡ Some block → held_in old block ≡ None
       → (doubtful ≡ false → (gate_at image n == gate_open) ≡ true)
-      → Stands image (slice_set slots n (Some (record { block = block; doubtful = doubtful }))) (slice_set blocks n (Some (new_block doubtful block.kind block.name block.size block.offset)))
+      → MatchesBlocks image (slice_set slots n (Some (record { block = block; doubtful = doubtful }))) (slice_set blocks n (Some (new_block doubtful block.kind block.name block.size block.offset)))
   made_torn doubtful torn told wiped sure =
       let right = right-parts block new.right in
       let made = new_block doubtful block.kind block.name block.size block.offset in
@@ -125,7 +125,7 @@ may_give_any : (tries : List (List ℕ)) (copy : List ℕ) (b : Stored) (given :
 may_give_any [] copy b given fits = fits
 may_give_any (try ∷ tries) copy b given fits = fits
 
-module _ (n : ℕ) (slots : List (Option Slot)) (blocks : Blocks) (old image : List ℕ) (b : Stored) (stands : Stands old slots blocks) (there : stored_at blocks n ≡ Some b) where
+module _ (n : ℕ) (slots : List (Option Slot)) (blocks : Blocks) (old image : List ℕ) (b : Stored) (stands : MatchesBlocks old slots blocks) (there : stored_at blocks n ≡ Some b) where
   own_slot : slot_at slots n ≡ Some (slot_of b)
   own_slot = stands_slot old slots blocks stands n b there
 
@@ -136,28 +136,28 @@ module _ (n : ℕ) (slots : List (Option Slot)) (blocks : Blocks) (old image : L
   own_right = right-parts b.block (stands.together.right n (slot_of b) own_slot)
 
   -- what is known of it changes, and neither its entry nor its slot does
-  own_changed : (c : Stored) → slot_of c ≡ slot_of b → Torn b.block.offset (8 + b.block.size) old image → MayGive c (held_in image c.block) → Stands image slots (slice_set blocks n (Some c))
+  own_changed : (c : Stored) → slot_of c ≡ slot_of b → Torn b.block.offset (8 + b.block.size) old image → MayGive c (held_in image c.block) → MatchesBlocks image slots (slice_set blocks n (Some c))
   own_changed c same torn gives =
       let entry : EntryIs old n (Some (slot_of b)) = subst (EntryIs old n) own_slot (stands.matches.entries n own_within) in
       let gate : gate_at image n ≡ gate_at old n = gate_stays b.block.offset (8 + b.block.size) old image torn n (inl (omega (arith, own_within, own_right.behind))) in
       let tail : tail_at image n ≡ tail_at old n = tail_stays b.block.offset (8 + b.block.size) old image torn n (inl (omega (arith, own_within, own_right.behind))) in
-      let after : Stands image (slice_set slots n (Some (slot_of c))) (slice_set blocks n (Some c)) =
+      let after : MatchesBlocks image (slice_set slots n (Some (slot_of c))) (slice_set blocks n (Some c)) =
       stands_after n slots blocks old image
       (in_block b.block.offset (8 + b.block.size) old image n slots b.block torn stands.together own_right.behind (λ k s other at_k. stands.together.apart n k (λ e. other (sym e)) (slot_of b) own_slot s at_k) (omega arith) (omega arith))
       own_within stands (Some c)
       (together_same slots n (slot_of b) (slot_of c) stands.together own_slot (ap (λ (s : Slot). s.block) same))
       (ap block_in tail ∙ entry.0 ∙ ap (λ (s : Slot). Some s.block) (sym same), λ sure. ap (λ g. g == gate_open) gate ∙ entry.1 (ap (λ (s : Slot). s.doubtful) (sym same) ∙ sure))
       (λ d is. subst (λ (e : Stored). MayGive e (held_in image e.block)) (same_Some c d is) gives) in
-      subst (λ (l : List (Option Slot)). Stands image l (slice_set blocks n (Some c))) (put_back slots n (Some (slot_of c)) (own_slot ∙ ap Some (sym same))) after
+      subst (λ (l : List (Option Slot)). MatchesBlocks image l (slice_set blocks n (Some c))) (put_back slots n (Some (slot_of c)) (own_slot ∙ ap Some (sym same))) after
 
   -- a copy of an image broke off
-  pub copy_torn : (copy : List ℕ) → bank_size ≤ length image → Torn b.block.offset (8 + b.block.size) old image → Stands image slots (copy_broken n copy blocks)
+  pub copy_torn : (copy : List ℕ) → bank_size ≤ length image → Torn b.block.offset (8 + b.block.size) old image → MatchesBlocks image slots (copy_broken n copy blocks)
   copy_torn copy long torn =
-      subst (λ o. Stands image slots (slice_set blocks n (option_map (with_try copy) o))) (sym there)
+      subst (λ o. MatchesBlocks image slots (slice_set blocks n (option_map (with_try copy) o))) (sym there)
       (own_changed (with_try copy b) refl torn (may_give_any b.trying copy (with_try copy b) (held_in image b.block) (held_length image b.block (omega (arith, long, own_right.inside)))))
 
   -- it holds this, whole or torn
-  pub settled_to : (given : Option (List ℕ)) → Torn b.block.offset (8 + b.block.size) old image → held_in image b.block ≡ given → Stands image slots (restored n given blocks)
+  pub settled_to : (given : Option (List ℕ)) → Torn b.block.offset (8 + b.block.size) old image → held_in image b.block ≡ given → MatchesBlocks image slots (restored n given blocks)
   settled_to given torn holds =
-      subst (λ o. Stands image slots (slice_set blocks n (option_map (with_held given) o))) (sym there)
+      subst (λ o. MatchesBlocks image slots (slice_set blocks n (option_map (with_held given) o))) (sym there)
       (own_changed (with_held given b) refl torn holds)

@@ -12,7 +12,7 @@ use Rattle.cds_layout.specs.Entries.{slot_count, gate_open, gate_at}
 use Rattle.cds_layout.specs.Directory.{is_live, directory_len, directory_of}
 use Rattle.cds_layout.specs.Images.{held_in, store_of}
 use Rattle.cds_store.specs.Sound.{slot_at, EntryIs}
-use Rattle.cds_store.specs.Standing.{StoreParts, StandsFor}
+use Rattle.cds_store.specs.StoreBlocks.{StoreParts, StandsFor}
 use Rattle.cds_store.specs.declared.slot.Slot.{Slot}
 
 -- the first bytes of the bank, and the directory that they tell
@@ -75,7 +75,7 @@ BeginsAt tells now kept blocks = StandsFor tells now kept blocks ⊎ (tells × (
 abbrev pub is_dead : List ℕ → Bool
 is_dead bytes = not (byte_at 0 bytes == 0x43)
 
--- behind the first byte, the rest of the live mark
+-- after the first byte, the rest of the live mark
 abbrev pub HasMark : List ℕ → Type 0
 HasMark bytes = piece 1 3 bytes ≡ 0x44 ∷ 0x53 ∷ 0x31 ∷ []
 

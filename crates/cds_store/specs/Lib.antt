@@ -4,5 +4,5 @@ pub mod Moments
 pub mod Recovery
 pub mod Slots
 pub mod Sound
-pub mod Standing
+pub mod StoreBlocks
 pub mod Writes

@@ -8,7 +8,7 @@ use Rattle.tbl_kinds.specs.declared.request.ResetKind.{ResetKind}
 use Rattle.tbl_kinds.specs.declared.request.ResetKind.TheVariants.{PowerOn}
 use Rattle.tbl_kinds.specs.Numbers.{patched}
 use Rattle.tbl_outside.specs.Bank.{Torn}
-use Rattle.cds_store.specs.Standing.{closing, with_new}
+use Rattle.cds_store.specs.StoreBlocks.{closing, with_new}
 use Rattle.cds_layout.specs.Images.{store_of, head_len, data_place}
 
 -- the image shows these blocks

@@ -5,7 +5,7 @@ use Rattle.tbl_kinds.specs.Places.{bank_size}
 use Rattle.tbl_kinds.specs.declared.block.Block.{Block}
 use Rattle.cds_layout.specs.Entries.{slot_count, gate_open, gate_at, tail_at, block_in, is_right}
 use Rattle.cds_layout.specs.Directory.{directory_len, is_live, agree}
-use Rattle.cds_store.specs.Standing.{StoreParts}
+use Rattle.cds_store.specs.StoreBlocks.{StoreParts}
 use Rattle.cds_store.specs.declared.slot.Slot.{Slot}
 
 abbrev pub slot_at : List (Option Slot) → ℕ → Option Slot

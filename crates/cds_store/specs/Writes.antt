@@ -5,7 +5,7 @@ use Rattle.tbl_outside.specs.Bank.{Torn}
 use Rattle.cds_layout.specs.Entries.{tail_place, tail_len}
 use Rattle.cds_layout.specs.Images.{head_len}
 
--- a block is prepared: its head is wiped, and then the entry of its slot is written behind the gate. Either write may
+-- a block is prepared: its head is wiped, and then the entry of its slot is written after the gate. Either write may
 -- break off
 pub record Prepares (slot : ℕ) (b : Block) (old image : List ℕ) : Type 0 where
   pub wiped : List ℕ

@@ -17,7 +17,7 @@ ghost use Rattle.cds_layout.specs.Order.{clear_calls, boot_writes, boot_calls};
 ghost use Rattle.cds_store.specs.Calls.{Steady, CallCounted, is_old};
 ghost use Rattle.cds_store.specs.Moments.{BootLeaves};
 ghost use Rattle.cds_store.specs.Sound.{IsSound};
-ghost use Rattle.cds_store.specs.Standing.{StandsFor, kept};
+ghost use Rattle.cds_store.specs.StoreBlocks.{StandsFor, kept};
 
 use crate::clearing::clear;
 use crate::fault::BankFault;
@@ -44,7 +44,7 @@ pub(crate) fn read_front<B: Bank>(
         LeavesOnly B.clock B.left_since bank.old bank.new (λ image. image ≡ B.now bank.old) }
     ensures steady { Steady B.size B.faults B.stops bank.old bank.new }
     ensures counted { CallCounted B.faults B.stops bank.old bank.new result }
-    ensures asked { Asks B.tells_calls B.calls bank.old bank.new (is_ok result) (read 0 directory_len ∷ []) }
+    ensures bank_calls { Asks B.tells_calls B.calls bank.old bank.new (is_ok result) (read 0 directory_len ∷ []) }
     ensures not_old { IfErr result (λ fault. is_old fault ≡ false) }
 {
     match bank.read_at(0, front) {
@@ -95,7 +95,7 @@ pub(crate) fn clear_all<B: Bank>(bank: &mut B, front: &mut [u8]) -> Result<(), B
     ensures moments { B.tells_moments → LeavesOnly B.clock B.left_since bank.old bank.new (Clears (B.now bank.old)) }
     ensures steady { Steady B.size B.faults B.stops bank.old bank.new }
     ensures counted { CallCounted B.faults B.stops bank.old bank.new result }
-    ensures asked { B.tells →
+    ensures bank_calls { B.tells →
         Asks B.tells_calls B.calls bank.old bank.new (is_ok result) (clear_calls (B.now bank.old)) }
     ensures not_old { IfErr result (λ fault. is_old fault ≡ false) }
 {
@@ -116,7 +116,7 @@ fn tidy<B: Bank>(bank: &mut B, front: &mut [u8], directory: &Directory) -> Resul
         LeavesOnly B.clock B.left_since bank.old bank.new (SameStore (B.now bank.old)) }
     ensures steady { Steady B.size B.faults B.stops bank.old bank.new }
     ensures counted { CallCounted B.faults B.stops bank.old bank.new result }
-    ensures asked { B.tells →
+    ensures bank_calls { B.tells →
         Asks B.tells_calls B.calls bank.old bank.new (is_ok result) (boot_writes Processor (B.now bank.old)) }
     ensures not_old { IfErr result (λ fault. is_old fault ≡ false) }
 {
@@ -149,7 +149,7 @@ pub(crate) fn boot_processor<B: Bank>(
         LeavesOnly B.clock B.left_since bank.old bank.new (SameStore (B.now bank.old)) }
     ensures steady { Steady B.size B.faults B.stops bank.old bank.new }
     ensures counted { CallCounted B.faults B.stops bank.old bank.new result }
-    ensures asked { B.tells →
+    ensures bank_calls { B.tells →
         Asks B.tells_calls B.calls bank.old bank.new (is_ok result) (boot_writes Processor (B.now bank.old)) }
     ensures not_old { IfErr result (λ fault. is_old fault ≡ false) }
 {
@@ -178,7 +178,7 @@ pub(crate) fn boot_power_on<B: Bank>(
     ensures moments { B.tells_moments → LeavesOnly B.clock B.left_since bank.old bank.new (Clears (B.now bank.old)) }
     ensures steady { Steady B.size B.faults B.stops bank.old bank.new }
     ensures counted { CallCounted B.faults B.stops bank.old bank.new result }
-    ensures asked { B.tells →
+    ensures bank_calls { B.tells →
         Asks B.tells_calls B.calls bank.old bank.new (is_ok result) (boot_writes PowerOn (B.now bank.old)) }
     ensures not_old { IfErr result (λ fault. is_old fault ≡ false) }
 {
@@ -214,7 +214,7 @@ fn boot_as<B: Bank>(
         LeavesOnly B.clock B.left_since bank.old bank.new (BootLeaves kind blocks) }
     ensures steady { Steady B.size B.faults B.stops bank.old bank.new }
     ensures counted { CallCounted B.faults B.stops bank.old bank.new result }
-    ensures asked { B.tells →
+    ensures bank_calls { B.tells →
         Asks B.tells_calls B.calls bank.old bank.new (is_ok result) (boot_writes kind (B.now bank.old)) }
     ensures not_old { IfErr result (λ fault. is_old fault ≡ false) }
 {
@@ -249,7 +249,7 @@ pub(crate) fn boot<B: Bank>(
         LeavesOnly B.clock B.left_since bank.old bank.new (BootLeaves kind blocks) }
     ensures steady { Steady B.size B.faults B.stops bank.old bank.new }
     ensures counted { CallCounted B.faults B.stops bank.old bank.new result }
-    ensures asked { B.tells →
+    ensures bank_calls { B.tells →
         Asks B.tells_calls B.calls bank.old bank.new (is_ok result) (boot_calls kind (B.now bank.old)) }
     ensures not_old { IfErr result (λ fault. is_old fault ≡ false) }
 {

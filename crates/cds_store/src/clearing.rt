@@ -29,7 +29,7 @@ fn close_live<B: Bank>(bank: &mut B, first: u8) -> Result<(), BankFault>
     ensures moments { B.tells_moments → LeavesOnly B.clock B.left_since bank.old bank.new (Clears (B.now bank.old)) }
     ensures steady { Steady B.size B.faults B.stops bank.old bank.new }
     ensures counted { CallCounted B.faults B.stops bank.old bank.new result }
-    ensures asked { Asks B.tells_calls B.calls bank.old bank.new (is_ok result) (if first == 0x43 then write 0 (0 ∷ []) ∷ [] else []) }
+    ensures bank_calls { Asks B.tells_calls B.calls bank.old bank.new (is_ok result) (if first == 0x43 then write 0 (0 ∷ []) ∷ [] else []) }
     ensures not_old { IfErr result (λ fault. is_old fault ≡ false) }
 {
     if first == LIVE {
@@ -49,7 +49,7 @@ fn write_mark<B: Bank>(bank: &mut B) -> Result<(), BankFault>
     ensures moments { B.tells_moments → LeavesOnly B.clock B.left_since bank.old bank.new IsEmptied }
     ensures steady { Steady B.size B.faults B.stops bank.old bank.new }
     ensures counted { CallCounted B.faults B.stops bank.old bank.new result }
-    ensures asked { Asks B.tells_calls B.calls bank.old bank.new (is_ok result) (write 1 (0x44 ∷ 0x53 ∷ 0x31 ∷ replicate 12 0) ∷ []) }
+    ensures bank_calls { Asks B.tells_calls B.calls bank.old bank.new (is_ok result) (write 1 (0x44 ∷ 0x53 ∷ 0x31 ∷ replicate 12 0) ∷ []) }
     ensures not_old { IfErr result (λ fault. is_old fault ≡ false) }
 {
     write(
@@ -74,7 +74,7 @@ fn write_entries<B: Bank>(bank: &mut B, zeros: &[u8]) -> Result<(), BankFault>
     ensures moments { B.tells_moments → LeavesOnly B.clock B.left_since bank.old bank.new IsEmptied }
     ensures steady { Steady B.size B.faults B.stops bank.old bank.new }
     ensures counted { CallCounted B.faults B.stops bank.old bank.new result }
-    ensures asked { Asks B.tells_calls B.calls bank.old bank.new (is_ok result) (write 16 zeros.now ∷ []) }
+    ensures bank_calls { Asks B.tells_calls B.calls bank.old bank.new (is_ok result) (write 16 zeros.now ∷ []) }
     ensures not_old { IfErr result (λ fault. is_old fault ≡ false) }
 {
     write(bank, ENTRIES_PLACE, zeros, false, false)
@@ -90,7 +90,7 @@ fn open_live<B: Bank>(bank: &mut B) -> Result<(), BankFault>
     ensures moments { B.tells_moments → LeavesOnly B.clock B.left_since bank.old bank.new IsEmptied }
     ensures steady { Steady B.size B.faults B.stops bank.old bank.new }
     ensures counted { CallCounted B.faults B.stops bank.old bank.new result }
-    ensures asked { Asks B.tells_calls B.calls bank.old bank.new (is_ok result) (write 0 (0x43 ∷ []) ∷ []) }
+    ensures bank_calls { Asks B.tells_calls B.calls bank.old bank.new (is_ok result) (write 0 (0x43 ∷ []) ∷ []) }
     ensures not_old { IfErr result (λ fault. is_old fault ≡ false) }
 {
     write(bank, 0, &[LIVE], false, false)
@@ -108,7 +108,7 @@ pub(crate) fn clear<B: Bank>(bank: &mut B, first: u8, zeros: &[u8]) -> Result<()
     ensures moments { B.tells_moments → LeavesOnly B.clock B.left_since bank.old bank.new (Clears (B.now bank.old)) }
     ensures steady { Steady B.size B.faults B.stops bank.old bank.new }
     ensures counted { CallCounted B.faults B.stops bank.old bank.new result }
-    ensures asked { Asks B.tells_calls B.calls bank.old bank.new (is_ok result) (clear_by first zeros.now) }
+    ensures bank_calls { Asks B.tells_calls B.calls bank.old bank.new (is_ok result) (clear_by first zeros.now) }
     ensures not_old { IfErr result (λ fault. is_old fault ≡ false) }
 {
     close_live(bank, first)?;

@@ -1,6 +1,6 @@
 use thiserror::Error;
 
-/// How a write of a call broke off. The call did nothing behind it.
+/// How a write of a call broke off. The call did nothing after it.
 #[derive(Clone, Copy, Debug, PartialEq, Eq, Error)]
 pub enum BankFault {
     /// The bank failed.

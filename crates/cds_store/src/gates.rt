@@ -11,7 +11,7 @@ ghost use Rattle.cds_layout.specs.Order.{delete_calls};
 ghost use Rattle.cds_store.specs.Calls.{Steady, CallCounted, HasFlags};
 ghost use Rattle.cds_store.specs.Moments.{LeavesIn};
 ghost use Rattle.cds_store.specs.Sound.{slot_at, IsSound};
-ghost use Rattle.cds_store.specs.Standing.{StandsFor, kept, doubted};
+ghost use Rattle.cds_store.specs.StoreBlocks.{StandsFor, kept, doubted};
 
 use crate::fault::BankFault;
 use crate::slot::Slot;
@@ -49,7 +49,7 @@ pub(crate) fn close<B: Bank>(
     ensures freed { OnOk result (slots.new.items ≡ slice_set slots.old.items slot None) }
     ensures steady { Steady B.size B.faults B.stops bank.old bank.new }
     ensures counted { CallCounted B.faults B.stops bank.old bank.new result }
-    ensures asked { Asks B.tells_calls B.calls bank.old bank.new (is_ok result) (delete_calls slot) }
+    ensures bank_calls { Asks B.tells_calls B.calls bank.old bank.new (is_ok result) (delete_calls slot) }
     ensures flags { IfErr result (HasFlags true old) }
 {
     match set_gate(bank, slot, GATE_CLOSED, old) {

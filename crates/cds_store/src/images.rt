@@ -13,7 +13,7 @@ ghost use Rattle.cds_layout.specs.Restores.{TellsTorn, SaysWhy, RestoreCounted, 
 ghost use Rattle.cds_store.specs.Calls.{Steady, CallCounted, HasFlags};
 ghost use Rattle.cds_store.specs.Moments.{LeavesIn, CopyTears};
 ghost use Rattle.cds_store.specs.Sound.{slot_at, IsSound, IsOpenOf};
-ghost use Rattle.cds_store.specs.Standing.{StandsFor, kept, after_fault, held_at, ComesBack};
+ghost use Rattle.cds_store.specs.StoreBlocks.{StandsFor, kept, after_fault, held_at, ComesBack};
 
 use crate::fault::BankFault;
 use crate::slot::Slot;
@@ -41,7 +41,7 @@ pub(crate) fn copy<B: Bank>(
         LeavesOnly B.clock B.left_since bank.old bank.new (CopyTears s.block image.now (B.now bank.old))) }
     ensures steady { Steady B.size B.faults B.stops bank.old bank.new }
     ensures counted { CallCounted B.faults B.stops bank.old bank.new result }
-    ensures asked { ForSome (slot_at slots.now slot) (λ s.
+    ensures bank_calls { ForSome (slot_at slots.now slot) (λ s.
         Asks B.tells_calls B.calls bank.old bank.new (is_ok result) (copy_calls s.block image.now)) }
     ensures flags { IfErr result (HasFlags false false) }
 {
@@ -76,7 +76,7 @@ pub(crate) fn restore<B: Bank>(
         LeavesOnly B.clock B.left_since bank.old bank.new (λ image. image ≡ B.now bank.old) }
     ensures steady { Steady B.size B.faults B.stops bank.old bank.new }
     ensures counted { RestoreCounted B.faults B.stops bank.old bank.new result }
-    ensures asked { ForSome (slot_at slots.now slot) (λ s.
+    ensures bank_calls { ForSome (slot_at slots.now slot) (λ s.
         Asks B.tells_calls B.calls bank.old bank.new (was_read result) (restore_calls s.block)) }
 {
     match &slots[slot as usize] {

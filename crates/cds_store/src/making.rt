@@ -10,7 +10,7 @@ ghost use Rattle.cds_layout.specs.Order.{make_calls};
 ghost use Rattle.cds_store.specs.Calls.{Steady, CallCounted, HasFlags, is_gate, is_old};
 ghost use Rattle.cds_store.specs.Moments.{ShowsIn};
 ghost use Rattle.cds_store.specs.Sound.{slot_at, IsSound, IsNew};
-ghost use Rattle.cds_store.specs.Standing.{StandsFor, kept, with_new, made_or_not};
+ghost use Rattle.cds_store.specs.StoreBlocks.{StandsFor, kept, with_new, made_or_not};
 
 use crate::fault::BankFault;
 use crate::slot::Slot;
@@ -39,7 +39,7 @@ fn open_gate<B: Bank>(
         LeavesOnly B.clock B.left_since bank.old bank.new (ShowsIn (with_new true slot block blocks)) }
     ensures steady { Steady B.size B.faults B.stops bank.old bank.new }
     ensures counted { CallCounted B.faults B.stops bank.old bank.new result }
-    ensures asked { Asks B.tells_calls B.calls bank.old bank.new (is_ok result) (write (gate_place slot) (gate_open ∷ []) ∷ []) }
+    ensures bank_calls { Asks B.tells_calls B.calls bank.old bank.new (is_ok result) (write (gate_place slot) (gate_open ∷ []) ∷ []) }
     ensures flags { IfErr result (HasFlags true false) }
 {
     let written = set_gate(bank, slot, GATE_OPEN, false);
@@ -72,7 +72,7 @@ pub(crate) fn make<B: Bank>(
         (λ image. ShowsIn blocks image ⊎ ShowsIn (with_new true slot block blocks) image) }
     ensures steady { Steady B.size B.faults B.stops bank.old bank.new }
     ensures counted { CallCounted B.faults B.stops bank.old bank.new result }
-    ensures asked { Asks B.tells_calls B.calls bank.old bank.new (is_ok result) (make_calls slot block) }
+    ensures bank_calls { Asks B.tells_calls B.calls bank.old bank.new (is_ok result) (make_calls slot block) }
     ensures flags { IfErr result (λ fault. is_old fault ≡ false) }
 {
     prepare(bank, slot, &block)?;

@@ -9,7 +9,7 @@ ghost use Rattle.cds_layout.specs.Images.{store_of};
 ghost use Rattle.tbl_outside.specs.Counts.{Still};
 ghost use Rattle.cds_store.specs.Recovery.{Recovers, RecoverCounted};
 ghost use Rattle.cds_store.specs.Sound.{slot_at, IsOpenOf};
-ghost use Rattle.cds_store.specs.Standing.{StandsFor};
+ghost use Rattle.cds_store.specs.StoreBlocks.{StandsFor};
 
 use crate::fault::BankFault;
 use crate::store::Store;

@@ -14,7 +14,7 @@ ghost use Rattle.cds_store.specs.Calls.{Steady, CallCounted, ReserveCounted, Has
 ghost use Rattle.cds_store.specs.Moments.{ShowsIn, LeavesIn, MakeLeaves};
 ghost use Rattle.cds_store.specs.Slots.{open_slot, doubtful_slot, without_slot, room_in};
 ghost use Rattle.cds_store.specs.Sound.{slot_at, IsSound, IsNew};
-ghost use Rattle.cds_store.specs.Standing.{StandsFor, kept, with_new, closing, broken_at};
+ghost use Rattle.cds_store.specs.StoreBlocks.{StandsFor, kept, with_new, closing, broken_at};
 
 use crate::fault::{BankFault, ReserveFault};
 use crate::gates::close;
@@ -45,7 +45,7 @@ fn close_old<B: Bank>(
     ensures freed { OnOk result (slots.new.items ≡ without_slot old slots.old.items) }
     ensures steady { Steady B.size B.faults B.stops bank.old bank.new }
     ensures counted { CallCounted B.faults B.stops bank.old bank.new result }
-    ensures asked { Asks B.tells_calls B.calls bank.old bank.new (is_ok result) (close_calls old) }
+    ensures bank_calls { Asks B.tells_calls B.calls bank.old bank.new (is_ok result) (close_calls old) }
     ensures flags { IfErr result (HasFlags true true) }
     ensures there { IfErr result (λ fault. IsSome old) }
 {
@@ -78,7 +78,7 @@ fn make_instead<B: Bank>(
         LeavesOnly B.clock B.left_since bank.old bank.new (MakeLeaves old slot block blocks) }
     ensures steady { Steady B.size B.faults B.stops bank.old bank.new }
     ensures counted { CallCounted B.faults B.stops bank.old bank.new result }
-    ensures asked { Asks B.tells_calls B.calls bank.old bank.new (is_ok result) (reserve_calls old slot block) }
+    ensures bank_calls { Asks B.tells_calls B.calls bank.old bank.new (is_ok result) (reserve_calls old slot block) }
     ensures flags { IfErr result (λ fault. is_old fault ≡ true → (is_gate fault ≡ true) × IsSome old) }
 {
     close_old(bank, slots, old)?;
@@ -119,7 +119,7 @@ pub(crate) fn reserve<B: Bank>(
         LeavesOnly B.clock B.left_since bank.old bank.new (LeavesIn (reserve kind name.now size) blocks) }
     ensures steady { Steady B.size B.faults B.stops bank.old bank.new }
     ensures counted { ReserveCounted B.faults B.stops bank.old bank.new result }
-    ensures asked { let old = doubtful_slot kind name.now slots.old.items in
+    ensures bank_calls { let old = doubtful_slot kind name.now slots.old.items in
         ForSome (room_in size (without_slot old slots.old.items)) (λ room.
         Asks B.tells_calls B.calls bank.old bank.new (is_ok result)
         (reserve_calls old room.0 (record { kind = kind; offset = room.1; size = size; name = name.now }))) }

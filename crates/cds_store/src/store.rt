@@ -18,7 +18,7 @@ ghost use Rattle.cds_store.specs.Calls.{Steady, CallCounted, ReserveCounted, Has
 ghost use Rattle.cds_store.specs.Moments.{BootLeaves, LeavesIn, CopyTears};
 ghost use Rattle.cds_store.specs.Slots.{open_slot, doubtful_slot, without_slot, room_in, block_of, has_open};
 ghost use Rattle.cds_store.specs.Sound.{slot_at, IsOpenOf};
-ghost use Rattle.cds_store.specs.Standing.{StandsFor, after_fault, held_at, ComesBack};
+ghost use Rattle.cds_store.specs.StoreBlocks.{StandsFor, after_fault, held_at, ComesBack};
 
 use crate::boot::boot;
 use crate::fault::{BankFault, ReserveFault};
@@ -46,7 +46,7 @@ pub struct Store<B: Bank> {
 }
 
 impl<B: Bank> Model for Store<B> {
-    ghost use Rattle.cds_store.specs.Standing.{StoreParts};
+    ghost use Rattle.cds_store.specs.StoreBlocks.{StoreParts};
     ghost use Rattle.cds_store.specs.Sound.{IsKept};
 
     ghost Value = { StoreParts B };
@@ -146,7 +146,7 @@ impl<B: Bank> Store<B> {
             LeavesOnly B.clock B.left_since self.old.bank self.new.bank (BootLeaves kind blocks) }
         ensures steady { Steady B.size B.faults B.stops self.old.bank self.new.bank }
         ensures counted { CallCounted B.faults B.stops self.old.bank self.new.bank result }
-        ensures asked { B.tells →
+        ensures bank_calls { B.tells →
             Asks B.tells_calls B.calls self.old.bank self.new.bank (is_ok result) (boot_calls kind (B.now self.old.bank)) }
         ensures not_old { IfErr result (λ fault. is_old fault ≡ false) }
     {
@@ -243,7 +243,7 @@ impl<B: Bank> Store<B> {
             LeavesOnly B.clock B.left_since self.old.bank self.new.bank (LeavesIn (reserve kind name.now size) blocks) }
         ensures steady { Steady B.size B.faults B.stops self.old.bank self.new.bank }
         ensures counted { ReserveCounted B.faults B.stops self.old.bank self.new.bank result }
-        ensures asked { let old = doubtful_slot kind name.now self.old.slots in
+        ensures bank_calls { let old = doubtful_slot kind name.now self.old.slots in
             ForSome (room_in size (without_slot old self.old.slots)) (λ room.
             Asks B.tells_calls B.calls self.old.bank self.new.bank (is_ok result)
             (reserve_calls old room.0 (record { kind = kind; offset = room.1; size = size; name = name.now }))) }
@@ -268,7 +268,7 @@ impl<B: Bank> Store<B> {
             (CopyTears s.block image.now (B.now self.old.bank))) }
         ensures steady { Steady B.size B.faults B.stops self.old.bank self.new.bank }
         ensures counted { CallCounted B.faults B.stops self.old.bank self.new.bank result }
-        ensures asked { ForSome (slot_at self.old.slots slot) (λ s.
+        ensures bank_calls { ForSome (slot_at self.old.slots slot) (λ s.
             Asks B.tells_calls B.calls self.old.bank self.new.bank (is_ok result) (copy_calls s.block image.now)) }
         ensures flags { IfErr result (HasFlags false false) }
     {
@@ -298,7 +298,7 @@ impl<B: Bank> Store<B> {
             LeavesOnly B.clock B.left_since self.old.bank self.new.bank (λ image. image ≡ B.now self.old.bank) }
         ensures steady { Steady B.size B.faults B.stops self.old.bank self.new.bank }
         ensures counted { RestoreCounted B.faults B.stops self.old.bank self.new.bank result }
-        ensures asked { ForSome (slot_at self.old.slots slot) (λ s.
+        ensures bank_calls { ForSome (slot_at self.old.slots slot) (λ s.
             Asks B.tells_calls B.calls self.old.bank self.new.bank (was_read result) (restore_calls s.block)) }
     {
         restore(&mut self.bank, &self.slots, slot, into)
@@ -322,7 +322,7 @@ impl<B: Bank> Store<B> {
             LeavesOnly B.clock B.left_since self.old.bank self.new.bank (LeavesIn (delete slot) blocks) }
         ensures steady { Steady B.size B.faults B.stops self.old.bank self.new.bank }
         ensures counted { CallCounted B.faults B.stops self.old.bank self.new.bank result }
-        ensures asked { Asks B.tells_calls B.calls self.old.bank self.new.bank (is_ok result) (delete_calls slot) }
+        ensures bank_calls { Asks B.tells_calls B.calls self.old.bank self.new.bank (is_ok result) (delete_calls slot) }
         ensures flags { IfErr result (HasFlags true false) }
     {
         close(&mut self.bank, &mut self.slots, slot, false)

@@ -43,7 +43,7 @@ fn tidy_slot<B: Bank>(
         Tidied old (B.now bank.old) slot → LeavesOnly B.clock B.left_since bank.old bank.new (SameStore old) }
     ensures steady { Steady B.size B.faults B.stops bank.old bank.new }
     ensures counted { CallCounted B.faults B.stops bank.old bank.new result }
-    ensures asked { Asks B.tells_calls B.calls bank.old bank.new (is_ok result)
+    ensures bank_calls { Asks B.tells_calls B.calls bank.old bank.new (is_ok result)
         (if is_stray front.now directory.now slot then delete_calls slot else []) }
     ensures not_old { IfErr result (λ fault. is_old fault ≡ false) }
 {
@@ -70,7 +70,7 @@ pub(crate) fn tidy_live<B: Bank>(
         LeavesOnly B.clock B.left_since bank.old bank.new (SameStore (B.now bank.old)) }
     ensures steady { Steady B.size B.faults B.stops bank.old bank.new }
     ensures counted { CallCounted B.faults B.stops bank.old bank.new result }
-    ensures asked { Asks B.tells_calls B.calls bank.old bank.new (is_ok result) (strays_to slot_count front.now directory.now) }
+    ensures bank_calls { Asks B.tells_calls B.calls bank.old bank.new (is_ok result) (strays_to slot_count front.now directory.now) }
     ensures not_old { IfErr result (λ fault. is_old fault ≡ false) }
 {
     for slot in 0..SLOTS {

@@ -34,7 +34,7 @@ pub(crate) fn write<B: Bank>(
         LeavesOnly B.clock B.left_since bank.old bank.new (Torn at (length bytes.now) (B.now bank.old)) }
     ensures steady { Steady B.size B.faults B.stops bank.old bank.new }
     ensures counted { CallCounted B.faults B.stops bank.old bank.new result }
-    ensures asked { Asks B.tells_calls B.calls bank.old bank.new (is_ok result) (write at bytes.now ∷ []) }
+    ensures bank_calls { Asks B.tells_calls B.calls bank.old bank.new (is_ok result) (write at bytes.now ∷ []) }
     ensures flags { IfErr result (HasFlags gate old) }
 {
     match bank.write_at(at, bytes) {
@@ -59,7 +59,7 @@ pub(crate) fn set_gate<B: Bank>(
         LeavesOnly B.clock B.left_since bank.old bank.new (Torn (gate_place slot) 1 (B.now bank.old)) }
     ensures steady { Steady B.size B.faults B.stops bank.old bank.new }
     ensures counted { CallCounted B.faults B.stops bank.old bank.new result }
-    ensures asked { Asks B.tells_calls B.calls bank.old bank.new (is_ok result) (write (gate_place slot) (gate ∷ []) ∷ []) }
+    ensures bank_calls { Asks B.tells_calls B.calls bank.old bank.new (is_ok result) (write (gate_place slot) (gate ∷ []) ∷ []) }
     ensures flags { IfErr result (HasFlags true old) }
 {
     write(bank, gate_place(slot), &[gate], true, old)
@@ -75,13 +75,13 @@ fn wipe_head<B: Bank>(bank: &mut B, block: &Block) -> Result<(), BankFault>
         LeavesOnly B.clock B.left_since bank.old bank.new (Torn block.now.offset 8 (B.now bank.old)) }
     ensures steady { Steady B.size B.faults B.stops bank.old bank.new }
     ensures counted { CallCounted B.faults B.stops bank.old bank.new result }
-    ensures asked { Asks B.tells_calls B.calls bank.old bank.new (is_ok result) (write block.now.offset (replicate head_len 0) ∷ []) }
+    ensures bank_calls { Asks B.tells_calls B.calls bank.old bank.new (is_ok result) (write block.now.offset (replicate head_len 0) ∷ []) }
     ensures flags { IfErr result (HasFlags false false) }
 {
     write(bank, block.offset, &[0; 8], false, false)
 }
 
-/// Writes what the entry of a slot has behind its gate.
+/// Writes what the entry of a slot has after its gate.
 fn write_entry<B: Bank>(bank: &mut B, slot: u8, block: &Block) -> Result<(), BankFault>
     requires within { slot < slot_count }
     requires right { is_right block.now ≡ true }
@@ -92,7 +92,7 @@ fn write_entry<B: Bank>(bank: &mut B, slot: u8, block: &Block) -> Result<(), Ban
         LeavesOnly B.clock B.left_since bank.old bank.new (Torn (tail_place slot) 63 (B.now bank.old)) }
     ensures steady { Steady B.size B.faults B.stops bank.old bank.new }
     ensures counted { CallCounted B.faults B.stops bank.old bank.new result }
-    ensures asked { Asks B.tells_calls B.calls bank.old bank.new (is_ok result) (write (tail_place slot) (entry_tail block.now) ∷ []) }
+    ensures bank_calls { Asks B.tells_calls B.calls bank.old bank.new (is_ok result) (write (tail_place slot) (entry_tail block.now) ∷ []) }
     ensures flags { IfErr result (HasFlags false false) }
 {
     write(
@@ -104,7 +104,7 @@ fn write_entry<B: Bank>(bank: &mut B, slot: u8, block: &Block) -> Result<(), Ban
     )
 }
 
-/// Prepares a block for a slot whose gate is closed: wipes its head, and then writes the entry behind the gate.
+/// Prepares a block for a slot whose gate is closed: wipes its head, and then writes the entry after the gate.
 pub(crate) fn prepare<B: Bank>(bank: &mut B, slot: u8, block: &Block) -> Result<(), BankFault>
     requires within { slot < slot_count }
     requires right { is_right block.now ≡ true }
@@ -116,7 +116,7 @@ pub(crate) fn prepare<B: Bank>(bank: &mut B, slot: u8, block: &Block) -> Result<
         LeavesOnly B.clock B.left_since bank.old bank.new (Prepares slot block.now (B.now bank.old)) }
     ensures steady { Steady B.size B.faults B.stops bank.old bank.new }
     ensures counted { CallCounted B.faults B.stops bank.old bank.new result }
-    ensures asked { Asks B.tells_calls B.calls bank.old bank.new (is_ok result)
+    ensures bank_calls { Asks B.tells_calls B.calls bank.old bank.new (is_ok result)
         (write block.now.offset (replicate head_len 0) ∷ write (tail_place slot) (entry_tail block.now) ∷ []) }
     ensures flags { IfErr result (HasFlags false false) }
 {
@@ -135,7 +135,7 @@ fn write_data<B: Bank>(bank: &mut B, block: &Block, image: &[u8]) -> Result<(), 
         LeavesOnly B.clock B.left_since bank.old bank.new (Torn (data_place block.now) block.now.size (B.now bank.old)) }
     ensures steady { Steady B.size B.faults B.stops bank.old bank.new }
     ensures counted { CallCounted B.faults B.stops bank.old bank.new result }
-    ensures asked { Asks B.tells_calls B.calls bank.old bank.new (is_ok result) (write (data_place block.now) image.now ∷ []) }
+    ensures bank_calls { Asks B.tells_calls B.calls bank.old bank.new (is_ok result) (write (data_place block.now) image.now ∷ []) }
     ensures flags { IfErr result (HasFlags false false) }
 {
     write(bank, block.offset + HEAD_LENGTH, image, false, false)
@@ -154,7 +154,7 @@ fn write_head<B: Bank>(bank: &mut B, block: &Block, image: &[u8]) -> Result<(), 
         LeavesOnly B.clock B.left_since bank.old bank.new (Torn block.now.offset 8 (B.now bank.old)) }
     ensures steady { Steady B.size B.faults B.stops bank.old bank.new }
     ensures counted { CallCounted B.faults B.stops bank.old bank.new result }
-    ensures asked { Asks B.tells_calls B.calls bank.old bank.new (is_ok result) (write block.now.offset (block_head block.now.size (check16 image.now)) ∷ []) }
+    ensures bank_calls { Asks B.tells_calls B.calls bank.old bank.new (is_ok result) (write block.now.offset (block_head block.now.size (check16 image.now)) ∷ []) }
     ensures flags { IfErr result (HasFlags false false) }
 {
     let head = head_bytes(block.size, check16(image));
@@ -176,7 +176,7 @@ pub(crate) fn write_image<B: Bank>(
         LeavesOnly B.clock B.left_since bank.old bank.new (CopyTears block.now image.now (B.now bank.old)) }
     ensures steady { Steady B.size B.faults B.stops bank.old bank.new }
     ensures counted { CallCounted B.faults B.stops bank.old bank.new result }
-    ensures asked { Asks B.tells_calls B.calls bank.old bank.new (is_ok result) (copy_calls block.now image.now) }
+    ensures bank_calls { Asks B.tells_calls B.calls bank.old bank.new (is_ok result) (copy_calls block.now image.now) }
     ensures flags { IfErr result (HasFlags false false) }
 {
     write_data(bank, block, image)?;

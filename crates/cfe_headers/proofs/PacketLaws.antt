@@ -54,7 +54,7 @@ written id count code payload id-fits code-fits payload-fits =
 -- ---- packets are read
 
 -- where the parts of a packet stand
-pub record Stands (bytes : List ℕ) (id code : ℕ) (payload : List ℕ) : Type 0 where
+pub record HasParts (bytes : List ℕ) (id code : ℕ) (payload : List ℕ) : Type 0 where
   pub len : length bytes ≡ 8 + length payload
   pub id_is : packet_id bytes ≡ id
   pub stated : two_at 4 bytes ≡ length payload + 1
@@ -62,7 +62,7 @@ pub record Stands (bytes : List ℕ) (id code : ℕ) (payload : List ℕ) : Type
   pub payload_is : packet_payload bytes ≡ payload
 
 stands : (id sequence high code check : ℕ) (payload : List ℕ) → id < 2 ^ 16 → code < 128 → length payload + 1 < 2 ^ 16
-    → Stands (two id ++ two sequence ++ two (length payload + 1) ++ (128 * high + code) ∷ check ∷ payload) id code payload
+    → HasParts (two id ++ two sequence ++ two (length payload + 1) ++ (128 * high + code) ∷ check ∷ payload) id code payload
 stands id sequence high code check payload id-fits code-fits payload-fits = record {
   len = omega arith;
   id_is = from_be_bytes-to_be_bytes_2 id id-fits;
@@ -71,7 +71,7 @@ stands id sequence high code check payload id-fits code-fits payload-fits = reco
   payload_is = refl;
 }
 
-pub packet_stands : (bytes : List ℕ) (id code : ℕ) (payload : List ℕ) → IsCommandPacket bytes id code payload → Stands bytes id code payload
+pub packet_stands : (bytes : List ℕ) (id code : ℕ) (payload : List ℕ) → IsCommandPacket bytes id code payload → HasParts bytes id code payload
 packet_stands bytes id code payload is =
     rw is.parts (stands id is.sequence is.high code is.check payload is.id_fits is.code_fits is.payload_fits)
 

@@ -42,11 +42,11 @@ split_four place bytes fits le =
 pub split_byte : (place : ℕ) (bytes : List ℕ) → place + 1 ≤ length bytes → drop place bytes ≡ byte_at place bytes ∷ drop (place + 1) bytes
 split_byte place bytes le = rw add-one (drop-cons bytes place 0 (omega arith))
 
--- one piece behind another
+-- one piece after another
 pub and_then : (a x b y c : List ℕ) → a ≡ x ++ b → b ≡ y ++ c → a ≡ (x ++ y) ++ c
 and_then a x b y c p q = p ∙ ap (λ (s : List ℕ). x ++ s) q ∙ sym (append_assoc x y c)
 
--- ---- a piece behind a front of known length
+-- ---- a piece after a front of known length
 
 pub piece_behind : (front text rest : List ℕ) (place len : ℕ) → length front ≡ place → length text ≡ len → piece place len (front ++ (text ++ rest)) ≡ text
 piece_behind front text rest place len front-len text-len =

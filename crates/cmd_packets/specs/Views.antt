@@ -33,5 +33,5 @@ answer_of (BadName which) = record { status = ERR_BAD_NAME; detail = which }
 
 -- a reader answered what a definition gives
 abbrev pub Gives : Result Ground CmdFault → Result GroundCommand Answer → Type 0
-Gives (Ok asked) read = read ≡ Ok (command_of asked)
+Gives (Ok command) read = read ≡ Ok (command_of command)
 Gives (Err fault) read = read ≡ Err (answer_of fault)

@@ -97,10 +97,10 @@ fn fields(code: u8, payload: &[u8]) -> Ground
 }
 
 /// Whether the table's name, if the command has one, is a name.
-fn is_table_named(asked: &Ground) -> bool
-    ensures { result ≡ is_named (table_of (command_of asked.now)) }
+fn is_table_named(command: &Ground) -> bool
+    ensures { result ≡ is_named (table_of (command_of command.now)) }
 {
-    match asked {
+    match command {
         Ground::Dump { table, .. }
         | Ground::Validate { table, .. }
         | Ground::Activate { table }
@@ -112,10 +112,10 @@ fn is_table_named(asked: &Ground) -> bool
 }
 
 /// Whether the file's name, if the command has one, is a name.
-fn is_file_named(asked: &Ground) -> bool
-    ensures { result ≡ is_named (file_of (command_of asked.now)) }
+fn is_file_named(command: &Ground) -> bool
+    ensures { result ≡ is_named (file_of (command_of command.now)) }
 {
-    match asked {
+    match command {
         Ground::Load { file } | Ground::Dump { file, .. } | Ground::DumpRegistry { file } => {
             file.is_name()
         }
@@ -124,16 +124,16 @@ fn is_file_named(asked: &Ground) -> bool
 }
 
 /// The command, if its names are names.
-fn with_names(asked: Ground) -> Result<Ground, CmdFault>
-    ensures { Gives result (names_tested (command_of asked)) }
+fn with_names(command: Ground) -> Result<Ground, CmdFault>
+    ensures { Gives result (names_tested (command_of command)) }
 {
-    if !is_table_named(&asked) {
+    if !is_table_named(&command) {
         return Err(CmdFault::BadName(1));
     }
-    if !is_file_named(&asked) {
+    if !is_file_named(&command) {
         return Err(CmdFault::BadName(2));
     }
-    Ok(asked)
+    Ok(command)
 }
 
 /// The command of a function code with its payload, by its form. It isn't inlined: a command without a payload would clear
@@ -205,7 +205,7 @@ fn by_message_id(id: u16, code: u8, payload: &[u8]) -> Result<Ground, CmdFault>
 /// Reads a command from a packet (CCSDS 133.0-B), all of the bytes: the primary header, cFE's command secondary header,
 /// and from place 8 the payload that `Ground` tells for each command. Where it is none, the first fault in the order of
 /// `CmdFault` is answered. The selector of an image isn't tested. The sequence flags and count, the high bit of the code
-/// byte, what stands in a name field behind the name's zero and the function code of a housekeeping request aren't looked
+/// byte, what stands in a name field after the name's zero and the function code of a housekeeping request aren't looked
 /// at.
 #[tactic(auto, unfolding(tbl_kinds::specs::GroundCommands::command_in))]
 pub fn read_command(bytes: &[u8]) -> Result<Ground, CmdFault>

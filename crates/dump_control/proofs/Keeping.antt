@@ -1,4 +1,4 @@
--- Pending validations and asked activations stay where a table changes that neither concerns.
+-- Pending validations and requested activations stay where a table changes that neither concerns.
 use Rattle.std.proofs.Common.{◌≡◌, ◌<◌, ℕ, List, true, false, Option, Some, None, refl, sym, ◌∙◌, arith}
 use Rattle.tbl_model.specs.State.{Table, Tables}
 use Rattle.tbl_model.specs.Tables.{table_at}
@@ -22,7 +22,7 @@ module _ (tables : Tables) (row : ℕ) (change : Table → Table) (leaves : Leav
       stays_there tables row change (λ t. CanValidate t false) (λ t there can. (rw (leaves.function t) can.0, (rw (leaves.load t) can.1.0, rw (leaves.activation t) can.1.1))) r (all r false is)
 
   pub loads_stay : HaveLoads tables → HaveLoads (changed row change tables)
-  loads_stay all = loads_keep tables row change (λ t there has asked. rw (leaves.load t) (has (sym (leaves.activation t) ∙ asked))) all
+  loads_stay all = loads_keep tables row change (λ t there has requested. rw (leaves.load t) (has (sym (leaves.activation t) ∙ requested))) all
 
   pub same_functions : HaveSameFunctions tables (changed row change tables)
   same_functions = functions_stay tables row change leaves.function

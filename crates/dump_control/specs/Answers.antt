@@ -17,10 +17,10 @@ use Rattle.tbl_kinds.specs.declared.status.TheConstants.Status.{SUCCESS, ERR_NEV
 abbrev pub missing_refusal : Table → Bool → Option Answer
 missing_refusal t active = if has_image t active then None else refusal (if active then ERR_NEVER_LOADED else ERR_NO_LOAD)
 
--- the dump of a dump-only table is asked, unless something refuses it
-abbrev pub asked_by : Option Answer → DumpAnswer
-asked_by None = Asked
-asked_by (Some answer) = Refused answer
+-- the dump of a dump-only table is requested, unless something refuses it
+abbrev pub unless_refused : Option Answer → DumpAnswer
+unless_refused None = Asked
+unless_refused (Some answer) = Refused answer
 
 -- what DUMP is answered. Where no buffer was free, the reply gives the rows that use them; where the image is there, its
 -- file is written

@@ -2,7 +2,7 @@
 use Rattle.std.specs.Prelude.{◌≡◌, ℕ, ◌+◌, List, [], length, Bool, true, Option, Some, None, option_and_then}
 use Rattle.std.specs.Option.{option_map, option_map_or}
 use Rattle.tbl_kinds.specs.TableFiles.{image_place}
-use Rattle.tbl_model.specs.State.{State, Table, Dump, quiet, asked, filled}
+use Rattle.tbl_model.specs.State.{State, Table, Dump, quiet, requested, filled}
 use Rattle.tbl_model.specs.Validations.{judged_image}
 use Rattle.tbl_model.specs.Dumps.{dump_file}
 use Rattle.tbl_registry.specs.Views.{has_image, filled_image}
@@ -19,7 +19,7 @@ CanBeDumped t active = has_image t active ≡ true
 
 abbrev pub name_of_filled : Dump → Option (List ℕ)
 name_of_filled quiet = None
-name_of_filled (asked file) = None
+name_of_filled (requested file) = None
 name_of_filled (filled file image) = Some file
 
 -- under which name it is written

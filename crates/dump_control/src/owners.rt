@@ -20,7 +20,7 @@ use tbl_registry::{Dump, Tables};
 
 /// The owner of the table of a row fills the dump that the ground asked for with the table's image
 /// (`CFE_TBL_DumpToBuffer`; cFE User's Guide, Table Services, "Dumping tables"). It takes no memory.
-/// `INFO_NO_DUMP_PENDING`: none is asked.
+/// `INFO_NO_DUMP_PENDING`: none is requested.
 pub fn fill(tables: &mut Tables, row: u8) -> Answer
     requires { IsSome (table_at tables.old row) }
     ensures effect { (s : State) → s.tables ≡ tables.old → ForSome (table_at tables.old row) (λ t. filled_effect s row t ≡ answered_with s result tables.new) }

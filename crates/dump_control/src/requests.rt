@@ -9,7 +9,7 @@ ghost use Rattle.tbl_model.specs.Validations.{selected};
 ghost use Rattle.tbl_model.specs.Dumps.{dump_refusal, dump_by};
 ghost use Rattle.validation.specs.Ready.{HaveLoads, HaveSameFunctions, PendingStay};
 ghost use Rattle.dump_control.specs.Images.{CanBeDumped};
-ghost use Rattle.dump_control.specs.Answers.{missing_refusal, asked_by, requested, left_by};
+ghost use Rattle.dump_control.specs.Answers.{missing_refusal, unless_refused, requested, left_by};
 
 use bitflags::Flags;
 use tbl_kinds::{Answer, Name64, Options, Status};
@@ -38,7 +38,7 @@ fn is_dump_only(tables: &Tables, row: u8) -> bool
     table.flags.contains(Options::DUMP_ONLY)
 }
 
-/// Why the dump of the dump-only table of a row isn't asked, if it isn't.
+/// Why the dump of the dump-only table of a row isn't requested, if it isn't.
 fn dump_refusal(tables: &Tables, row: u8) -> Option<Answer>
     requires table { IsSome (table_at tables.now row) }
     requires dump_only { ForSome (table_at tables.now row) (λ t. is_dump_only t ≡ true) }
@@ -58,11 +58,11 @@ fn dump_refusal(tables: &Tables, row: u8) -> Option<Answer>
     None
 }
 
-/// The dump of the dump-only table of a row is asked, or refused.
+/// The dump of the dump-only table of a row is requested, or refused.
 fn ask(tables: &mut Tables, row: u8, file: &Name64) -> DumpAnswer
     requires table { IsSome (table_at tables.old row) }
     requires dump_only { ForSome (table_at tables.old row) (λ t. is_dump_only t ≡ true) }
-    ensures answer { ForSome (table_at tables.old row) (λ t. result ≡ asked_by (dump_refusal tables.old t)) }
+    ensures answer { ForSome (table_at tables.old row) (λ t. result ≡ unless_refused (dump_refusal tables.old t)) }
     ensures tables { tables.new ≡ left_by row file.now result tables.old }
     ensures no_file { (active : Bool) → result ≢ DumpAnswer.Write active }
     ensures pending { PendingStay tables.old tables.new }
@@ -93,7 +93,7 @@ fn missing(tables: &Tables, row: u8, active: bool) -> Option<Answer>
 
 /// The ground asks for a dump of the table of a row into a file of this name (`CFE_TBL_DUMP_CC`; cFE User's Guide, Table
 /// Services, "Dumping tables"). 1 selects the table's last image and 0 that of its open load; of a dump-only table either
-/// selects the one image that it has, and the dump is asked of its owner. Else the caller writes the file (`dump_file`).
+/// selects the one image that it has, and the dump is requested of its owner. Else the caller writes the file (`dump_file`).
 /// `ERR_NO_BUFFER_AVAIL`: `Tables::in_use` tells which rows have the shared buffers.
 pub fn request_dump(tables: &mut Tables, row: u8, select: u16, file: &Name64) -> DumpAnswer
     requires { IsSome (table_at tables.old row) }

@@ -5,7 +5,7 @@ use Rattle.tbl_kinds.specs.Statuses.{is_success}
 use Rattle.tbl_model.specs.State.{State, Table, Tables}
 use Rattle.tbl_model.specs.Effects.{Effect}
 use Rattle.tbl_model.specs.Given.{Given}
-use Rattle.tbl_model.specs.Deeds.{is_good, verdict_bits}
+use Rattle.tbl_model.specs.Telemetry.{is_good, verdict_bits}
 use Rattle.tbl_model.specs.AppLoads.{by_function}
 use Rattle.validation.specs.Asked.{asks}
 use Rattle.partial_load.specs.Answers.{verdict_answer, with_verdict_of, owner_answered, load_answered}
@@ -19,11 +19,11 @@ tells_good false detail wanted is = is
 
 module _ (s : State) (given : Given) (row : ℕ) (image : List ℕ) where
   -- whatever the verdict is, the function was asked about the image
-  both_ask : (b : Bool) (e f : Effect) → e.asked ≡ f.asked → (cond b e f).asked ≡ f.asked
+  both_ask : (b : Bool) (e f : Effect) → e.questions ≡ f.questions → (cond b e f).questions ≡ f.questions
   both_ask true e f same = same
   both_ask false e f same = refl
 
-  pub function_asks : (number : Option ℕ) (effect : Effect) → effect.asked ≡ [] → (by_function s row image number given effect).asked ≡ asks number image
+  pub function_asks : (number : Option ℕ) (effect : Effect) → effect.questions ≡ [] → (by_function s row image number given effect).questions ≡ asks number image
   function_asks None effect none = none
   function_asks (Some number) effect none = both_ask _ _ _ refl
 

@@ -6,12 +6,12 @@ use Rattle.tbl_model.specs.State.{State, Table, Tables}
 use Rattle.tbl_model.specs.Tables.{in_use}
 use Rattle.tbl_model.specs.TableSteps.{Access, set_time}
 use Rattle.tbl_model.specs.Effects.{Effect, answered}
-use Rattle.tbl_model.specs.Deeds.{is_good, verdict_bits}
+use Rattle.tbl_model.specs.Telemetry.{is_good, verdict_bits}
 use Rattle.tbl_kinds.specs.TableFiles.{TableFile}
 use Rattle.tbl_model.specs.Given.{Given}
 use Rattle.tbl_model.specs.Refusals.{by_answer, closed_refusal}
 use Rattle.tbl_model.specs.AppLoads.{activate_effect, with_verdict, from_file, file_image, load_image_of, load_file_of}
-use Rattle.tbl_model.specs.declared.deeds.Named.{Named}
+use Rattle.tbl_model.specs.declared.telemetry.Named.{Named}
 use Rattle.tbl_kinds.specs.declared.entry.Answer.{Answer}
 use Rattle.tbl_kinds.specs.declared.status.TheConstants.Status.{SUCCESS, ERR_NO_BUFFER_AVAIL, ERR_VALIDATION_FAILED}
 use Rattle.partial_load.specs.declared.images.Loaded.{Loaded}

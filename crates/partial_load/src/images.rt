@@ -112,7 +112,7 @@ pub fn load_image<C: Validator>(
     ensures effect { IfOk result (λ loaded. (s : State) (given : Given) → s.tables ≡ tables.old → given.verdicts ≡ loaded.verdict ∷ None ∷ []
         → ForSome (table_at tables.old row) (λ t. load_image_of s image.now given row t ≡ image_answered s row t image.now loaded tables.new)) }
     ensures asked { IfOk result (λ loaded. (s : State) (given : Given) → s.tables ≡ tables.old → given.verdicts ≡ loaded.verdict ∷ None ∷ []
-        → ForSome (table_at tables.old row) (λ t. WasAsked C.verdict C.asked kit.old kit.new (load_image_of s image.now given row t).asked (loaded.verdict ∷ None ∷ []))) }
+        → ForSome (table_at tables.old row) (λ t. WasAsked C.verdict C.asked kit.old kit.new (load_image_of s image.now given row t).questions (loaded.verdict ∷ None ∷ []))) }
     ensures refused { IfOk result (λ loaded. is_success loaded.answer.status ≡ false → tables.new ≡ tables.old) }
     ensures table { OnOk result (IsSome (table_at tables.new row)) }
     ensures err { OnErr result (tables.new ≡ tables.old) }
@@ -149,7 +149,7 @@ pub fn load_part<C: Validator>(
         → ForSome (table_at tables.old row) (λ t. load_file_of s name given row t file ≡ file_answered s name row t (file_image t file) loaded tables.new)) }
     ensures asked { IfOk result (λ loaded. let file = with_image parsed.now image.now in (s : State) (name : List ℕ) (given : Given)
         → s.tables ≡ tables.old → given.verdicts ≡ loaded.verdict ∷ None ∷ []
-        → ForSome (table_at tables.old row) (λ t. WasAsked C.verdict C.asked kit.old kit.new (load_file_of s name given row t file).asked (loaded.verdict ∷ None ∷ []))) }
+        → ForSome (table_at tables.old row) (λ t. WasAsked C.verdict C.asked kit.old kit.new (load_file_of s name given row t file).questions (loaded.verdict ∷ None ∷ []))) }
     ensures refused { IfOk result (λ loaded. is_success loaded.answer.status ≡ false → tables.new ≡ tables.old) }
     ensures table { OnOk result (IsSome (table_at tables.new row)) }
     ensures err { OnErr result (tables.new ≡ tables.old) }
@@ -197,7 +197,7 @@ pub fn app_load<C: Validator>(
         → ForSome (access_of tables.old handle) (λ a. app_load_of s name given a image.now file ≡ app_load_answered s name a image.now file loaded tables.new)) }
     ensures asked { IfOk result (λ loaded. let file = option_map (λ (file : Bor File). with_image file.now image.now) parsed.entry in (s : State) (name : List ℕ) (given : Given)
         → s.tables ≡ tables.old → given.verdicts ≡ loaded.verdict ∷ None ∷ []
-        → ForSome (access_of tables.old handle) (λ a. WasAsked C.verdict C.asked kit.old kit.new (app_load_of s name given a image.now file).asked (loaded.verdict ∷ None ∷ []))) }
+        → ForSome (access_of tables.old handle) (λ a. WasAsked C.verdict C.asked kit.old kit.new (app_load_of s name given a image.now file).questions (loaded.verdict ∷ None ∷ []))) }
     ensures err { OnErr result (tables.new ≡ tables.old) }
     ensures not_asked { OnErr result (kit.new ≡ kit.old) }
 {

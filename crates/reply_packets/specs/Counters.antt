@@ -2,7 +2,7 @@
 use Rattle.std.specs.Prelude.{List, [], ℕ, Option, unwrap_or}
 use Rattle.std.specs.Option.{option_map}
 use Rattle.tbl_model.specs.Counts.{latest, validation_of, updated_name, dump_of, Update}
-use Rattle.tbl_model.specs.declared.deeds.Deed.{Deed}
+use Rattle.tbl_model.specs.declared.telemetry.TelemetryEvent.{TelemetryEvent}
 use Rattle.request_effects.specs.declared.clock.Clock.{Clock}
 use Rattle.tbl_model.specs.Counts.{Counts, no_counts}
 use Rattle.tbl_model.specs.CountsAfter.{Tally as Adds, no_tally}
@@ -28,13 +28,13 @@ counts_view c = record no_counts {
   dumped_file = c.dumped_file;
 }
 
--- the latest image that went active among these deeds, at this time
-abbrev pub update_in : Clock → List Deed → Option Update
-update_in clock deeds = option_map (λ name. record { seconds = clock.seconds; sub = clock.sub; name = name }) (latest updated_name deeds)
+-- the latest image that went active among these events, at this time
+abbrev pub update_in : Clock → List TelemetryEvent → Option Update
+update_in clock events = option_map (λ name. record { seconds = clock.seconds; sub = clock.sub; name = name }) (latest updated_name events)
 
--- what is added of a request with these deeds, at this time, that loaded this table from this file
-abbrev pub tally_view : Tally → Clock → List Deed → Option (List ℕ) → Option (List ℕ) → Adds
-tally_view t clock deeds loaded file = record no_tally {
+-- what is added of a request with these events, at this time, that loaded this table from this file
+abbrev pub tally_view : Tally → Clock → List TelemetryEvent → Option (List ℕ) → Option (List ℕ) → Adds
+tally_view t clock events loaded file = record no_tally {
   restarted = t.restarted;
   cleared = t.cleared;
   accepted = t.accepted;
@@ -47,19 +47,19 @@ tally_view t clock deeds loaded file = record no_tally {
   housekeeping = t.housekeeping;
   registry = t.registry;
   notice = t.notice;
-  validation = latest validation_of deeds;
-  update = update_in clock deeds;
+  validation = latest validation_of events;
+  update = update_in clock events;
   loaded = loaded;
   loaded_file = file;
-  dumped_file = latest dump_of deeds;
+  dumped_file = latest dump_of events;
 }
 
--- the latest of what these deeds tell, at this time
-abbrev pub renewed : Counts → Clock → List Deed → Counts
-renewed c clock deeds = record c {
-  validation = unwrap_or (latest validation_of deeds) c.validation;
-  update = unwrap_or (update_in clock deeds) c.update;
-  dumped_file = unwrap_or (latest dump_of deeds) c.dumped_file;
+-- the latest of what these events tell, at this time
+abbrev pub renewed : Counts → Clock → List TelemetryEvent → Counts
+renewed c clock events = record c {
+  validation = unwrap_or (latest validation_of events) c.validation;
+  update = unwrap_or (update_in clock events) c.update;
+  dumped_file = unwrap_or (latest dump_of events) c.dumped_file;
 }
 
 -- no packet was sent, and nothing is the latest

@@ -9,7 +9,7 @@ use crate::tallying::{latest_dump, latest_validation, update_in};
 use request_effects::Clock;
 use std::marker::Model;
 use tbl_kinds::{Name, Name40, Name64};
-use tbl_model::Deed;
+use tbl_model::TelemetryEvent;
 
 /// Sequence counts have 14 bits (CCSDS 133.0-B, "Packet Sequence Count").
 pub(crate) const SEQUENCE_COUNTS: u16 = 16_384;
@@ -135,7 +135,7 @@ fn renew_name<const N: usize>(known: &mut Name<N>, newer: Option<&Name<N>>)
     }
 }
 
-/// How many commands were accepted and refused, and how many validations asked and finished, since the counters were
+/// How many commands were accepted and refused, and how many validations were requested and finished, since the counters were
 /// cleared; how many packets of each kind were sent since the service began, and what was the latest of each kind.
 #[derive(Drop)]
 pub struct Counters {
@@ -211,15 +211,15 @@ impl Counters {
         self.dumped_file = none.dumped_file;
     }
 
-    /// The latest of what deeds tell. It isn't inlined: few requests have deeds, and whoever calls it would clear the
+    /// The latest of what events tell. It isn't inlined: few requests have events, and whoever calls it would clear the
     /// memory of its names for each.
     #[inline(never)]
-    fn renew(&mut self, clock: Clock, deeds: &[Deed])
-        ensures { counts_view self.new ≡ renewed (counts_view self.old) clock deeds.now }
+    fn renew(&mut self, clock: Clock, events: &[TelemetryEvent])
+        ensures { counts_view self.new ≡ renewed (counts_view self.old) clock events.now }
     {
-        self.validation.renew(latest_validation(deeds));
-        self.update.renew(update_in(clock, deeds));
-        if let Some(name) = latest_dump(deeds) {
+        self.validation.renew(latest_validation(events));
+        self.update.renew(update_in(clock, events));
+        if let Some(name) = latest_dump(events) {
             self.dumped_file = name;
         }
     }
@@ -229,11 +229,11 @@ impl Counters {
         &mut self,
         tally: Tally,
         clock: Clock,
-        deeds: &[Deed],
+        events: &[TelemetryEvent],
         loaded: Option<&Name40>,
         loaded_file: Option<&Name64>,
     )
-        ensures { counts_view self.new ≡ counts_after (counts_view self.old) (tally_view tally clock deeds.now (option_copied loaded.entry) (option_copied loaded_file.entry)) }
+        ensures { counts_view self.new ≡ counts_after (counts_view self.old) (tally_view tally clock events.now (option_copied loaded.entry) (option_copied loaded_file.entry)) }
     {
         self.accepted = counted(self.accepted, tally.cleared, u8::from(tally.accepted));
         self.refused = counted(self.refused, tally.cleared, u8::from(tally.refused));
@@ -251,8 +251,8 @@ impl Counters {
         self.notices = sequence(self.notices, u8::from(tally.notice));
         renew_name(&mut self.loaded, loaded);
         renew_name(&mut self.loaded_file, loaded_file);
-        if !deeds.is_empty() {
-            self.renew(clock, deeds);
+        if !events.is_empty() {
+            self.renew(clock, events);
         }
     }
 }

@@ -1,19 +1,19 @@
-//! The events of a request: that of a command, and one for each deed.
+//! The event packets of a request: that of a command, and one for each event of what was done.
 
 ghost use Rattle.std.specs.Prelude.{◌≡◌, ◌+◌, ◌*◌, ◌<◌, ◌≤◌, ◌++◌, map, length, None};
 ghost use Rattle.tbl_kinds.specs.Packets.{telemetry_packet, event_id};
 ghost use Rattle.tbl_kinds.specs.Telemetry.{event_body};
-ghost use Rattle.tbl_model.specs.Commands.{asks_housekeeping, asked_code};
-ghost use Rattle.tbl_model.specs.Deeds.{is_good};
-ghost use Rattle.tbl_model.specs.Events.{row_field, table_field, verdict_event, deed_event, command_events};
+ghost use Rattle.tbl_model.specs.Commands.{asks_housekeeping, command_code};
+ghost use Rattle.tbl_model.specs.Telemetry.{is_good};
+ghost use Rattle.tbl_model.specs.Events.{row_field, table_field, verdict_event, sent_event, command_events};
 ghost use Rattle.tbl_model.specs.Replies.{head_at, event_packets};
-ghost use Rattle.request_effects.specs.Asked.{asked_of};
+ghost use Rattle.request_effects.specs.Requests.{command_view};
 ghost use Rattle.request_effects.specs.Effects.{seen, told_events, listed};
 
 use crate::counters::SEQUENCE_COUNTS;
-use request_effects::{Asked, Clock, Effect, asked_code, asks_housekeeping};
+use request_effects::{Clock, Effect, ReadCommand, asks_housekeeping, command_code};
 use tbl_kinds::{Bytes, Event, Status, TlmHead};
-use tbl_model::{Deed, Named};
+use tbl_model::{Named, TelemetryEvent};
 use tlm_packets::write_event;
 
 /// The length of an event packet.
@@ -65,23 +65,28 @@ fn verdict_event(row: u8, verdict: i32) -> Event
     }
 }
 
-/// The event that tells of a deed.
-fn deed_event(deed: &Deed) -> Event
-    ensures { result ≡ deed_event deed.now }
+/// The packet that is sent for an event.
+fn sent_event(event: &TelemetryEvent) -> Event
+    ensures { result ≡ sent_event event.now }
 {
-    let (number, status, row, detail) = match deed {
-        Deed::Finished { row, verdict, .. } | Deed::Judged { row, verdict } => {
+    let (number, status, row, detail) = match event {
+        TelemetryEvent::Finished { row, verdict, .. } | TelemetryEvent::Judged { row, verdict } => {
             return verdict_event(*row, *verdict);
         }
-        Deed::Activated { row, count, .. } => (5, Status::SUCCESS, u16::from(*row), *count),
-        Deed::CopyFailed { row, slot } => (
+        TelemetryEvent::Activated { row, count, .. } => (
+            5,
+            Status::SUCCESS,
+            u16::from(*row),
+            *count,
+        ),
+        TelemetryEvent::CopyFailed { row, slot } => (
             6,
             Status::ERR_CDS_FAULT,
             u16::from(*row),
             u32::from(*slot),
         ),
-        Deed::Dumped { row, len, .. } => (7, Status::SUCCESS, row_field(*row), *len),
-        Deed::NotDumped { row } => (8, Status::ERR_DRAWER_FULL, u16::from(*row), 0),
+        TelemetryEvent::Dumped { row, len, .. } => (7, Status::SUCCESS, row_field(*row), *len),
+        TelemetryEvent::NotDumped { row } => (8, Status::ERR_DRAWER_FULL, u16::from(*row), 0),
     };
     Event {
         number,
@@ -93,10 +98,10 @@ fn deed_event(deed: &Deed) -> Event
 
 /// The event of a command itself: 1 where it was accepted, 2 where it was refused. A housekeeping request that was
 /// accepted has none.
-pub(crate) fn command_event(asked: &Asked, effect: &Effect) -> Option<Event>
-    ensures { listed result ≡ command_events (asked_of asked.now) (seen effect.now) }
+pub(crate) fn command_event(command: &ReadCommand, effect: &Effect) -> Option<Event>
+    ensures { listed result ≡ command_events (command_view command.now) (seen effect.now) }
 {
-    if asked.is_none() {
+    if command.is_none() {
         return None;
     }
     if effect.answer.status != Status::SUCCESS {
@@ -108,14 +113,14 @@ pub(crate) fn command_event(asked: &Asked, effect: &Effect) -> Option<Event>
         });
     }
     // Its packet answers for it.
-    if asks_housekeeping(asked) {
+    if asks_housekeeping(command) {
         return None;
     }
     Some(Event {
         number: 1,
         status: Status::SUCCESS,
         row: table_field(&effect.table),
-        detail: u32::from(asked_code(asked)),
+        detail: u32::from(command_code(command)),
     })
 }
 
@@ -141,37 +146,43 @@ fn put_event(packets: &mut Bytes, clock: Clock, sent: u32, event: &Event)
     write_event(packets, &head_at(clock, sent), event);
 }
 
-/// Appends the events of deeds.
-fn put_deeds(packets: &mut Bytes, clock: Clock, sent: u32, deeds: &[Deed])
-    requires few { length deeds.now ≤ 8 }
+/// Appends a packet for each of these events.
+fn put_each(packets: &mut Bytes, clock: Clock, sent: u32, events: &[TelemetryEvent])
+    requires few { length events.now ≤ 8 }
     requires sent { sent ≤ 16384 }
-    requires room { 24 * length deeds.now ≤ packets.old.spare }
-    ensures bytes { packets.new.list ≡ packets.old.list ++ event_packets clock.seconds clock.sub sent (map deed_event deeds.now) }
-    ensures room { packets.old.spare ≤ packets.new.spare + 24 * length deeds.now }
-    ensures len { length packets.new.list ≡ length packets.old.list + 24 * length deeds.now }
+    requires room { 24 * length events.now ≤ packets.old.spare }
+    ensures bytes { packets.new.list ≡ packets.old.list ++ event_packets clock.seconds clock.sub sent (map sent_event events.now) }
+    ensures room { packets.old.spare ≤ packets.new.spare + 24 * length events.now }
+    ensures len { length packets.new.list ≡ length packets.old.list + 24 * length events.now }
 {
     let mut sent = sent;
-    for deed in deeds {
-        put_event(packets, clock, sent, &deed_event(deed));
+    for event in events {
+        put_event(packets, clock, sent, &sent_event(event));
         sent += 1;
     }
 }
 
 /// Appends the events of a request: that of the command itself, and those of what was done.
-pub fn put_events(packets: &mut Bytes, clock: Clock, sent: u16, asked: &Asked, effect: &Effect)
-    requires few { length effect.now.deeds.items ≤ 8 }
+pub fn put_events(
+    packets: &mut Bytes,
+    clock: Clock,
+    sent: u16,
+    command: &ReadCommand,
+    effect: &Effect,
+)
+    requires few { length effect.now.events.items ≤ 8 }
     requires sent { sent < 16384 }
-    requires room { 24 * length (told_events (asked_of asked.now) effect.now) ≤ packets.old.spare }
-    ensures bytes { packets.new.list ≡ packets.old.list ++ event_packets clock.seconds clock.sub sent (told_events (asked_of asked.now) effect.now) }
-    ensures room { packets.old.spare ≤ packets.new.spare + 24 * length (told_events (asked_of asked.now) effect.now) }
-    ensures len { length packets.new.list ≡ length packets.old.list + 24 * length (told_events (asked_of asked.now) effect.now) }
+    requires room { 24 * length (told_events (command_view command.now) effect.now) ≤ packets.old.spare }
+    ensures bytes { packets.new.list ≡ packets.old.list ++ event_packets clock.seconds clock.sub sent (told_events (command_view command.now) effect.now) }
+    ensures room { packets.old.spare ≤ packets.new.spare + 24 * length (told_events (command_view command.now) effect.now) }
+    ensures len { length packets.new.list ≡ length packets.old.list + 24 * length (told_events (command_view command.now) effect.now) }
 {
     let sent = u32::from(sent);
-    match command_event(asked, effect) {
+    match command_event(command, effect) {
         Some(event) => {
             put_event(packets, clock, sent, &event);
-            put_deeds(packets, clock, sent + 1, effect.deeds.as_slice());
+            put_each(packets, clock, sent + 1, effect.events.as_slice());
         }
-        None => put_deeds(packets, clock, sent, effect.deeds.as_slice()),
+        None => put_each(packets, clock, sent, effect.events.as_slice()),
     }
 }

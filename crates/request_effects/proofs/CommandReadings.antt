@@ -5,7 +5,7 @@ use Rattle.tbl_kinds.specs.declared.entry.Answer.{Answer}
 use Rattle.cmd_packets.specs.Views.{Gives}
 use Rattle.cmd_packets.specs.declared.commands.Ground.{Ground}
 use Rattle.cmd_packets.specs.declared.commands.CmdFault.{CmdFault}
-use Rattle.request_effects.specs.Asked.{read_of}
+use Rattle.request_effects.specs.Requests.{read_of}
 
 pub gives_read : (result : Result Ground CmdFault) (read : Result GroundCommand Answer) → Gives result read → read_of result ≡ read
 gives_read (Ok command) read gives = sym gives

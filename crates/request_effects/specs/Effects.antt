@@ -3,15 +3,15 @@ use Rattle.std.specs.Prelude.{◌≡◌, ℕ, ◌≤◌, List, [], ◌∷◌, �
 use Rattle.tbl_kinds.specs.Admitted.{all_admitted}
 use Rattle.tbl_model.specs.State.{State, Tables, first_state}
 use Rattle.tbl_model.specs.Effects as model
-use Rattle.tbl_model.specs.Deeds.{Question}
+use Rattle.tbl_model.specs.Telemetry.{Question}
 use Rattle.tbl_model.specs.Given.{Given, nothing_given}
-use Rattle.tbl_model.specs.Commands.{Asked}
-use Rattle.tbl_model.specs.Events.{deed_event, command_events}
+use Rattle.tbl_model.specs.Commands.{ReadCommand}
+use Rattle.tbl_model.specs.Events.{sent_event, command_events}
 use Rattle.tbl_model.specs.Counts.{Told}
 use Rattle.tbl_model.specs.History.{told}
 use Rattle.tbl_model.specs.Fit.{HasCode}
-use Rattle.tbl_model.specs.declared.deeds.Shown.{Shown}
-use Rattle.tbl_model.specs.declared.deeds.Shown.TheVariants.{Nothing, Housekeeping, Registry}
+use Rattle.tbl_model.specs.declared.telemetry.Shown.{Shown}
+use Rattle.tbl_model.specs.declared.telemetry.Shown.TheVariants.{Nothing, Housekeeping, Registry}
 use Rattle.tbl_kinds.specs.declared.telemetry.Event.{Event}
 use Rattle.tbl_kinds.specs.declared.request.Actor.TheVariants.{Ground}
 use Rattle.tbl_kinds.specs.declared.request.Request.{Request}
@@ -20,21 +20,21 @@ use Rattle.request_effects.specs.declared.effect.Effect.{Effect}
 -- ---- what it stands for
 
 -- it is this effect, which asks validation functions these questions, calls nothing of the store, and leaves this state
-pub record IsEffect (done : Effect) (questions : List Question) (after : State) (e : model.Effect) : Type 0 where
+pub record IsEffect (done : Effect) (asks : List Question) (after : State) (e : model.Effect) : Type 0 where
   pub status : e.status ≡ done.answer.status
   pub detail : e.detail ≡ done.answer.detail
   pub bytes : e.bytes ≡ done.bytes.list
   pub table : e.table ≡ done.table
-  pub deeds : e.deeds ≡ done.deeds.items
+  pub events : e.events ≡ done.events.items
   pub shown : e.shown ≡ done.shown
-  pub asked : e.asked ≡ questions
+  pub questions : e.questions ≡ asks
   pub calls : e.calls ≡ []
   pub notice : e.notice ≡ done.notice
   pub next : e.next ≡ after
 
 -- it is this effect, which asks what it asks and leaves this state
 abbrev pub IsEffectAsking : Effect → State → model.Effect → Type 0
-IsEffectAsking done after e = IsEffect done e.asked after e
+IsEffectAsking done after e = IsEffect done e.questions after e
 
 -- the effect as it is told, which doesn't tell the calls of the store
 abbrev pub uncalled : model.Effect → model.Effect
@@ -53,9 +53,9 @@ without_images done next = record {
   detail = done.answer.detail;
   bytes = done.bytes.list;
   table = done.table;
-  deeds = done.deeds.items;
+  events = done.events.items;
   images = [];
-  asked = [];
+  questions = [];
   calls = [];
   shown = done.shown;
   notice = done.notice;
@@ -74,8 +74,8 @@ abbrev pub seen : Effect → model.Effect
 seen done = without_images done (first_state [] [] all_admitted)
 
 -- the events of a command, or of another request, with this effect
-abbrev pub told_events : Asked → Effect → List Event
-told_events asked done = command_events asked (seen done) ++ map deed_event done.deeds.items
+abbrev pub told_events : ReadCommand → Effect → List Event
+told_events command done = command_events command (seen done) ++ map sent_event done.events.items
 
 abbrev pub listed : Option Event → List Event
 listed None = []
@@ -93,10 +93,10 @@ shown_len (Registry row) = 156
 abbrev pub reply_limit : ℕ
 reply_limit = 66000
 
--- it has so many deeds at most, its packet after the events is so long at most, it gives a notice only where it may owe one,
+-- it has so many events at most, its packet after the events is so long at most, it gives a notice only where it may owe one,
 -- that can be sent, and its reply isn't too long
 pub record IsWithin (most room : ℕ) (owes : Bool) (done : Effect) : Type 0 where
-  pub deeds : length done.deeds.items ≤ most
+  pub events : length done.events.items ≤ most
   pub shown : shown_len done.shown ≤ room
   pub no_notice : owes ≡ false → done.notice ≡ None
   pub notice : IfSome done.notice HasCode
@@ -104,7 +104,7 @@ pub record IsWithin (most room : ℕ) (owes : Bool) (done : Effect) : Type 0 whe
 
 -- it answers, with a reply that is not too long, and no more is told of it
 pub record IsQuiet (done : Effect) : Type 0 where
-  pub deeds : done.deeds.items ≡ []
+  pub events : done.events.items ≡ []
   pub shown : done.shown ≡ Nothing
   pub notice : done.notice ≡ None
   pub given : given_of done ≡ nothing_given

@@ -2,13 +2,13 @@
 
 ghost use Rattle.std.specs.Prelude.{◌≡◌, [], ◌∷◌, None, IfOk, vec_capacity};
 ghost use Rattle.tbl_model.specs.Given.{nothing_given};
-ghost use Rattle.request_effects.specs.Asked.{asked_of, most_deeds};
+ghost use Rattle.request_effects.specs.Requests.{command_view, most_events};
 ghost use Rattle.request_effects.specs.Effects.{given_of};
 
-use crate::asked::{Asked, most_deeds};
+use crate::requests::{ReadCommand, most_events};
 use std::alloc::Global;
 use tbl_kinds::{Answer, Bytes, Memory, Note, Request};
-use tbl_model::{Deed, Named, Notice, Shown};
+use tbl_model::{Named, Notice, Shown, TelemetryEvent};
 
 /// What a request did, once it is done.
 #[derive(Drop)]
@@ -18,7 +18,7 @@ pub struct Effect {
     pub bytes: Bytes,
     /// The table that a command names or a load fills.
     pub table: Option<Named>,
-    pub deeds: Vec<Deed>,
+    pub events: Vec<TelemetryEvent>,
     /// The packet after the events.
     pub shown: Shown,
     /// The command packet that tells an application of pending work.
@@ -29,12 +29,16 @@ pub struct Effect {
     pub verdicts: [Option<i32>; 2],
 }
 
-/// Reserved room for the deeds of a request, so that telling what was done can't run out of memory once it is done.
-pub fn room_for_deeds(alloc: Global, request: &Request, asked: &Asked) -> Result<Vec<Deed>, Memory>
-    ensures empty { IfOk result (λ deeds. deeds.items ≡ []) }
-    ensures room { IfOk result (λ deeds. vec_capacity deeds ≡ most_deeds request.now (asked_of asked.now)) }
+/// Reserved room for the events of a request, so that telling what was done can't run out of memory once it is done.
+pub fn room_for_events(
+    alloc: Global,
+    request: &Request,
+    command: &ReadCommand,
+) -> Result<Vec<TelemetryEvent>, Memory>
+    ensures empty { IfOk result (λ events. events.items ≡ []) }
+    ensures room { IfOk result (λ events. vec_capacity events ≡ most_events request.now (command_view command.now)) }
 {
-    Ok(Vec::with_capacity(alloc, most_deeds(request, asked))?)
+    Ok(Vec::with_capacity(alloc, most_events(request, command))?)
 }
 
 impl Effect {
@@ -43,17 +47,17 @@ impl Effect {
         ensures answer { result.answer ≡ answer }
         ensures bytes { result.bytes ≡ bytes }
         ensures table { result.table ≡ None }
-        ensures deeds { result.deeds.items ≡ [] }
+        ensures events { result.events.items ≡ [] }
         ensures shown { result.shown ≡ Shown.Nothing }
         ensures notice { result.notice ≡ None }
         ensures given { given_of result ≡ nothing_given }
     {
-        let deeds = Vec::new(bytes.allocator());
+        let events = Vec::new(bytes.allocator());
         Effect {
             answer,
             bytes,
             table: None,
-            deeds,
+            events,
             shown: Shown::Nothing,
             notice: None,
             note: Note::untouched(),

@@ -2,16 +2,16 @@
 //! every field that telemetry tells, and says beside them what came from the outside.
 #![tactic(auto)]
 
-mod asked;
 mod clock;
 mod effect;
+mod requests;
 mod subjects;
 
-pub use asked::{
-    Asked, activates, asked_code, asked_in, asks_housekeeping, asks_load, asks_notice,
-    asks_reset_counters, asks_store, asks_validate, is_reset, load_file_of, most_deeds,
-    owners_handle, shown_room,
-};
 pub use clock::Clock;
-pub use effect::{Effect, room_for_deeds};
+pub use effect::{Effect, room_for_events};
+pub use requests::{
+    ReadCommand, activates, asks_housekeeping, asks_load, asks_notice, asks_reset_counters,
+    asks_store, asks_validate, command_code, is_reset, load_file_of, most_events, owners_handle,
+    read_command_in, shown_room,
+};
 pub use subjects::{notice, subject};

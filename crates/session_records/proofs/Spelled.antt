@@ -125,7 +125,7 @@ spelled (a ∷ b ∷ c ∷ d ∷ rest) p t =
     ∙ same_parts a (kind_of p.request) b (actor_number p.actor) (c ∷ d ∷ []) (two (length (body_of p.request))) (take n rest) (body_of p.request) (sym t.kind) (sym t.actor) (sym number) (sym t.body)
 spelled bytes p t = absurd (omega (arith, t.whole))
 
--- the head of the bytes and a body behind it tell this pair
+-- the head of the bytes and a body after it tell this pair
 pub tells : (bytes body : List ℕ) (actor : Actor) (request : Request) (kind number len : ℕ) → ((i : ℕ) → get_or bytes i 0 < 256) → 4 + len ≤ length bytes
     → kind ≡ byte_at 0 bytes → number ≡ byte_at 1 bytes → len ≡ stated_len bytes → body ≡ take len (drop 4 bytes)
     → actor ≡ actor_at number → IsSpelledBy kind body request → Tells bytes (record { actor = actor; request = request })

@@ -1,4 +1,4 @@
--- What is written behind a head.
+-- What is written after a head.
 use Rattle.tbl_kinds.specs.declared.request.Request.{Request}
 use Rattle.tbl_kinds.specs.declared.request.Request.TheVariants as ask
 

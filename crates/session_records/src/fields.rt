@@ -7,7 +7,7 @@ use tbl_kinds::{Bytes, u16_at, u32_at};
 /// What spells that there is no validator.
 const NO_VALIDATOR: u8 = 0xFF;
 
-/// The number in the first two bytes, and the bytes behind them.
+/// The number in the first two bytes, and the bytes after them.
 pub fn read_two(bytes: &[u8]) -> (u16, &[u8])
     requires { 2 ≤ length bytes.now }
     ensures parts { bytes.now ≡ two result.0 ++ result.1.now }
@@ -18,7 +18,7 @@ pub fn read_two(bytes: &[u8]) -> (u16, &[u8])
     (number, rest)
 }
 
-/// The number in the first four bytes, and the bytes behind them.
+/// The number in the first four bytes, and the bytes after them.
 pub fn read_four(bytes: &[u8]) -> (u32, &[u8])
     requires { 4 ≤ length bytes.now }
     ensures parts { bytes.now ≡ four result.0 ++ result.1.now }

@@ -4,7 +4,7 @@ ghost use Rattle.tbl_kinds.specs.Heads.{IsShort};
 
 use crate::head::{HEAD_LEN, Head};
 
-/// How many bytes are missing behind the beginning of a record: up to the end of its head, and once that is there, up to
+/// How many bytes are missing after the beginning of a record: up to the end of its head, and once that is there, up to
 /// the end of its body. With fewer the bytes stay short.
 #[tactic(auto, unfolding(tbl_kinds::specs::Heads::is_short))]
 pub fn bytes_lacking(bytes: &[u8]) -> usize

@@ -8,7 +8,7 @@ pub fn spellings_stand_apart()
     ensures { (p q : Pair) (x y : List ℕ) → IsRecord p → IsRecord q → spelling p ++ x ≡ spelling q ++ y → (spelling p ≡ spelling q) × (x ≡ y) }
 {}
 
-/// A spelling is of one request of one actor: any two are equal, but for the room reserved behind their bytes.
+/// A spelling is of one request of one actor: any two are equal, but for the room reserved after their bytes.
 pub fn a_spelling_is_of_one_request()
     ensures { (p q : Pair) → IsRecord p → IsRecord q → spelling p ≡ spelling q → (p.actor ≡ q.actor) × (without_room p.request ≡ without_room q.request) }
 {}

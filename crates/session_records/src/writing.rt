@@ -239,7 +239,7 @@ fn append_body(out: &mut Bytes, request: &Request)
     }
 }
 
-/// Puts the record's one spelling behind the bytes. Where memory runs out, nothing is changed.
+/// Puts the record's one spelling after the bytes. Where memory runs out, nothing is changed.
 #[tactic(auto, unfolding(tbl_kinds::specs::Records::spelling))]
 pub fn write_record(out: &mut Bytes, actor: Actor, request: &Request) -> Result<(), Memory>
     requires fits { Fits actor request.now }

@@ -22,7 +22,7 @@ use Rattle.tbl_model.specs.StoreUse.{left_by, then_broken, then_call}
 use Rattle.tbl_model.specs.StoreNotes.{NoGate, is_restore, MayGo, MayGoOn, Tells}
 use Rattle.tbl_model.specs.AppBlocks.{faulted, restore_answer}
 use Rattle.cds_store.specs.Calls.{HasFlags, is_gate, is_old}
-use Rattle.cds_store.specs.Standing.{StoreParts, StandsFor, AreHeld, slot_of, held_at, after_fault}
+use Rattle.cds_store.specs.StoreBlocks.{StoreParts, StandsFor, AreHeld, slot_of, held_at, after_fault}
 use Rattle.cds_layout.specs.Restores.{TellsTorn}
 use Rattle.cds_layout.specs.declared.blocks.RestoreFault.{RestoreFault}
 use Rattle.cds_layout.specs.declared.blocks.RestoreFault.TheVariants.{Torn, Fault as Unread}
@@ -40,7 +40,7 @@ use Rattle.tbl_outside.specs.Bank.{LeavesOnly}
 use Rattle.cds_store.specs.Moments.{LeavesIn}
 use Rattle.store_requests.proofs.Moments.{one_leaves}
 use Rattle.store_requests.specs.Called.{Leaving, with_boot, broken_note, broken_status, done_note, call_note, call_status, IsTold, unasked, IsCalled, Calls}
-use Rattle.tbl_model.specs.declared.deeds.Named.{Named}
+use Rattle.tbl_model.specs.declared.telemetry.Named.{Named}
 use Rattle.request_effects.specs.declared.effect.Effect.{Effect}
 use Rattle.tbl_outside.specs.declared.bank.Bank.{Ghosts}
 
@@ -54,9 +54,9 @@ told_so s next done status detail bytes note told = record {
   detail = sym told.detail_is;
   bytes = sym told.bytes_are;
   table = sym told.silent.table;
-  deeds = sym told.silent.deeds;
+  events = sym told.silent.events;
   shown = sym told.silent.shown;
-  asked = refl;
+  questions = refl;
   calls = refl;
   notice = sym told.silent.notice;
   next = refl;
@@ -187,9 +187,9 @@ module _ {B : Type 0} (g : Ghosts B) (first kept : StoreParts B) (s : State) (do
           detail = is.effect.detail;
           bytes = is.effect.bytes;
           table = same;
-          deeds = is.effect.deeds;
+          events = is.effect.events;
           shown = is.effect.shown;
-          asked = is.effect.asked;
+          questions = is.effect.questions;
           calls = is.effect.calls;
           notice = is.effect.notice;
           next = is.effect.next;

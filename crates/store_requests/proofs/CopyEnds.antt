@@ -16,12 +16,12 @@ use Rattle.tbl_model.specs.Tables.{table_at, is_critical}
 use Rattle.tbl_model.specs.Effects as model
 use Rattle.tbl_model.specs.StoreUse.{left_by}
 use Rattle.tbl_model.specs.Copies.{went_active, is_activation, block_of, copied_to, copied_of, then_copy}
-use Rattle.tbl_model.specs.declared.deeds.Deed.{Deed}
-use Rattle.tbl_model.specs.declared.deeds.Deed.TheVariants.{CopyFailed}
+use Rattle.tbl_model.specs.declared.telemetry.TelemetryEvent.{TelemetryEvent}
+use Rattle.tbl_model.specs.declared.telemetry.TelemetryEvent.TheVariants.{CopyFailed}
 use Rattle.cds_store.specs.Calls.{CallCounted, HasFlags, is_gate, is_old}
 use Rattle.cds_store.specs.Slots.{is_open_slot, open_slot, block_of as block_in}
 use Rattle.cds_store.specs.Sound.{slot_at, IsOpenOf}
-use Rattle.cds_store.specs.Standing.{StoreParts, StandsFor}
+use Rattle.cds_store.specs.StoreBlocks.{StoreParts, StandsFor}
 use Rattle.cds_store.specs.declared.slot.Slot.{Slot}
 use Rattle.cds_store.specs.declared.fault.BankFault.{BankFault}
 use Rattle.cds_store.specs.declared.fault.BankFault.TheVariants.{Fault, Stopped as Cut}
@@ -55,7 +55,7 @@ open_of_size kind name slots n size b found is sized = open_in_slot kind name si
 
 -- ---- what the request did before
 
-module _ {B : Type 0} (g : Ghosts B) (first kept : StoreParts B) (e : model.Effect) (before : Effect) (is : IsEffect before e.asked e.next e) where
+module _ {B : Type 0} (g : Ghosts B) (first kept : StoreParts B) (e : model.Effect) (before : Effect) (is : IsEffect before e.questions e.next e) where
   abbrev Copies : Effect → (BankNote → model.Effect) → Type 0
   Copies done means = CallsAfter g first kept (done_first e) done means
 
@@ -74,9 +74,9 @@ module _ {B : Type 0} (g : Ghosts B) (first kept : StoreParts B) (e : model.Effe
       detail = is.detail;
       bytes = is.bytes;
       table = is.table;
-      deeds = is.deeds;
+      events = is.events;
       shown = is.shown;
-      asked = refl;
+      questions = refl;
       calls = refl;
       notice = is.notice;
       next = ap (λ (calls : List StoreCall). record e.next { store = left_by calls (with_boot ended stopped found untouched) e.next.store }) (sym is.calls);
@@ -105,9 +105,9 @@ module _ {B : Type 0} (g : Ghosts B) (first kept : StoreParts B) (e : model.Effe
       detail = is.detail ∙ ap (λ (a : Answer). a.detail) (sym copied.answer);
       bytes = is.bytes ∙ sym copied.bytes;
       table = is.table ∙ sym copied.table;
-      deeds = is.deeds ∙ sym copied.deeds;
+      events = is.events ∙ sym copied.events;
       shown = is.shown ∙ sym copied.shown;
-      asked = refl;
+      questions = refl;
       calls = refl;
       notice = is.notice ∙ sym copied.notice;
       next = refl;
@@ -125,9 +125,9 @@ module _ {B : Type 0} (g : Ghosts B) (first kept : StoreParts B) (e : model.Effe
       detail = is.detail ∙ ap (λ (a : Answer). a.detail) (sym copied.answer);
       bytes = is.bytes ∙ sym copied.bytes;
       table = is.table ∙ sym copied.table;
-      deeds = ap (λ (deeds : List Deed). deeds ++ CopyFailed row slot ∷ []) is.deeds ∙ sym copied.deeds;
+      events = ap (λ (events : List TelemetryEvent). events ++ CopyFailed row slot ∷ []) is.events ∙ sym copied.events;
       shown = is.shown ∙ sym copied.shown;
-      asked = refl;
+      questions = refl;
       calls = refl;
       notice = is.notice ∙ sym copied.notice;
       next = refl;
@@ -145,9 +145,9 @@ module _ {B : Type 0} (g : Ghosts B) (first kept : StoreParts B) (e : model.Effe
       detail = ap (λ (a : Answer). a.detail) (sym copied.answer);
       bytes = sym copied.bytes;
       table = sym copied.table;
-      deeds = is.deeds ∙ sym copied.deeds;
+      events = is.events ∙ sym copied.events;
       shown = sym copied.shown;
-      asked = refl;
+      questions = refl;
       calls = refl;
       notice = sym copied.notice;
       next = refl;
@@ -171,14 +171,14 @@ pub rose_one : (before now : ℕ) → Rose before now → RoseBy 1 before now
 rose_one before now (inl more) = inl (omega (arith, more))
 rose_one before now (inr top) = inr (omega (arith, top))
 
-one_more : (deeds : List Deed) (deed : Deed) (most : ℕ) → length deeds ≤ most → length (deeds ++ deed ∷ []) ≤ suc most
-one_more deeds deed most few = let both = length-append deeds (deed ∷ []) in omega (arith, few, both)
+one_more : (events : List TelemetryEvent) (event : TelemetryEvent) (most : ℕ) → length events ≤ most → length (events ++ event ∷ []) ≤ suc most
+one_more events event most few = let both = length-append events (event ∷ []) in omega (arith, few, both)
 
 pub copied_call : {B : Type 0} (g : Ghosts B) (old new : StoreParts B) (before done : Effect) (row slot : ℕ) (ended : Result Unit BankFault) → new.booted ≡ true → g.faults old.bank ≤ g.faults new.bank → g.stops old.bank ≤ g.stops new.bank → CallCounted g.faults g.stops old.bank new.bank ended → IsCopied row slot ended before done
     → IsCopyCall g old new before done
 copied_call g old new before done row slot (Ok x) booted more_faults more_stops counted copied = record {
   within = λ most room owes within. record {
-    deeds = let few = within.deeds in rw copied.deeds (omega (arith, few));
+    events = let few = within.events in rw copied.events (omega (arith, few));
     shown = rw copied.shown within.shown;
     no_notice = λ owing. copied.notice ∙ within.no_notice owing;
     notice = rw copied.notice within.notice;
@@ -193,7 +193,7 @@ copied_call g old new before done row slot (Ok x) booted more_faults more_stops 
 }
 copied_call g old new before done row slot (Err (Fault gate prior)) booted more_faults more_stops counted copied = record {
   within = λ most room owes within. record {
-    deeds = let few = within.deeds in rw copied.deeds (one_more before.deeds.items (CopyFailed row slot) most few);
+    events = let few = within.events in rw copied.events (one_more before.events.items (CopyFailed row slot) most few);
     shown = rw copied.shown within.shown;
     no_notice = λ owing. copied.notice ∙ within.no_notice owing;
     notice = rw copied.notice within.notice;
@@ -208,7 +208,7 @@ copied_call g old new before done row slot (Err (Fault gate prior)) booted more_
 }
 copied_call g old new before done row slot (Err (Cut gate prior)) booted more_faults more_stops counted copied = record {
   within = λ most room owes within. record {
-    deeds = let few = within.deeds in rw copied.deeds (omega (arith, few));
+    events = let few = within.events in rw copied.events (omega (arith, few));
     shown = rw copied.shown (omega arith);
     no_notice = λ owing. copied.notice;
     notice = rw copied.notice tt;
@@ -224,8 +224,8 @@ copied_call g old new before done row slot (Err (Cut gate prior)) booted more_fa
 
 -- ---- which image is copied
 
-pub went_as : (e : model.Effect) (deeds : List Deed) (b : Bool) → e.deeds ≡ deeds → b ≡ is_activation (slice_get deeds (length deeds - 1)) → went_active e ≡ b
-went_as e deeds b same is = ap (λ (d : List Deed). is_activation (slice_get d (length d - 1))) same ∙ sym is
+pub went_as : (e : model.Effect) (events : List TelemetryEvent) (b : Bool) → e.events ≡ events → b ≡ is_activation (slice_get events (length events - 1)) → went_active e ≡ b
+went_as e events b same is = ap (λ (d : List TelemetryEvent). is_activation (slice_get d (length d - 1))) same ∙ sym is
 
 chosen : {X : Type 0} (b : Bool) (x y : X) → b ≡ true → cond b x y ≡ x
 chosen true x y is = refl

@@ -1,4 +1,4 @@
-pub mod BankAsked
+pub mod BankCalls
 pub mod Both
 pub mod Calls
 pub mod CopyEnds

@@ -8,7 +8,7 @@ use Rattle.tbl_outside.specs.Bank.{LeavesOnly}
 use Rattle.tbl_outside.proofs.Moments.{started, goes_on, leaves_among}
 use Rattle.cds_layout.specs.Images.{store_of}
 use Rattle.cds_store.specs.Moments.{LeavesIn}
-use Rattle.cds_store.specs.Standing.{StoreParts}
+use Rattle.cds_store.specs.StoreBlocks.{StoreParts}
 use Rattle.tbl_laws.proofs.Crashes.{before_calls, in_first_call, in_later_calls}
 use Rattle.store_requests.specs.Called.{Leaving}
 use Rattle.tbl_outside.specs.declared.bank.Bank.{Ghosts}

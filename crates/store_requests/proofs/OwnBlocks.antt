@@ -15,14 +15,14 @@ use Rattle.tbl_kinds.specs.declared.status.Status.{Status}
 use Rattle.tbl_model.specs.State.{State, Table as Row, Tables}
 use Rattle.tbl_model.specs.Tables.{table_at}
 use Rattle.tbl_model.specs.TableSteps.{find}
-use Rattle.tbl_model.specs.declared.deeds.Named.{Named}
+use Rattle.tbl_model.specs.declared.telemetry.Named.{Named}
 use Rattle.tbl_model.specs.Effects.{Effect, answered, named}
 use Rattle.tbl_model.specs.Subjects.{name_of, by_app, by_row, by_table, if_table}
 use Rattle.tbl_model.specs.StoreUse.{then_call}
 use Rattle.tbl_model.specs.AppBlocks.{faulted, is_named_by, by_block, if_block, restore_answer, cds_copy_effect, cds_restore_effect, cds_delete_effect, delete_table_block}
 use Rattle.cds_store.specs.Slots.{is_doubtful_slot, doubtful_slot}
 use Rattle.cds_store.specs.Sound.{slot_at, IsOpenOf}
-use Rattle.cds_store.specs.Standing.{StoreParts, StandsFor, slot_of}
+use Rattle.cds_store.specs.StoreBlocks.{StoreParts, StandsFor, slot_of}
 use Rattle.cds_store.proofs.Showing.{slot_is}
 use Rattle.cds_store.specs.declared.slot.Slot.{Slot}
 use Rattle.store_requests.specs.Called.{is_own_slot}

@@ -34,7 +34,7 @@ use Rattle.cds_layout.specs.Restores.{TellsTorn, RestoreCounted}
 use Rattle.cds_store.specs.Calls.{HasFlags, IfBank, lacks_room, is_gate, is_old}
 use Rattle.cds_store.specs.Slots.{doubtful_slot}
 use Rattle.cds_store.specs.Sound.{slot_at}
-use Rattle.cds_store.specs.Standing.{StoreParts, StandsFor, slot_of, held_at, after_fault}
+use Rattle.cds_store.specs.StoreBlocks.{StoreParts, StandsFor, slot_of, held_at, after_fault}
 use Rattle.cds_store.proofs.Reservations.{doubtful_same}
 use Rattle.cds_store.specs.declared.fault.BankFault.{BankFault}
 use Rattle.cds_store.specs.declared.fault.BankFault.TheVariants.{Fault, Stopped as Cut}
@@ -66,9 +66,9 @@ entered s old new u done status note same handle enters left = record {
   detail = handle ∙ sym enters.told.detail_is;
   bytes = sym enters.told.bytes_are;
   table = sym enters.told.silent.table;
-  deeds = sym enters.told.silent.deeds;
+  events = sym enters.told.silent.events;
   shown = sym enters.told.silent.shown;
-  asked = refl;
+  questions = refl;
   calls = refl;
   notice = sym enters.told.silent.notice;
   next = ap (λ (tables : Tables). record s { tables = tables; store = left }) (ap (added (next_row old) u) same ∙ sym enters.tables);
@@ -251,7 +251,7 @@ plain_cause status note quiet = record {
 
 silent_within : (done : Effect) (status : Status) (detail : ℕ) (note : BankNote) → IsTold done status detail [] note → IsWithin 0 0 false done
 silent_within done status detail note told = record {
-  deeds = rw told.silent.deeds (omega arith);
+  events = rw told.silent.events (omega arith);
   shown = rw told.silent.shown (omega arith);
   no_notice = λ _. told.silent.notice;
   notice = rw told.silent.notice tt;
@@ -327,11 +327,11 @@ restored_gave g before old new t done slot blocks (Err Unread) image told stands
 -- ---- what it restores
 
 module _ (bytes : List ℕ) (s : State) (row : ℕ) (t : Table) where
-  abbrev Holds : BankNote → model.Effect → Type 0
-  Holds n e = RestoresHeld bytes e.calls s.store n
+  abbrev RestoresAsHeld : BankNote → model.Effect → Type 0
+  RestoresAsHeld n e = RestoresHeld bytes e.calls s.store n
 
   -- of its calls, which break off or are done, it is the first that counts
-  calls_hold : (calls : List StoreCall) (n : BankNote) (base : model.Effect) → RestoresHeld bytes calls s.store n → Holds n (then_call calls n (instead (not_kept s row t)) base)
+  calls_hold : (calls : List StoreCall) (n : BankNote) (base : model.Effect) → RestoresHeld bytes calls s.store n → RestoresAsHeld n (then_call calls n (instead (not_kept s row t)) base)
   calls_hold calls n base held = by n.outcome where
     by : (outcome : Outcome) → RestoresHeld bytes (by_outcome outcome (with_calls calls n base) (instead (not_kept s row t) (with_calls calls n base)) (stopped n (with_calls calls n base))).calls s.store n
     by Untouched = held
@@ -339,24 +339,24 @@ module _ (bytes : List ℕ) (s : State) (row : ℕ) (t : Table) where
     by Failed = held
     by Stopped = held
 
-  pub recovery_holds : (slot : ℕ) (n : BankNote) → (n.outcome ≡ Done → ForSome (stored_at s.store slot) (λ b. GaveHeld bytes b.block n)) → Holds n (recovery s row t slot n)
+  pub recovery_holds : (slot : ℕ) (n : BankNote) → (n.outcome ≡ Done → ForSome (stored_at s.store slot) (λ b. GaveHeld bytes b.block n)) → RestoresAsHeld n (recovery s row t slot n)
   recovery_holds slot n held = calls_hold (restore slot (restored_image n) ∷ []) n (recovered s row t (restored_image n)) held
 
   -- nothing, where it has no block of its size
-  made_holds : (n : BankNote) (old : Option ℕ) → Holds n (making s row t old n)
+  made_holds : (n : BankNote) (old : Option ℕ) → RestoresAsHeld n (making s row t old n)
   made_holds n None = calls_hold (renewal of_table t.name t.size None) n (registered s row t SUCCESS) tt
   made_holds n (Some slot) = calls_hold (renewal of_table t.name t.size (Some slot)) n (registered s row t SUCCESS) tt
 
-  room_holds : (n : BankNote) (old : Option ℕ) (room : Bool) → Holds n (if not room then not_kept s row t else making s row t old n)
+  room_holds : (n : BankNote) (old : Option ℕ) (room : Bool) → RestoresAsHeld n (if not room then not_kept s row t else making s row t old n)
   room_holds n old true = made_holds n old
   room_holds n old false = tt
 
-  sized_holds : (n : BankNote) (old : Option ℕ) (sized : Bool) → sized ≡ false → Holds n (if sized then there s row t n old else (if not (has_room t.size (any_of of_table t.name s.store) s.store) then not_kept s row t else making s row t old n))
+  sized_holds : (n : BankNote) (old : Option ℕ) (sized : Bool) → sized ≡ false → RestoresAsHeld n (if sized then there s row t n old else (if not (has_room t.size (any_of of_table t.name s.store) s.store) then not_kept s row t else making s row t old n))
   sized_holds n old false is = room_holds n old (has_room t.size (any_of of_table t.name s.store) s.store)
   sized_holds n old true is = absurd (cc is)
 
-  pub making_holds : (n : BankNote) → block_of t s.store ≡ None → Holds n (kept_effect s row t n (open_of of_table t.name s.store))
+  pub making_holds : (n : BankNote) → block_of t s.store ≡ None → RestoresAsHeld n (kept_effect s row t n (open_of of_table t.name s.store))
   making_holds n none = by (open_of of_table t.name s.store) refl where
-    by : (old : Option ℕ) → open_of of_table t.name s.store ≡ old → Holds n (kept_effect s row t n old)
+    by : (old : Option ℕ) → open_of of_table t.name s.store ≡ old → RestoresAsHeld n (kept_effect s row t n old)
     by None is = sized_holds n None false refl
     by (Some slot) is = sized_holds n (Some slot) (has_size t.size (stored_at s.store slot)) (other_size s t slot is none)

@@ -23,7 +23,7 @@ use Rattle.tbl_model.specs.StoreUse.{then_call}
 use Rattle.tbl_model.specs.AppBlocks.{faulted, any_of, has_size, new_slot, renewal, block_effect, cds_register_effect}
 use Rattle.cds_store.specs.Calls.{IfBank, lacks_room, is_gate, is_old}
 use Rattle.cds_store.specs.Slots.{doubtful_slot}
-use Rattle.cds_store.specs.Standing.{StoreParts, StandsFor}
+use Rattle.cds_store.specs.StoreBlocks.{StoreParts, StandsFor}
 use Rattle.cds_store.proofs.Reservations.{doubtful_same}
 use Rattle.cds_store.specs.declared.fault.ReserveFault.{ReserveFault}
 use Rattle.cds_store.specs.declared.fault.ReserveFault.TheVariants.{NoRoom, Bank}

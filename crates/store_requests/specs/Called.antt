@@ -6,7 +6,7 @@ use Rattle.tbl_model.specs.Boots.{boot}
 use Rattle.tbl_model.specs.BankCounts.{faults_in, stops_in, HasCause}
 use Rattle.tbl_model.specs.StoreNotes.{Ends, MayGoOn, Tells}
 use Rattle.tbl_model.specs.StoreUse.{left_by}
-use Rattle.cds_store.specs.Standing.{StoreParts, StandsFor}
+use Rattle.cds_store.specs.StoreBlocks.{StoreParts, StandsFor}
 use Rattle.cds_store.specs.declared.slot.Slot.{Slot}
 use Rattle.tbl_kinds.specs.StoreSteps.{same_kind}
 use Rattle.tbl_kinds.specs.declared.block.BlockKind.TheVariants.{App}
@@ -16,7 +16,7 @@ use Rattle.tbl_session.specs.Crashes.{DuringCalls, writes}
 use Rattle.tbl_session.specs.Restores.{RestoresHeld}
 use Rattle.tbl_outside.specs.Bank.{LeavesOnly}
 use Rattle.tbl_outside.specs.Counts.{RoseBy}
-use Rattle.tbl_model.specs.Deeds.{Question}
+use Rattle.tbl_model.specs.Telemetry.{Question}
 use Rattle.cds_layout.specs.Images.{store_of}
 use Rattle.tbl_kinds.specs.declared.note.BankNote.{BankNote}
 use Rattle.tbl_kinds.specs.declared.note.Outcome.{Outcome}
@@ -24,7 +24,7 @@ use Rattle.tbl_kinds.specs.declared.note.Outcome.TheVariants.{Untouched, Done, F
 use Rattle.tbl_kinds.specs.declared.request.ResetKind.TheVariants.{Processor}
 use Rattle.tbl_kinds.specs.declared.status.TheConstants.Status.{SUCCESS, INFO_STOPPED, ERR_CDS_FAULT, ERR_CDS_NO_ROOM}
 use Rattle.tbl_kinds.specs.declared.status.Status.{Status}
-use Rattle.tbl_model.specs.declared.deeds.Shown.TheVariants.{Nothing}
+use Rattle.tbl_model.specs.declared.telemetry.Shown.TheVariants.{Nothing}
 use Rattle.cds_store.specs.declared.fault.BankFault.{BankFault}
 use Rattle.cds_store.specs.declared.fault.BankFault.TheVariants.{Fault, Stopped as Cut}
 use Rattle.cds_store.specs.declared.fault.ReserveFault.{ReserveFault}
@@ -77,7 +77,7 @@ broken_status (Cut gate old) = INFO_STOPPED
 -- no packet tells more than the answer, and no function was asked
 pub record IsSilent (done : Effect) : Type 0 where
   pub table : done.table ≡ None
-  pub deeds : done.deeds.items ≡ []
+  pub events : done.events.items ≡ []
   pub shown : done.shown ≡ Nothing
   pub notice : done.notice ≡ None
   pub verdicts : done.verdicts ≡ None ∷ None ∷ []
@@ -148,7 +148,7 @@ unasked s = record { state = s; questions = [] }
 
 -- what this effect says
 abbrev pub done_first : model.Effect → BeforeCalls
-done_first e = record { state = e.next; questions = e.asked }
+done_first e = record { state = e.next; questions = e.questions }
 
 -- a request that did this before it called the store has this effect, where the service has this note after it; before a boot the
 -- store stands for the blocks that the calls leave, and the note is one that they may leave. A reset in one of those that write leaves

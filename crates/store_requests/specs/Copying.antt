@@ -1,10 +1,10 @@
 -- An image that went active is copied, after what its request did.
 use Rattle.std.specs.Prelude.{◌≡◌, ◌⊎◌, ℕ, suc, List, [], ◌∷◌, ◌++◌, None, Bool, true, Result, Ok, Err, vec_capacity}
 use Rattle.tbl_kinds.specs.Notes.{untouched}
-use Rattle.tbl_model.specs.declared.deeds.Deed.{Deed}
-use Rattle.tbl_model.specs.declared.deeds.Deed.TheVariants.{CopyFailed}
-use Rattle.tbl_model.specs.declared.deeds.Shown.TheVariants.{Nothing}
-use Rattle.cds_store.specs.Standing.{StoreParts}
+use Rattle.tbl_model.specs.declared.telemetry.TelemetryEvent.{TelemetryEvent}
+use Rattle.tbl_model.specs.declared.telemetry.TelemetryEvent.TheVariants.{CopyFailed}
+use Rattle.tbl_model.specs.declared.telemetry.Shown.TheVariants.{Nothing}
+use Rattle.cds_store.specs.StoreBlocks.{StoreParts}
 use Rattle.cds_store.specs.declared.fault.BankFault.{BankFault}
 use Rattle.cds_store.specs.declared.fault.BankFault.TheVariants.{Fault, Stopped as Cut}
 use Rattle.tbl_kinds.specs.declared.note.Outcome.TheVariants.{Stopped}
@@ -15,11 +15,11 @@ use Rattle.store_requests.specs.declared.copies.CopyRoom.{CopyRoom}
 use Rattle.request_effects.specs.declared.effect.Effect.{Effect}
 use Rattle.tbl_outside.specs.declared.bank.Bank.{Ghosts}
 
--- room for a note of which nothing is told yet, and for four deeds
+-- room for a note of which nothing is told yet, and for four events
 pub record IsFresh (room : CopyRoom) : Type 0 where
   pub note : room.note.value ≡ untouched
-  pub none : room.deeds.items ≡ []
-  pub four : vec_capacity room.deeds ≡ 4
+  pub none : room.events.items ≡ []
+  pub four : vec_capacity room.events ≡ 4
 
 -- where it was stopped, something else
 abbrev pub unless_stopped : {X : Type 0} → Result Unit BankFault → X → X → X
@@ -28,23 +28,23 @@ unless_stopped (Err (Fault gate old)) told other = told
 unless_stopped (Err (Cut gate old)) told other = other
 
 -- where the bank failed, that is told too
-abbrev pub with_failure : ℕ → ℕ → Result Unit BankFault → List Deed → List Deed
-with_failure row slot (Ok x) deeds = deeds
-with_failure row slot (Err (Fault gate old)) deeds = deeds ++ CopyFailed row slot ∷ []
-with_failure row slot (Err (Cut gate old)) deeds = deeds
+abbrev pub with_failure : ℕ → ℕ → Result Unit BankFault → List TelemetryEvent → List TelemetryEvent
+with_failure row slot (Ok x) events = events
+with_failure row slot (Err (Fault gate old)) events = events ++ CopyFailed row slot ∷ []
+with_failure row slot (Err (Cut gate old)) events = events
 
 -- what becomes of an effect by how the copy ended
 pub record IsCopied (row slot : ℕ) (ended : Result Unit BankFault) (before done : Effect) : Type 0 where
   pub answer : done.answer ≡ unless_stopped ended before.answer (record { status = INFO_STOPPED; detail = 0 })
   pub bytes : done.bytes.list ≡ unless_stopped ended before.bytes.list []
   pub table : done.table ≡ unless_stopped ended before.table None
-  pub deeds : done.deeds.items ≡ with_failure row slot ended before.deeds.items
+  pub events : done.events.items ≡ with_failure row slot ended before.events.items
   pub shown : done.shown ≡ unless_stopped ended before.shown Nothing
   pub notice : done.notice ≡ unless_stopped ended before.notice None
   pub note : done.note ≡ call_note ended untouched
   pub verdicts : done.verdicts ≡ before.verdicts
 
--- the answer stays but where the copy was stopped, no more is told than one deed, and the note has its cause in the counts of the bank
+-- the answer stays but where the copy was stopped, no more is told than one event, and the note has its cause in the counts of the bank
 pub record IsCopyCall {B : Type 0} (g : Ghosts B) (old new : StoreParts B) (before done : Effect) : Type 0 where
   pub within : (most room : ℕ) (owes : Bool) → IsWithin most room owes before → IsWithin (suc most) room owes done
   pub verdicts : done.verdicts ≡ before.verdicts

@@ -1,4 +1,4 @@
-pub mod BankAsked
+pub mod BankCalls
 pub mod Called
 pub mod Copying
 pub mod OwnBlocks

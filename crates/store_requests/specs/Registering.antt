@@ -9,7 +9,7 @@ use Rattle.cds_layout.specs.Restores.{TellsTorn, RestoreCounted}
 use Rattle.cds_layout.specs.declared.blocks.RestoreFault.{RestoreFault}
 use Rattle.cds_layout.specs.declared.blocks.RestoreFault.TheVariants.{Torn, Fault as Unread}
 use Rattle.cds_store.specs.Sound.{slot_at}
-use Rattle.cds_store.specs.Standing.{StoreParts, StandsFor, held_at, after_fault}
+use Rattle.cds_store.specs.StoreBlocks.{StoreParts, StandsFor, held_at, after_fault}
 use Rattle.tbl_kinds.specs.StoreCalls.{restore, after}
 use Rattle.tbl_kinds.specs.StoreSteps.{open_of}
 use Rattle.tbl_kinds.specs.declared.block.BlockKind.TheVariants as kind

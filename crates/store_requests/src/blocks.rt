@@ -10,9 +10,9 @@ ghost use Rattle.tbl_model.specs.State.{State};
 ghost use Rattle.tbl_model.specs.AppBlocks.{has_size, block_effect, cds_register_effect};
 ghost use Rattle.cds_store.specs.Slots.{open_slot};
 ghost use Rattle.cds_store.specs.Sound.{slot_at};
-ghost use Rattle.cds_store.specs.Standing.{StandsFor};
+ghost use Rattle.cds_store.specs.StoreBlocks.{StandsFor};
 ghost use Rattle.cds_layout.specs.Order.{delete_calls};
-ghost use Rattle.store_requests.specs.BankAsked.{AsksBy, make_at, renew_at, register_at};
+ghost use Rattle.store_requests.specs.BankCalls.{AsksBy, make_at, renew_at, register_at};
 ghost use Rattle.std.specs.Option.{ForSome, option_map};
 ghost use Rattle.tbl_model.specs.Applications.{full_name};
 ghost use Rattle.sharing.specs.Apps.{app_name};
@@ -79,7 +79,7 @@ fn renew<B: Bank>(
     ensures effect { B.tells → (s : State) → StandsFor B.tells B.now store.old s.store
         → Calls B.Bank store.old store.new s result (renewing s name.now size old) }
     ensures call { IsCall B.Bank store.old store.new result }
-    ensures asked { (blocks : Blocks) → StandsFor B.tells B.now store.old blocks
+    ensures bank_calls { (blocks : Blocks) → StandsFor B.tells B.now store.old blocks
         → ForSome (renew_at store.old.slots old name.now size) (AsksBy B.Bank store.old.bank store.new.bank result.note.outcome) }
 {
     match store.delete_block(old) {
@@ -118,7 +118,7 @@ fn register_block<B: Bank>(
     ensures effect { IfOk result (λ done. B.tells → (s : State) → StandsFor B.tells B.now store.old s.store
         → Calls B.Bank store.old store.new s done (λ n. block_effect s name.now size n (open_of kind.App name.now s.store))) }
     ensures call { IfOk result (IsCall B.Bank store.old store.new) }
-    ensures asked { IfOk result (λ done. (blocks : Blocks) → StandsFor B.tells B.now store.old blocks
+    ensures bank_calls { IfOk result (λ done. (blocks : Blocks) → StandsFor B.tells B.now store.old blocks
         → ForSome (register_at (open_slot kind.App name.now store.old.slots) store.old.slots name.now size) (AsksBy B.Bank store.old.bank store.new.bank done.note.outcome)) }
     ensures err { OnErr result (store.new ≡ store.old) }
 {
@@ -147,7 +147,7 @@ fn register_again<B: Bank>(
     ensures effect { IfOk result (λ done. B.tells → (s : State) → StandsFor B.tells B.now store.old s.store
         → Calls B.Bank store.old store.new s done (λ n. block_effect s name.now size n (Some slot))) }
     ensures call { IfOk result (IsCall B.Bank store.old store.new) }
-    ensures asked { IfOk result (λ done. (blocks : Blocks) → StandsFor B.tells B.now store.old blocks
+    ensures bank_calls { IfOk result (λ done. (blocks : Blocks) → StandsFor B.tells B.now store.old blocks
         → ForSome (renew_at store.old.slots slot name.now size) (AsksBy B.Bank store.old.bank store.new.bank done.note.outcome)) }
     ensures err { OnErr result (store.new ≡ store.old) }
 {
@@ -178,7 +178,7 @@ fn register_new<B: Bank>(
     ensures effect { IfOk result (λ done. B.tells → (s : State) → StandsFor B.tells B.now store.old s.store
         → Calls B.Bank store.old store.new s done (λ n. block_effect s name.now size n None)) }
     ensures call { IfOk result (IsCall B.Bank store.old store.new) }
-    ensures asked { IfOk result (λ done. ForSome (make_at store.old.slots name.now size) (AsksBy B.Bank store.old.bank store.new.bank done.note.outcome)) }
+    ensures bank_calls { IfOk result (λ done. ForSome (make_at store.old.slots name.now size) (AsksBy B.Bank store.old.bank store.new.bank done.note.outcome)) }
     ensures err { OnErr result (store.new ≡ store.old) }
 {
     let note = note_room(alloc)?;
@@ -201,8 +201,8 @@ pub fn cds_register<B: Bank>(
     ensures effect { IfOk result (λ done. B.tells → (s : State) → s.apps ≡ apps.now → StandsFor B.tells B.now store.old s.store
         → Calls B.Bank store.old store.new s done (cds_register_effect s app short.now size)) }
     ensures call { IfOk result (IsCall B.Bank store.old store.new) }
-    // The bank was asked what its calls of the store ask, and nothing else.
-    ensures asked { IfOk result (λ done. (name : List ℕ) → option_map (λ own. full_name own short.now) (app_name apps.now app) ≡ Some name
+    // The bank got the calls that its calls of the store make, and no others.
+    ensures bank_calls { IfOk result (λ done. (name : List ℕ) → option_map (λ own. full_name own short.now) (app_name apps.now app) ≡ Some name
         → (blocks : Blocks) → StandsFor B.tells B.now store.old blocks
         → ForSome (register_at (open_slot kind.App name store.old.slots) store.old.slots name size) (AsksBy B.Bank store.old.bank store.new.bank done.note.outcome)) }
     ensures err { OnErr result (store.new ≡ store.old) }
@@ -234,7 +234,7 @@ pub(crate) fn delete<B: Bank>(
     ensures effect { IfOk result (λ done. B.tells → (s : State) → StandsFor B.tells B.now store.old s.store
         → Calls B.Bank store.old store.new s done (deleting s slot)) }
     ensures call { IfOk result (IsCall B.Bank store.old store.new) }
-    ensures asked { IfOk result (λ done. AsksBy B.Bank store.old.bank store.new.bank done.note.outcome (delete_calls slot)) }
+    ensures bank_calls { IfOk result (λ done. AsksBy B.Bank store.old.bank store.new.bank done.note.outcome (delete_calls slot)) }
     ensures err { OnErr result (store.new ≡ store.old) }
 {
     let note = note_room(alloc)?;

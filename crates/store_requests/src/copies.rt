@@ -6,7 +6,7 @@ ghost use Rattle.tbl_model.specs.State.{Table};
 ghost use Rattle.tbl_model.specs.Tables.{table_at, is_critical, is_critical_in};
 ghost use Rattle.tbl_model.specs.Effects.{Effect as Model};
 ghost use Rattle.tbl_model.specs.Copies.{is_activation, block_of, copied_to, then_copy};
-ghost use Rattle.cds_store.specs.Standing.{StandsFor};
+ghost use Rattle.cds_store.specs.StoreBlocks.{StandsFor};
 ghost use Rattle.store_requests.specs.Called.{CallsAfter, done_first};
 ghost use Rattle.store_requests.specs.Copying.{IsFresh, IsCopied, IsCopyCall};
 ghost use Rattle.request_effects.specs.Effects.{IsEffect};
@@ -18,19 +18,19 @@ use cds_store::{BankFault, Store};
 use request_effects::Effect;
 use std::alloc::Global;
 use tbl_kinds::{Answer, BankNote, Memory, Name40, Note, Options, Status};
-use tbl_model::{Deed, Shown};
+use tbl_model::{Shown, TelemetryEvent};
 use tbl_outside::Bank;
 use tbl_registry::Tables;
 
-/// So many deeds at most does a request have by which an image goes active and is copied.
-const MOST_DEEDS: usize = 4;
+/// So many events at most does a request have by which an image goes active and is copied.
+const MOST_EVENTS: usize = 4;
 
 /// What the copy of an image may need of memory. It is taken before anything changes: an image that went active stays active,
 /// so running out of memory after that couldn't be answered.
 #[derive(Drop)]
 pub struct CopyRoom {
     note: Box<BankNote>,
-    deeds: Vec<Deed>,
+    events: Vec<TelemetryEvent>,
 }
 
 impl CopyRoom {
@@ -39,7 +39,7 @@ impl CopyRoom {
     {
         Ok(CopyRoom {
             note: note_room(alloc)?,
-            deeds: Vec::with_capacity(alloc, MOST_DEEDS)?,
+            events: Vec::with_capacity(alloc, MOST_EVENTS)?,
         })
     }
 }
@@ -60,26 +60,29 @@ pub fn copy_room(alloc: Global, tables: &Tables, row: u8) -> Result<Option<CopyR
 
 /// Whether an image went active by it: this is the last thing that it did.
 fn went_active(effect: &Effect) -> bool
-    ensures { result ≡ is_activation (slice_get effect.now.deeds.items (length effect.now.deeds.items - 1)) }
+    ensures { result ≡ is_activation (slice_get effect.now.events.items (length effect.now.events.items - 1)) }
 {
-    matches!(effect.deeds.as_slice().last(), Some(Deed::Activated { .. }))
+    matches!(
+        effect.events.as_slice().last(),
+        Some(TelemetryEvent::Activated { .. })
+    )
 }
 
 // ---- how a copy ended
 
 /// The bank failed: that is told after what was done, as the image is active all the same.
-fn failed(row: u8, slot: u8, mut deeds: Vec<Deed>, mut effect: Effect) -> Effect
-    requires empty { deeds.items ≡ [] }
-    requires room { length effect.deeds.items < vec_capacity deeds }
-    ensures effect { result ≡ record effect { deeds = result.deeds } }
-    ensures deeds { result.deeds.items ≡ effect.deeds.items ++ Deed.CopyFailed row slot ∷ [] }
+fn failed(row: u8, slot: u8, mut events: Vec<TelemetryEvent>, mut effect: Effect) -> Effect
+    requires empty { events.items ≡ [] }
+    requires room { length effect.events.items < vec_capacity events }
+    ensures effect { result ≡ record effect { events = result.events } }
+    ensures events { result.events.items ≡ effect.events.items ++ TelemetryEvent.CopyFailed row slot ∷ [] }
 {
-    match deeds.append(&mut effect.deeds) {
+    match events.append(&mut effect.events) {
         Ok(()) => {}
         Err(_) => unreachable!(),
     }
-    deeds.push_reserved(Deed::CopyFailed { row, slot });
-    Effect { deeds, ..effect }
+    events.push_reserved(TelemetryEvent::CopyFailed { row, slot });
+    Effect { events, ..effect }
 }
 
 /// It was stopped: nothing of the request is told but what was done, since the processor was reset before it could answer.
@@ -106,10 +109,10 @@ fn copied(
     mut effect: Effect,
 ) -> Effect
     requires fresh { IsFresh room }
-    requires few { length effect.deeds.items ≤ 3 }
+    requires few { length effect.events.items ≤ 3 }
     ensures { IsCopied row slot ended effect result }
 {
-    let CopyRoom { mut note, deeds } = room;
+    let CopyRoom { mut note, events } = room;
     match ended {
         Ok(()) => note_done(&mut note),
         Err(fault) => note_broken(&mut note, fault),
@@ -117,7 +120,7 @@ fn copied(
     effect.note = Note::of(note);
     match ended {
         Ok(()) => effect,
-        Err(BankFault::Fault { .. }) => failed(row, slot, deeds, effect),
+        Err(BankFault::Fault { .. }) => failed(row, slot, events, effect),
         Err(BankFault::Stopped { .. }) => stopped(effect),
     }
 }
@@ -136,9 +139,9 @@ fn copy_image<B: Bank>(
 ) -> Effect
     requires booted { store.old.booted ≡ true }
     requires fresh { IsFresh room }
-    requires few { length effect.deeds.items ≤ 3 }
+    requires few { length effect.events.items ≤ 3 }
     requires untouched { effect.note ≡ untouched }
-    ensures copies { B.tells → (e : Model) (t : Table) → IsEffect effect e.asked e.next e → t.name ≡ name.now → t.size ≡ length image.now → StandsFor B.tells B.now store.old e.next.store
+    ensures copies { B.tells → (e : Model) (t : Table) → IsEffect effect e.questions e.next e → t.name ≡ name.now → t.size ≡ length image.now → StandsFor B.tells B.now store.old e.next.store
         → CallsAfter B.Bank store.old store.new (done_first e) result (λ n. copied_to row n e (block_of t e.next.store) (Some image.now)) }
     ensures call { IsCopyCall B.Bank store.old store.new effect result }
 {
@@ -161,9 +164,9 @@ pub fn then_copy<B: Bank>(
     requires booted { store.old.booted ≡ true }
     requires critical { IfSome (table_at tables.now row) (λ t. is_some room ≡ is_critical t) }
     requires fresh { IfSome room IsFresh }
-    requires few { length effect.deeds.items ≤ 3 }
+    requires few { length effect.events.items ≤ 3 }
     requires untouched { effect.note ≡ untouched }
-    ensures copies { B.tells → (e : Model) → IsEffect effect e.asked e.next e → e.next.tables ≡ tables.now → StandsFor B.tells B.now store.old e.next.store
+    ensures copies { B.tells → (e : Model) → IsEffect effect e.questions e.next e → e.next.tables ≡ tables.now → StandsFor B.tells B.now store.old e.next.store
         → CallsAfter B.Bank store.old store.new (done_first e) result (λ n. then_copy row n e) }
     ensures call { IsCopyCall B.Bank store.old store.new effect result }
 {

@@ -11,10 +11,10 @@ ghost use Rattle.tbl_model.specs.BankCounts.{tells_trouble};
 ghost use Rattle.tbl_model.specs.Effects.{Effect as Model, answered};
 ghost use Rattle.tbl_model.specs.AppBlocks.{is_named_by, if_block, cds_copy_effect, cds_restore_effect, cds_delete_effect};
 ghost use Rattle.cds_store.specs.Sound.{slot_at, IsOpenOf};
-ghost use Rattle.cds_store.specs.Standing.{StandsFor};
+ghost use Rattle.cds_store.specs.StoreBlocks.{StandsFor};
 ghost use Rattle.tbl_session.specs.Restores.{GaveHeld};
 ghost use Rattle.cds_layout.specs.Order.{delete_calls};
-ghost use Rattle.store_requests.specs.BankAsked.{AsksBy, copy_at, restore_at};
+ghost use Rattle.store_requests.specs.BankCalls.{AsksBy, copy_at, restore_at};
 ghost use Rattle.store_requests.specs.OwnBlocks.{copying, restoring};
 ghost use Rattle.store_requests.specs.Called.{Calls, IsCall, IsTold, done_note, is_own_slot};
 
@@ -101,7 +101,7 @@ fn copy_into<B: Bank>(
     ensures effect { IfOk result (λ done. B.tells → (s : State) → StandsFor B.tells B.now store.old s.store
         → Calls B.Bank store.old store.new s done (copying s own.slot own.size image.now)) }
     ensures call { IfOk result (IsCall B.Bank store.old store.new) }
-    ensures asked { IfOk result (λ done. AsksBy B.Bank store.old.bank store.new.bank done.note.outcome (copy_at store.old.slots own.slot image.now)) }
+    ensures bank_calls { IfOk result (λ done. AsksBy B.Bank store.old.bank store.new.bank done.note.outcome (copy_at store.old.slots own.slot image.now)) }
     ensures err { OnErr result (store.new ≡ store.old) }
 {
     if image.len() != own.size as usize {
@@ -127,8 +127,8 @@ pub fn cds_copy<B: Bank>(
     ensures effect { IfOk result (λ done. B.tells → (s : State) → s.apps ≡ apps.now → StandsFor B.tells B.now store.old s.store
         → Calls B.Bank store.old store.new s done (cds_copy_effect s app slot image.now)) }
     ensures call { IfOk result (IsCall B.Bank store.old store.new) }
-    // The bank was asked what this call of the store asks, and nothing else.
-    ensures asked { IfOk result (λ done. AsksBy B.Bank store.old.bank store.new.bank done.note.outcome (copy_at store.old.slots slot image.now)) }
+    // The bank got the calls that this call of the store makes, and no others.
+    ensures bank_calls { IfOk result (λ done. AsksBy B.Bank store.old.bank store.new.bank done.note.outcome (copy_at store.old.slots slot image.now)) }
     ensures err { OnErr result (store.new ≡ store.old) }
 {
     match own_block(store, apps, app, slot) {
@@ -189,7 +189,7 @@ fn restore_into<B: Bank>(
     ensures effect { B.tells → (s : State) → StandsFor B.tells B.now store.old s.store
         → Calls B.Bank store.old store.new s result (restoring s slot) }
     ensures call { IsCall B.Bank store.old store.new result }
-    ensures asked { AsksBy B.Bank store.old.bank store.new.bank result.note.outcome (restore_at store.old.slots slot) }
+    ensures bank_calls { AsksBy B.Bank store.old.bank store.new.bank result.note.outcome (restore_at store.old.slots slot) }
     ensures gave { B.tells → (blocks : Blocks) → StandsFor B.tells B.now store.old blocks → result.note.outcome ≡ went.Done
         → ForSome (stored_at blocks slot) (λ b. GaveHeld (B.now store.old.bank) b.block result.note) }
 {
@@ -220,7 +220,7 @@ fn restore_from<B: Bank>(
     ensures effect { IfOk result (λ done. B.tells → (s : State) → StandsFor B.tells B.now store.old s.store
         → Calls B.Bank store.old store.new s done (restoring s own.slot)) }
     ensures call { IfOk result (IsCall B.Bank store.old store.new) }
-    ensures asked { IfOk result (λ done. AsksBy B.Bank store.old.bank store.new.bank done.note.outcome (restore_at store.old.slots own.slot)) }
+    ensures bank_calls { IfOk result (λ done. AsksBy B.Bank store.old.bank store.new.bank done.note.outcome (restore_at store.old.slots own.slot)) }
     ensures gave { IfOk result (λ done. B.tells → (blocks : Blocks) → StandsFor B.tells B.now store.old blocks → done.note.outcome ≡ went.Done
         → ForSome (stored_at blocks own.slot) (λ b. GaveHeld (B.now store.old.bank) b.block done.note)) }
     ensures err { OnErr result (store.new ≡ store.old) }
@@ -247,8 +247,8 @@ pub fn cds_restore<B: Bank>(
     ensures effect { IfOk result (λ done. B.tells → (s : State) → s.apps ≡ apps.now → StandsFor B.tells B.now store.old s.store
         → Calls B.Bank store.old store.new s done (cds_restore_effect s app slot)) }
     ensures call { IfOk result (IsCall B.Bank store.old store.new) }
-    // The bank was asked what this call of the store asks, and nothing else.
-    ensures asked { IfOk result (λ done. AsksBy B.Bank store.old.bank store.new.bank done.note.outcome (restore_at store.old.slots slot)) }
+    // The bank got the calls that this call of the store makes, and no others.
+    ensures bank_calls { IfOk result (λ done. AsksBy B.Bank store.old.bank store.new.bank done.note.outcome (restore_at store.old.slots slot)) }
     // What it gave is what the block held in the bank as the call began.
     ensures gave { IfOk result (λ done. B.tells → (blocks : Blocks) → StandsFor B.tells B.now store.old blocks → done.note.outcome ≡ went.Done
         → ForSome (stored_at blocks slot) (λ b. GaveHeld (B.now store.old.bank) b.block done.note)) }
@@ -274,8 +274,8 @@ pub fn cds_delete<B: Bank>(
     ensures effect { IfOk result (λ done. B.tells → (s : State) → s.apps ≡ apps.now → StandsFor B.tells B.now store.old s.store
         → Calls B.Bank store.old store.new s done (cds_delete_effect s app slot)) }
     ensures call { IfOk result (IsCall B.Bank store.old store.new) }
-    // The bank was asked what this call of the store asks, and nothing else.
-    ensures asked { IfOk result (λ done. AsksBy B.Bank store.old.bank store.new.bank done.note.outcome (delete_calls slot)) }
+    // The bank got the calls that this call of the store makes, and no others.
+    ensures bank_calls { IfOk result (λ done. AsksBy B.Bank store.old.bank store.new.bank done.note.outcome (delete_calls slot)) }
     ensures err { OnErr result (store.new ≡ store.old) }
 {
     match own_block(store, apps, app, slot) {

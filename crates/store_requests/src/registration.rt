@@ -16,7 +16,7 @@ ghost use Rattle.tbl_model.specs.Fit.{AreFit};
 ghost use Rattle.validation.specs.Kits.{owners};
 ghost use Rattle.cds_store.specs.Slots.{open_slot};
 ghost use Rattle.cds_store.specs.Sound.{slot_at, IsOpenOf};
-ghost use Rattle.cds_store.specs.Standing.{StandsFor};
+ghost use Rattle.cds_store.specs.StoreBlocks.{StandsFor};
 ghost use Rattle.sharing.specs.Registering.{next_row, planned, CanRegister};
 ghost use Rattle.tbl_session.specs.Restores.{GaveHeld};
 ghost use Rattle.store_requests.specs.Called.{Calls, IsCall, GaveAsHeld, done_note};

@@ -7,10 +7,10 @@ ghost use Rattle.tbl_model.specs.State.{State, Table};
 ghost use Rattle.tbl_model.specs.Copies.{block_of};
 ghost use Rattle.tbl_model.specs.AppBlocks.{any_of, delete_table_block, delete_cds_effect};
 ghost use Rattle.cds_store.specs.Sound.{slot_at, IsOpenOf};
-ghost use Rattle.cds_store.specs.Standing.{StandsFor};
+ghost use Rattle.cds_store.specs.StoreBlocks.{StandsFor};
 ghost use Rattle.std.specs.Option.{option_or};
 ghost use Rattle.cds_store.specs.Slots.{open_slot, doubtful_slot};
-ghost use Rattle.store_requests.specs.BankAsked.{AsksBy, delete_named};
+ghost use Rattle.store_requests.specs.BankCalls.{AsksBy, delete_named};
 ghost use Rattle.store_requests.specs.Called.{Calls, IsCall};
 
 use crate::blocks::{delete, plain};
@@ -61,7 +61,7 @@ fn delete_table_block<B: Bank>(
     ensures effect { IfOk result (λ done. B.tells → (s : State) (row : Option ℕ) → is_some row ≡ is_registered → StandsFor B.tells B.now store.old s.store
         → Calls B.Bank store.old store.new s done (λ n. delete_table_block s n (any_of kind.Table name.now s.store) row)) }
     ensures call { IfOk result (IsCall B.Bank store.old store.new) }
-    ensures asked { IfOk result (λ done. AsksBy B.Bank store.old.bank store.new.bank done.note.outcome (delete_named store.old.slots name.now)) }
+    ensures bank_calls { IfOk result (λ done. AsksBy B.Bank store.old.bank store.new.bank done.note.outcome (delete_named store.old.slots name.now)) }
     ensures err { OnErr result (store.new ≡ store.old) }
 {
     match table_block(store, name) {
@@ -85,8 +85,8 @@ pub fn delete_cds<B: Bank>(
     ensures effect { IfOk result (λ done. B.tells → (s : State) → s.tables ≡ tables.now → StandsFor B.tells B.now store.old s.store
         → Calls B.Bank store.old store.new s done (delete_cds_effect s name.now)) }
     ensures call { IfOk result (IsCall B.Bank store.old store.new) }
-    // The bank was asked what this call of the store asks, and nothing else.
-    ensures asked { IfOk result (λ done. AsksBy B.Bank store.old.bank store.new.bank done.note.outcome (delete_named store.old.slots name.now)) }
+    // The bank got the calls that this call of the store makes, and no others.
+    ensures bank_calls { IfOk result (λ done. AsksBy B.Bank store.old.bank store.new.bank done.note.outcome (delete_named store.old.slots name.now)) }
     ensures err { OnErr result (store.new ≡ store.old) }
 {
     let table = subject(tables, name);

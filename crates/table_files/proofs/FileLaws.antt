@@ -18,7 +18,7 @@ use Rattle.cfe_headers.proofs.HeaderLaws as headers
 
 -- ---- where the parts of a table file stand
 
-record Stands (bytes : List ℕ) (header : Header) (offset : ℕ) (field image : List ℕ) : Type 0 where
+record HasParts (bytes : List ℕ) (header : Header) (offset : ℕ) (field image : List ℕ) : Type 0 where
   len : length bytes ≡ 116 + length image
   content : four_at 0 bytes ≡ content_type
   subtype : four_at 4 bytes ≡ table_subtype
@@ -34,7 +34,7 @@ number_behind front rest bytes place n len lt e =
     ap (four_at place) e ∙ ap (from_be_bytes w32) (piece_behind front (four n) rest place 4 len refl) ∙ from_be_bytes-to_be_bytes_4 n lt
 
 stands : (header : Header) (reserved : List ℕ) (offset : ℕ) (field image : List ℕ) → IsHeader header → header.subtype ≡ table_subtype → length reserved ≡ 4 → length field ≡ 40 → offset < 2 ^ 32 → length image < 2 ^ 32
-    → Stands (file_with header reserved offset field image) header offset field image
+    → HasParts (file_with header reserved offset field image) header offset field image
 unfolding file_with
 stands header reserved offset field image is subtype reserved-len field-len offset-fits image-fits =
     let h = file_header header in
@@ -65,7 +65,7 @@ stands header reserved offset field image is subtype reserved-len field-len offs
       image_is = ap (λ (s : List ℕ). drop 116 s) d-is ∙ drop_at d image 116 d-len;
     }
 
-file_stands : (admit : Admitted) (bytes : List ℕ) (file : TableFile) (is : IsTableFile admit bytes file) → Stands bytes is.header file.offset is.field file.image
+file_stands : (admit : Admitted) (bytes : List ℕ) (file : TableFile) (is : IsTableFile admit bytes file) → HasParts bytes is.header file.offset is.field file.image
 file_stands admit bytes file is =
     rw is.parts (stands is.header is.reserved file.offset is.field file.image is.is_header is.subtype is.reserved_len is.name.len is.offset_fits is.image_fits)
 

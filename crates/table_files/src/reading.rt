@@ -13,10 +13,10 @@ use thiserror::Error;
 /// The subtype of a table file (cFE's `CFE_FS_SubType_TBL_IMG`).
 pub const TABLE_SUBTYPE: u32 = 8;
 
-/// Where the image bytes begin: behind the file header and the table file header.
+/// Where the image bytes begin: after the file header and the table file header.
 pub const IMAGE_PLACE: usize = 116;
 
-/// What a table file tells beside its image bytes, which stand from place 116. Behind the file header of 64 bytes stands
+/// What a table file tells beside its image bytes, which stand from place 116. After the file header of 64 bytes stands
 /// the table file header of 52 (cFE's `CFE_TBL_File_Hdr_t`, cfe_tbl_extern_typedefs.h): four reserved bytes, the offset
 /// and the number of image bytes in four bytes each, the high byte first, and the table's full name in 40.
 #[derive(PartialEq, Eq, Drop)]

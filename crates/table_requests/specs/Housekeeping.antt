@@ -5,23 +5,23 @@ use Rattle.tbl_model.specs.State.{State, Tables}
 use Rattle.tbl_model.specs.Tables.{table_at}
 use Rattle.tbl_model.specs.TableSteps.{end_dump}
 use Rattle.tbl_model.specs.Dumps.{Ended, then_end, is_filled}
-use Rattle.tbl_model.specs.declared.deeds.Deed.{Deed}
+use Rattle.tbl_model.specs.declared.telemetry.TelemetryEvent.{TelemetryEvent}
 
 -- what was written so far: the drawer, the bytes of all files, and what is told of them
 pub record Written : Type 0 where
   pub drawer : List File
   pub bytes : List ℕ
-  pub deeds : List Deed
+  pub events : List TelemetryEvent
 
-abbrev pub written : List File → List ℕ → List Deed → Written
-written drawer bytes deeds = record { drawer = drawer; bytes = bytes; deeds = deeds }
+abbrev pub written : List File → List ℕ → List TelemetryEvent → Written
+written drawer bytes events = record { drawer = drawer; bytes = bytes; events = events }
 
 -- with these files, in this state
 abbrev pub with_files : State → Written → Ended
-with_files s w = record { state = record s { drawer = w.drawer }; bytes = w.bytes; deeds = w.deeds }
+with_files s w = record { state = record s { drawer = w.drawer }; bytes = w.bytes; events = w.events }
 
 abbrev pub files_of : Ended → Written
-files_of e = written e.state.drawer e.bytes e.deeds
+files_of e = written e.state.drawer e.bytes e.events
 
 -- the file of the dump in this row, as it is written when the dump ends
 abbrev pub then_write : State → Written → ℕ → Written

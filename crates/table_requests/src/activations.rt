@@ -5,7 +5,7 @@ ghost use Rattle.std.specs.Option.{ForSome};
 ghost use Rattle.tbl_model.specs.State.{State, Table, Tables as Registry};
 ghost use Rattle.tbl_model.specs.Tables.{table_at};
 ghost use Rattle.tbl_model.specs.Given.{nothing_given};
-ghost use Rattle.tbl_model.specs.Deeds.{activated};
+ghost use Rattle.tbl_model.specs.Telemetry.{activated};
 ghost use Rattle.tbl_model.specs.Effects.{left_with};
 ghost use Rattle.tbl_model.specs.Activations.{activation_of, activate_command_effect, update_of, abort_of, abort_effect};
 ghost use Rattle.validation.specs.Ready.{ArePending, HaveLoads};
@@ -17,7 +17,7 @@ use crate::loads::{activated, named, set_update_time};
 use request_effects::{Clock, Effect, notice, subject};
 use table_update::request_activation;
 use tbl_kinds::{Answer, Bytes, Name40, Status};
-use tbl_model::{Deed, Named};
+use tbl_model::{Named, TelemetryEvent};
 use tbl_registry::Tables;
 use validation::Pending;
 
@@ -102,10 +102,16 @@ pub(crate) fn abort(
     }
 }
 
-/// The effect of an update of a table: where it was made, this is the table, and this the deed.
-fn made(answer: Answer, table: Named, active: Deed, mut deeds: Vec<Deed>, empty: Bytes) -> Effect
-    requires no_deeds { deeds.items ≡ [] }
-    requires room { 1 ≤ vec_capacity deeds }
+/// The effect of an update of a table: where it was made, this is the table, and this the event.
+fn made(
+    answer: Answer,
+    table: Named,
+    active: TelemetryEvent,
+    mut events: Vec<TelemetryEvent>,
+    empty: Bytes,
+) -> Effect
+    requires no_events { events.items ≡ [] }
+    requires room { 1 ≤ vec_capacity events }
     requires empty { empty.list ≡ [] }
     ensures effect { (s : State) (row : ℕ) (t : Table) (tables : Registry) → table ≡ record { row = row; name = t.name } → active ≡ activated row t
         → IsEffect result [] (updated s row t answer tables).next (updated s row t answer tables) }
@@ -115,31 +121,37 @@ fn made(answer: Answer, table: Named, active: Deed, mut deeds: Vec<Deed>, empty:
     if answer.status != Status::SUCCESS {
         return Effect::of(answer, empty);
     }
-    deeds.push_reserved(active);
+    events.push_reserved(active);
     Effect {
         table: Some(table),
-        deeds,
+        events,
         ..Effect::of(Answer::plain(Status::SUCCESS), empty)
     }
 }
 
 /// The owner of the table in the row makes its load active (`CFE_TBL_Update`), where the ground asked for it.
-pub fn update(tables: &mut Tables, clock: Clock, row: u8, deeds: Vec<Deed>, empty: Bytes) -> Effect
+pub fn update(
+    tables: &mut Tables,
+    clock: Clock,
+    row: u8,
+    events: Vec<TelemetryEvent>,
+    empty: Bytes,
+) -> Effect
     requires table { IsSome (table_at tables.old row) }
     requires loads { HaveLoads tables.old }
     requires counted { AreCounted tables.old }
-    requires no_deeds { deeds.items ≡ [] }
-    requires room { 1 ≤ vec_capacity deeds }
+    requires no_events { events.items ≡ [] }
+    requires room { 1 ≤ vec_capacity events }
     requires empty { empty.list ≡ [] }
     ensures effect { (s : State) → s.tables ≡ tables.old → s.seconds ≡ clock.seconds → s.sub ≡ clock.sub
         → ForSome (table_at tables.old row) (λ t. IsEffect result [] (record s { tables = tables.new }) (update_of s row t)) }
     ensures within { IsWithin 1 0 false result }
     ensures given { given_of result ≡ nothing_given }
 {
-    // The deed counts the image that is to go active, so it is made before the update.
+    // The event counts the image that is to go active, so it is made before the update.
     let table = named(tables, row);
     let active = activated(tables, row);
     let answer = table_update::update(tables, row);
     set_update_time(tables, row, answer.status == Status::SUCCESS, clock);
-    made(answer, table, active, deeds, empty)
+    made(answer, table, active, events, empty)
 }

@@ -20,7 +20,7 @@ use file_drawer::{Drawer, PutFault};
 use request_effects::{Clock, Effect, notice, subject};
 use std::alloc::Global;
 use tbl_kinds::{Answer, Bytes, Memory, Name40, Name64, Status};
-use tbl_model::{Deed, Named};
+use tbl_model::{Named, TelemetryEvent};
 use tbl_registry::Tables;
 
 /// A file of these bytes is put into the drawer, and they are the reply; or the drawer is full.
@@ -29,12 +29,12 @@ fn written(
     row: Option<u8>,
     file: &Name64,
     contents: Bytes,
-    mut deeds: Vec<Deed>,
+    mut events: Vec<TelemetryEvent>,
     empty: Bytes,
 ) -> Result<Effect, Memory>
     requires few { length contents.list ≤ reply_limit }
-    requires no_deeds { deeds.items ≡ [] }
-    requires room { 1 ≤ vec_capacity deeds }
+    requires no_events { events.items ≡ [] }
+    requires room { 1 ≤ vec_capacity events }
     requires empty { empty.list ≡ [] }
     ensures effect { IfOk result (λ done. (s : State) → s.drawer ≡ drawer.old → IsEffect done [] (record s { drawer = drawer.new }) (written_effect s row file.now contents.list)) }
     ensures within { IfOk result (IsWithin 1 0 false) }
@@ -46,13 +46,13 @@ fn written(
     match drawer.put(file, copy) {
         Ok(_) => {
             let len = contents.bytes().len() as u32;
-            deeds.push_reserved(Deed::Dumped {
+            events.push_reserved(TelemetryEvent::Dumped {
                 row,
                 file: file.copy(),
                 len,
             });
             Ok(Effect {
-                deeds,
+                events,
                 ..Effect::of(Answer::plain(Status::SUCCESS), contents)
             })
         }
@@ -89,13 +89,13 @@ fn dump_found(
     table: Named,
     select: u16,
     file: &Name64,
-    deeds: Vec<Deed>,
+    events: Vec<TelemetryEvent>,
     mut empty: Bytes,
 ) -> Result<Effect, Memory>
     requires table { IsSome (table_at tables.old table.row) }
     requires notices { AreSendable tables.old }
-    requires no_deeds { deeds.items ≡ [] }
-    requires room { 1 ≤ vec_capacity deeds }
+    requires no_events { events.items ≡ [] }
+    requires room { 1 ≤ vec_capacity events }
     requires empty { empty.list ≡ [] }
     ensures effect { IfOk result (λ done. (s : State) → s.tables ≡ tables.old → s.drawer ≡ drawer.old → s.seconds ≡ clock.seconds → s.sub ≡ clock.sub
         → ForSome (table_at tables.old table.row) (λ t.
@@ -120,7 +120,7 @@ fn dump_found(
         }),
         DumpAnswer::Write { active } => {
             let contents = image_file(alloc, tables, row, active, clock)?;
-            let done = written(drawer, Some(row), file, contents, deeds, empty)?;
+            let done = written(drawer, Some(row), file, contents, events, empty)?;
             Ok(Effect {
                 table: Some(table),
                 ..done
@@ -141,12 +141,12 @@ pub(crate) fn dump(
     select: u16,
     name: &Name40,
     file: &Name64,
-    deeds: Vec<Deed>,
+    events: Vec<TelemetryEvent>,
     empty: Bytes,
 ) -> Result<Effect, Memory>
     requires notices { AreSendable tables.old }
-    requires no_deeds { deeds.items ≡ [] }
-    requires room { 1 ≤ vec_capacity deeds }
+    requires no_events { events.items ≡ [] }
+    requires room { 1 ≤ vec_capacity events }
     requires empty { empty.list ≡ [] }
     ensures effect { IfOk result (λ done. (s : State) → s.tables ≡ tables.old → s.drawer ≡ drawer.old → s.seconds ≡ clock.seconds → s.sub ≡ clock.sub
         → IsEffect done [] (record s { tables = tables.new; drawer = drawer.new }) (dump_effect s select name.now file.now)) }
@@ -158,7 +158,7 @@ pub(crate) fn dump(
     match subject(tables, name) {
         None => Ok(Effect::of(Answer::plain(Status::ERR_NO_SUCH_TABLE), empty)),
         Some(table) => dump_found(
-            alloc, tables, drawer, clock, table, select, file, deeds, empty,
+            alloc, tables, drawer, clock, table, select, file, events, empty,
         ),
     }
 }
@@ -172,11 +172,11 @@ pub(crate) fn dump_registry(
     drawer: &mut Drawer,
     clock: Clock,
     file: &Name64,
-    deeds: Vec<Deed>,
+    events: Vec<TelemetryEvent>,
     empty: Bytes,
 ) -> Result<Effect, Memory>
-    requires no_deeds { deeds.items ≡ [] }
-    requires room { 1 ≤ vec_capacity deeds }
+    requires no_events { events.items ≡ [] }
+    requires room { 1 ≤ vec_capacity events }
     requires empty { empty.list ≡ [] }
     ensures effect { IfOk result (λ done. (s : State) → s.tables ≡ tables.now → s.drawer ≡ drawer.old → s.seconds ≡ clock.seconds → s.sub ≡ clock.sub
         → IsEffect done [] (record s { drawer = drawer.new }) (dump_registry_effect s file.now)) }
@@ -186,7 +186,7 @@ pub(crate) fn dump_registry(
 {
     let mut contents = Bytes::make(alloc, registry_file_len(tables))?;
     registry_file(tables, &mut contents, clock.seconds, clock.sub);
-    written(drawer, None, file, contents, deeds, empty)
+    written(drawer, None, file, contents, events, empty)
 }
 
 /// The owner of the table in the row fills the dump that the ground asked for (`CFE_TBL_DumpToBuffer`).

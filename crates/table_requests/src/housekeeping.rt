@@ -16,7 +16,7 @@ use file_drawer::{Drawer, PutFault};
 use request_effects::{Clock, Effect};
 use std::alloc::Global;
 use tbl_kinds::{Answer, Bytes, Memory, Status};
-use tbl_model::{Deed, Shown};
+use tbl_model::{Shown, TelemetryEvent};
 use tbl_registry::Tables;
 
 /// Writes the file of the filled dump of the table of a row, if there is one, and then those of further rows. The drawer,
@@ -29,19 +29,19 @@ fn write_row(
     clock: Clock,
     row: u8,
     further: &[Option<u8>],
-    deeds: &mut Vec<Deed>,
+    events: &mut Vec<TelemetryEvent>,
     out: &mut Bytes,
 ) -> Result<(), Memory>
-    requires room { length deeds.old.items + 1 + length further.now ≤ vec_capacity deeds.old }
+    requires room { length events.old.items + 1 + length further.now ≤ vec_capacity events.old }
     ensures effect { OnOk result ((s : State) → s.tables ≡ tables.now → s.seconds ≡ clock.seconds → s.sub ≡ clock.sub
-        → fold (then_write s) (written drawer.old out.old.list deeds.old.items) (row ∷ rows_in further.now) ≡ written drawer.new out.new.list deeds.new.items) }
-    ensures deeds { OnOk result (length deeds.new.items ≤ length deeds.old.items + 1 + length further.now) }
+        → fold (then_write s) (written drawer.old out.old.list events.old.items) (row ∷ rows_in further.now) ≡ written drawer.new out.new.list events.new.items) }
+    ensures events { OnOk result (length events.new.items ≤ length events.old.items + 1 + length further.now) }
     ensures bytes { OnOk result (length out.new.list ≤ length out.old.list + 16500 * (1 + length further.now)) }
-    ensures capacity { vec_capacity deeds.new ≡ vec_capacity deeds.old }
+    ensures capacity { vec_capacity events.new ≡ vec_capacity events.old }
     ensures err { OnErr result (drawer.new ≡ drawer.old) }
 {
     let Some(len) = filled_len(tables, row) else {
-        return write_all(alloc, tables, drawer, clock, further, deeds, out);
+        return write_all(alloc, tables, drawer, clock, further, events, out);
     };
     let mut contents = Bytes::make(alloc, len)?;
     let Some(name) = write_filled(tables, row, &mut contents, clock.seconds, clock.sub) else {
@@ -51,17 +51,17 @@ fn write_row(
     match drawer.put(&name, contents) {
         Err(PutFault::Memory) => Err(Memory),
         Err(PutFault::Full) => {
-            deeds.push_reserved(Deed::NotDumped { row });
-            write_all(alloc, tables, drawer, clock, further, deeds, out)
+            events.push_reserved(TelemetryEvent::NotDumped { row });
+            write_all(alloc, tables, drawer, clock, further, events, out)
         }
         Ok(old) => {
             let _ = write_filled(tables, row, out, clock.seconds, clock.sub);
-            deeds.push_reserved(Deed::Dumped {
+            events.push_reserved(TelemetryEvent::Dumped {
                 row: Some(row),
                 file: name.copy(),
                 len: len as u32,
             });
-            match write_all(alloc, tables, drawer, clock, further, deeds, out) {
+            match write_all(alloc, tables, drawer, clock, further, events, out) {
                 Ok(()) => Ok(()),
                 Err(memory) => {
                     drawer.undo(&name, old);
@@ -80,23 +80,23 @@ fn write_all(
     drawer: &mut Drawer,
     clock: Clock,
     places: &[Option<u8>],
-    deeds: &mut Vec<Deed>,
+    events: &mut Vec<TelemetryEvent>,
     out: &mut Bytes,
 ) -> Result<(), Memory>
-    requires room { length deeds.old.items + length places.now ≤ vec_capacity deeds.old }
+    requires room { length events.old.items + length places.now ≤ vec_capacity events.old }
     ensures effect { OnOk result ((s : State) → s.tables ≡ tables.now → s.seconds ≡ clock.seconds → s.sub ≡ clock.sub
-        → fold (then_write s) (written drawer.old out.old.list deeds.old.items) (rows_in places.now) ≡ written drawer.new out.new.list deeds.new.items) }
-    ensures deeds { OnOk result (length deeds.new.items ≤ length deeds.old.items + length places.now) }
+        → fold (then_write s) (written drawer.old out.old.list events.old.items) (rows_in places.now) ≡ written drawer.new out.new.list events.new.items) }
+    ensures events { OnOk result (length events.new.items ≤ length events.old.items + length places.now) }
     ensures bytes { OnOk result (length out.new.list ≤ length out.old.list + 16500 * length places.now) }
-    ensures capacity { vec_capacity deeds.new ≡ vec_capacity deeds.old }
+    ensures capacity { vec_capacity events.new ≡ vec_capacity events.old }
     ensures err { OnErr result (drawer.new ≡ drawer.old) }
 {
     let Some((place, further)) = places.split_first() else {
         return Ok(());
     };
     match place {
-        None => write_all(alloc, tables, drawer, clock, further, deeds, out),
-        Some(row) => write_row(alloc, tables, drawer, clock, *row, further, deeds, out),
+        None => write_all(alloc, tables, drawer, clock, further, events, out),
+        Some(row) => write_row(alloc, tables, drawer, clock, *row, further, events, out),
     }
 }
 
@@ -130,11 +130,11 @@ pub(crate) fn housekeeping(
     tables: &mut Tables,
     drawer: &mut Drawer,
     clock: Clock,
-    mut deeds: Vec<Deed>,
+    mut events: Vec<TelemetryEvent>,
     mut empty: Bytes,
 ) -> Result<Effect, Memory>
-    requires no_deeds { deeds.items ≡ [] }
-    requires room { 4 ≤ vec_capacity deeds }
+    requires no_events { events.items ≡ [] }
+    requires room { 4 ≤ vec_capacity events }
     requires empty { empty.list ≡ [] }
     ensures effect { IfOk result (λ done. (s : State) → s.tables ≡ tables.old → s.drawer ≡ drawer.old → s.seconds ≡ clock.seconds → s.sub ≡ clock.sub
         → IsEffect done [] (record s { tables = tables.new; drawer = drawer.new }) (housekeeping_effect s)) }
@@ -145,11 +145,17 @@ pub(crate) fn housekeeping(
 {
     let places = tables.in_use();
     write_all(
-        alloc, tables, drawer, clock, &places, &mut deeds, &mut empty,
+        alloc,
+        tables,
+        drawer,
+        clock,
+        &places,
+        &mut events,
+        &mut empty,
     )?;
     end_all(tables, &places);
     Ok(Effect {
-        deeds,
+        events,
         shown: Shown::Housekeeping,
         ..Effect::of(Answer::plain(Status::SUCCESS), empty)
     })

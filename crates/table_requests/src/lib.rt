@@ -20,7 +20,7 @@ pub use activations::update;
 pub use addresses::{get, read, release};
 pub use applications::{exit, share, start};
 pub use checks::check;
-pub use commands::command;
+pub use commands::ground_command;
 pub use dumps::{dump_to_buffer, edit};
 pub use files::file;
 pub use loads::{load_file, load_image};

@@ -5,16 +5,16 @@ ghost use Rattle.std.specs.Option.{ForSome};
 ghost use Rattle.tbl_model.specs.State.{State};
 ghost use Rattle.tbl_model.specs.Tables.{table_at, in_use};
 ghost use Rattle.tbl_model.specs.TableSteps.{set_time, set_file};
-ghost use Rattle.tbl_model.specs.Deeds.{activated};
+ghost use Rattle.tbl_model.specs.Telemetry.{activated};
 ghost use Rattle.tbl_model.specs.Refusals.{closed_refusal};
 ghost use Rattle.table_files.specs.Files.{with_image};
 ghost use Rattle.tbl_kinds.specs.Notes.{untouched};
 ghost use Rattle.tbl_model.specs.AppLoads.{load_image_of, load_file_of, named_file_of};
-ghost use Rattle.validation.specs.Kits.{owners, FewAsked};
+ghost use Rattle.validation.specs.Kits.{owners, MayAskEach};
 ghost use Rattle.validation.specs.Ready.{HaveFunctions};
 ghost use Rattle.validation.specs.Asked.{WasAsked};
 ghost use Rattle.request_effects.specs.Effects.{IsEffectAsking, IsWithin, given_of};
-ghost use Rattle.table_requests.specs.Loads.{verdict_deeds, IsLoaded};
+ghost use Rattle.table_requests.specs.Loads.{verdict_events, IsLoaded};
 ghost use Rattle.table_requests.specs.Limits.{AreCounted};
 
 use crate::checks::{BUFFERS, answered_load};
@@ -24,7 +24,7 @@ use request_effects::{Clock, Effect};
 use std::alloc::Global;
 use table_files::{IMAGE_PLACE, TableFile, read_table_file};
 use tbl_kinds::{Admit, Answer, Bytes, Memory, Name64, Note, Status};
-use tbl_model::{Deed, Named, Shown};
+use tbl_model::{Named, Shown, TelemetryEvent};
 use tbl_outside::Validator;
 use tbl_registry::Tables;
 use validation::Kit;
@@ -44,7 +44,7 @@ pub(crate) fn named(tables: &Tables, row: u8) -> Named
 }
 
 /// That the next image of the table of a row goes active.
-pub(crate) fn activated(tables: &Tables, row: u8) -> Deed
+pub(crate) fn activated(tables: &Tables, row: u8) -> TelemetryEvent
     requires table { IsSome (table_at tables.now row) }
     requires few { ForSome (table_at tables.now row) (λ t. t.count < 2 ^ 32 - 1) }
     ensures { ForSome (table_at tables.now row) (λ t. result ≡ activated row t) }
@@ -53,7 +53,7 @@ pub(crate) fn activated(tables: &Tables, row: u8) -> Deed
         unreachable!();
     };
     let Named { name, .. } = named(tables, row);
-    Deed::Activated {
+    TelemetryEvent::Activated {
         row,
         count: table.count + 1,
         name,
@@ -61,51 +61,51 @@ pub(crate) fn activated(tables: &Tables, row: u8) -> Deed
 }
 
 /// Appends that a verdict came, if one did.
-fn put_verdict(deeds: &mut Vec<Deed>, row: u8, verdict: Option<i32>)
-    requires { length deeds.old.items < vec_capacity deeds.old }
-    ensures deeds { deeds.new.items ≡ deeds.old.items ++ verdict_deeds row verdict }
-    ensures room { vec_capacity deeds.new ≡ vec_capacity deeds.old }
+fn put_verdict(events: &mut Vec<TelemetryEvent>, row: u8, verdict: Option<i32>)
+    requires { length events.old.items < vec_capacity events.old }
+    ensures events { events.new.items ≡ events.old.items ++ verdict_events row verdict }
+    ensures room { vec_capacity events.new ≡ vec_capacity events.old }
 {
     if let Some(verdict) = verdict {
-        deeds.push_reserved(Deed::Judged { row, verdict });
+        events.push_reserved(TelemetryEvent::Judged { row, verdict });
     }
 }
 
 /// The effect of a load that the owner of the table in a row asked for. Where the table took the image, this is the table,
-/// and this the deed.
+/// and this the event.
 fn told(
     tables: &Tables,
     row: u8,
     taken: bool,
     loaded: Loaded,
     table: Named,
-    active: Deed,
-    mut deeds: Vec<Deed>,
+    active: TelemetryEvent,
+    mut events: Vec<TelemetryEvent>,
     empty: Bytes,
 ) -> Effect
-    requires no_deeds { deeds.items ≡ [] }
-    requires two { 2 ≤ vec_capacity deeds }
+    requires no_events { events.items ≡ [] }
+    requires two { 2 ≤ vec_capacity events }
     requires empty { empty.list ≡ [] }
     requires room { 4 ≤ empty.spare }
     ensures loaded { IsLoaded taken row loaded table active (in_use tables.now) result }
     ensures len { length result.bytes.list ≤ 4 }
-    ensures few { length result.deeds.items ≤ 2 }
+    ensures few { length result.events.items ≤ 2 }
 {
-    put_verdict(&mut deeds, row, loaded.verdict);
+    put_verdict(&mut events, row, loaded.verdict);
     let verdicts = [loaded.verdict, None];
     if !taken {
         return Effect {
-            deeds,
+            events,
             verdicts,
             ..answered_load(tables, loaded.answer, empty)
         };
     }
-    deeds.push_reserved(active);
+    events.push_reserved(active);
     Effect {
         answer: Answer::plain(Status::SUCCESS),
         bytes: empty,
         table: Some(table),
-        deeds,
+        events,
         shown: Shown::Nothing,
         notice: None,
         note: Note::untouched(),
@@ -132,20 +132,20 @@ pub fn load_image<C: Validator>(
     clock: Clock,
     row: u8,
     image: &[u8],
-    deeds: Vec<Deed>,
+    events: Vec<TelemetryEvent>,
     mut empty: Bytes,
 ) -> Result<Effect, Memory>
     requires table { IsSome (table_at tables.old row) }
-    requires no_deeds { deeds.items ≡ [] }
-    requires two { 2 ≤ vec_capacity deeds }
+    requires no_events { events.items ≡ [] }
+    requires two { 2 ≤ vec_capacity events }
     requires empty { empty.list ≡ [] }
     requires counted { AreCounted tables.old }
     requires functions { HaveFunctions tables.old kit.old }
-    requires kit { FewAsked C.asked 2 kit.old }
+    requires kit { MayAskEach C.asked 2 kit.old }
     ensures effect { IfOk result (λ done. (s : State) → s.tables ≡ tables.old → s.seconds ≡ clock.seconds → s.sub ≡ clock.sub
         → ForSome (table_at tables.old row) (λ t. IsEffectAsking done (record s { tables = tables.new }) (load_image_of s image.now (given_of done) row t))) }
     ensures asks { IfOk result (λ done. (s : State) → s.tables ≡ tables.old
-        → ForSome (table_at tables.old row) (λ t. WasAsked C.verdict C.asked kit.old kit.new (load_image_of s image.now (given_of done) row t).asked done.verdicts)) }
+        → ForSome (table_at tables.old row) (λ t. WasAsked C.verdict C.asked kit.old kit.new (load_image_of s image.now (given_of done) row t).questions done.verdicts)) }
     ensures owners { owners kit.new ≡ owners kit.old }
     ensures within { IfOk result (IsWithin 2 0 false) }
     ensures note { IfOk result (λ done. done.note ≡ untouched) }
@@ -153,13 +153,13 @@ pub fn load_image<C: Validator>(
     ensures err { OnErr result (tables.new ≡ tables.old) }
     ensures not_asked { OnErr result (kit.new ≡ kit.old) }
 {
-    // Room for the rows that use the buffers, and the deed, are taken first: nothing that comes after the load can fail.
+    // Room for the rows that use the buffers, and the event, are taken first: nothing that comes after the load can fail.
     empty.reserve(BUFFERS)?;
     let table = named(tables, row);
     let active = activated(tables, row);
     let loaded = partial_load::load_image(alloc, tables, kit, row, image)?;
     let taken = loaded.answer.status == Status::SUCCESS;
-    let done = told(tables, row, taken, loaded, table, active, deeds, empty);
+    let done = told(tables, row, taken, loaded, table, active, events, empty);
     set_update_time(tables, row, taken, clock);
     Ok(done)
 }
@@ -184,23 +184,24 @@ fn load_part<C: Validator>(
     file: &Name64,
     parsed: &TableFile,
     image: &[u8],
-    deeds: Vec<Deed>,
+    events: Vec<TelemetryEvent>,
     empty: Bytes,
 ) -> Result<Effect, Memory>
     requires table { IsSome (table_at tables.old row) }
     requires open_to { ForSome (table_at tables.old row) (λ t. closed_refusal t ≡ None) }
     requires count { length image.now ≡ parsed.now.count }
-    requires no_deeds { deeds.items ≡ [] }
-    requires two { 2 ≤ vec_capacity deeds }
+    requires no_events { events.items ≡ [] }
+    requires two { 2 ≤ vec_capacity events }
     requires empty { empty.list ≡ [] }
     requires room { 4 ≤ empty.spare }
     requires counted { AreCounted tables.old }
     requires functions { HaveFunctions tables.old kit.old }
-    requires kit { FewAsked C.asked 2 kit.old }
+    requires kit { MayAskEach C.asked 2 kit.old }
     ensures effect { IfOk result (λ done. (s : State) → s.tables ≡ tables.old → s.seconds ≡ clock.seconds → s.sub ≡ clock.sub
         → ForSome (table_at tables.old row) (λ t. IsEffectAsking done (record s { tables = tables.new }) (load_file_of s file.now (given_of done) row t (with_image parsed.now image.now)))) }
     ensures asks { IfOk result (λ done. (s : State) → s.tables ≡ tables.old
-        → ForSome (table_at tables.old row) (λ t. WasAsked C.verdict C.asked kit.old kit.new (load_file_of s file.now (given_of done) row t (with_image parsed.now image.now)).asked done.verdicts)) }
+        → ForSome (table_at tables.old row) (λ t.
+        WasAsked C.verdict C.asked kit.old kit.new (load_file_of s file.now (given_of done) row t (with_image parsed.now image.now)).questions done.verdicts)) }
     ensures owners { owners kit.new ≡ owners kit.old }
     ensures within { IfOk result (IsWithin 2 0 false) }
     ensures note { IfOk result (λ done. done.note ≡ untouched) }
@@ -212,7 +213,7 @@ fn load_part<C: Validator>(
     let active = activated(tables, row);
     let loaded = partial_load::load_part(alloc, tables, kit, row, parsed, image)?;
     let taken = loaded.answer.status == Status::SUCCESS;
-    let done = told(tables, row, taken, loaded, table, active, deeds, empty);
+    let done = told(tables, row, taken, loaded, table, active, events, empty);
     set_update_time(tables, row, taken, clock);
     note_file(tables, row, taken, file);
     Ok(done)
@@ -229,20 +230,20 @@ pub fn load_file<C: Validator>(
     clock: Clock,
     row: u8,
     file: &Name64,
-    deeds: Vec<Deed>,
+    events: Vec<TelemetryEvent>,
     mut empty: Bytes,
 ) -> Result<Effect, Memory>
     requires table { IsSome (table_at tables.old row) }
-    requires no_deeds { deeds.items ≡ [] }
-    requires two { 2 ≤ vec_capacity deeds }
+    requires no_events { events.items ≡ [] }
+    requires two { 2 ≤ vec_capacity events }
     requires empty { empty.list ≡ [] }
     requires counted { AreCounted tables.old }
     requires functions { HaveFunctions tables.old kit.old }
-    requires kit { FewAsked C.asked 2 kit.old }
+    requires kit { MayAskEach C.asked 2 kit.old }
     ensures effect { IfOk result (λ done. (s : State) → s.tables ≡ tables.old → s.drawer ≡ drawer.now → s.admit ≡ admit.now → s.seconds ≡ clock.seconds → s.sub ≡ clock.sub
         → ForSome (table_at tables.old row) (λ t. IsEffectAsking done (record s { tables = tables.new }) (named_file_of s file.now (given_of done) row t))) }
     ensures asks { IfOk result (λ done. (s : State) → s.tables ≡ tables.old → s.drawer ≡ drawer.now → s.admit ≡ admit.now
-        → ForSome (table_at tables.old row) (λ t. WasAsked C.verdict C.asked kit.old kit.new (named_file_of s file.now (given_of done) row t).asked done.verdicts)) }
+        → ForSome (table_at tables.old row) (λ t. WasAsked C.verdict C.asked kit.old kit.new (named_file_of s file.now (given_of done) row t).questions done.verdicts)) }
     ensures owners { owners kit.new ≡ owners kit.old }
     ensures within { IfOk result (IsWithin 2 0 false) }
     ensures note { IfOk result (λ done. done.note ≡ untouched) }
@@ -262,7 +263,7 @@ pub fn load_file<C: Validator>(
         Ok(parsed) => {
             let (_, image) = contents.split_at(IMAGE_PLACE);
             load_part(
-                alloc, tables, kit, clock, row, file, &parsed, image, deeds, empty,
+                alloc, tables, kit, clock, row, file, &parsed, image, events, empty,
             )
         }
         Err(fault) => Ok(Effect::of(fault.answer(), empty)),

@@ -6,14 +6,14 @@ ghost use Rattle.tbl_kinds.specs.Notes.{untouched};
 ghost use Rattle.tbl_model.specs.State.{State};
 ghost use Rattle.tbl_model.specs.Tables.{table_at};
 ghost use Rattle.tbl_model.specs.Management.{manage_of, pending_status, get_status_effect};
-ghost use Rattle.validation.specs.Kits.{FewAsked, owners};
+ghost use Rattle.validation.specs.Kits.{MayAskEach, owners};
 ghost use Rattle.validation.specs.Asked.{WasAsked};
 ghost use Rattle.validation.specs.Ready.{ArePending, HaveFunctions, HaveLoads};
 ghost use Rattle.table_update.specs.Answers.{verdicts_of};
 ghost use Rattle.tbl_model.specs.Effects.{answered, left_with};
 ghost use Rattle.request_effects.specs.Effects.{IsEffect, IsEffectAsking, IsWithin, IsQuiet, given_of};
 ghost use Rattle.tbl_model.specs.Sharing.{noticed_effect};
-ghost use Rattle.table_requests.specs.Managed.{judged_deeds, managed_deeds};
+ghost use Rattle.table_requests.specs.Managed.{judged_events, managed_events};
 ghost use Rattle.table_requests.specs.Limits.{AreCounted};
 
 use crate::checks::check;
@@ -23,29 +23,34 @@ use request_effects::{Clock, Effect};
 use sharing::Apps;
 use table_update::{Judgement, Managed};
 use tbl_kinds::{Answer, Bytes, Memory, Name40, Status};
-use tbl_model::{Deed, Named, Shown};
+use tbl_model::{Named, Shown, TelemetryEvent};
 use tbl_outside::Validator;
 use tbl_registry::{Dump, Tables};
 use validation::{Kit, Pending};
 
 /// Appends that a validation of the table in a row, of this name, came to its end, if one did.
-fn put_judgement(deeds: &mut Vec<Deed>, row: u8, name: &Name40, judgement: Option<Judgement>)
-    requires { length deeds.old.items < vec_capacity deeds.old }
-    ensures deeds { deeds.new.items ≡ deeds.old.items ++ judged_deeds row name.now judgement }
-    ensures room { vec_capacity deeds.new ≡ vec_capacity deeds.old }
+fn put_judgement(
+    events: &mut Vec<TelemetryEvent>,
+    row: u8,
+    name: &Name40,
+    judgement: Option<Judgement>,
+)
+    requires { length events.old.items < vec_capacity events.old }
+    ensures events { events.new.items ≡ events.old.items ++ judged_events row name.now judgement }
+    ensures room { vec_capacity events.new ≡ vec_capacity events.old }
 {
     if let Some(judgement) = judgement {
-        deeds.push_reserved(finished(row, judgement, name.copy()));
+        events.push_reserved(finished(row, judgement, name.copy()));
     }
 }
 
-/// Appends the deed, if it was done.
-fn put_done(deeds: &mut Vec<Deed>, done: bool, deed: Deed)
-    requires { length deeds.old.items < vec_capacity deeds.old }
-    ensures { deeds.new.items ≡ deeds.old.items ++ (if done then deed ∷ [] else []) }
+/// Appends the event, if it was done.
+fn put_done(events: &mut Vec<TelemetryEvent>, done: bool, event: TelemetryEvent)
+    requires { length events.old.items < vec_capacity events.old }
+    ensures { events.new.items ≡ events.old.items ++ (if done then event ∷ [] else []) }
 {
     if done {
-        deeds.push_reserved(deed);
+        events.push_reserved(event);
     }
 }
 
@@ -61,21 +66,21 @@ fn verdicts(first: Option<Judgement>, second: Option<Judgement>) -> [Option<i32>
     }
 }
 
-/// The effect of all that was done for the table in a row, of this name: where it was updated, this is the deed.
+/// The effect of all that was done for the table in a row, of this name: where it was updated, this is the event.
 fn told(
     row: u8,
     done: Managed,
     name: &Name40,
-    active: Deed,
-    mut deeds: Vec<Deed>,
+    active: TelemetryEvent,
+    mut events: Vec<TelemetryEvent>,
     mut empty: Bytes,
 ) -> Effect
-    requires no_deeds { deeds.items ≡ [] }
-    requires three { 3 ≤ vec_capacity deeds }
+    requires no_events { events.items ≡ [] }
+    requires three { 3 ≤ vec_capacity events }
     requires empty { empty.list ≡ [] }
     requires room { 1 ≤ empty.spare }
     ensures answer { result.answer ≡ done.answer }
-    ensures deeds { result.deeds.items ≡ managed_deeds row name.now done active }
+    ensures events { result.events.items ≡ managed_events row name.now done active }
     ensures bytes { result.bytes.list ≡ done.did ∷ [] }
     ensures table { result.table ≡ None }
     ensures notice { result.notice ≡ None }
@@ -84,16 +89,16 @@ fn told(
     ensures note { result.note ≡ untouched }
     ensures verdicts { result.verdicts ≡ verdicts_of done.first done.second }
 {
-    put_judgement(&mut deeds, row, name, done.first);
-    put_judgement(&mut deeds, row, name, done.second);
+    put_judgement(&mut events, row, name, done.first);
+    put_judgement(&mut events, row, name, done.second);
     put_done(
-        &mut deeds,
+        &mut events,
         done.answer.status == Status::INFO_UPDATED,
         active,
     );
     empty.append(&[done.did]);
     Effect {
-        deeds,
+        events,
         verdicts: verdicts(done.first, done.second),
         ..Effect::of(done.answer, empty)
     }
@@ -107,22 +112,22 @@ pub fn manage<C: Validator>(
     pending: &mut Pending,
     clock: Clock,
     row: u8,
-    deeds: Vec<Deed>,
+    events: Vec<TelemetryEvent>,
     mut empty: Bytes,
 ) -> Result<Effect, Memory>
     requires table { IsSome (table_at tables.old row) }
     requires pending { ArePending tables.old pending.old }
     requires kit { HaveFunctions tables.old kit.old }
-    requires few { FewAsked C.asked 2 kit.old }
+    requires few { MayAskEach C.asked 2 kit.old }
     requires loads { HaveLoads tables.old }
     requires counted { AreCounted tables.old }
-    requires no_deeds { deeds.items ≡ [] }
-    requires three { 3 ≤ vec_capacity deeds }
+    requires no_events { events.items ≡ [] }
+    requires three { 3 ≤ vec_capacity events }
     requires empty { empty.list ≡ [] }
     ensures effect { IfOk result (λ done. (s : State) → s.tables ≡ tables.old → s.pending ≡ pending.old → s.seconds ≡ clock.seconds → s.sub ≡ clock.sub
         → ForSome (table_at tables.old row) (λ t. IsEffectAsking done (left_with s tables.new pending.new) (manage_of s (given_of done) row t))) }
     ensures asks { IfOk result (λ done. (s : State) → s.tables ≡ tables.old → s.pending ≡ pending.old
-        → ForSome (table_at tables.old row) (λ t. WasAsked C.verdict C.asked kit.old kit.new (manage_of s (given_of done) row t).asked done.verdicts)) }
+        → ForSome (table_at tables.old row) (λ t. WasAsked C.verdict C.asked kit.old kit.new (manage_of s (given_of done) row t).questions done.verdicts)) }
     ensures owners { owners kit.new ≡ owners kit.old }
     ensures within { IfOk result (IsWithin 3 0 false) }
     ensures note { IfOk result (λ done. done.note ≡ untouched) }
@@ -142,7 +147,7 @@ pub fn manage<C: Validator>(
         done.answer.status == Status::INFO_UPDATED,
         clock,
     );
-    Ok(told(row, done, &name, active, deeds, empty))
+    Ok(told(row, done, &name, active, events, empty))
 }
 
 /// The owner of the table in the row is told of work that the ground asks for, by a command packet, from now on

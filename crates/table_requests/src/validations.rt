@@ -8,7 +8,7 @@ ghost use Rattle.tbl_model.specs.Tables.{table_at};
 ghost use Rattle.tbl_model.specs.Given.{nothing_given};
 ghost use Rattle.tbl_model.specs.Effects.{left_with};
 ghost use Rattle.tbl_model.specs.Validations.{selected, validate_by, validate_effect, validation_of};
-ghost use Rattle.validation.specs.Kits.{FewAsked, owners};
+ghost use Rattle.validation.specs.Kits.{MayAskEach, owners};
 ghost use Rattle.validation.specs.Asked.{WasAsked};
 ghost use Rattle.validation.specs.Ready.{ArePending, HaveFunctions};
 ghost use Rattle.table_update.specs.Answers.{requested, validated, verdicts_of};
@@ -20,16 +20,16 @@ use crate::loads::named;
 use request_effects::{Effect, notice, subject};
 use table_update::{Judgement, Requested, Validated, request_validation};
 use tbl_kinds::{Answer, Bytes, Name40, Status};
-use tbl_model::{Deed, Named, Notice};
+use tbl_model::{Named, Notice, TelemetryEvent};
 use tbl_outside::Validator;
 use tbl_registry::Tables;
 use validation::{Kit, Pending};
 
 /// A validation of the table in a row, of this name, that came to its end.
-pub(crate) fn finished(row: u8, judgement: Judgement, name: Name40) -> Deed
-    ensures { result ≡ Deed.Finished row judgement.active judgement.check judgement.verdict name }
+pub(crate) fn finished(row: u8, judgement: Judgement, name: Name40) -> TelemetryEvent
+    ensures { result ≡ TelemetryEvent.Finished row judgement.active judgement.check judgement.verdict name }
 {
-    Deed::Finished {
+    TelemetryEvent::Finished {
         row,
         active: judgement.active,
         check: judgement.check,
@@ -44,12 +44,12 @@ fn told(
     table: Named,
     name: Name40,
     notice: Option<Notice>,
-    mut deeds: Vec<Deed>,
+    mut events: Vec<TelemetryEvent>,
     empty: Bytes,
 ) -> Effect
     requires code { IfSome notice HasCode }
-    requires no_deeds { deeds.items ≡ [] }
-    requires room { 1 ≤ vec_capacity deeds }
+    requires no_events { events.items ≡ [] }
+    requires room { 1 ≤ vec_capacity events }
     requires empty { empty.list ≡ [] }
     ensures effect { (s : State) (t : Table) (tables : Registry) (pending : List (ℕ × Bool)) → t.name ≡ name → t.notice ≡ notice
         → IsEffect result [] (left_with s tables pending) (record (requested s table.row t came tables pending) { table = Some table }) }
@@ -63,16 +63,16 @@ fn told(
             table,
             ..Effect::of(answer, empty)
         },
-        Requested::Asked => Effect {
+        Requested::Pending => Effect {
             table,
             notice,
             ..Effect::of(Answer::plain(Status::SUCCESS), empty)
         },
         Requested::Finished(judgement) => {
-            deeds.push_reserved(finished(row, judgement, name));
+            events.push_reserved(finished(row, judgement, name));
             Effect {
                 table,
-                deeds,
+                events,
                 ..Effect::of(Answer::plain(Status::SUCCESS), empty)
             }
         }
@@ -85,14 +85,14 @@ fn validate_found(
     pending: &mut Pending,
     table: Named,
     select: u16,
-    deeds: Vec<Deed>,
+    events: Vec<TelemetryEvent>,
     empty: Bytes,
 ) -> Effect
     requires table { IsSome (table_at tables.old table.row) }
     requires pending { ArePending tables.old pending.old }
     requires notices { AreSendable tables.old }
-    requires no_deeds { deeds.items ≡ [] }
-    requires room { 1 ≤ vec_capacity deeds }
+    requires no_events { events.items ≡ [] }
+    requires room { 1 ≤ vec_capacity events }
     requires empty { empty.list ≡ [] }
     ensures effect { (s : State) → s.tables ≡ tables.old → s.pending ≡ pending.old
         → ForSome (table_at tables.old table.row) (λ t. IsEffect result [] (left_with s tables.new pending.new) (record (validate_by s table.row t (selected t select)) { table = Some table })) }
@@ -108,7 +108,7 @@ fn validate_found(
     let Named { name, .. } = named(tables, table.row);
     let notice = notice(tables, table.row);
     let came = request_validation(tables, pending, table.row, active);
-    told(came, table, name, notice, deeds, empty)
+    told(came, table, name, notice, events, empty)
 }
 
 /// The ground asks for the validation of an image of the table of this name (`CFE_TBL_VALIDATE_CC`): of the last one, or
@@ -119,13 +119,13 @@ pub(crate) fn validate(
     pending: &mut Pending,
     select: u16,
     name: &Name40,
-    deeds: Vec<Deed>,
+    events: Vec<TelemetryEvent>,
     empty: Bytes,
 ) -> Effect
     requires pending { ArePending tables.old pending.old }
     requires notices { AreSendable tables.old }
-    requires no_deeds { deeds.items ≡ [] }
-    requires room { 1 ≤ vec_capacity deeds }
+    requires no_events { events.items ≡ [] }
+    requires room { 1 ≤ vec_capacity events }
     requires empty { empty.list ≡ [] }
     ensures effect { (s : State) → s.tables ≡ tables.old → s.pending ≡ pending.old → IsEffect result [] (left_with s tables.new pending.new) (validate_effect s select name.now) }
     ensures within { IsWithin 1 0 true result }
@@ -133,14 +133,20 @@ pub(crate) fn validate(
 {
     match subject(tables, name) {
         None => Effect::of(Answer::plain(Status::ERR_NO_SUCH_TABLE), empty),
-        Some(table) => validate_found(tables, pending, table, select, deeds, empty),
+        Some(table) => validate_found(tables, pending, table, select, events, empty),
     }
 }
 
 /// The effect of a validation that an owner has done, of the table in a row, of this name.
-fn done(row: u8, came: Validated, name: Name40, mut deeds: Vec<Deed>, empty: Bytes) -> Effect
-    requires no_deeds { deeds.items ≡ [] }
-    requires room { 1 ≤ vec_capacity deeds }
+fn done(
+    row: u8,
+    came: Validated,
+    name: Name40,
+    mut events: Vec<TelemetryEvent>,
+    empty: Bytes,
+) -> Effect
+    requires no_events { events.items ≡ [] }
+    requires room { 1 ≤ vec_capacity events }
     requires empty { empty.list ≡ [] }
     ensures effect { (s : State) (t : Table) (tables : Registry) (pending : List (ℕ × Bool)) → t.name ≡ name
         → IsEffectAsking result (left_with s tables pending) (validated s row t came tables pending) }
@@ -151,9 +157,9 @@ fn done(row: u8, came: Validated, name: Name40, mut deeds: Vec<Deed>, empty: Byt
     let Some(judgement) = came.judgement else {
         return Effect::of(came.answer, empty);
     };
-    deeds.push_reserved(finished(row, judgement, name));
+    events.push_reserved(finished(row, judgement, name));
     Effect {
-        deeds,
+        events,
         verdicts: [Some(judgement.verdict), None],
         ..Effect::of(came.answer, empty)
     }
@@ -166,20 +172,20 @@ pub fn app_validate<C: Validator>(
     kit: &mut Kit<C>,
     pending: &mut Pending,
     row: u8,
-    deeds: Vec<Deed>,
+    events: Vec<TelemetryEvent>,
     empty: Bytes,
 ) -> Effect
     requires table { IsSome (table_at tables.old row) }
     requires pending { ArePending tables.old pending.old }
     requires kit { HaveFunctions tables.old kit.old }
-    requires few { FewAsked C.asked 2 kit.old }
-    requires no_deeds { deeds.items ≡ [] }
-    requires room { 1 ≤ vec_capacity deeds }
+    requires few { MayAskEach C.asked 2 kit.old }
+    requires no_events { events.items ≡ [] }
+    requires room { 1 ≤ vec_capacity events }
     requires empty { empty.list ≡ [] }
     ensures effect { (s : State) → s.tables ≡ tables.old → s.pending ≡ pending.old
         → ForSome (table_at tables.old row) (λ t. IsEffectAsking result (left_with s tables.new pending.new) (validation_of s (given_of result) row t)) }
     ensures asks { (s : State) → s.tables ≡ tables.old → s.pending ≡ pending.old
-        → ForSome (table_at tables.old row) (λ t. WasAsked C.verdict C.asked kit.old kit.new (validation_of s (given_of result) row t).asked result.verdicts) }
+        → ForSome (table_at tables.old row) (λ t. WasAsked C.verdict C.asked kit.old kit.new (validation_of s (given_of result) row t).questions result.verdicts) }
     ensures owners { owners kit.new ≡ owners kit.old }
     ensures within { IsWithin 1 0 false result }
     ensures note { result.note ≡ untouched }
@@ -187,5 +193,5 @@ pub fn app_validate<C: Validator>(
 {
     let Named { name, .. } = named(tables, row);
     let came = table_update::validate(tables, kit, pending, row);
-    done(row, came, name, deeds, empty)
+    done(row, came, name, events, empty)
 }

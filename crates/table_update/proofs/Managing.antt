@@ -5,11 +5,11 @@ use Rattle.std.specs.Option.{option_map, option_map_or, ForSome}
 use Rattle.tbl_model.specs.State.{State, Load, Table, Tables}
 use Rattle.tbl_model.specs.Tables.{table_at}
 use Rattle.tbl_model.specs.TableSteps.{changed, with_image, fill_dump, activate, set_time, load_image, locker}
-use Rattle.tbl_model.specs.Deeds.{is_good}
+use Rattle.tbl_model.specs.Telemetry.{is_good}
 use Rattle.tbl_model.specs.Given.{Given, verdict_at}
 use Rattle.tbl_model.specs.Refusals.{update_refusal, lock_refusal, refusal}
 use Rattle.tbl_model.specs.Validations.{judged_image}
-use Rattle.tbl_model.specs.Management.{Done, nothing_done, then_update, then_fill, is_asked, managed_effect, manage_answer}
+use Rattle.tbl_model.specs.Management.{Done, nothing_done, then_update, then_fill, is_requested, managed_effect, manage_answer}
 use Rattle.tbl_kinds.specs.declared.entry.Answer.{Answer}
 use Rattle.tbl_kinds.specs.declared.status.TheConstants.Status.{SUCCESS, INFO_UPDATED, INFO_TABLE_LOCKED, INFO_NO_UPDATE_PENDING}
 use Rattle.validation.specs.Asked.{asks}
@@ -37,11 +37,11 @@ one_question None image is = absurd (cc is)
 one_question (Some n) image is = refl
 
 pub second_verdict : (s : State) (given : Given) (row : ℕ) (t : Table) (first second : Option Judgement) → given.verdicts ≡ verdicts_of first second → IfSome first (λ j. IsSome t.validator)
-    → IfSome second (λ j. verdict_at (length (then_judged row t first (nothing_done s)).asked) given ≡ j.verdict)
+    → IfSome second (λ j. verdict_at (length (then_judged row t first (nothing_done s)).questions) given ≡ j.verdict)
 second_verdict s given row t first None is has = tt
 second_verdict s given row t None (Some k) is has = rw is refl
 second_verdict s given row t (Some j) (Some k) is has =
-    let one : length (then_judged row t (Some j) (nothing_done s)).asked ≡ 1 = one_question t.validator (judged_image t j.active) has in
+    let one : length (then_judged row t (Some j) (nothing_done s)).questions ≡ 1 = one_question t.validator (judged_image t j.active) has in
     rw (is, one) refl
 
 pub function_there : (first : Option Judgement) (t : Table) → (IsSome first → IsSome t.validator) → IfSome first (λ j. IsSome t.validator)
@@ -96,8 +96,8 @@ module _ (row : ℕ) (t : Table) where
 
   -- ---- the answer
 
-  answers : (asked : Bool) (lock : Option ℕ) → answer_by (cond (not asked) (refusal INFO_NO_UPDATE_PENDING) (lock_refusal lock))
-      ≡ cond (not asked) (record { status = SUCCESS; detail = 0 }) (option_map_or (λ handle. record { status = INFO_TABLE_LOCKED; detail = handle }) lock (record { status = INFO_UPDATED; detail = 0 }))
+  answers : (requested : Bool) (lock : Option ℕ) → answer_by (cond (not requested) (refusal INFO_NO_UPDATE_PENDING) (lock_refusal lock))
+      ≡ cond (not requested) (record { status = SUCCESS; detail = 0 }) (option_map_or (λ handle. record { status = INFO_TABLE_LOCKED; detail = handle }) lock (record { status = INFO_UPDATED; detail = 0 }))
   answers false lock = refl
   answers true None = refl
   answers true (Some handle) = refl
@@ -105,7 +105,7 @@ module _ (row : ℕ) (t : Table) where
   pub answer_is : (tables : Tables) → answer_by (update_refusal tables row t) ≡ manage_answer tables row t
   answer_is tables = answers t.activation (locker tables row t)
 
-  made_by : (asked : Bool) (lock : Option ℕ) → is_updated (answer_by (cond (not asked) (refusal INFO_NO_UPDATE_PENDING) (lock_refusal lock))) ≡ is_none (cond (not asked) (refusal INFO_NO_UPDATE_PENDING) (lock_refusal lock))
+  made_by : (requested : Bool) (lock : Option ℕ) → is_updated (answer_by (cond (not requested) (refusal INFO_NO_UPDATE_PENDING) (lock_refusal lock))) ≡ is_none (cond (not requested) (refusal INFO_NO_UPDATE_PENDING) (lock_refusal lock))
   made_by false lock = refl
   made_by true None = refl
   made_by true (Some handle) = refl
@@ -162,8 +162,8 @@ marked_few tables row n (Some j) few = by (table_at tables row) refl
 
 -- ---- all of it
 
--- the filling of the dump, if one is asked
-fill_step : (row : ℕ) (d : Done) (u : Table) (filled : Bool) → table_at d.state.tables row ≡ Some u → is_asked u.dump ≡ filled
+-- the filling of the dump, if one is requested
+fill_step : (row : ℕ) (d : Done) (u : Table) (filled : Bool) → table_at d.state.tables row ≡ Some u → is_requested u.dump ≡ filled
     → then_fill row d ≡ record d { state = record d.state { tables = cond filled (fill_dump row d.state.tables) d.state.tables }; bits = cond filled (d.bits + 8) d.bits }
 fill_step row d u true there is = rw (there, is) refl
 fill_step row d u false there is = rw (there, is) refl
@@ -249,8 +249,8 @@ module _ (s : State) (given : Given) (row : ℕ) (t : Table) (first second : Opt
   marked_dump None = refl
   marked_dump (Some k) = refl
 
-  module _ (there : table_at two row ≡ Some (marked_table second t)) (filled : Bool) (dump : is_asked t.dump ≡ filled) where
-    dump_still : is_asked (marked_table second t).dump ≡ filled
+  module _ (there : table_at two row ≡ Some (marked_table second t)) (filled : Bool) (dump : is_requested t.dump ≡ filled) where
+    dump_still : is_requested (marked_table second t).dump ≡ filled
     dump_still = rw (marked_dump second) dump
 
     after_update : update_refusal two row (marked_table second t) ≡ None → new ≡ activate row two
@@ -265,11 +265,11 @@ module _ (s : State) (given : Given) (row : ℕ) (t : Table) (first second : Opt
         rw (update_refused row t after_both (marked_table second t) answer there is, same) (ap (λ st. record after_both { state = st }) state_after)
 
     -- and then the dump, before the time of the update is set
-    pub after_all : (made : Bool) (answer : Answer) (did : ℕ) (u : Table) (st : State) (all : Tables) → st ≡ record s { tables = all; pending = q } → table_at all row ≡ Some u → is_asked u.dump ≡ filled
+    pub after_all : (made : Bool) (answer : Answer) (did : ℕ) (u : Table) (st : State) (all : Tables) → st ≡ record s { tables = all; pending = q } → table_at all row ≡ Some u → is_requested u.dump ≡ filled
         → did ≡ bits_of first second made filled → IfSome first (λ j. j.active ≡ true) → IfSome second (λ j. j.active ≡ false)
         → managed_effect s answer (then_fill row (then_updated row t made (record after_both { state = st })))
         ≡ managed_effect s answer (record (then_updated row t made (then_judged row t second (then_judged row t first (nothing_done s)))) { state = record s { tables = cond filled (fill_dump row all) all; pending = q }; bits = did })
-    after_all made answer did u st all st_is at asked did_is a b =
+    after_all made answer did u st all st_is at requested did_is a b =
         rw (st_is, did_is, ← bits_told made filled (record s { tables = all; pending = q }) a b) (by made)
       where
         by : (m : Bool) → managed_effect s answer (then_fill row (then_updated row t m (record after_both { state = record s { tables = all; pending = q } })))
@@ -280,11 +280,11 @@ module _ (s : State) (given : Given) (row : ℕ) (t : Table) (first second : Opt
         by true =
             let before : State = record s { tables = all; pending = q } in
             let d = then_updated row t true (record after_both { state = before }) in
-            rw (fill_step row d u filled at asked) (told true before (record s { tables = cond filled (fill_dump row all) all; pending = q }) answer (cond filled (d.bits + 8) d.bits))
+            rw (fill_step row d u filled at requested) (told true before (record s { tables = cond filled (fill_dump row all) all; pending = q }) answer (cond filled (d.bits + 8) d.bits))
         by false =
             let before : State = record s { tables = all; pending = q } in
             let d = then_updated row t false (record after_both { state = before }) in
-            rw (fill_step row d u filled at asked) (told false before (record s { tables = cond filled (fill_dump row all) all; pending = q }) answer (cond filled (d.bits + 8) d.bits))
+            rw (fill_step row d u filled at requested) (told false before (record s { tables = cond filled (fill_dump row all) all; pending = q }) answer (cond filled (d.bits + 8) d.bits))
 
     pub managed_is : (refused : Option Answer) (answer : Answer) (did : ℕ) (last : Tables) → refused ≡ update_refusal two row (marked_table second t) → update_refusal two row (marked_table second t) ≡ update_refusal s.tables row t
         → IfNone refused (new ≡ activate row two) → (refused ≢ None → new ≡ two) → last ≡ cond filled (fill_dump row new) new

@@ -23,7 +23,7 @@ nothing_missing t true none = by (t.count == 0) refl none
     by false is none = grind (arith, nat_tests)
 nothing_missing t false none = by t.load t.activation none
   where
-    by : (load : Option Load) (asked : Bool) → missing_refusal (record t { load = load; activation = asked }) false ≡ None → IsSome load × (asked ≡ false)
-    by None asked none = absurd (cc none)
+    by : (load : Option Load) (requested : Bool) → missing_refusal (record t { load = load; activation = requested }) false ≡ None → IsSome load × (requested ≡ false)
+    by None requested none = absurd (cc none)
     by (Some l) true none = absurd (cc none)
     by (Some l) false none = (cc, refl)

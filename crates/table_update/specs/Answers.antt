@@ -7,10 +7,10 @@ use Rattle.tbl_model.specs.TableSteps.{set_time, load_image}
 use Rattle.tbl_model.specs.Activations.{updated_effect}
 use Rattle.tbl_model.specs.Management.{Done, nothing_done, managed_effect}
 use Rattle.tbl_kinds.specs.Statuses.{is_success}
-use Rattle.tbl_model.specs.Deeds.{Question, activated}
+use Rattle.tbl_model.specs.Telemetry.{Question, activated}
 use Rattle.tbl_model.specs.Validations.{judged_image, questions, marked}
-use Rattle.tbl_model.specs.declared.deeds.Deed.{Deed}
-use Rattle.tbl_model.specs.declared.deeds.Deed.TheVariants.{Finished as Deed_finished}
+use Rattle.tbl_model.specs.declared.telemetry.TelemetryEvent.{TelemetryEvent}
+use Rattle.tbl_model.specs.declared.telemetry.TelemetryEvent.TheVariants.{Finished as Event_finished}
 use Rattle.tbl_kinds.specs.declared.status.TheConstants.Status.{SUCCESS, INFO_UPDATED, INFO_TABLE_LOCKED, ERR_UPDATE_PENDING, ERR_NEVER_LOADED, ERR_NO_LOAD, ERR_VALIDATION_PENDING, ERR_VALIDATIONS_FULL}
 use Rattle.tbl_model.specs.Pending.{is_pending}
 use Rattle.tbl_kinds.specs.declared.entry.Answer.{Answer}
@@ -18,12 +18,12 @@ use Rattle.tbl_model.specs.Refusals.{refusal}
 use Rattle.table_update.specs.declared.management.Managed.{Managed}
 use Rattle.table_update.specs.declared.judging.Judgement.{Judgement}
 use Rattle.table_update.specs.declared.validations.Requested.{Requested}
-use Rattle.table_update.specs.declared.validations.Requested.TheVariants.{Refused, Asked, Finished}
+use Rattle.table_update.specs.declared.validations.Requested.TheVariants.{Refused, Pending, Finished}
 use Rattle.table_update.specs.declared.validations.Validated.{Validated}
 
 -- what telemetry tells of a judgement on an image of the table in this row
-abbrev pub judgement_deed : ℕ → Table → Judgement → Deed
-judgement_deed row t j = Deed_finished row j.active j.check j.verdict t.name
+abbrev pub judgement_event : ℕ → Table → Judgement → TelemetryEvent
+judgement_event row t j = Event_finished row j.active j.check j.verdict t.name
 
 -- an answer that leaves these tables and these pending validations
 abbrev pub leaving : State → Tables → List (ℕ × Bool) → Effect → Effect
@@ -31,7 +31,7 @@ leaving s tables pending effect = record effect { next = record s { tables = tab
 
 -- a validation of the table in this row came to its end so
 abbrev pub with_judgement : ℕ → Table → Judgement → Effect → Effect
-with_judgement row t j effect = record effect { deeds = judgement_deed row t j ∷ []; images = Some (judged_image t j.active) ∷ [] }
+with_judgement row t j effect = record effect { events = judgement_event row t j ∷ []; images = Some (judged_image t j.active) ∷ [] }
 
 -- what is missing for a validation of this image of a table, where something is
 abbrev pub missing_refusal : Table → Bool → Option Answer
@@ -51,13 +51,13 @@ full_refusal pending row active =
 -- what VALIDATE is answered
 abbrev pub requested : State → ℕ → Table → Requested → Tables → List (ℕ × Bool) → Effect
 requested s row t (Refused answer) tables pending = leaving s tables pending (answered s answer.status answer.detail)
-requested s row t Asked tables pending = record (leaving s tables pending (answered s SUCCESS 0)) { notice = t.notice }
+requested s row t Pending tables pending = record (leaving s tables pending (answered s SUCCESS 0)) { notice = t.notice }
 requested s row t (Finished j) tables pending = leaving s tables pending (with_judgement row t j (answered s SUCCESS 0))
 
 -- what an owner is answered that has a validation done, by the judgement that it came to, if one was pending
 abbrev pub judged_by : ℕ → Table → Option Judgement → Effect → Effect
 judged_by row t None effect = effect
-judged_by row t (Some j) effect = record (with_judgement row t j effect) { asked = questions t (judged_image t j.active) }
+judged_by row t (Some j) effect = record (with_judgement row t j effect) { questions = questions t (judged_image t j.active) }
 
 abbrev pub validated : State → ℕ → Table → Validated → Tables → List (ℕ × Bool) → Effect
 validated s row t done tables pending = leaving s tables pending (judged_by row t done.judgement (answered s done.answer.status done.answer.detail))
@@ -65,8 +65,8 @@ validated s row t done tables pending = leaving s tables pending (judged_by row 
 -- ---- updates
 
 -- what ACTIVATE is answered
-abbrev pub activation_asked : State → Table → Answer → Tables → Effect
-activation_asked s t answer tables = record (answered s answer.status answer.detail) {
+abbrev pub activation_requested : State → Table → Answer → Tables → Effect
+activation_requested s t answer tables = record (answered s answer.status answer.detail) {
   notice = if is_success answer.status then t.notice else None;
   next = record s { tables = tables };
 }
@@ -83,9 +83,9 @@ updated s row t answer tables =
 abbrev pub then_judged : ℕ → Table → Option Judgement → Done → Done
 then_judged row t None d = d
 then_judged row t (Some j) d = record d {
-  deeds = d.deeds ++ judgement_deed row t j ∷ [];
+  events = d.events ++ judgement_event row t j ∷ [];
   images = d.images ++ Some (judged_image t j.active) ∷ [];
-  asked = d.asked ++ questions t (judged_image t j.active);
+  questions = d.questions ++ questions t (judged_image t j.active);
   bits = d.bits + (if j.active then 1 else 2);
 }
 
@@ -106,7 +106,7 @@ with_tables tables pending d = record d { state = record d.state { tables = tabl
 -- the update was made, if it was
 abbrev pub then_updated : ℕ → Table → Bool → Done → Done
 then_updated row t made d =
-    if made then record d { deeds = d.deeds ++ activated row t ∷ []; images = d.images ++ Some (load_image t) ∷ []; bits = d.bits + 4 } else d
+    if made then record d { events = d.events ++ activated row t ∷ []; images = d.images ++ Some (load_image t) ∷ []; bits = d.bits + 4 } else d
 
 -- a bit for each thing that was done
 abbrev pub bits_of : Option Judgement → Option Judgement → Bool → Bool → ℕ

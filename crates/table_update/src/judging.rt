@@ -4,10 +4,10 @@ ghost use Rattle.std.specs.Prelude.{◌≡◌, ◌<◌, ◌+◌, ◌≤◌, ◌^
 ghost use Rattle.std.specs.Option.{ForSome};
 ghost use Rattle.tbl_kinds.specs.Check.{check16};
 ghost use Rattle.tbl_model.specs.Tables.{table_at};
-ghost use Rattle.tbl_model.specs.Deeds.{is_good};
+ghost use Rattle.tbl_model.specs.Telemetry.{is_good};
 ghost use Rattle.tbl_model.specs.Pending.{is_pending, without_pair};
 ghost use Rattle.tbl_model.specs.Validations.{judged_image, questions, marked};
-ghost use Rattle.validation.specs.Kits.{FewAsked};
+ghost use Rattle.validation.specs.Kits.{MayAskEach};
 ghost use Rattle.table_update.specs.Judging.{MayBeJudged};
 ghost use Rattle.validation.specs.Asked.{WasAsked};
 ghost use Rattle.tbl_model.specs.Fit.{HasImage};
@@ -114,7 +114,7 @@ pub(crate) fn finish<C: Validator>(
     requires pending { ArePending tables.old pending.old }
     requires this { is_pending row active pending.old ≡ true }
     requires kit { HaveFunctions tables.old kit.old }
-    requires few { FewAsked C.asked 1 kit.old }
+    requires few { MayAskEach C.asked 1 kit.old }
     ensures active { result.active ≡ active }
     ensures check { ForSome (table_at tables.old row) (λ t. result.check ≡ check16 (judged_image t active)) }
     ensures tables { tables.new ≡ marked row active result.verdict tables.old }

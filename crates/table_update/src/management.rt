@@ -6,8 +6,8 @@ ghost use Rattle.tbl_model.specs.Tables.{table_at};
 ghost use Rattle.tbl_model.specs.TableSteps.{fill_dump};
 ghost use Rattle.tbl_model.specs.Given.{Given, verdict_at};
 ghost use Rattle.tbl_model.specs.State.{State};
-ghost use Rattle.tbl_model.specs.Management.{Done, then_validate, is_asked, manage_of};
-ghost use Rattle.validation.specs.Kits.{FewAsked};
+ghost use Rattle.tbl_model.specs.Management.{Done, then_validate, is_requested, manage_of};
+ghost use Rattle.validation.specs.Kits.{MayAskEach};
 ghost use Rattle.validation.specs.Asked.{WasAsked};
 ghost use Rattle.validation.specs.Ready.{ArePending, HaveFunctions, HaveLoads, PendingStay};
 ghost use Rattle.table_update.specs.Answers.{then_judged, with_tables, verdicts_of, asked_by, marked_by, bits_of, answer_by, managed};
@@ -43,8 +43,8 @@ fn validate_pending<C: Validator>(
     requires table { IsSome (table_at tables.old row) }
     requires pending { ArePending tables.old pending.old }
     requires kit { HaveFunctions tables.old kit.old }
-    requires few { FewAsked C.asked 1 kit.old }
-    ensures step { (d : Done) (given : Given) → d.state.tables ≡ tables.old → d.state.pending ≡ pending.old → IfSome result (λ j. verdict_at (length d.asked) given ≡ j.verdict)
+    requires few { MayAskEach C.asked 1 kit.old }
+    ensures step { (d : Done) (given : Given) → d.state.tables ≡ tables.old → d.state.pending ≡ pending.old → IfSome result (λ j. verdict_at (length d.questions) given ≡ j.verdict)
         → ForSome (table_at tables.old row) (λ t. then_validate row active given d ≡ with_tables tables.new pending.new (then_judged row t result d)) }
     ensures image { IfSome result (λ j. j.active ≡ active) }
     ensures function { IsSome result → ForSome (table_at tables.old row) (λ t. IsSome t.validator) }
@@ -62,10 +62,10 @@ fn validate_pending<C: Validator>(
     Some(finish(tables, kit, pending, row, active))
 }
 
-/// The dump of the table of a row is filled with its last image, if one is asked. Whether it was.
+/// The dump of the table of a row is filled with its last image, if one is requested. Whether it was.
 fn fill_pending(tables: &mut Tables, row: u8) -> bool
     requires { IsSome (table_at tables.old row) }
-    ensures filled { ForSome (table_at tables.old row) (λ t. result ≡ is_asked t.dump) }
+    ensures filled { ForSome (table_at tables.old row) (λ t. result ≡ is_requested t.dump) }
     ensures tables { tables.new ≡ (if result then fill_dump row tables.old else tables.old) }
     ensures table { IsSome (table_at tables.new row) }
     ensures pending { PendingStay tables.old tables.new }
@@ -105,7 +105,7 @@ fn update_answer(refusal: Option<Answer>) -> Answer
 
 /// The owner of the table of a row has all done that is pending for it (`CFE_TBL_Manage`; cFE User's Guide, Table
 /// Services, "Managing tables"): the validation of its last image, that of its load, the update, and the filling of a dump. The time
-/// of the update stays for the caller to set. `INFO_UPDATED`: the update was made. `INFO_TABLE_LOCKED`: it was asked, and the
+/// of the update stays for the caller to set. `INFO_UPDATED`: the update was made. `INFO_TABLE_LOCKED`: it was requested, and the
 /// detail is the handle that is in the way.
 pub fn manage<C: Validator>(
     tables: &mut Tables,
@@ -117,7 +117,7 @@ pub fn manage<C: Validator>(
     requires pending { ArePending tables.old pending.old }
     requires kit { HaveFunctions tables.old kit.old }
     requires loads { HaveLoads tables.old }
-    requires few_asked { FewAsked C.asked 2 kit.old }
+    requires few_asked { MayAskEach C.asked 2 kit.old }
     requires few { ForSome (table_at tables.old row) (λ t. t.count < 2 ^ 32 - 1) }
     ensures effect { (s : State) (given : Given) → s.tables ≡ tables.old → s.pending ≡ pending.old → given.verdicts ≡ verdicts_of result.first result.second
         → ForSome (table_at tables.old row) (λ t. manage_of s given row t ≡ managed s row t result tables.new pending.new) }

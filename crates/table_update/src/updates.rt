@@ -8,14 +8,14 @@ ghost use Rattle.tbl_model.specs.TableSteps.{activate};
 ghost use Rattle.tbl_model.specs.Refusals.{activation_refusal, update_refusal};
 ghost use Rattle.tbl_model.specs.Activations.{activation_of, update_of};
 ghost use Rattle.validation.specs.Ready.{ArePending, HaveLoads, HasItsLoad, HaveSameFunctions, PendingStay};
-ghost use Rattle.table_update.specs.Answers.{activation_asked, updated};
+ghost use Rattle.table_update.specs.Answers.{activation_requested, updated};
 
 use bitflags::Flags;
 use tbl_kinds::{Answer, Options, Status};
 use tbl_registry::Tables;
 use validation::Pending;
 
-/// Why the activation of the load of the table of a row isn't asked, if it isn't.
+/// Why the activation of the load of the table of a row isn't requested, if it isn't.
 fn activation_refusal(tables: &Tables, pending: &Pending, row: u8) -> Option<Answer>
     requires { IsSome (table_at tables.now row) }
     ensures { ForSome (table_at tables.now row) (λ t. result ≡ activation_refusal pending.now row t) }
@@ -48,7 +48,7 @@ pub fn request_activation(tables: &mut Tables, pending: &Pending, row: u8) -> An
     requires table { IsSome (table_at tables.old row) }
     requires pending { ArePending tables.old pending.now }
     ensures effect { (s : State) → s.tables ≡ tables.old → s.pending ≡ pending.now
-        → ForSome (table_at tables.old row) (λ t. activation_of s row t ≡ activation_asked s t result tables.new) }
+        → ForSome (table_at tables.old row) (λ t. activation_of s row t ≡ activation_requested s t result tables.new) }
     ensures pending { ArePending tables.new pending.now }
     ensures loads { HaveLoads tables.old → HaveLoads tables.new }
     ensures functions { HaveSameFunctions tables.old tables.new }
@@ -100,9 +100,9 @@ pub(crate) fn take_update(tables: &mut Tables, row: u8) -> Option<Answer>
     None
 }
 
-/// The owner of the table of a row updates it (`CFE_TBL_Update`): the image of the open load, whose activation was asked,
+/// The owner of the table of a row updates it (`CFE_TBL_Update`): the image of the open load, whose activation was requested,
 /// becomes the last one, and the load is closed. The time of the update stays for the caller to set.
-/// `INFO_NO_UPDATE_PENDING`: none was asked. `INFO_TABLE_LOCKED`: the detail is the handle that is in the way.
+/// `INFO_NO_UPDATE_PENDING`: none was requested. `INFO_TABLE_LOCKED`: the detail is the handle that is in the way.
 pub fn update(tables: &mut Tables, row: u8) -> Answer
     requires table { IsSome (table_at tables.old row) }
     requires load { ForSome (table_at tables.old row) HasItsLoad }

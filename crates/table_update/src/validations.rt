@@ -6,7 +6,7 @@ ghost use Rattle.std.specs.Option.{ForSome};
 ghost use Rattle.tbl_model.specs.State.{State};
 ghost use Rattle.tbl_model.specs.Tables.{table_at};
 ghost use Rattle.tbl_model.specs.Given.{Given};
-ghost use Rattle.tbl_model.specs.Deeds.{is_good, verdict_bits};
+ghost use Rattle.tbl_model.specs.Telemetry.{is_good, verdict_bits};
 ghost use Rattle.tbl_model.specs.Pending.{is_pending, without_pair};
 ghost use Rattle.tbl_model.specs.Validations.{validate_by, first_pending, validation_of, judged_image, marked};
 ghost use Rattle.tbl_kinds.specs.Check.{check16};
@@ -14,7 +14,7 @@ ghost use Rattle.validation.specs.Asked.{WasAsked};
 ghost use Rattle.table_update.specs.Answers.{requested, validated, verdicts_of, missing_refusal, full_refusal};
 ghost use Rattle.tbl_model.specs.Fit.{HasImage};
 ghost use Rattle.validation.specs.Ready.{ArePending, HaveFunctions, HaveLoads, HaveSameFunctions};
-ghost use Rattle.validation.specs.Kits.{FewAsked};
+ghost use Rattle.validation.specs.Kits.{MayAskEach};
 
 use crate::judging::{Judgement, checked, conclude, finish};
 use tbl_kinds::{Answer, Status};
@@ -26,10 +26,10 @@ use validation::{Kit, PendFault, Pending};
 #[derive(Clone, Copy, PartialEq, Eq)]
 #[must_use]
 pub enum Requested {
-    /// It isn't asked.
+    /// It isn't pending.
     Refused(Answer),
     /// It is pending, and the owner is to be told.
-    Asked,
+    Pending,
     /// The table has no validation function, and so the image is a good one.
     Finished(Judgement),
 }
@@ -78,7 +78,7 @@ fn has_function(tables: &Tables, row: u8) -> bool
 /// The validation of this image comes after those that are pending, or is refused.
 fn ask(pending: &mut Pending, row: u8, active: bool) -> Option<Answer>
     ensures refusal { result ≡ full_refusal pending.old row active }
-    ensures asked { IfNone result (pending.new ≡ pending.old ++ (row, active) ∷ []) }
+    ensures pending { IfNone result (pending.new ≡ pending.old ++ (row, active) ∷ []) }
     ensures refused { result ≢ None → pending.new ≡ pending.old }
 {
     match pending.request(row, active) {
@@ -108,7 +108,7 @@ fn pass(tables: &mut Tables, pending: &mut Pending, row: u8, active: bool) -> Ju
     judgement
 }
 
-/// A validation of the table of a row is asked by the ground (`CFE_TBL_VALIDATE_CC`; cFE User's Guide, Table Services,
+/// A validation of the table of a row is requested by the ground (`CFE_TBL_VALIDATE_CC`; cFE User's Guide, Table Services,
 /// "Validating tables"), of its last image (`active`) or of that of its open load. It is pending until the owner has it
 /// done; a table without a validation function needs none.
 pub fn request_validation(
@@ -133,7 +133,7 @@ pub fn request_validation(
     }
     match ask(pending, row, active) {
         Some(answer) => Requested::Refused(answer),
-        None => Requested::Asked,
+        None => Requested::Pending,
     }
 }
 
@@ -175,11 +175,11 @@ pub fn validate<C: Validator>(
     requires table { IsSome (table_at tables.old row) }
     requires pending { ArePending tables.old pending.old }
     requires kit { HaveFunctions tables.old kit.old }
-    requires few { FewAsked C.asked 1 kit.old }
+    requires few { MayAskEach C.asked 1 kit.old }
     ensures effect { (s : State) (given : Given) → s.tables ≡ tables.old → s.pending ≡ pending.old → given.verdicts ≡ verdicts_of result.judgement None
         → ForSome (table_at tables.old row) (λ t. validation_of s given row t ≡ validated s row t result tables.new pending.new) }
     ensures asked { (s : State) (given : Given) → s.tables ≡ tables.old → s.pending ≡ pending.old → given.verdicts ≡ verdicts_of result.judgement None
-        → ForSome (table_at tables.old row) (λ t. WasAsked C.verdict C.asked kit.old kit.new (validation_of s given row t).asked given.verdicts) }
+        → ForSome (table_at tables.old row) (λ t. WasAsked C.verdict C.asked kit.old kit.new (validation_of s given row t).questions given.verdicts) }
     ensures pending { ArePending tables.new pending.new }
     ensures kit { HaveFunctions tables.new kit.new }
     ensures loads { HaveLoads tables.old → HaveLoads tables.new }

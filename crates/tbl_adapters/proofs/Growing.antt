@@ -4,7 +4,7 @@ use Rattle.std.proofs.lemmas.List.{append-nil, append_assoc, length-replicate, t
 use Rattle.tbl_adapters.specs.Files.{padded, written, Spoiled, lengthened}
 use Rattle.tbl_adapters.proofs.Padding.{padded-whole, take-padded}
 
--- so many zeros stand behind the bytes that were there, and no more than are wanted
+-- so many zeros stand after the bytes that were there, and no more than are wanted
 pub record Growing (size len : ℕ) (old now : List ℕ) : Type 0 where
   pub more : ℕ
   pub long : len ≡ length old + more
@@ -48,7 +48,7 @@ grown_whole size len old now g le =
 pub kept_first : (old now : List ℕ) → now ≡ old → padded (length old) now ≡ old
 kept_first old now same = ap (padded (length old)) same ∙ padded-whole old (length old) (omega arith) ∙ take_all (length old) old (omega arith)
 
--- what was there stays, where a write behind it failed
+-- what was there stays, where a write after it failed
 pub kept_spoiled : (size len count : ℕ) (old now new : List ℕ) → Growing size len old now → Spoiled len count now new → padded (length old) new ≡ old
 kept_spoiled size len count old now new g failed =
     sym (take-padded (length old) len new (omega (arith, g.long)))

@@ -36,7 +36,7 @@ piece-padded bytes at count size fits whole =
     ∙ take-padded count (size - at) (drop at bytes) (omega (arith, fits))
     ∙ padded-whole (drop at bytes) count (omega (arith, whole, length-take count (drop at bytes)))
 
--- a first piece, and one behind it
+-- a first piece, and one after it
 take-more : (m n k : ℕ) (xs : List ℕ) → k ≡ m + n → take k xs ≡ take m xs ++ take n (drop m xs)
 take-more zero n k xs e = let same : k ≡ n = omega (arith, e) in ap (λ (i : ℕ). take i xs) same
 take-more (suc m) n zero xs e = absurd (omega (arith, e))
@@ -163,7 +163,7 @@ spoiled_front at count old new others is le = record {
   behind = ap (drop (at + count)) is ∙ behind-written old at others count le;
 }
 
--- some bytes were written, and then the write of those behind them failed
+-- some bytes were written, and then the write of those after them failed
 pub spoiled_more : (at done rest count : ℕ) (old mid new others : List ℕ) → mid ≡ written old at others → Spoiled (at + done) rest mid new → length others ≡ done → count ≡ done + rest → Spoiled at count old new
 spoiled_more at done rest count old mid new others is failed long sum =
     let so_far : Spoiled at count old mid = spoiled_front at count old mid others is (omega (arith, long, sum)) in

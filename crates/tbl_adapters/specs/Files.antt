@@ -2,7 +2,7 @@
 use Rattle.std.specs.Prelude.{◌≡◌, ℕ, zero, suc, ◌+◌, ◌-◌, List, [], ◌∷◌, ◌++◌, length, drop, replicate, refl}
 use Rattle.std.proofs.Common.{ap}
 
--- the first so many bytes, with zeros behind them where there are fewer
+-- the first so many bytes, with zeros after them where there are fewer
 abbrev pub padded : ℕ → List ℕ → List ℕ
 padded zero bytes = []
 padded (suc count) [] = 0 ∷ padded count []

@@ -10,7 +10,7 @@ pub enum OpenFault {
     /// The system doesn't say how long it is.
     #[error("the length of cds.store can't be read: {0}")]
     Length(io::Error),
-    /// It is too short, and zeros can't be written behind its end.
+    /// It is too short, and zeros can't be written after its end.
     #[error("cds.store is too short and can't be made longer: {0}")]
     Lengthen(io::Error),
 }

@@ -54,7 +54,7 @@ fn write_zeros<F: RandomAccess>(file: &mut F, at: u64, count: usize) -> io::Resu
     write_all(file, at, &zeros[..count])
 }
 
-/// Writes zeros behind the end of a file that has fewer than so many bytes. What it has stays.
+/// Writes zeros after the end of a file that has fewer than so many bytes. What it has stays.
 pub(crate) fn lengthen<F: RandomAccess>(file: &mut F, size: u32) -> Result<(), OpenFault>
     ensures longer { F.tells → OnOk result (F.content file.new ≡ lengthened size (F.content file.old)) }
     ensures kept { F.tells → OnErr result (padded (length (F.content file.old)) (F.content file.new) ≡ F.content file.old) }

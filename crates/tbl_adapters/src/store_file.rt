@@ -56,7 +56,7 @@ fn open_file<R: Files<File = File>>(rt: &R) -> Result<File, OpenFault> {
 
 impl StoreFile<File> {
     /// Opens `cds.store` in the working folder, and makes it where it isn't there. Where it has fewer bytes than the bank,
-    /// zeros are written behind its end; bytes behind the bank stay as they are.
+    /// zeros are written after its end; bytes after the bank stay as they are.
     pub fn open<R: Files<File = File>>(rt: &R, size: u32) -> Result<StoreFile<File>, OpenFault>
         ensures size { IfOk result (λ store. store.size ≡ size) }
         ensures faults { IfOk result (λ store. store.faults ≡ 0) }

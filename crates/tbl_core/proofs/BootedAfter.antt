@@ -22,14 +22,14 @@ use Rattle.cds_layout.specs.Images.{store_of}
 use Rattle.store_requests.specs.Called.{Leaving, boots_after, Troubled}
 use Rattle.tbl_core.specs.Ended.{Follows, boot_only}
 use Rattle.request_effects.specs.Effects.{given_of}
-use Rattle.tbl_core.specs.Service.{Held, HoldsAll, state_of, step_of, Bounds, EndsIn, HasEffect, Has, Makes, Meets, IsMade, after_stop}
+use Rattle.tbl_core.specs.Service.{PartsView, HoldsAll, state_of, step_of, Bounds, EndsIn, HasEffect, Has, Makes, Meets, IsMade, after_stop}
 use Rattle.tbl_core.specs.Verdicts.{Judged}
 use Rattle.request_effects.specs.declared.effect.Effect.{Effect}
 use Rattle.tbl_core.proofs.Trouble.{troubled_after, caused_after}
 use Rattle.tbl_outside.specs.declared.bank.Bank.{Ghosts}
 use Rattle.tbl_outside.specs.declared.validator.Validator.{Ghosts as ValidatorGhosts}
 
-module _ {B C : Type 0} (g : Ghosts B) (v : ValidatorGhosts C) (bounds : Bounds) (old mid new : Held B C) (request : Request) (means : State → Given → Option model.Effect)
+module _ {B C : Type 0} (g : Ghosts B) (v : ValidatorGhosts C) (bounds : Bounds) (old mid new : PartsView B C) (request : Request) (means : State → Given → Option model.Effect)
     (called : Effect) (note : BankNote) (makes : Makes g v bounds old mid called) (meets : Meets g v (step_of old mid request) means called)
     (follows : Follows called.note note) (held : new ≡ after_stop called.note.outcome note new.store mid)
     (boots : g.tells → (s : State) → HoldsAll g mid s → HoldsAll g new (boots_after called.note.outcome note s))
@@ -41,10 +41,10 @@ module _ {B C : Type 0} (g : Ghosts B) (v : ValidatorGhosts C) (bounds : Bounds)
   same_kit : new.kit ≡ mid.kit
   same_kit = by called.note.outcome held where
     by : (outcome : Outcome) → new ≡ after_stop outcome note new.store mid → new.kit ≡ mid.kit
-    by Untouched is = ap (λ (h : Held B C). h.kit) is
-    by Done is = ap (λ (h : Held B C). h.kit) is
-    by Failed is = ap (λ (h : Held B C). h.kit) is
-    by Stopped is = ap (λ (h : Held B C). h.kit) is
+    by Untouched is = ap (λ (h : PartsView B C). h.kit) is
+    by Done is = ap (λ (h : PartsView B C). h.kit) is
+    by Failed is = ap (λ (h : PartsView B C). h.kit) is
+    by Stopped is = ap (λ (h : PartsView B C). h.kit) is
 
   fit_on : (n : ℕ) → AreFit n (state_of mid) → AreFit n (state_of new)
   fit_on n fit = by called.note.outcome held where
@@ -52,7 +52,7 @@ module _ {B C : Type 0} (g : Ghosts B) (v : ValidatorGhosts C) (bounds : Bounds)
     by Untouched is = rw is fit
     by Done is = rw is fit
     by Failed is = rw is fit
-    by Stopped is = fit_at_first n (state_of new) (ap (λ (h : Held B C). h.tables) is) (ap (λ (h : Held B C). h.pending) is)
+    by Stopped is = fit_at_first n (state_of new) (ap (λ (h : PartsView B C). h.tables) is) (ap (λ (h : PartsView B C). h.pending) is)
 
   ended : new.ended ≡ note.ended
   ended = by called.note.outcome refl held where
@@ -60,10 +60,10 @@ module _ {B C : Type 0} (g : Ghosts B) (v : ValidatorGhosts C) (bounds : Bounds)
     stays goes is = is ∙ makes.ended ∙ sym (ap (λ (n : BankNote). n.ended) (follows.same goes))
 
     by : (outcome : Outcome) → called.note.outcome ≡ outcome → new ≡ after_stop outcome note new.store mid → new.ended ≡ note.ended
-    by Untouched at is = stays (λ stop. cc (at, stop)) (ap (λ (h : Held B C). h.ended) is)
-    by Done at is = stays (λ stop. cc (at, stop)) (ap (λ (h : Held B C). h.ended) is)
-    by Failed at is = stays (λ stop. cc (at, stop)) (ap (λ (h : Held B C). h.ended) is)
-    by Stopped at is = ap (λ (h : Held B C). h.ended) is
+    by Untouched at is = stays (λ stop. cc (at, stop)) (ap (λ (h : PartsView B C). h.ended) is)
+    by Done at is = stays (λ stop. cc (at, stop)) (ap (λ (h : PartsView B C). h.ended) is)
+    by Failed at is = stays (λ stop. cc (at, stop)) (ap (λ (h : PartsView B C). h.ended) is)
+    by Stopped at is = ap (λ (h : PartsView B C). h.ended) is
 
   booted_on : (called.note.outcome ≡ Stopped → new.store.booted ≡ not note.ended) → new.store.booted ≡ not new.ended
   booted_on boots_store = by called.note.outcome refl held where
@@ -91,7 +91,7 @@ module _ {B C : Type 0} (g : Ghosts B) (v : ValidatorGhosts C) (bounds : Bounds)
     ends = (has.noted (λ stopped. found told has.before has.holds (sym outcome ∙ stopped))).ends
 
     stays : new ≡ mid → Leaving g old.store new.store (EndsIn request e.calls s.store)
-    stays is = subst (λ (h : Held B C). Leaving g old.store h.store (EndsIn request e.calls s.store)) (sym is) has.moments
+    stays is = subst (λ (h : PartsView B C). Leaving g old.store h.store (EndsIn request e.calls s.store)) (sym is) has.moments
 
     booted_after : called.note.outcome ≡ Stopped → (left : Blocks) → ShowsBlocks has.before.store left → EndsIn request e.calls s.store left
     booted_after at left shows =
@@ -119,15 +119,15 @@ module _ {B C : Type 0} (g : Ghosts B) (v : ValidatorGhosts C) (bounds : Bounds)
               detail = has.effect.detail;
               bytes = has.effect.bytes;
               table = has.effect.table;
-              deeds = has.effect.deeds;
+              events = has.effect.events;
               shown = has.effect.shown;
-              asked = refl;
+              questions = refl;
               calls = refl;
               notice = has.effect.notice;
               next = refl;
             };
             holds = subst (HoldsAll g new) (sym (has.effect.next ∙ ap (λ (o : Outcome). boots_after o note has.before) outcome)) (boots told has.before has.holds);
-            judged = subst (λ (kit : List (Option (KitEntry C))). Judged v old.kit kit e.0.asked called.verdicts) (sym same_kit) has.judged;
+            judged = subst (λ (kit : List (Option (KitEntry C))). Judged v old.kit kit e.0.questions called.verdicts) (sym same_kit) has.judged;
             noted = has.noted (λ stopped. found told has.before has.holds (sym outcome ∙ stopped));
             gave = has.gave;
             moments = moments_after told s holds e.0 has;

@@ -31,14 +31,14 @@ use Rattle.tbl_model.specs.Fit.{AreFit}
 use Rattle.tbl_laws.proofs.Cases.{OfEffect}
 use Rattle.tbl_laws.proofs.Causes.{caused}
 use Rattle.tbl_laws.proofs.Ordinary.{IsOrdinary, ordinary}
-use Rattle.request_effects.specs.Asked.{activates, owned_deeds}
+use Rattle.request_effects.specs.Requests.{activates, most_owned_events}
 use Rattle.store_requests.specs.Called.{with_boot}
 use Rattle.tbl_session.specs.Restores.{RestoresHeld}
 use Rattle.request_effects.specs.Effects.{IsEffect, given_of}
 use Rattle.tbl_core.specs.Owned.{owned_effect, owned_at}
-use Rattle.tbl_core.specs.Service.{Held, Stands, state_of, step_of, deeds_alone, DoesAndCopies, Has, HasEffect, Makes, Meets}
+use Rattle.tbl_core.specs.Service.{PartsView, IsStateOf, state_of, step_of, events_alone, DoesAndCopies, Has, HasEffect, Makes, Meets}
 use Rattle.tbl_core.specs.Verdicts.{Judged}
-use Rattle.cds_store.specs.Standing.{StandsFor as HasBlocks}
+use Rattle.cds_store.specs.StoreBlocks.{StandsFor as HasBlocks}
 use Rattle.request_effects.specs.declared.effect.Effect.{Effect}
 use Rattle.tbl_core.proofs.StoreRequests.{has_called}
 use Rattle.tbl_core.proofs.TableRequests.{stands_in, state_is, effect_left, judged_there, fit_without}
@@ -63,28 +63,28 @@ uncopied row note e empty = cond_both (went_active e) _ _ (λ x. x ≡ e) (λ _.
 
 -- a copy restores nothing
 module _ (bytes : List ℕ) (blocks : Blocks) (row : ℕ) (note : BankNote) where
-  abbrev Holds : model.Effect → Type 0
-  Holds x = RestoresHeld bytes x.calls blocks note
+  abbrev RestoresAsHeld : model.Effect → Type 0
+  RestoresAsHeld x = RestoresHeld bytes x.calls blocks note
 
-  copy_holds : (slot : ℕ) (image : List ℕ) (outcome : Outcome) (e : model.Effect) → Holds (by_outcome outcome (with_calls (copy slot image ∷ []) note e) (copy_failed row slot (with_calls (copy slot image ∷ []) note e)) (stopped note (with_calls (copy slot image ∷ []) note e)))
+  copy_holds : (slot : ℕ) (image : List ℕ) (outcome : Outcome) (e : model.Effect) → RestoresAsHeld (by_outcome outcome (with_calls (copy slot image ∷ []) note e) (copy_failed row slot (with_calls (copy slot image ∷ []) note e)) (stopped note (with_calls (copy slot image ∷ []) note e)))
   copy_holds slot image Untouched e = tt
   copy_holds slot image Done e = tt
   copy_holds slot image Failed e = tt
   copy_holds slot image Stopped e = tt
 
-  to_holds : (e : model.Effect) → Holds e → (slot : Option ℕ) (image : Option (List ℕ)) → Holds (copied_to row note e slot image)
+  to_holds : (e : model.Effect) → RestoresAsHeld e → (slot : Option ℕ) (image : Option (List ℕ)) → RestoresAsHeld (copied_to row note e slot image)
   to_holds e plain None image = plain
   to_holds e plain (Some slot) None = plain
   to_holds e plain (Some slot) (Some image) = copy_holds slot image note.outcome e
 
-  of_holds : (e : model.Effect) → Holds e → (t : Option Table) → Holds (copied_of row note e t)
+  of_holds : (e : model.Effect) → RestoresAsHeld e → (t : Option Table) → RestoresAsHeld (copied_of row note e t)
   of_holds e plain None = plain
-  of_holds e plain (Some t) = cond_both (is_critical t) _ _ Holds (λ _. to_holds e plain (block_of t e.next.store) t.last) (λ _. plain)
+  of_holds e plain (Some t) = cond_both (is_critical t) _ _ RestoresAsHeld (λ _. to_holds e plain (block_of t e.next.store) t.last) (λ _. plain)
 
-  pub copies_hold : (e : model.Effect) → e.calls ≡ [] → Holds (then_copy row note e)
+  pub copies_hold : (e : model.Effect) → e.calls ≡ [] → RestoresAsHeld (then_copy row note e)
   copies_hold e none =
-      let plain : Holds e = subst (λ (calls : List StoreCall). RestoresHeld bytes calls blocks note) (sym none) tt in
-      cond_both (went_active e) _ _ Holds (λ _. of_holds e plain (table_at e.next.tables row)) (λ _. plain)
+      let plain : RestoresAsHeld e = subst (λ (calls : List StoreCall). RestoresHeld bytes calls blocks note) (sym none) tt in
+      cond_both (went_active e) _ _ RestoresAsHeld (λ _. of_holds e plain (table_at e.next.tables row)) (λ _. plain)
 
 -- what the request does to the table takes verdicts alone from what is given
 module _ (s : State) (row : ℕ) (one other : BankNote) (verdicts : List (Option ℤ)) where
@@ -116,15 +116,15 @@ module _ (s : State) (row : ℕ) (one other : BankNote) (verdicts : List (Option
 
 -- ---- the request
 
-module _ {B C : Type 0} (g : Ghosts B) (v : ValidatorGhosts C) (old new : Held B C) (actor : Actor) (request : Request) (row : ℕ) (done : Effect)
+module _ {B C : Type 0} (g : Ghosts B) (v : ValidatorGhosts C) (old new : PartsView B C) (actor : Actor) (request : Request) (row : ℕ) (done : Effect)
     (does : DoesAndCopies g v old new row request done)
     (can : activates request ≡ true) (live : old.ended ≡ false) (so_many : ℕ) (fits : AreFit so_many (state_of old))
-    (taken : (s : State) → Stands s.store old s → (given : Given) → effect_of s actor request given ≡ option_map (then_copy row given.note) (owned_at (table_at s.tables row) s row request given)) where
-  mid : Held B C
+    (taken : (s : State) → IsStateOf s.store old s → (given : Given) → effect_of s actor request given ≡ option_map (then_copy row given.note) (owned_at (table_at s.tables row) s row request given)) where
+  mid : PartsView B C
   mid = record new { store = old.store }
 
   -- what it did to the table, without blocks
-  left : (e : model.Effect) × (owned_at (table_at old.tables row) (state_of old) row request (given_of does.before) ≡ Some e) × (IsEffect does.before e.asked e.next e) × (Stands [] (record new { store = old.store }) e.next)
+  left : (e : model.Effect) × (owned_at (table_at old.tables row) (state_of old) row request (given_of does.before) ≡ Some e) × (IsEffect does.before e.questions e.next e) × (IsStateOf [] (record new { store = old.store }) e.next)
   left = effect_left [] does.before (record new { store = old.store }) _ (does.does.effect (state_of old) (stands_in old))
 
   -- nothing is copied then
@@ -155,16 +155,16 @@ module _ {B C : Type 0} (g : Ghosts B) (v : ValidatorGhosts C) (old new : Held B
       boot = λ is. let same = ap (λ (status : Status). status.0) (sym cut.0 ∙ is) in absurd (omega (arith, same));
     }
 
-  pub copies_makes : Makes g v (deeds_alone (suc (owned_deeds request))) old new done
+  pub copies_makes : Makes g v (events_alone (suc (most_owned_events request))) old new done
   copies_makes = record {
     fit = λ n fit. fit_without (suc n) [] (state_of new) (subst (AreFit (suc n)) (state_is (record new { store = old.store }) [] left.0.next left.3) (ordinary_left n fit).fit);
     judged = (
-      left.0.asked,
-      subst (λ (verdicts : List (Option ℤ)). Judged v old.kit new.kit left.0.asked verdicts) (sym does.call.verdicts)
+      left.0.questions,
+      subst (λ (verdicts : List (Option ℤ)). Judged v old.kit new.kit left.0.questions verdicts) (sym does.call.verdicts)
           (judged_there v old.kit new.kit does.before.verdicts _ left.0 left.1 (does.does.judged (state_of old) (stands_in old))),
     );
     two = ap length does.call.verdicts ∙ does.does.two;
-    within = does.call.within (owned_deeds request) 0 false does.does.within;
+    within = does.call.within (most_owned_events request) 0 false does.does.within;
     booted = does.call.booted ∙ sym (ap not goes);
     ended = goes ∙ sym does.call.no_boot.ended;
     stopped = λ is. (does.call.stopped is, does.call.no_boot);
@@ -181,7 +181,7 @@ module _ {B C : Type 0} (g : Ghosts B) (v : ValidatorGhosts C) (old new : Held B
       taken s holds.parts (record { note = note; verdicts = done.verdicts })
       ∙ ap (option_map (then_copy row note)) (ap (λ (verdicts : List (Option ℤ)). owned_at (table_at s.tables row) s row request (record { note = note; verdicts = verdicts })) does.call.verdicts
       ∙ same_owned s row note does.before.note does.before.verdicts request can ∙ found.1) in
-      let stands : Stands e.next.store new e.next = record {
+      let stands : IsStateOf e.next.store new e.next = record {
         tables = found.3.tables;
         pending = found.3.pending;
         store = refl;
@@ -196,7 +196,7 @@ module _ {B C : Type 0} (g : Ghosts B) (v : ValidatorGhosts C) (old new : Held B
       let c = does.copied told e found.2 found.3.tables (subst (λ (blocks : Blocks). HasBlocks g.tells g.now old.store blocks) (sym found.3.store) (holds.blocks live)) follows.ended follows.stopped follows.found in
       subst (Has g v (step_of old new request) s done note) (sym means)
       (subst (λ (n : BankNote). HasEffect g v (step_of old new request) s done n (then_copy row n e)) (sym follows.is)
-      (has_called g v old new request done plain does.call.no_boot s e.next e.asked (then_copy row n e) follows.ended follows.stopped follows.found (λ goes. sym follows.is ∙ follows.same goes) c
+      (has_called g v old new request done plain does.call.no_boot s e.next e.questions (then_copy row n e) follows.ended follows.stopped follows.found (λ goes. sym follows.is ∙ follows.same goes) c
       found.3.store stands
-      (subst (λ (verdicts : List (Option ℤ)). Judged v old.kit new.kit e.asked verdicts) (sym does.call.verdicts) (judged_there v old.kit new.kit does.before.verdicts _ e found.1 (does.does.judged s holds.parts)))
+      (subst (λ (verdicts : List (Option ℤ)). Judged v old.kit new.kit e.questions verdicts) (sym does.call.verdicts) (judged_there v old.kit new.kit does.before.verdicts _ e found.1 (does.does.judged s holds.parts)))
       (copies_hold (g.now old.store.bank) s.store row n e found.2.calls)))

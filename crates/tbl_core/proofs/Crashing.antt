@@ -3,7 +3,7 @@ use Rattle.std.proofs.Common.{◌≡◌, ℕ, List, length, Result, ◌∙◌, s
 use Rattle.tbl_model.specs.State.{State}
 use Rattle.tbl_model.specs.History.{Run, begins_at, run_from}
 use Rattle.tbl_session.specs.Crashes.{UnderWay, AfterCrash, calls_in}
-use Rattle.tbl_session.specs.Completed.{Holds, LeaveAlone}
+use Rattle.tbl_session.specs.Completed.{HasCompleted, LeaveAlone}
 use Rattle.tbl_laws.proofs.Crashes.{in_next_entry}
 use Rattle.tbl_laws.proofs.CompletedLaws.{completed_stays}
 use Rattle.tbl_outside.specs.Bank.{LeavesOnly}
@@ -15,13 +15,13 @@ use Rattle.tbl_kinds.specs.declared.request.Actor.{Actor}
 use Rattle.tbl_kinds.specs.declared.request.Request.{Request}
 use Rattle.tbl_kinds.specs.declared.request.Request.TheVariants as ask
 use Rattle.tbl_kinds.specs.declared.request.ResetKind.TheVariants.{PowerOn}
-use Rattle.tbl_core.specs.Service.{CoreView, StandsFor, Plays}
+use Rattle.tbl_core.specs.Service.{CoreView, FollowsFrom, Plays}
 use Rattle.tbl_core.specs.declared.service.StepFault.{StepFault}
 use Rattle.tbl_outside.specs.declared.bank.Bank.{Ghosts}
 use Rattle.tbl_outside.specs.declared.validator.Validator.{Ghosts as ValidatorGhosts}
 
 module _ {B C : Type 0} (g : Ghosts B) (v : ValidatorGhosts C) (old new : CoreView B C) (actor : Actor) (request : Request) (result : Result Unit StepFault)
-    (p : Plays g v old new actor request result) (opening : State) (stood : StandsFor g opening old) (tells_both : g.tells_moments → g.tells) where
+    (p : Plays g v old new actor request result) (opening : State) (stood : FollowsFrom g opening old) (tells_both : g.tells_moments → g.tells) where
   abbrev run : Run
   run = run_from (begins_at opening) old.entries
 
@@ -35,6 +35,6 @@ module _ {B C : Type 0} (g : Ghosts B) (v : ValidatorGhosts C) (old new : CoreVi
   crash told = leaves_among (moments_of told) (λ image under.
       subst (λ (es : List Entry). AfterCrash opening es (length old.entries) (store_of image)) (sym p.added) (in_next_entry opening old.entries p.entry (store_of image) under))
 
-  pub completed : g.tells_moments → (slot : ℕ) (block : Block) (copied : List ℕ) → Holds run.state.store slot block copied → LeaveAlone slot (calls_in run p.entry) → ¬ (request ≡ ask.Reset PowerOn) → Only (λ image. Holds (store_of image) slot block copied)
+  pub completed : g.tells_moments → (slot : ℕ) (block : Block) (copied : List ℕ) → HasCompleted run.state.store slot block copied → LeaveAlone slot (calls_in run p.entry) → ¬ (request ≡ ask.Reset PowerOn) → Only (λ image. HasCompleted (store_of image) slot block copied)
   completed told slot block copied holds alone no_power_on = leaves_among (moments_of told) (λ image under.
       completed_stays run p.entry (store_of image) slot block copied holds alone (λ is. no_power_on (sym p.request_is ∙ is)) under)

@@ -4,13 +4,13 @@ use Rattle.tbl_model.specs.State.{State}
 use Rattle.tbl_model.specs.Effects as model
 use Rattle.tbl_model.specs.Given.{Given, nothing_given}
 use Rattle.request_effects.specs.Effects.{IsWithin, IsQuiet, given_of}
-use Rattle.tbl_core.specs.Service.{Held, Bounds, Stands, Leaves, IsJudged, Does}
+use Rattle.tbl_core.specs.Service.{PartsView, Bounds, IsStateOf, Leaves, IsJudged, Does}
 use Rattle.request_effects.specs.declared.effect.Effect.{Effect}
 use Rattle.tbl_outside.specs.declared.validator.Validator.{Ghosts as ValidatorGhosts}
 
-module _ {B C : Type 0} (v : ValidatorGhosts C) (bounds : Bounds) (old new : Held B C) (means : State → Given → Option model.Effect) (done : Effect)
-    (effect : (s : State) → Stands s.store old s → Leaves s.store done new (means s (given_of done)))
-    (judged : (s : State) → Stands s.store old s → IsJudged v old.kit new.kit done.verdicts (means s (given_of done)))
+module _ {B C : Type 0} (v : ValidatorGhosts C) (bounds : Bounds) (old new : PartsView B C) (means : State → Given → Option model.Effect) (done : Effect)
+    (effect : (s : State) → IsStateOf s.store old s → Leaves s.store done new (means s (given_of done)))
+    (judged : (s : State) → IsStateOf s.store old s → IsJudged v old.kit new.kit done.verdicts (means s (given_of done)))
     (store : new.store ≡ old.store) where
   -- nothing came from the outside
   pub plainly : IsWithin bounds.most bounds.room bounds.owes done → given_of done ≡ nothing_given → Does v bounds old new means done
@@ -26,7 +26,7 @@ module _ {B C : Type 0} (v : ValidatorGhosts C) (bounds : Bounds) (old new : Hel
   -- and no more is told than the answer
   pub quietly : IsQuiet done → Does v bounds old new means done
   quietly quiet = plainly (record {
-    deeds = rw quiet.deeds (omega arith);
+    events = rw quiet.events (omega arith);
     shown = rw quiet.shown (omega arith);
     no_notice = λ _. quiet.notice;
     notice = rw quiet.notice tt;

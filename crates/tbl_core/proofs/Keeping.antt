@@ -3,7 +3,7 @@ use Rattle.std.proofs.Common.{◌≡◌, ◌∙◌, ℕ, zero, suc, List, [], �
 use Rattle.std.specs.Prelude.{slice_get, slice_index_or, unwrap_or}
 use Rattle.std.specs.Option.{ForSome, option_and_then, option_map_or}
 use Rattle.std.proofs.lemmas.Option.{same_Some}
-use Rattle.tbl_model.specs.Deeds.{Question}
+use Rattle.tbl_model.specs.Telemetry.{Question}
 use Rattle.tbl_model.specs.Effects.{Effect}
 use Rattle.tbl_model.specs.State.{State, Table}
 use Rattle.tbl_model.specs.Tables.{table_at}
@@ -42,10 +42,10 @@ module _ {C : Type 0} (verdict : C → List ℕ → ℤ) (given : List (Option (
   given_at r (x ∷ before) after e are = given_at (onward r x) before after e are.1
 
   pub keeps : (opening : State) (entries : List Entry) → AreGiven verdict given (begins_at opening) entries → KeepsToFunctions verdict given opening entries
-  keeps opening entries are before after e effect split found place row number deed image v tells is function =
+  keeps opening entries are before after e effect split found place row number event image v tells is function =
       let r = run_from (begins_at opening) before in
-      let gives : GivesEach verdict given effect.asked e.verdicts = subst (λ (o : Option Effect). GivesEach verdict given (option_map_or (λ (x : Effect). x.asked) o []) e.verdicts) found (given_at (begins_at opening) before after e (subst (AreGiven verdict given (begins_at opening)) split are)) in
+      let gives : GivesEach verdict given effect.questions e.verdicts = subst (λ (o : Option Effect). GivesEach verdict given (option_map_or (λ (x : Effect). x.questions) o []) e.verdicts) found (given_at (begins_at opening) before after e (subst (AreGiven verdict given (begins_at opening)) split are)) in
       let all : IsKept r.state (given_in e) effect = subst (OfEffect (IsKept r.state (given_in e))) found (kept r.state (given_in e) e.actor e.request) in
       let t = with_function (table_at r.state.tables row) number function in
-      let was = all place row number deed image v t.0 (record { deed_is = tells.deed_is; image_is = tells.image_is }) is t.1 t.2 in
-      was.answer ∙ answer_of effect.asked e.verdicts gives was.place _ was.question
+      let was = all place row number event image v t.0 (record { event_is = tells.event_is; image_is = tells.image_is }) is t.1 t.2 in
+      was.answer ∙ answer_of effect.questions e.verdicts gives was.place _ was.question

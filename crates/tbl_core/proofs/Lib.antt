@@ -2,7 +2,7 @@ pub mod BootedAfter
 pub mod CopiedAfter
 pub mod Crashing
 pub mod Doing
-pub mod Few
+pub mod PacketRoom
 pub mod Functions
 pub mod Keeping
 pub mod Owned

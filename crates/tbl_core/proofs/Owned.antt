@@ -1,4 +1,4 @@
--- What the owner of a table asked did not make the table another: it stays critical, or not.
+-- What the owner of a table requested did not make the table another: it stays critical, or not.
 use Rattle.std.proofs.Common.{◌≡◌, ◌∙◌, ◌≤◌, ℕ, [], Bool, true, Option, Some, None, sym, ap, subst, arith}
 use Rattle.std.specs.Prelude.{IfSome}
 use Rattle.std.proofs.lemmas.Option.{same_Some}
@@ -9,10 +9,10 @@ use Rattle.tbl_model.specs.Given.{Given}
 use Rattle.tbl_laws.proofs.Options.{update_options, load_image_options, app_file_options, manage_options}
 use Rattle.tbl_kinds.specs.declared.request.Request.{Request}
 use Rattle.tbl_kinds.specs.declared.request.Request.TheVariants as ask
-use Rattle.request_effects.specs.Asked.{activates, owned_deeds}
+use Rattle.request_effects.specs.Requests.{activates, most_owned_events}
 use Rattle.request_effects.specs.Effects.{given_of}
 use Rattle.tbl_core.specs.Owned.{owned_effect, owned_at}
-use Rattle.tbl_core.specs.Service.{Held, state_of, deeds_alone, owned_in, Does}
+use Rattle.tbl_core.specs.Service.{PartsView, state_of, events_alone, owned_in, Does}
 use Rattle.request_effects.specs.declared.effect.Effect.{Effect}
 use Rattle.tbl_core.proofs.TableRequests.{stands_in, effect_left}
 use Rattle.tbl_outside.specs.declared.validator.Validator.{Ghosts as ValidatorGhosts}
@@ -31,8 +31,8 @@ by_options : (t : Table) (o : Option Table) (is : Bool) → is ≡ is_critical t
 by_options t None is critical stay = tt
 by_options t (Some u) is critical stay = critical ∙ ap (has_option 0x0008) (sym stay)
 
-pub stays_critical : {B C : Type 0} (v : ValidatorGhosts C) (old new : Held B C) (row : ℕ) (request : Request) (done : Effect) (t : Table) → table_at old.tables row ≡ Some t → activates request ≡ true
-    → Does v (deeds_alone (owned_deeds request)) old new (owned_in row request) done
+pub stays_critical : {B C : Type 0} (v : ValidatorGhosts C) (old new : PartsView B C) (row : ℕ) (request : Request) (done : Effect) (t : Table) → table_at old.tables row ≡ Some t → activates request ≡ true
+    → Does v (events_alone (most_owned_events request)) old new (owned_in row request) done
     → (is : Bool) → is ≡ is_critical t → IfSome (table_at new.tables row) (λ u. is ≡ is_critical u)
 stays_critical v old new row request done t there can does is critical =
     let left = effect_left [] done new _ (does.effect (state_of old) (stands_in old)) in
@@ -41,10 +41,10 @@ stays_critical v old new row request done t there can does is critical =
     subst (λ (tables : Tables). IfSome (table_at tables row) (λ u. is ≡ is_critical u)) left.3.tables
     (by_options t (table_at e.next.tables row) is critical (options_stay (state_of old) row t there request (given_of done) e can found))
 
-pub few_deeds : (request : Request) (n : ℕ) → n ≤ owned_deeds request → n ≤ 3
-few_deeds (ask.LoadImage h image) n few = omega (arith, few)
-few_deeds (ask.LoadFile h name) n few = omega (arith, few)
-few_deeds (ask.Update h) n few = omega (arith, few)
-few_deeds (ask.Validate h) n few = omega (arith, few)
-few_deeds (ask.Manage h) n few = omega (arith, few)
-few_deeds request n few = omega (arith, few)
+pub few_events : (request : Request) (n : ℕ) → n ≤ most_owned_events request → n ≤ 3
+few_events (ask.LoadImage h image) n few = omega (arith, few)
+few_events (ask.LoadFile h name) n few = omega (arith, few)
+few_events (ask.Update h) n few = omega (arith, few)
+few_events (ask.Validate h) n few = omega (arith, few)
+few_events (ask.Manage h) n few = omega (arith, few)
+few_events request n few = omega (arith, few)

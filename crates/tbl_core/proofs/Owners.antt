@@ -4,7 +4,7 @@ use Rattle.std.proofs.lemmas.Option.{same_Some}
 use Rattle.tbl_model.specs.State.{State, Table}
 use Rattle.tbl_model.specs.Tables.{table_at}
 use Rattle.tbl_model.specs.Effects.{Effect, answered}
-use Rattle.tbl_model.specs.Deeds.{Question}
+use Rattle.tbl_model.specs.Telemetry.{Question}
 use Rattle.tbl_model.specs.Given.{Given}
 use Rattle.tbl_model.specs.Refusals.{by_answer, closed_refusal, update_refusal}
 use Rattle.tbl_model.specs.Subjects.{by_table, if_handle, if_owner, if_file}
@@ -23,9 +23,9 @@ use Rattle.tbl_kinds.specs.Blocks.{Store as Blocks}
 use Rattle.std.specs.Option.{option_map}
 use Rattle.tbl_model.specs.Copies.{then_copy}
 use Rattle.tbl_kinds.specs.declared.note.BankNote.{BankNote}
-use Rattle.request_effects.specs.Asked.{owners_handle, activates}
+use Rattle.request_effects.specs.Requests.{owners_handle, activates}
 use Rattle.request_effects.specs.Effects.{IsEffect, given_of}
-use Rattle.tbl_core.specs.Service.{Held, Stands, Bounds, owned_in, Leaves, IsJudged, Does}
+use Rattle.tbl_core.specs.Service.{PartsView, IsStateOf, Bounds, owned_in, Leaves, IsJudged, Does}
 use Rattle.request_effects.specs.declared.effect.Effect.{Effect as Done}
 use Rattle.tbl_core.specs.Owned.{owned_effect, owned_at, copied_at}
 use Rattle.tbl_outside.specs.declared.validator.Validator.{Ghosts as ValidatorGhosts}
@@ -86,27 +86,27 @@ is_copied (ask.Manage h) row note o can = refl
 is_copied request row note o can = absurd (cc can)
 
 -- an effect that leaves a state which the parts stand for
-pub leaves_of : {B C : Type 0} (blocks : Blocks) (done : Done) (new : Held B C) (questions : List Question) (e : Effect) (after : State) → IsEffect done questions after e → Stands blocks new after → Leaves blocks done new (Some e)
+pub leaves_of : {B C : Type 0} (blocks : Blocks) (done : Done) (new : PartsView B C) (questions : List Question) (e : Effect) (after : State) → IsEffect done questions after e → IsStateOf blocks new after → Leaves blocks done new (Some e)
 leaves_of blocks done new questions e after is stands = (
   record {
     status = is.status;
     detail = is.detail;
     bytes = is.bytes;
     table = is.table;
-    deeds = is.deeds;
+    events = is.events;
     shown = is.shown;
-    asked = refl;
+    questions = refl;
     calls = is.calls;
     notice = is.notice;
     next = refl;
   },
-  subst (Stands blocks new) (sym is.next) stands,
+  subst (IsStateOf blocks new) (sym is.next) stands,
 )
 
--- what was done to the table of the handle is what the application asked, where nothing is copied after it
-module _ {B C : Type 0} (v : ValidatorGhosts C) (bounds : Bounds) (old new : Held B C) (app row : ℕ) (request : Request) (done : Done)
-    (means : (s : State) → Stands s.store old s → (given : Given) → app_effect s app request given ≡ copied_at request row given.note (owned_at (table_at s.tables row) s row request given)) (plain : activates request ≡ false) where
-  same : (s : State) → Stands s.store old s → app_effect s app request (given_of done) ≡ owned_at (table_at s.tables row) s row request (given_of done)
+-- what was done to the table of the handle is what the application requested, where nothing is copied after it
+module _ {B C : Type 0} (v : ValidatorGhosts C) (bounds : Bounds) (old new : PartsView B C) (app row : ℕ) (request : Request) (done : Done)
+    (means : (s : State) → IsStateOf s.store old s → (given : Given) → app_effect s app request given ≡ copied_at request row given.note (owned_at (table_at s.tables row) s row request given)) (plain : activates request ≡ false) where
+  same : (s : State) → IsStateOf s.store old s → app_effect s app request (given_of done) ≡ owned_at (table_at s.tables row) s row request (given_of done)
   same s stands = means s stands (given_of done) ∙ not_copied request row done.note (owned_at (table_at s.tables row) s row request (given_of done)) plain
 
   pub does_plainly : Does v bounds old new (owned_in row request) done → Does v bounds old new (λ s given. app_effect s app request given) done

@@ -8,7 +8,7 @@ use Rattle.tbl_model.specs.TableSteps.{is_checked}
 use Rattle.tbl_model.specs.Pending.{is_pending}
 use Rattle.tbl_model.specs.Fit.{IsFit, FitAt, owner_at}
 use Rattle.tbl_outside.specs.declared.validator.KitEntry.{KitEntry}
-use Rattle.validation.specs.Kits.{entry_at, owners, FewAsked}
+use Rattle.validation.specs.Kits.{entry_at, owners, MayAskEach}
 use Rattle.validation.specs.Ready.{CanBeJudged, HaveFunctions}
 use Rattle.tbl_core.specs.Service.{CoreView, IsReady, MayPlay}
 use Rattle.table_requests.specs.Limits.{AreCounted, AreSendable}
@@ -50,7 +50,7 @@ module _ {B C : Type 0} (v : ValidatorGhosts C) (core : CoreView B C) (ready : I
     owner : (n : ℕ) → t.validator ≡ Some n → owner_at (owners core.state.kit) n ≡ Some t.owner
     owner n is_n = subst (λ v. IfSome v (λ m. owner_at (owners core.state.kit) m ≡ Some t.owner)) is_n (of_row row t is).function
 
-  few : FewAsked v.asked 2 core.state.kit
+  few : MayAskEach v.asked 2 core.state.kit
   few number entry at = let low = ready.kit number entry at in omega (arith, low, room)
 
   can : (row : ℕ) (active : Bool) (found : Option Table) → table_at core.state.tables row ≡ found → is_pending row active core.state.pending ≡ true → CanBeJudged core.state.tables row active

@@ -12,7 +12,7 @@ use Rattle.tbl_model.specs.StoreNotes.{is_doubtful_at, Finds, Boots}
 use Rattle.tbl_laws.proofs.Causes.{caused}
 use Rattle.tbl_laws.proofs.Ordinary.{fit_at_first}
 use Rattle.cds_store.specs.Boots as store
-use Rattle.cds_store.specs.Standing.{StoreParts, StandsFor as HasBlocks, slot_of}
+use Rattle.cds_store.specs.StoreBlocks.{StoreParts, StandsFor as HasBlocks, slot_of}
 use Rattle.cds_store.specs.declared.slot.Slot.{Slot}
 use Rattle.tbl_kinds.specs.declared.note.BankNote.{BankNote}
 use Rattle.tbl_kinds.specs.declared.request.ResetKind.{ResetKind}
@@ -26,7 +26,7 @@ use Rattle.tbl_laws.proofs.Crashes.{before_calls}
 use Rattle.cds_layout.specs.Images.{store_of}
 use Rattle.cds_store.specs.Moments.{BootLeaves}
 use Rattle.store_requests.specs.Called.{Leaving, with_boot, Troubled, IsSilent}
-use Rattle.tbl_core.specs.Service.{Held, state_of, step_of, deeds_alone, EndsIn, Makes, Meets}
+use Rattle.tbl_core.specs.Service.{PartsView, state_of, step_of, events_alone, EndsIn, Makes, Meets}
 use Rattle.tbl_core.specs.Verdicts.{Judged}
 use Rattle.request_effects.specs.declared.effect.Effect.{Effect}
 use Rattle.tbl_core.proofs.Verdicts.{none_judged}
@@ -61,7 +61,7 @@ reset_leaves g old new kind blocks moments told =
     leaves_among (moments told) (λ image left. ⊎_elim (λ shows. inl (before_calls [] blocks (store_of image) shows)) (λ power_on. inr (ap ask.Reset power_on.0, power_on.1)) left)
 
 -- what it leaves
-abbrev pub after_reset : {B C : Type 0} → ResetKind → BankNote → StoreParts B → Held B C → Held B C
+abbrev pub after_reset : {B C : Type 0} → ResetKind → BankNote → StoreParts B → PartsView B C → PartsView B C
 after_reset kind note store held = record held {
   tables = no_tables;
   pending = [];
@@ -71,7 +71,7 @@ after_reset kind note store held = record held {
   ended = note.ended;
 }
 
-module _ {B C : Type 0} (g : Ghosts B) (v : ValidatorGhosts C) (old new : Held B C) (kind : ResetKind) (done : Effect) (kept : StoreParts B) (ended stopped : Bool) (found : List ℕ)
+module _ {B C : Type 0} (g : Ghosts B) (v : ValidatorGhosts C) (old new : PartsView B C) (kind : ResetKind) (done : Effect) (kept : StoreParts B) (ended stopped : Bool) (found : List ℕ)
     (held : new ≡ after_reset kind (with_boot ended stopped found untouched) kept old)
     (note : done.note ≡ with_boot ended stopped found untouched)
     (answer : done.answer ≡ record { status = reset_status (with_boot ended stopped found untouched); detail = 0 })
@@ -79,25 +79,25 @@ module _ {B C : Type 0} (g : Ghosts B) (v : ValidatorGhosts C) (old new : Held B
     (silent : IsSilent done) where
   judged : Judged v old.kit new.kit [] done.verdicts
   judged =
-      let same : new.kit ≡ old.kit = ap (λ (h : Held B C). h.kit) held in
+      let same : new.kit ≡ old.kit = ap (λ (h : PartsView B C). h.kit) held in
       rw (same, silent.verdicts) (none_judged v old.kit [] untouched (None ∷ None ∷ []) refl refl)
 
-  pub reset_makes : kept.booted ≡ not ended → Troubled g old.store.bank kept.bank (with_boot ended stopped [] untouched) → Makes g v (deeds_alone 0) old new done
+  pub reset_makes : kept.booted ≡ not ended → Troubled g old.store.bank kept.bank (with_boot ended stopped [] untouched) → Makes g v (events_alone 0) old new done
   reset_makes booted trouble = record {
-    fit = λ n fits. fit_at_first (suc n) (state_of new) (ap (λ (h : Held B C). h.tables) held) (ap (λ (h : Held B C). h.pending) held);
+    fit = λ n fits. fit_at_first (suc n) (state_of new) (ap (λ (h : PartsView B C). h.tables) held) (ap (λ (h : PartsView B C). h.pending) held);
     judged = ([], judged);
     two = rw silent.verdicts refl;
     within = record {
-      deeds = rw silent.deeds (omega arith);
+      events = rw silent.events (omega arith);
       shown = rw silent.shown (omega arith);
       no_notice = λ _. silent.notice;
       notice = rw silent.notice tt;
       bytes = rw bytes (omega arith);
     };
-    booted = ap (λ (h : Held B C). h.store.booted) held ∙ booted ∙ sym (ap not (ap (λ (h : Held B C). h.ended) held));
-    ended = rw note (ap (λ (h : Held B C). h.ended) held);
+    booted = ap (λ (h : PartsView B C). h.store.booted) held ∙ booted ∙ sym (ap not (ap (λ (h : PartsView B C). h.ended) held));
+    ended = rw note (ap (λ (h : PartsView B C). h.ended) held);
     stopped = rw note (λ is. absurd (cc is));
-    trouble = let same : new.store.bank ≡ kept.bank = ap (λ (h : Held B C). h.store.bank) held in rw same (record { fault_count = trouble.fault_count; stop_count = trouble.stop_count; fault = rw note trouble.fault; stop = rw note trouble.stop; no_fault = rw note trouble.no_fault; no_stop = rw note trouble.no_stop });
+    trouble = let same : new.store.bank ≡ kept.bank = ap (λ (h : PartsView B C). h.store.bank) held in rw same (record { fault_count = trouble.fault_count; stop_count = trouble.stop_count; fault = rw note trouble.fault; stop = rw note trouble.stop; no_fault = rw note trouble.no_fault; no_stop = rw note trouble.no_stop });
     cause = rw (answer, note) (caused (first_state [] [] all_admitted) (record { note = with_boot ended stopped found untouched; verdicts = [] }) Ground (ask.Reset kind));
   }
 
@@ -130,9 +130,9 @@ module _ {B C : Type 0} (g : Ghosts B) (v : ValidatorGhosts C) (old new : Held B
           detail = sym (ap (λ (a : Answer). a.detail) answer);
           bytes = sym bytes;
           table = sym silent.table;
-          deeds = sym silent.deeds;
+          events = sym silent.events;
           shown = sym silent.shown;
-          asked = refl;
+          questions = refl;
           calls = refl;
           notice = sym silent.notice;
           next = refl;
@@ -143,6 +143,6 @@ module _ {B C : Type 0} (g : Ghosts B) (v : ValidatorGhosts C) (old new : Held B
         writing = λ stop. absurd (cc stop);
         moments =
             let leaves : Leaving g old.store kept (EndsIn (ask.Reset kind) [] s.store) = reset_leaves g old.store kept kind s.store (λ m. moments m s.store (holds.blocks live)) in
-            rw (ap (λ (h : Held B C). h.store) held) leaves;
+            rw (ap (λ (h : PartsView B C). h.store) held) leaves;
         noted = λ _. record { ends = (refl, refl, (refl, refl)); gave = tt; tells = (refl, refl); boots = boots told s.store (holds.blocks live) };
       })

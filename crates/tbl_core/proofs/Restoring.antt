@@ -24,28 +24,28 @@ use Rattle.tbl_model.specs.AppBlocks.{faulted, any_of, renewal, new_slot, has_si
 use Rattle.tbl_session.specs.Restores.{GaveHeld, RestoresHeld}
 
 module _ (bytes : List ℕ) (s : State) (n : BankNote) where
-  abbrev Holds : Effect → Type 0
-  Holds e = RestoresHeld bytes e.calls s.store n
+  abbrev RestoresAsHeld : Effect → Type 0
+  RestoresAsHeld e = RestoresHeld bytes e.calls s.store n
 
   -- these calls are made
-  calls_hold : (calls : List StoreCall) (base : Effect) → RestoresHeld bytes calls s.store n → Holds (then_call calls n faulted base)
+  calls_hold : (calls : List StoreCall) (base : Effect) → RestoresHeld bytes calls s.store n → RestoresAsHeld (then_call calls n faulted base)
   calls_hold calls base held = by n.outcome where
-    by : (outcome : Outcome) → Holds (by_outcome outcome (with_calls calls n base) (faulted (with_calls calls n base)) (stopped n (with_calls calls n base)))
+    by : (outcome : Outcome) → RestoresAsHeld (by_outcome outcome (with_calls calls n base) (faulted (with_calls calls n base)) (stopped n (with_calls calls n base)))
     by Untouched = held
     by Done = held
     by Failed = held
     by Stopped = held
 
-  either : (b : Bool) (x y : Effect) → Holds x → Holds y → Holds (cond b x y)
+  either : (b : Bool) (x y : Effect) → RestoresAsHeld x → RestoresAsHeld y → RestoresAsHeld (cond b x y)
   either true x y one other = one
   either false x y one other = other
 
   -- an application that runs, and a block of its own
-  by_name : (o : Option (List ℕ)) (effect : List ℕ → Effect) → ((name : List ℕ) → Holds (effect name)) → Holds (by_app s o effect)
+  by_name : (o : Option (List ℕ)) (effect : List ℕ → Effect) → ((name : List ℕ) → RestoresAsHeld (effect name)) → RestoresAsHeld (by_app s o effect)
   by_name None effect all = tt
   by_name (Some name) effect all = all name
 
-  by_own : (name : List ℕ) (o : Option Stored) (effect : Stored → Effect) → ((b : Stored) → Holds (effect b)) → Holds (by_block s name o effect)
+  by_own : (name : List ℕ) (o : Option Stored) (effect : Stored → Effect) → ((b : Stored) → RestoresAsHeld (effect b)) → RestoresAsHeld (by_block s name o effect)
   by_own name None effect all = tt
   by_own name (Some b) effect all = either (not (is_own name b)) (answered s ERR_CDS_NOT_FOUND 0) (effect b) tt (all b)
 
@@ -53,7 +53,7 @@ module _ (bytes : List ℕ) (s : State) (n : BankNote) where
   renewal_holds name size None = tt
   renewal_holds name size (Some slot) = tt
 
-  pub register_holds : (app : ℕ) (short : List ℕ) (size : ℕ) → Holds (cds_register_effect s app short size n)
+  pub register_holds : (app : ℕ) (short : List ℕ) (size : ℕ) → RestoresAsHeld (cds_register_effect s app short size n)
   unfolding cds_register_effect
   register_holds app short size = by_name (name_of s app) _ (λ name.
       let full = full_name name short in
@@ -63,16 +63,16 @@ module _ (bytes : List ℕ) (s : State) (n : BankNote) where
       (either (not (has_room size (any_of App full s.store) s.store)) _ _ tt
       (calls_hold (renewal App full size old) (answered s SUCCESS (new_slot App full old s.store)) (renewal_holds full size old))))))
 
-  pub copy_holds : (app slot : ℕ) (image : List ℕ) → Holds (cds_copy_effect s app slot image n)
+  pub copy_holds : (app slot : ℕ) (image : List ℕ) → RestoresAsHeld (cds_copy_effect s app slot image n)
   unfolding cds_copy_effect
   copy_holds app slot image = by_name (name_of s app) _ (λ name. by_own name (stored_at s.store slot) _ (λ b.
       either (not (length image == b.block.size)) _ _ tt (calls_hold (copy slot image ∷ []) (answered s SUCCESS 0) tt)))
 
-  pub delete_holds : (app slot : ℕ) → Holds (cds_delete_effect s app slot n)
+  pub delete_holds : (app slot : ℕ) → RestoresAsHeld (cds_delete_effect s app slot n)
   unfolding cds_delete_effect
   delete_holds app slot = by_name (name_of s app) _ (λ name. by_own name (stored_at s.store slot) _ (λ b. calls_hold (delete slot ∷ []) (answered s SUCCESS 0) tt))
 
-  pub delete_cds_holds : (name : List ℕ) → Holds (delete_cds_effect s name n)
+  pub delete_cds_holds : (name : List ℕ) → RestoresAsHeld (delete_cds_effect s name n)
   unfolding delete_cds_effect
   delete_cds_holds name = by (any_of Table name s.store) (find name s.tables) where
     by : (slot row : Option ℕ) → RestoresHeld bytes (delete_table_block s n slot row).calls s.store n
@@ -81,7 +81,7 @@ module _ (bytes : List ℕ) (s : State) (n : BankNote) where
     by (Some slot) None = calls_hold (delete slot ∷ []) (answered s SUCCESS 0) tt
 
   -- it gave what the block held
-  pub restore_holds : (app slot : ℕ) → (n.outcome ≡ Done → ForSome (stored_at s.store slot) (λ b. GaveHeld bytes b.block n)) → Holds (cds_restore_effect s app slot n)
+  pub restore_holds : (app slot : ℕ) → (n.outcome ≡ Done → ForSome (stored_at s.store slot) (λ b. GaveHeld bytes b.block n)) → RestoresAsHeld (cds_restore_effect s app slot n)
   unfolding cds_restore_effect
   restore_holds app slot held = by_name (name_of s app) _ (λ name. by_own name (stored_at s.store slot) _ (λ b.
       calls_hold (restore slot (restored_image n) ∷ []) (restore_answer s n.torn (restored_image n)) held))

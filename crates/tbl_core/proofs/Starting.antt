@@ -9,7 +9,7 @@ use Rattle.cds_store.specs.Calls.{CallCounted}
 use Rattle.cds_layout.specs.Images.{store_of}
 use Rattle.cds_store.specs.Moments.{ShowsIn, BootLeaves}
 use Rattle.cds_store.specs.Boots.{BeginsAt}
-use Rattle.cds_store.specs.Standing.{StoreParts, StandsFor as HasBlocks}
+use Rattle.cds_store.specs.StoreBlocks.{StoreParts, StandsFor as HasBlocks}
 use Rattle.cds_store.proofs.Settled.{shows_itself}
 use Rattle.tbl_outside.specs.Bank.{LeavesOnly}
 use Rattle.tbl_outside.proofs.Moments.{started, leaves_among}
@@ -17,7 +17,7 @@ use Rattle.tbl_kinds.specs.declared.request.ResetKind.TheVariants.{Processor}
 use Rattle.cds_store.specs.declared.fault.BankFault.{BankFault}
 use Rattle.cds_store.specs.declared.fault.BankFault.TheVariants.{Fault, Stopped}
 use Rattle.tbl_outside.specs.declared.validator.KitEntry.{KitEntry}
-use Rattle.tbl_core.specs.Service.{CoreView, StandsFor, start_fault, StartCounted}
+use Rattle.tbl_core.specs.Service.{CoreView, FollowsFrom, start_fault, StartCounted}
 use Rattle.tbl_outside.specs.declared.bank.Bank.{Ghosts}
 
 -- nothing is registered, runs, is kept or pending, and nothing was told
@@ -35,7 +35,7 @@ pub record IsNew {B C : Type 0} (kit : List (Option (KitEntry C))) (admit : Admi
   pub live : core.state.ended ≡ false
 
 -- then it stands for the first state, over the blocks for which its store stands
-pub stands_first : {B C : Type 0} (g : Ghosts B) (kit : List (Option (KitEntry C))) (admit : Admitted) (blocks : Blocks) (core : CoreView B C) → IsNew kit admit core → (g.tells → HasBlocks g.tells g.now core.state.store blocks) → StandsFor g (first_state blocks (owners kit) admit) core
+pub stands_first : {B C : Type 0} (g : Ghosts B) (kit : List (Option (KitEntry C))) (admit : Admitted) (blocks : Blocks) (core : CoreView B C) → IsNew kit admit core → (g.tells → HasBlocks g.tells g.now core.state.store blocks) → FollowsFrom g (first_state blocks (owners kit) admit) core
 unfolding counts_of
 stands_first g kit admit blocks core new has = record {
   legal = λ told. rw new.entries (record { answered = tt; leads = refl });

@@ -15,7 +15,7 @@ use Rattle.tbl_core.specs.Ended.{OnPlayed, session_end}
 use Rattle.tbl_session.specs.Restores.{RestoresHeld}
 use Rattle.store_requests.specs.Called.{Leaving}
 use Rattle.request_effects.specs.Effects.{IsEffect, uncalled, given_of, without_images, told_at}
-use Rattle.tbl_core.specs.Service.{CoreView, Shows, StandsFor, step_of, Finishes, HadEffect, IsMade, Plays, IsReady}
+use Rattle.tbl_core.specs.Service.{CoreView, Shows, FollowsFrom, step_of, Finishes, HadEffect, IsMade, Plays, IsReady}
 use Rattle.tbl_core.specs.Verdicts.{Judged}
 use Rattle.tbl_session.specs.Verdicts.{questions_in}
 use Rattle.tbl_session.specs.Crashes.{all_calls_in, UnderWay}
@@ -33,15 +33,15 @@ use Rattle.tbl_outside.specs.declared.validator.Validator.{Ghosts as ValidatorGh
 -- ---- one effect
 
 -- but for its images, questions and calls it is what the code has of it
-same_but_images : (done : Effect) (e : model.Effect) → IsEffect done e.asked e.next (uncalled e) → e ≡ record (without_images done e.next) { images = e.images; asked = e.asked; calls = e.calls }
+same_but_images : (done : Effect) (e : model.Effect) → IsEffect done e.questions e.next (uncalled e) → e ≡ record (without_images done e.next) { images = e.images; questions = e.questions; calls = e.calls }
 same_but_images done e is = λ i. record {
   status = is.status i;
   detail = is.detail i;
   bytes = is.bytes i;
   table = is.table i;
-  deeds = is.deeds i;
+  events = is.events i;
   images = e.images;
-  asked = e.asked;
+  questions = e.questions;
   calls = e.calls;
   shown = is.shown i;
   notice = is.notice i;
@@ -49,7 +49,7 @@ same_but_images done e is = λ i. record {
 }
 
 -- telemetry doesn't tell images, questions and calls, nor more of the state than the time and the tables
-module _ (done : Effect) (clock : Clock) (actor : Actor) (request : Request) (s : State) (e : model.Effect) (is : IsEffect done e.asked e.next (uncalled e)) (seconds : s.seconds ≡ clock.seconds) (sub : s.sub ≡ clock.sub) where
+module _ (done : Effect) (clock : Clock) (actor : Actor) (request : Request) (s : State) (e : model.Effect) (is : IsEffect done e.questions e.next (uncalled e)) (seconds : s.seconds ≡ clock.seconds) (sub : s.sub ≡ clock.sub) where
   tally_same : (tables : Tables) → tally_of (told s actor request e) ≡ tally_of (told_at clock.seconds clock.sub tables request done)
   tally_same tables = rw (same_but_images done e is, ← seconds, ← sub) refl
 
@@ -102,7 +102,7 @@ module _ {B C : Type 0} (g : Ghosts B) (v : ValidatorGhosts C) (old new : CoreVi
       let done_by = did.finishes in record {
         live = shown.state.parts.ended ∙ did.live;
         fits = did.fits;
-        given = record { note = e.2.noted; verdicts = answers_each v.verdict old.state.kit e.0.asked done.verdicts did.made.two e.2.judged.gives };
+        given = record { note = e.2.noted; verdicts = answers_each v.verdict old.state.kit e.0.questions done.verdicts did.made.two e.2.judged.gives };
         effect = e.0;
         effect_is = e.1;
         status = done_by.status ∙ sym e.2.told.status;
@@ -166,7 +166,7 @@ module _ {B C : Type 0} (g : Ghosts B) (v : ValidatorGhosts C) (old new : CoreVi
 
 -- a step that played a request leads from each opening that the core stood for to one that it stands for
 module _ {B C : Type 0} (g : Ghosts B) (v : ValidatorGhosts C) (old new : CoreView B C) (actor : Actor) (request : Request) (result : Result Unit StepFault)
-    (p : Plays g v old new actor request result) (opening : State) (stood : StandsFor g opening old) where
+    (p : Plays g v old new actor request result) (opening : State) (stood : FollowsFrom g opening old) where
   goes_on : g.tells → AreAnswered (begins_at opening) new.entries × Shows g new (run_from (begins_at opening) new.entries)
   goes_on told =
       let run = run_from (begins_at opening) old.entries in
@@ -174,7 +174,7 @@ module _ {B C : Type 0} (g : Ghosts B) (v : ValidatorGhosts C) (old new : CoreVi
       let shown : Shows g new (run_from (begins_at opening) (old.entries ++ p.entry ∷ [])) = subst (λ (r : Run). Shows g new r) (sym (run_push (begins_at opening) old.entries p.entry)) (p.shows told run (stood.shows told)) in
       subst (λ (es : List Entry). AreAnswered (begins_at opening) es × Shows g new (run_from (begins_at opening) es)) (sym p.added) (all, shown)
 
-  pub plays_on : StandsFor g opening new
+  pub plays_on : FollowsFrom g opening new
   plays_on = record { legal = λ told. record { answered = (goes_on told).0; leads = refl }; shows = λ told. (goes_on told).1 }
 
 -- what follows from a request that was played

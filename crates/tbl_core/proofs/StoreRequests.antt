@@ -4,7 +4,7 @@ use Rattle.tbl_kinds.specs.Notes.{untouched}
 use Rattle.tbl_kinds.specs.Blocks.{Store as Blocks}
 use Rattle.tbl_model.specs.State.{State, Tables}
 use Rattle.tbl_model.specs.Effects as model
-use Rattle.tbl_model.specs.Deeds.{Question}
+use Rattle.tbl_model.specs.Telemetry.{Question}
 use Rattle.tbl_model.specs.Counts.{is_reset}
 use Rattle.tbl_model.specs.Given.{Given}
 use Rattle.tbl_model.specs.Dispatch.{effect_of}
@@ -24,14 +24,14 @@ use Rattle.tbl_kinds.specs.GroundCommands.{GroundCommand, delete_cds, command_in
 use Rattle.tbl_kinds.specs.declared.entry.Answer.{Answer}
 use Rattle.tbl_kinds.specs.declared.request.Actor.TheVariants.{Ground}
 use Rattle.tbl_model.specs.AppBlocks.{delete_cds_effect}
-use Rattle.tbl_model.specs.Commands.{asked_in, effect_by}
+use Rattle.tbl_model.specs.Commands.{read_command_in, effect_by}
 use Rattle.validation.specs.Kits.{owners}
 use Rattle.tbl_session.specs.Crashes.{DuringCalls, writes}
 use Rattle.tbl_outside.proofs.Moments.{leaves_among}
 use Rattle.cds_layout.specs.Images.{store_of}
 use Rattle.store_requests.specs.Called.{NoBoot, with_boot, IsCall, IsCalled, Calls, GaveAsHeld}
 use Rattle.tbl_session.specs.Restores.{RestoresHeld}
-use Rattle.tbl_core.specs.Service.{Held, Stands, HoldsAll, state_of, step_of, deeds_alone, HasEffect, Makes, Meets}
+use Rattle.tbl_core.specs.Service.{PartsView, IsStateOf, HoldsAll, state_of, step_of, events_alone, HasEffect, Makes, Meets}
 use Rattle.tbl_core.specs.Verdicts.{Judged}
 use Rattle.request_effects.specs.declared.effect.Effect.{Effect}
 use Rattle.tbl_core.proofs.Verdicts.{none_judged}
@@ -66,11 +66,11 @@ module _ (request : Request) (plain : is_reset request ≡ false) (called : Bank
     by Done at = kind_is Done None at (no_boot_at request plain).1 (none (λ stop. cc (at, stop)))
     by Failed at = kind_is Failed None at (no_boot_at request plain).2 (none (λ stop. cc (at, stop)))
 
-module _ {B C : Type 0} (g : Ghosts B) (v : ValidatorGhosts C) (old new : Held B C) (request : Request) (done : Effect) where
+module _ {B C : Type 0} (g : Ghosts B) (v : ValidatorGhosts C) (old new : PartsView B C) (request : Request) (done : Effect) where
   -- what it did to the state before its calls, and what it asked
   pub has_called : (plain : is_reset request ≡ false) (no_boot : NoBoot done.note) (s after : State) (questions : List Question) (e : model.Effect) (ended stopped : Bool) (found : List ℕ)
       (same : done.note.outcome ≢ Stopped → with_boot ended stopped found done.note ≡ done.note) → IsCalled g old.store new.store (record { state = after; questions = questions }) done (with_boot ended stopped found done.note) e
-      → after.store ≡ s.store → Stands after.store new after → Judged v old.kit new.kit questions done.verdicts → RestoresHeld (g.now old.store.bank) e.calls s.store (with_boot ended stopped found done.note)
+      → after.store ≡ s.store → IsStateOf after.store new after → Judged v old.kit new.kit questions done.verdicts → RestoresHeld (g.now old.store.bank) e.calls s.store (with_boot ended stopped found done.note)
       → HasEffect g v (step_of old new request) s done (with_boot ended stopped found done.note) e
   has_called plain no_boot s after questions e ended stopped found same c kept stands judged gave =
       let note = with_boot ended stopped found done.note in
@@ -96,14 +96,14 @@ module _ {B C : Type 0} (g : Ghosts B) (v : ValidatorGhosts C) (old new : Held B
           detail = c.effect.detail;
           bytes = c.effect.bytes;
           table = c.effect.table;
-          deeds = c.effect.deeds;
+          events = c.effect.events;
           shown = c.effect.shown;
-          asked = refl;
+          questions = refl;
           calls = refl;
           notice = c.effect.notice;
           next = c.effect.next;
         };
-        judged = subst (λ (questions : List Question). Judged v old.kit new.kit questions done.verdicts) (sym c.effect.asked) judged;
+        judged = subst (λ (questions : List Question). Judged v old.kit new.kit questions done.verdicts) (sym c.effect.questions) judged;
         gave = gave;
         left = λ _. ap (λ (store : Blocks). left_by e.calls note store) kept;
         writing = c.writing;
@@ -115,12 +115,12 @@ module _ {B C : Type 0} (g : Ghosts B) (v : ValidatorGhosts C) (old new : Held B
   module _ (held : new ≡ record old { store = new.store; tables = new.tables }) (live : old.ended ≡ false) (call : IsCall g old.store new.store done) where
     unasked : (questions : List Question) → questions ≡ [] → Judged v old.kit new.kit questions done.verdicts
     unasked questions none =
-        let same : new.kit ≡ old.kit = ap (λ (h : Held B C). h.kit) held in
+        let same : new.kit ≡ old.kit = ap (λ (h : PartsView B C). h.kit) held in
         rw (same, call.verdicts) (none_judged v old.kit questions untouched (None ∷ None ∷ []) none refl)
 
-    pub call_makes : ((n : ℕ) → AreFit n (state_of old) → AreFit (suc n) (record (state_of old) { tables = new.tables })) → Makes g v (deeds_alone 0) old new done
+    pub call_makes : ((n : ℕ) → AreFit n (state_of old) → AreFit (suc n) (record (state_of old) { tables = new.tables })) → Makes g v (events_alone 0) old new done
     call_makes fit =
-        let goes : new.ended ≡ false = ap (λ (h : Held B C). h.ended) held ∙ live in record {
+        let goes : new.ended ≡ false = ap (λ (h : PartsView B C). h.ended) held ∙ live in record {
           fit = λ n was. subst (AreFit (suc n)) (ap state_of (sym held)) (fit n was);
           judged = ([], unasked [] refl);
           two = rw call.verdicts refl;
@@ -141,34 +141,34 @@ module _ {B C : Type 0} (g : Ghosts B) (v : ValidatorGhosts C) (old new : Held B
         (has_called plain call.no_boot s (record s { tables = new.tables }) [] (means s (with_boot follows.ended follows.stopped follows.found done.note)) follows.ended follows.stopped follows.found (λ goes. sym follows.is ∙ follows.same goes)
         (calls told s holds follows.ended follows.stopped follows.found) refl (record {
           tables = refl;
-          pending = holds.parts.pending ∙ sym (ap (λ (h : Held B C). h.pending) held);
+          pending = holds.parts.pending ∙ sym (ap (λ (h : PartsView B C). h.pending) held);
           store = refl;
-          drawer = holds.parts.drawer ∙ sym (ap (λ (h : Held B C). h.drawer) held);
-          apps = holds.parts.apps ∙ sym (ap (λ (h : Held B C). h.apps) held);
-          kit = holds.parts.kit ∙ sym (ap (λ (h : Held B C). owners h.kit) held);
-          admit = holds.parts.admit ∙ sym (ap (λ (h : Held B C). h.admit) held);
-          seconds = holds.parts.seconds ∙ sym (ap (λ (h : Held B C). h.seconds) held);
-          sub = holds.parts.sub ∙ sym (ap (λ (h : Held B C). h.sub) held);
-          ended = holds.parts.ended ∙ sym (ap (λ (h : Held B C). h.ended) held);
+          drawer = holds.parts.drawer ∙ sym (ap (λ (h : PartsView B C). h.drawer) held);
+          apps = holds.parts.apps ∙ sym (ap (λ (h : PartsView B C). h.apps) held);
+          kit = holds.parts.kit ∙ sym (ap (λ (h : PartsView B C). owners h.kit) held);
+          admit = holds.parts.admit ∙ sym (ap (λ (h : PartsView B C). h.admit) held);
+          seconds = holds.parts.seconds ∙ sym (ap (λ (h : PartsView B C). h.seconds) held);
+          sub = holds.parts.sub ∙ sym (ap (λ (h : PartsView B C). h.sub) held);
+          ended = holds.parts.ended ∙ sym (ap (λ (h : PartsView B C). h.ended) held);
         }) (unasked [] refl) (gave told s holds follows.ended follows.stopped follows.found))
 
   -- tables stay
   module _ (held : new ≡ record old { store = new.store }) (live : old.ended ≡ false) (call : IsCall g old.store new.store done) where
     same_tables : new ≡ record old { store = new.store; tables = new.tables }
-    same_tables = held ∙ ap (λ (tables : Tables). record old { store = new.store; tables = tables }) (sym (ap (λ (h : Held B C). h.tables) held))
+    same_tables = held ∙ ap (λ (tables : Tables). record old { store = new.store; tables = tables }) (sym (ap (λ (h : PartsView B C). h.tables) held))
 
-    pub block_makes : Makes g v (deeds_alone 0) old new done
-    block_makes = call_makes same_tables live call (λ n fit. subst (λ (tables : Tables). AreFit (suc n) (record (state_of old) { tables = tables })) (sym (ap (λ (h : Held B C). h.tables) held)) (grown n (state_of old) fit))
+    pub block_makes : Makes g v (events_alone 0) old new done
+    block_makes = call_makes same_tables live call (λ n fit. subst (λ (tables : Tables). AreFit (suc n) (record (state_of old) { tables = tables })) (sym (ap (λ (h : PartsView B C). h.tables) held)) (grown n (state_of old) fit))
 
     pub block_meets : (means : State → BankNote → model.Effect) (calls : g.tells → (s : State) → HoldsAll g old s → Calls g old.store new.store s done (means s)) (plain : is_reset request ≡ false)
         (gave : g.tells → (s : State) → HoldsAll g old s → GaveAsHeld g old.store s.store done (means s))
         → Meets g v (step_of old new request) (λ s given. Some (means s given.note)) done
     block_meets means calls = call_meets same_tables live call means
-        (λ told s holds. subst (λ (tables : Tables). Calls g old.store new.store (record s { tables = tables }) done (means s)) (holds.parts.tables ∙ sym (ap (λ (h : Held B C). h.tables) held)) (calls told s holds))
+        (λ told s holds. subst (λ (tables : Tables). Calls g old.store new.store (record s { tables = tables }) done (means s)) (holds.parts.tables ∙ sym (ap (λ (h : PartsView B C). h.tables) held)) (calls told s holds))
 
 -- ---- the command that deletes a block
 
-pub deletes : (request : Request) (name : List ℕ) → asked_in request ≡ Some (Ok (delete_cds name)) → (is_reset request ≡ false) × ((s : State) (given : Given) → effect_of s Ground request given ≡ Some (delete_cds_effect s name given.note))
+pub deletes : (request : Request) (name : List ℕ) → read_command_in request ≡ Some (Ok (delete_cds name)) → (is_reset request ≡ false) × ((s : State) (given : Given) → effect_of s Ground request given ≡ Some (delete_cds_effect s name given.note))
 deletes (ask.Command bytes) name is = (
   refl,
   λ s given. ap (λ (r : Result GroundCommand Answer). Some (effect_by s r given.note)) (same_Some (command_in bytes.list) (Ok (delete_cds name)) is),

@@ -14,7 +14,7 @@ use Rattle.tbl_model.specs.Fit.{AreFit}
 use Rattle.tbl_laws.proofs.Cases.{OfEffect}
 use Rattle.tbl_laws.proofs.Causes.{caused}
 use Rattle.tbl_laws.proofs.Ordinary.{IsOrdinary, ordinary}
-use Rattle.cds_store.specs.Standing.{StoreParts, StandsFor as HasBlocks}
+use Rattle.cds_store.specs.StoreBlocks.{StoreParts, StandsFor as HasBlocks}
 use Rattle.tbl_kinds.specs.declared.note.BankNote.{BankNote}
 use Rattle.tbl_kinds.specs.declared.request.Actor.{Actor}
 use Rattle.tbl_kinds.specs.declared.request.Request.{Request}
@@ -25,7 +25,7 @@ use Rattle.cds_layout.specs.Images.{store_of}
 use Rattle.store_requests.specs.Called.{Leaving, boots_after}
 use Rattle.tbl_session.specs.Restores.{RestoresHeld}
 use Rattle.request_effects.specs.Effects.{IsEffect, given_of}
-use Rattle.tbl_core.specs.Service.{Held, Stands, state_of, step_of, Bounds, Leaves, IsJudged, Does, HasEffect, Has, Makes, Meets}
+use Rattle.tbl_core.specs.Service.{PartsView, IsStateOf, state_of, step_of, Bounds, Leaves, IsJudged, Does, HasEffect, Has, Makes, Meets}
 use Rattle.tbl_core.specs.Verdicts.{Judged}
 use Rattle.request_effects.specs.declared.effect.Effect.{Effect}
 use Rattle.tbl_outside.specs.declared.bank.Bank.{Ghosts}
@@ -34,11 +34,11 @@ use Rattle.tbl_outside.specs.declared.validator.Validator.{Ghosts as ValidatorGh
 -- ---- what the parts stand for
 
 -- over these blocks they stand for such a state
-pub stands_in : {B C : Type 0} (held : Held B C) → Stands [] held (state_of held)
+pub stands_in : {B C : Type 0} (held : PartsView B C) → IsStateOf [] held (state_of held)
 stands_in held = record { tables = refl; pending = refl; store = refl; drawer = refl; apps = refl; kit = refl; admit = refl; seconds = refl; sub = refl; ended = refl }
 
 -- and for no other
-pub state_is : {B C : Type 0} (held : Held B C) (blocks : Blocks) (s : State) → Stands blocks held s → s ≡ record (state_of held) { store = blocks }
+pub state_is : {B C : Type 0} (held : PartsView B C) (blocks : Blocks) (s : State) → IsStateOf blocks held s → s ≡ record (state_of held) { store = blocks }
 state_is held blocks s stands = λ i. record {
   tables = stands.tables i;
   pending = stands.pending i;
@@ -59,19 +59,19 @@ fit_without n blocks s fit = record { each = fit.each; few_pending = fit.few_pen
 -- ---- requests about tables
 
 -- the effect after which the parts stand for this
-pub effect_left : {B C : Type 0} (blocks : Blocks) (done : Effect) (held : Held B C) (found : Option model.Effect) → Leaves blocks done held found → (e : model.Effect) × (found ≡ Some e) × (IsEffect done e.asked e.next e) × (Stands blocks held e.next)
+pub effect_left : {B C : Type 0} (blocks : Blocks) (done : Effect) (held : PartsView B C) (found : Option model.Effect) → Leaves blocks done held found → (e : model.Effect) × (found ≡ Some e) × (IsEffect done e.questions e.next e) × (IsStateOf blocks held e.next)
 effect_left blocks done held None leaves = absurd leaves
 effect_left blocks done held (Some e) leaves = (e, refl, leaves.0, leaves.1)
 
 -- what its effect asks
 pub judged_there : {C : Type 0} (v : ValidatorGhosts C) (old new : List (Option (KitEntry C))) (verdicts : List (Option ℤ)) (found : Option model.Effect) (e : model.Effect)
-    → found ≡ Some e → IsJudged v old new verdicts found → Judged v old new e.asked verdicts
+    → found ≡ Some e → IsJudged v old new verdicts found → Judged v old new e.questions verdicts
 judged_there v old new verdicts found e is asks = subst (IsJudged v old new verdicts) is asks
 
-module _ {B C : Type 0} (g : Ghosts B) (v : ValidatorGhosts C) (bounds : Bounds) (old new : Held B C) (actor : Actor) (request : Request) (done : Effect)
+module _ {B C : Type 0} (g : Ghosts B) (v : ValidatorGhosts C) (bounds : Bounds) (old new : PartsView B C) (actor : Actor) (request : Request) (done : Effect)
     (does : Does v bounds old new (λ s given. effect_of s actor request given) done) (live : old.ended ≡ false) (so_many : ℕ) (fits : AreFit so_many (state_of old)) where
   -- without blocks
-  left : (e : model.Effect) × (effect_of (state_of old) actor request (given_of done) ≡ Some e) × (IsEffect done e.asked e.next e) × (Stands [] new e.next)
+  left : (e : model.Effect) × (effect_of (state_of old) actor request (given_of done) ≡ Some e) × (IsEffect done e.questions e.next e) × (IsStateOf [] new e.next)
   left = effect_left [] done new _ (does.effect (state_of old) (stands_in old))
 
   ordinary_left : (n : ℕ) → AreFit n (state_of old) → IsOrdinary n done.note left.0
@@ -83,7 +83,7 @@ module _ {B C : Type 0} (g : Ghosts B) (v : ValidatorGhosts C) (bounds : Bounds)
   pub table_makes : old.store.booted ≡ true → Makes g v bounds old new done
   table_makes booted = record {
     fit = λ n fit. fit_without (suc n) [] (state_of new) (subst (AreFit (suc n)) (state_is new [] left.0.next left.3) (ordinary_left n fit).fit);
-    judged = (left.0.asked, judged_there v old.kit new.kit done.verdicts _ left.0 left.1 (does.judged (state_of old) (stands_in old)));
+    judged = (left.0.questions, judged_there v old.kit new.kit done.verdicts _ left.0 left.1 (does.judged (state_of old) (stands_in old)));
     two = does.two;
     within = does.within;
     booted = rw (does.store, booted, goes) refl;
@@ -102,7 +102,7 @@ module _ {B C : Type 0} (g : Ghosts B) (v : ValidatorGhosts C) (bounds : Bounds)
       let had : HasEffect g v (step_of old new request) s done done.note found.0 = record {
         before = found.0.next;
         holds = record {
-          parts = subst (λ (blocks : Blocks). Stands blocks new found.0.next) (sym found.3.store) found.3;
+          parts = subst (λ (blocks : Blocks). IsStateOf blocks new found.0.next) (sym found.3.store) found.3;
           blocks = λ is. subst (λ (kept : StoreParts B). HasBlocks g.tells g.now kept found.0.next.store) (sym does.store) (subst (λ (blocks : Blocks). HasBlocks g.tells g.now old.store blocks) (sym found.3.store) (holds.blocks live));
         };
         effect = record {
@@ -110,9 +110,9 @@ module _ {B C : Type 0} (g : Ghosts B) (v : ValidatorGhosts C) (bounds : Bounds)
           detail = found.2.detail;
           bytes = found.2.bytes;
           table = found.2.table;
-          deeds = found.2.deeds;
+          events = found.2.events;
           shown = found.2.shown;
-          asked = refl;
+          questions = refl;
           calls = refl;
           notice = found.2.notice;
           next = ap (λ (n : BankNote). boots_after n.outcome n found.0.next) noted;

@@ -1,7 +1,7 @@
 -- The verdicts of a history are those of the functions that it began with.
 use Rattle.std.proofs.Common.{◌≡◌, ◌⊎◌, ◌∙◌, ℕ, List, [], ◌∷◌, ◌++◌, count_by, Option, Some, None, IsSome, Result, ℤ, refl, sym, subst}
 use Rattle.std.specs.Option.{ForSome}
-use Rattle.tbl_model.specs.Deeds.{Question}
+use Rattle.tbl_model.specs.Telemetry.{Question}
 use Rattle.tbl_model.specs.State.{State}
 use Rattle.tbl_model.specs.History.{Run, begins_at, onward, run_from}
 use Rattle.tbl_kinds.specs.declared.entry.Entry.{Entry}
@@ -10,7 +10,7 @@ use Rattle.tbl_kinds.specs.declared.request.Request.{Request}
 use Rattle.tbl_outside.specs.declared.validator.KitEntry.{KitEntry}
 use Rattle.validation.specs.Kits.{entry_at}
 use Rattle.validation.specs.Asked.{is_for, GivesEach, Stays}
-use Rattle.tbl_core.specs.Service.{CoreView, StandsFor, Vouches, Plays}
+use Rattle.tbl_core.specs.Service.{CoreView, FollowsFrom, Vouches, Plays}
 use Rattle.tbl_core.proofs.Verdicts.{was_there}
 use Rattle.tbl_session.specs.Verdicts.{questions_in, AreGiven, IsOf, AreOf}
 use Rattle.tbl_core.specs.declared.service.StepFault.{StepFault}
@@ -44,7 +44,7 @@ module _ {C : Type 0} (verdict : C → List ℕ → ℤ) where
   same_function (Some entry) = λ image. refl
 
   -- whoever stands for an opening vouches for the functions that it began with
-  pub vouch_first : {B : Type 0} (g : Ghosts B) (given : List (Option (KitEntry C))) (opening : State) (core : CoreView B C) → core.entries ≡ [] → core.state.kit ≡ given → StandsFor g opening core → Vouches g verdict given opening core
+  pub vouch_first : {B : Type 0} (g : Ghosts B) (given : List (Option (KitEntry C))) (opening : State) (core : CoreView B C) → core.entries ≡ [] → core.state.kit ≡ given → FollowsFrom g opening core → Vouches g verdict given opening core
   vouch_first g given opening core none same stands = record {
     stands = stands;
     verdicts = λ told. rw none tt;

@@ -18,18 +18,18 @@ use Rattle.tbl_model.specs.Replies.{packets_by}
 use Rattle.tbl_model.specs.History.{Run, begins_at, onward, run_from, IsAnswered, IsLegal}
 use Rattle.tbl_outside.specs.Counts.{Still, RoseAlone}
 use Rattle.tbl_outside.specs.declared.validator.KitEntry.{KitEntry}
-use Rattle.validation.specs.Kits.{entry_at, owners, FewAsked}
+use Rattle.validation.specs.Kits.{entry_at, owners, MayAskEach}
 use Rattle.validation.specs.Ready.{ArePending, HaveFunctions, HaveLoads}
 use Rattle.tbl_kinds.specs.declared.entry.Entry.{Entry}
 use Rattle.tbl_kinds.specs.declared.entry.Reply.{Reply}
 use Rattle.tbl_kinds.specs.declared.request.Actor.{Actor}
 use Rattle.tbl_kinds.specs.declared.request.Request.{Request}
 use Rattle.tbl_core.specs.Log.{Logged, entry_of}
-use Rattle.tbl_model.specs.Deeds.{Question}
+use Rattle.tbl_model.specs.Telemetry.{Question}
 use Rattle.tbl_model.specs.BankCounts.{HasCause}
 use Rattle.tbl_model.specs.StoreNotes.{Boots, IsNoteOf}
 use Rattle.tbl_model.specs.StoreUse.{left_by}
-use Rattle.cds_store.specs.Standing.{StoreParts, StandsFor as HasBlocks}
+use Rattle.cds_store.specs.StoreBlocks.{StoreParts, StandsFor as HasBlocks}
 use Rattle.cds_store.specs.declared.fault.BankFault.{BankFault}
 use Rattle.cds_store.specs.declared.fault.BankFault.TheVariants.{Fault, Stopped as Cut}
 use Rattle.tbl_kinds.specs.declared.note.BankNote.{BankNote}
@@ -41,8 +41,8 @@ use Rattle.tbl_kinds.specs.declared.status.TheConstants.Status.{INFO_STOPPED}
 use Rattle.tbl_model.specs.Copies.{then_copy}
 use Rattle.store_requests.specs.Called.{NoBoot, boots_after, Troubled, Leaving, done_first, CallsAfter}
 use Rattle.tbl_session.specs.Restores.{RestoresHeld}
-use Rattle.request_effects.specs.Asked.{asks_notice, shown_room, owned_deeds, most_deeds}
-use Rattle.tbl_model.specs.Commands.{Asked}
+use Rattle.request_effects.specs.Requests.{asks_notice, shown_room, most_owned_events, most_events}
+use Rattle.tbl_model.specs.Commands.{ReadCommand}
 use Rattle.tbl_core.specs.Ended.{Follows, session_end}
 use Rattle.tbl_core.specs.Owned.{owned_at}
 use Rattle.table_requests.specs.Limits.{AreCounted, AreSendable}
@@ -64,7 +64,7 @@ use Rattle.tbl_outside.specs.declared.validator.Validator.{Ghosts as ValidatorGh
 -- ---- what is kept
 
 -- the parts of the service, as far as a state tells of them, with the validation functions themselves
-pub record Held (B C : Type 0) : Type 0 where
+pub record PartsView (B C : Type 0) : Type 0 where
   pub tables : Tables
   pub pending : List (ℕ × Bool)
   pub store : StoreParts B
@@ -79,11 +79,11 @@ pub record Held (B C : Type 0) : Type 0 where
 -- the history, the parts, and the running numbers of telemetry
 pub record CoreView (B C : Type 0) : Type 0 where
   pub entries : List Entry
-  pub state : Held B C
+  pub state : PartsView B C
   pub counts : Counts
 
-abbrev pub held_of : {B C : Type 0} → Parts B C → Held B C
-held_of parts = record {
+abbrev pub parts_view : {B C : Type 0} → Parts B C → PartsView B C
+parts_view parts = record {
   tables = parts.tables;
   pending = parts.pending;
   store = parts.store;
@@ -97,12 +97,12 @@ held_of parts = record {
 }
 
 abbrev pub view_of : {B C : Type 0} → Parts B C → CoreView B C
-view_of parts = record { entries = parts.log.entries; state = held_of parts; counts = parts.log.counts }
+view_of parts = record { entries = parts.log.entries; state = parts_view parts; counts = parts.log.counts }
 
 -- ---- what the parts stand for
 
 -- over these blocks they stand for this state
-pub record Stands {B C : Type 0} (blocks : Blocks) (held : Held B C) (s : State) : Type 0 where
+pub record IsStateOf {B C : Type 0} (blocks : Blocks) (held : PartsView B C) (s : State) : Type 0 where
   pub tables : s.tables ≡ held.tables
   pub pending : s.pending ≡ held.pending
   pub store : s.store ≡ blocks
@@ -115,7 +115,7 @@ pub record Stands {B C : Type 0} (blocks : Blocks) (held : Held B C) (s : State)
   pub ended : s.ended ≡ held.ended
 
 -- such a state, without blocks
-abbrev pub state_of : {B C : Type 0} → Held B C → State
+abbrev pub state_of : {B C : Type 0} → PartsView B C → State
 state_of held = record {
   tables = held.tables;
   pending = held.pending;
@@ -130,8 +130,8 @@ state_of held = record {
 }
 
 -- and the store stands for its blocks. After a boot that failed or was stopped it stands for none
-pub record HoldsAll {B C : Type 0} (g : Ghosts B) (held : Held B C) (s : State) : Type 0 where
-  pub parts : Stands s.store held s
+pub record HoldsAll {B C : Type 0} (g : Ghosts B) (held : PartsView B C) (s : State) : Type 0 where
+  pub parts : IsStateOf s.store held s
   pub blocks : held.ended ≡ false → HasBlocks g.tells g.now held.store s.store
 
 -- the core stands for a run: its state, and what is counted over what was told
@@ -140,13 +140,13 @@ pub record Shows {B C : Type 0} (g : Ghosts B) (core : CoreView B C) (r : Run) :
   pub counts : counts_of r.past ≡ core.counts
 
 -- where the bank tells its bytes, the core's history is legal from the opening state on, and the core stands for what it leads to
-pub record StandsFor {B C : Type 0} (g : Ghosts B) (opening : State) (core : CoreView B C) : Type 0 where
+pub record FollowsFrom {B C : Type 0} (g : Ghosts B) (opening : State) (core : CoreView B C) : Type 0 where
   pub legal : g.tells → IsLegal opening core.entries (run_from (begins_at opening) core.entries).state
   pub shows : g.tells → Shows g core (run_from (begins_at opening) core.entries)
 
 -- and the verdicts in it are those of these functions, of which each that stands in the kit is one
 pub record Vouches {B C : Type 0} (g : Ghosts B) (verdict : C → List ℕ → ℤ) (given : List (Option (KitEntry C))) (opening : State) (core : CoreView B C) : Type 0 where
-  pub stands : StandsFor g opening core
+  pub stands : FollowsFrom g opening core
   pub verdicts : g.tells → AreGiven verdict given (begins_at opening) core.entries
   pub functions : AreOf verdict given core.state.kit
 
@@ -164,12 +164,12 @@ pub record IsReady {B C : Type 0} (v : ValidatorGhosts C) (core : CoreView B C) 
   pub kit : AskedBelow v.asked (2 ^ 62 + 2 * length core.entries) core.state.kit
 
 -- what each request may rely on
-pub record MayPlay {B C : Type 0} (v : ValidatorGhosts C) (held : Held B C) : Type 0 where
+pub record MayPlay {B C : Type 0} (v : ValidatorGhosts C) (held : PartsView B C) : Type 0 where
   pub booted : held.store.booted ≡ true
   pub counted : AreCounted held.tables
   pub notices : AreSendable held.tables
   pub functions : HaveFunctions held.tables held.kit
-  pub few : FewAsked v.asked 2 held.kit
+  pub few : MayAskEach v.asked 2 held.kit
   pub pending : ArePending held.tables held.pending
   pub loads : HaveLoads held.tables
 
@@ -177,43 +177,43 @@ pub record MayPlay {B C : Type 0} (v : ValidatorGhosts C) (held : Held B C) : Ty
 
 -- a request, with the parts before and after it
 pub record Step (B C : Type 0) : Type 0 where
-  pub old : Held B C
-  pub new : Held B C
+  pub old : PartsView B C
+  pub new : PartsView B C
   pub request : Request
 
-abbrev pub step_of : {B C : Type 0} → Held B C → Held B C → Request → Step B C
+abbrev pub step_of : {B C : Type 0} → PartsView B C → PartsView B C → Request → Step B C
 step_of old new request = record { old = old; new = new; request = request }
 
--- how much may be told of a request: so many deeds, a packet after the events of so many bytes, and a notice, if it owes one
+-- how much may be told of a request: so many events, a packet after the events of so many bytes, and a notice, if it owes one
 pub record Bounds : Type 0 where
   pub most : ℕ
   pub room : ℕ
   pub owes : Bool
 
-abbrev pub bounds_of : Request → Asked → Bounds
-bounds_of request asked = record { most = most_deeds request asked; room = shown_room asked; owes = asks_notice asked }
+abbrev pub bounds_of : Request → ReadCommand → Bounds
+bounds_of request command = record { most = most_events request command; room = shown_room command; owes = asks_notice command }
 
--- so many deeds, and nothing else
-abbrev pub deeds_alone : ℕ → Bounds
-deeds_alone most = record { most = most; room = 0; owes = false }
+-- so many events, and nothing else
+abbrev pub events_alone : ℕ → Bounds
+events_alone most = record { most = most; room = 0; owes = false }
 
 -- ---- one request about tables
 
 -- the request has this effect, and the parts stand for the state that it leaves, over the same blocks
-abbrev pub Leaves : {B C : Type 0} → Blocks → Effect → Held B C → Option model.Effect → Type 0
+abbrev pub Leaves : {B C : Type 0} → Blocks → Effect → PartsView B C → Option model.Effect → Type 0
 Leaves blocks done held None = ⊥
-Leaves blocks done held (Some e) = IsEffect done e.asked e.next e × Stands blocks held e.next
+Leaves blocks done held (Some e) = IsEffect done e.questions e.next e × IsStateOf blocks held e.next
 
 -- the kit was asked the questions of this effect, and gave these verdicts
 abbrev pub IsJudged : {C : Type 0} → ValidatorGhosts C → List (Option (KitEntry C)) → List (Option (KitEntry C)) → List (Option ℤ) → Option model.Effect → Type 0
 IsJudged v old new verdicts None = ⊥
-IsJudged v old new verdicts (Some e) = Judged v old new e.asked verdicts
+IsJudged v old new verdicts (Some e) = Judged v old new e.questions verdicts
 
 -- the request was done: this was its effect, the kit gave what it was asked for, no more is told than there is room for, and
 -- the store wasn't called
-pub record Does {B C : Type 0} (v : ValidatorGhosts C) (bounds : Bounds) (old new : Held B C) (means : State → Given → Option model.Effect) (done : Effect) : Type 0 where
-  pub effect : (s : State) → Stands s.store old s → Leaves s.store done new (means s (given_of done))
-  pub judged : (s : State) → Stands s.store old s → IsJudged v old.kit new.kit done.verdicts (means s (given_of done))
+pub record Does {B C : Type 0} (v : ValidatorGhosts C) (bounds : Bounds) (old new : PartsView B C) (means : State → Given → Option model.Effect) (done : Effect) : Type 0 where
+  pub effect : (s : State) → IsStateOf s.store old s → Leaves s.store done new (means s (given_of done))
+  pub judged : (s : State) → IsStateOf s.store old s → IsJudged v old.kit new.kit done.verdicts (means s (given_of done))
   pub store : new.store ≡ old.store
   pub note : done.note ≡ untouched
   pub two : length done.verdicts ≡ 2
@@ -224,10 +224,10 @@ abbrev pub owned_in : ℕ → Request → State → Given → Option model.Effec
 owned_in row request s given = owned_at (table_at s.tables row) s row request given
 
 -- the request was done to the table in this row, and an image that went active by it was copied
-pub record DoesAndCopies {B C : Type 0} (g : Ghosts B) (v : ValidatorGhosts C) (old new : Held B C) (row : ℕ) (request : Request) (done : Effect) : Type 0 where
+pub record DoesAndCopies {B C : Type 0} (g : Ghosts B) (v : ValidatorGhosts C) (old new : PartsView B C) (row : ℕ) (request : Request) (done : Effect) : Type 0 where
   pub before : Effect  -- the copy
-  pub does : Does v (deeds_alone (owned_deeds request)) old (record new { store = old.store }) (owned_in row request) before
-  pub copied : g.tells → (e : model.Effect) → IsEffect before e.asked e.next e → e.next.tables ≡ new.tables → HasBlocks g.tells g.now old.store e.next.store
+  pub does : Does v (events_alone (most_owned_events request)) old (record new { store = old.store }) (owned_in row request) before
+  pub copied : g.tells → (e : model.Effect) → IsEffect before e.questions e.next e → e.next.tables ≡ new.tables → HasBlocks g.tells g.now old.store e.next.store
       → CallsAfter g old.store new.store (done_first e) done (λ n. then_copy row n e)
   pub call : IsCopyCall g old.store new.store before done
 
@@ -241,8 +241,8 @@ EndsIn request calls store left = DuringCalls (writes calls) store left ⊎ ((re
 pub record HasEffect {B C : Type 0} (g : Ghosts B) (v : ValidatorGhosts C) (step : Step B C) (s : State) (done : Effect) (note : BankNote) (e : model.Effect) : Type 0 where
   pub before : State  -- the boot
   pub holds : HoldsAll g step.new before
-  pub effect : IsEffect done e.asked (boots_after note.outcome note before) (uncalled e)
-  pub judged : Judged v step.old.kit step.new.kit e.asked done.verdicts
+  pub effect : IsEffect done e.questions (boots_after note.outcome note before) (uncalled e)
+  pub judged : Judged v step.old.kit step.new.kit e.questions done.verdicts
   pub gave : RestoresHeld (g.now step.old.store.bank) e.calls s.store note
   pub left : note.outcome ≡ Stopped → before.store ≡ left_by e.calls note s.store
   pub writing : note.outcome ≡ Stopped → writes e.calls ≡ e.calls
@@ -254,7 +254,7 @@ Has g v step s done note None = ⊥
 Has g v step s done note (Some e) = HasEffect g v step s done note e
 
 -- the request was made. This holds over a bank that doesn't tell its bytes too
-pub record Makes {B C : Type 0} (g : Ghosts B) (v : ValidatorGhosts C) (bounds : Bounds) (old new : Held B C) (done : Effect) : Type 0 where
+pub record Makes {B C : Type 0} (g : Ghosts B) (v : ValidatorGhosts C) (bounds : Bounds) (old new : PartsView B C) (done : Effect) : Type 0 where
   pub fit : (n : ℕ) → AreFit n (state_of old) → AreFit (suc n) (state_of new)
   pub judged : (questions : List Question) × Judged v old.kit new.kit questions done.verdicts
   pub two : length done.verdicts ≡ 2
@@ -273,7 +273,7 @@ Meets g v step means done = g.tells → (s : State) → HoldsAll g step.old s �
 -- ---- the boot
 
 -- after a call that was stopped no tables are left, and the service has ended where the boot failed
-abbrev pub after_stop : {B C : Type 0} → Outcome → BankNote → StoreParts B → Held B C → Held B C
+abbrev pub after_stop : {B C : Type 0} → Outcome → BankNote → StoreParts B → PartsView B C → PartsView B C
 after_stop Stopped note store held = record held { tables = no_tables; pending = []; store = store; ended = note.ended }
 after_stop Untouched note store held = held
 after_stop Done note store held = held
@@ -281,9 +281,9 @@ after_stop Failed note store held = held
 
 -- in this state its effect was this, which the parts stand for
 pub record HadEffect {B C : Type 0} (g : Ghosts B) (v : ValidatorGhosts C) (step : Step B C) (s : State) (done : Effect) (e : model.Effect) : Type 0 where
-  pub told : IsEffect done e.asked e.next (uncalled e)
+  pub told : IsEffect done e.questions e.next (uncalled e)
   pub holds : HoldsAll g step.new e.next
-  pub judged : Judged v step.old.kit step.new.kit e.asked done.verdicts
+  pub judged : Judged v step.old.kit step.new.kit e.questions done.verdicts
   pub noted : IsNoteOf step.request e.calls s.store done.note
   pub gave : RestoresHeld (g.now step.old.store.bank) e.calls s.store done.note
   pub moments : Leaving g step.old.store step.new.store (EndsIn step.request e.calls s.store)

@@ -1,7 +1,7 @@
 -- What validation functions were asked in a request, and what they answered.
 use Rattle.std.specs.Prelude.{◌≡◌, ◌⊎◌, ℕ, List, count_by, Option, None}
 use Rattle.std.proofs.Common.{ℤ}
-use Rattle.tbl_model.specs.Deeds.{Question}
+use Rattle.tbl_model.specs.Telemetry.{Question}
 use Rattle.tbl_outside.specs.declared.validator.KitEntry.{KitEntry}
 use Rattle.tbl_outside.specs.declared.validator.Validator.{Ghosts as ValidatorGhosts}
 use Rattle.validation.specs.Kits.{entry_at}

@@ -10,12 +10,12 @@ ghost use Rattle.tbl_model.specs.State.{State, no_tables};
 ghost use Rattle.tbl_model.specs.Boots.{if_processor, blocks_after, reset_status, reset_effect};
 ghost use Rattle.tbl_model.specs.StoreNotes.{Boots};
 ghost use Rattle.cds_store.specs.Moments.{BootLeaves};
-ghost use Rattle.cds_store.specs.Standing.{StandsFor as HasBlocks};
+ghost use Rattle.cds_store.specs.StoreBlocks.{StandsFor as HasBlocks};
 ghost use Rattle.tbl_kinds.specs.StoreSteps.{Shows as ShowsBlocks};
 ghost use Rattle.tbl_outside.specs.Bank.{LeavesOnly};
 ghost use Rattle.tbl_core.specs.Ended.{Follows, boot_only, session_end};
 ghost use Rattle.store_requests.specs.Called.{NoBoot, Leaving, boots_after, with_boot, Troubled};
-ghost use Rattle.tbl_core.specs.Service.{HoldsAll, Makes, Meets, deeds_alone, held_of, step_of, after_stop};
+ghost use Rattle.tbl_core.specs.Service.{HoldsAll, Makes, Meets, events_alone, parts_view, step_of, after_stop};
 
 use crate::parts::Parts;
 use crate::service::StepFault;
@@ -77,7 +77,7 @@ impl<B: Bank, C: Validator> Parts<B, C> {
     /// The service boots: no table, handle, load, dump or pending validation is left.
     fn boot(&mut self, kind: ResetKind, note: &mut BankNote)
         requires fresh { NoBoot note.now }
-        ensures held { held_of self.new ≡ record (held_of self.old) { tables = no_tables; pending = []; store = self.new.store; ended = note.exit.now.ended } }
+        ensures held { parts_view self.new ≡ record (parts_view self.old) { tables = no_tables; pending = []; store = self.new.store; ended = note.exit.now.ended } }
         ensures booted { self.new.store.booted ≡ not note.exit.now.ended }
         ensures follows { note.exit.now ≡ with_boot note.exit.now.ended note.exit.now.stopped note.exit.now.found note.entry.now }
         ensures blocks { B.tells → (blocks : Blocks) → HasBlocks B.tells B.now self.old.store blocks → note.exit.now.ended ≡ false
@@ -96,7 +96,7 @@ impl<B: Bank, C: Validator> Parts<B, C> {
 
     /// What outlives a reset of the processor goes with a power-on: uplinked files, and applications that run.
     fn clear_at_power_on(&mut self, kind: ResetKind)
-        ensures held { held_of self.new ≡ record (held_of self.old) { drawer = if_processor kind self.old.drawer []; apps = if_processor kind self.old.apps (replicate 16 None) } }
+        ensures held { parts_view self.new ≡ record (parts_view self.old) { drawer = if_processor kind self.old.drawer []; apps = if_processor kind self.old.apps (replicate 16 None) } }
         ensures log { self.new.log ≡ self.old.log }
     {
         match kind {
@@ -112,10 +112,10 @@ impl<B: Bank, C: Validator> Parts<B, C> {
     pub(crate) fn reset(&mut self, kind: ResetKind, empty: Bytes) -> Result<Effect, Memory>
         requires empty { empty.list ≡ [] }
         requires live { self.old.ended ≡ false }
-        ensures makes { IfOk result (Makes B.Bank C.Validator (deeds_alone 0) (held_of self.old) (held_of self.new)) }
-        ensures meets { IfOk result (Meets B.Bank C.Validator (step_of (held_of self.old) (held_of self.new) (ask.Reset kind)) (λ s given. Some (reset_effect s kind given.note))) }
+        ensures makes { IfOk result (Makes B.Bank C.Validator (events_alone 0) (parts_view self.old) (parts_view self.new)) }
+        ensures meets { IfOk result (Meets B.Bank C.Validator (step_of (parts_view self.old) (parts_view self.new) (ask.Reset kind)) (λ s given. Some (reset_effect s kind given.note))) }
         ensures log { self.new.log ≡ self.old.log }
-        ensures err { OnErr result (held_of self.new ≡ held_of self.old) }
+        ensures err { OnErr result (parts_view self.new ≡ parts_view self.old) }
     {
         let mut note = note_room(self.alloc)?;
         self.boot(kind, &mut note);
@@ -132,14 +132,14 @@ impl<B: Bank, C: Validator> Parts<B, C> {
         requires live { effect.old.note.outcome ≡ Stopped → self.old.ended ≡ false }
         ensures effect { effect.new ≡ record effect.old { note = effect.new.note } }
         ensures note { Follows effect.old.note effect.new.note }
-        ensures held { held_of self.new ≡ after_stop effect.old.note.outcome effect.new.note self.new.store (held_of self.old) }
+        ensures held { parts_view self.new ≡ after_stop effect.old.note.outcome effect.new.note self.new.store (parts_view self.old) }
         ensures booted { effect.old.note.outcome ≡ Stopped → self.new.store.booted ≡ not effect.new.note.ended }
-        ensures boots { B.tells → (s : State) → HoldsAll B.Bank (held_of self.old) s
-            → HoldsAll B.Bank (held_of self.new) (boots_after effect.old.note.outcome effect.new.note s) }
-        ensures found { B.tells → (s : State) → HoldsAll B.Bank (held_of self.old) s → effect.old.note.outcome ≡ Stopped
+        ensures boots { B.tells → (s : State) → HoldsAll B.Bank (parts_view self.old) s
+            → HoldsAll B.Bank (parts_view self.new) (boots_after effect.old.note.outcome effect.new.note s) }
+        ensures found { B.tells → (s : State) → HoldsAll B.Bank (parts_view self.old) s → effect.old.note.outcome ≡ Stopped
             → Boots (Some Processor) s.store effect.new.note }
         ensures trouble { Troubled B.Bank self.old.store.bank self.new.store.bank (boot_only effect.old.note.outcome effect.new.note) }
-        ensures moments { B.tells → (s : State) → HoldsAll B.Bank (held_of self.old) s → effect.old.note.outcome ≡ Stopped
+        ensures moments { B.tells → (s : State) → HoldsAll B.Bank (parts_view self.old) s → effect.old.note.outcome ≡ Stopped
             → Leaving B.Bank self.old.store self.new.store (ShowsBlocks s.store) }
         ensures log { self.new.log ≡ self.old.log }
     {

@@ -4,24 +4,26 @@ ghost use Rattle.std.specs.Prelude.{◌≡◌, [], length, true, false, None, So
 ghost use Rattle.tbl_kinds.specs.Requests.{Fits};
 ghost use Rattle.tbl_model.specs.Fit.{AreFit};
 ghost use Rattle.tbl_model.specs.Tables.{table_at};
-ghost use Rattle.tbl_model.specs.Commands.{asked_in};
+ghost use Rattle.tbl_model.specs.Commands.{read_command_in};
 ghost use Rattle.tbl_kinds.specs.declared.request.Actor.TheVariants as by;
 ghost use Rattle.tbl_model.specs.Dispatch.{ground_effect, app_effect, effect_of};
-ghost use Rattle.request_effects.specs.Asked.{asked_of, asks_store, activates, owners_handle, owned_deeds, most_deeds};
-ghost use Rattle.tbl_core.specs.Service.{MayPlay, Does, DoesAndCopies, Makes, Meets, bounds_of, deeds_alone, held_of, owned_in, state_of, step_of};
+ghost use Rattle.request_effects.specs.Requests.{command_view, asks_store, activates, owners_handle, most_owned_events, most_events};
+ghost use Rattle.tbl_core.specs.Service.{MayPlay, Does, DoesAndCopies, Makes, Meets, bounds_of, events_alone, parts_view, owned_in, state_of, step_of};
 
 use crate::parts::Parts;
 use cmd_packets::Ground;
-use request_effects::{Asked, Clock, Effect, activates, asks_store, owners_handle, room_for_deeds};
+use request_effects::{
+    Clock, Effect, ReadCommand, activates, asks_store, owners_handle, room_for_events,
+};
 use store_requests::{
     cds_copy, cds_delete, cds_register, cds_restore, copy_room, delete_cds, register, then_copy,
 };
 use table_requests::{
-    app_validate, check, command, dump_to_buffer, edit, exit, file, get, get_info, get_status,
-    load_file, load_image, manage, notify, read, release, share, start, update,
+    app_validate, check, dump_to_buffer, edit, exit, file, get, get_info, get_status,
+    ground_command, load_file, load_image, manage, notify, read, release, share, start, update,
 };
 use tbl_kinds::{Actor, Answer, Bytes, Memory, Request, Status};
-use tbl_model::Deed;
+use tbl_model::TelemetryEvent;
 use tbl_outside::{Bank, Validator};
 
 impl<B: Bank, C: Validator> Parts<B, C> {
@@ -30,34 +32,34 @@ impl<B: Bank, C: Validator> Parts<B, C> {
     fn ground(
         &mut self,
         request: &Request,
-        asked: &Asked,
-        deeds: Vec<Deed>,
+        command: &ReadCommand,
+        events: Vec<TelemetryEvent>,
         empty: Bytes,
     ) -> Result<Effect, Memory>
         requires fits { Fits by.Ground request.now }
-        requires asked { asked_of asked.now ≡ asked_in request.now }
-        requires no_call { asks_store request.now (asked_of asked.now) ≡ false }
-        requires ready { MayPlay C.Validator (held_of self.old) }
-        requires no_deeds { deeds.items ≡ [] }
-        requires room { vec_capacity deeds ≡ most_deeds request.now (asked_of asked.now) }
+        requires command { command_view command.now ≡ read_command_in request.now }
+        requires no_call { asks_store request.now (command_view command.now) ≡ false }
+        requires ready { MayPlay C.Validator (parts_view self.old) }
+        requires no_events { events.items ≡ [] }
+        requires room { vec_capacity events ≡ most_events request.now (command_view command.now) }
         requires empty { empty.list ≡ [] }
-        ensures does { IfOk result (Does C.Validator (bounds_of request.now (asked_of asked.now)) (held_of self.old) (held_of self.new) (λ s given. ground_effect s request.now given)) }
+        ensures does { IfOk result (Does C.Validator (bounds_of request.now (command_view command.now)) (parts_view self.old) (parts_view self.new) (λ s given. ground_effect s request.now given)) }
         ensures log { self.new.log ≡ self.old.log }
-        ensures err { OnErr result (held_of self.new ≡ held_of self.old) }
+        ensures err { OnErr result (parts_view self.new ≡ parts_view self.old) }
     {
         let tables = &mut self.tables;
         let pending = &mut self.pending;
         match request {
-            Request::Command { .. } => match asked {
-                Some(asked) => command(
+            Request::Command { .. } => match command {
+                Some(command) => ground_command(
                     self.alloc,
                     tables,
                     pending,
                     &mut self.drawer,
                     &self.admit,
                     self.clock,
-                    asked,
-                    deeds,
+                    command,
+                    events,
                     empty,
                 ),
                 None => unreachable!(),
@@ -80,18 +82,18 @@ impl<B: Bank, C: Validator> Parts<B, C> {
         &mut self,
         row: u8,
         request: &Request,
-        deeds: Vec<Deed>,
+        events: Vec<TelemetryEvent>,
         empty: Bytes,
     ) -> Result<Effect, Memory>
         requires owners { IsSome (owners_handle request.now) }
         requires table { IsSome (table_at self.old.tables row) }
-        requires ready { MayPlay C.Validator (held_of self.old) }
-        requires no_deeds { deeds.items ≡ [] }
-        requires room { vec_capacity deeds ≡ most_deeds request.now None }
+        requires ready { MayPlay C.Validator (parts_view self.old) }
+        requires no_events { events.items ≡ [] }
+        requires room { vec_capacity events ≡ most_events request.now None }
         requires empty { empty.list ≡ [] }
-        ensures does { IfOk result (Does C.Validator (deeds_alone (owned_deeds request.now)) (held_of self.old) (held_of self.new) (owned_in row request.now)) }
+        ensures does { IfOk result (Does C.Validator (events_alone (most_owned_events request.now)) (parts_view self.old) (parts_view self.new) (owned_in row request.now)) }
         ensures log { self.new.log ≡ self.old.log }
-        ensures err { OnErr result (held_of self.new ≡ held_of self.old) }
+        ensures err { OnErr result (parts_view self.new ≡ parts_view self.old) }
     {
         let alloc = self.alloc;
         let clock = self.clock;
@@ -103,16 +105,16 @@ impl<B: Bank, C: Validator> Parts<B, C> {
         match request {
             Request::LoadImage { image, .. } => {
                 let image = image.bytes();
-                load_image(alloc, tables, kit, clock, row, image, deeds, empty)
+                load_image(alloc, tables, kit, clock, row, image, events, empty)
             }
             Request::LoadFile { name, .. } => load_file(
-                alloc, tables, kit, drawer, admit, clock, row, name, deeds, empty,
+                alloc, tables, kit, drawer, admit, clock, row, name, events, empty,
             ),
-            Request::Update { .. } => Ok(update(tables, clock, row, deeds, empty)),
+            Request::Update { .. } => Ok(update(tables, clock, row, events, empty)),
             Request::Validate { .. } => {
-                Ok(app_validate(tables, kit, pending, row, deeds, empty))
+                Ok(app_validate(tables, kit, pending, row, events, empty))
             }
-            Request::Manage { .. } => manage(tables, kit, pending, clock, row, deeds, empty),
+            Request::Manage { .. } => manage(tables, kit, pending, clock, row, events, empty),
             Request::DumpToBuffer { .. } => Ok(dump_to_buffer(tables, row, empty)),
             Request::Edit { offset, bytes, .. } => {
                 edit(alloc, tables, row, *offset, bytes.bytes(), empty)
@@ -134,21 +136,21 @@ impl<B: Bank, C: Validator> Parts<B, C> {
         &mut self,
         row: u8,
         request: &Request,
-        deeds: Vec<Deed>,
+        events: Vec<TelemetryEvent>,
         empty: Bytes,
     ) -> Result<Effect, Memory>
         requires activates { activates request.now ≡ true }
         requires table { IsSome (table_at self.old.tables row) }
-        requires ready { MayPlay C.Validator (held_of self.old) }
-        requires no_deeds { deeds.items ≡ [] }
-        requires room { vec_capacity deeds ≡ most_deeds request.now None }
+        requires ready { MayPlay C.Validator (parts_view self.old) }
+        requires no_events { events.items ≡ [] }
+        requires room { vec_capacity events ≡ most_events request.now None }
         requires empty { empty.list ≡ [] }
-        ensures does { IfOk result (DoesAndCopies B.Bank C.Validator (held_of self.old) (held_of self.new) row request.now) }
+        ensures does { IfOk result (DoesAndCopies B.Bank C.Validator (parts_view self.old) (parts_view self.new) row request.now) }
         ensures log { self.new.log ≡ self.old.log }
-        ensures err { OnErr result (held_of self.new ≡ held_of self.old) }
+        ensures err { OnErr result (parts_view self.new ≡ parts_view self.old) }
     {
         let room = copy_room(self.alloc, &self.tables, row)?;
-        let effect = self.owned(row, request, deeds, empty)?;
+        let effect = self.owned(row, request, events, empty)?;
         Ok(then_copy(&self.tables, &mut self.store, row, room, effect))
     }
 
@@ -159,24 +161,24 @@ impl<B: Bank, C: Validator> Parts<B, C> {
         app: u8,
         handle: u16,
         request: &Request,
-        deeds: Vec<Deed>,
+        events: Vec<TelemetryEvent>,
         empty: Bytes,
     ) -> Result<Effect, Memory>
         requires owners { owners_handle request.now ≡ Some handle }
-        requires ready { MayPlay C.Validator (held_of self.old) }
-        requires fit { AreFit (length self.old.log.entries) (state_of (held_of self.old)) }
+        requires ready { MayPlay C.Validator (parts_view self.old) }
+        requires fit { AreFit (length self.old.log.entries) (state_of (parts_view self.old)) }
         requires live { self.old.ended ≡ false }
-        requires no_deeds { deeds.items ≡ [] }
-        requires room { vec_capacity deeds ≡ most_deeds request.now None }
+        requires no_events { events.items ≡ [] }
+        requires room { vec_capacity events ≡ most_events request.now None }
         requires empty { empty.list ≡ [] }
-        ensures makes { IfOk result (Makes B.Bank C.Validator (deeds_alone (most_deeds request.now None)) (held_of self.old) (held_of self.new)) }
-        ensures meets { IfOk result (Meets B.Bank C.Validator (step_of (held_of self.old) (held_of self.new) request.now) (λ s given. app_effect s app request.now given)) }
+        ensures makes { IfOk result (Makes B.Bank C.Validator (events_alone (most_events request.now None)) (parts_view self.old) (parts_view self.new)) }
+        ensures meets { IfOk result (Meets B.Bank C.Validator (step_of (parts_view self.old) (parts_view self.new) request.now) (λ s given. app_effect s app request.now given)) }
         ensures log { self.new.log ≡ self.old.log }
-        ensures err { OnErr result (held_of self.new ≡ held_of self.old) }
+        ensures err { OnErr result (parts_view self.new ≡ parts_view self.old) }
     {
         match check(&self.tables, &self.apps, app, handle, true) {
-            Ok(row) if activates(request) => self.owned_and_copied(row, request, deeds, empty),
-            Ok(row) => self.owned(row, request, deeds, empty),
+            Ok(row) if activates(request) => self.owned_and_copied(row, request, events, empty),
+            Ok(row) => self.owned(row, request, events, empty),
             Err(status) => Ok(Effect::of(Answer::plain(status), empty)),
         }
     }
@@ -187,11 +189,11 @@ impl<B: Bank, C: Validator> Parts<B, C> {
         requires users { owners_handle request.now ≡ None }
         requires no_call { asks_store request.now None ≡ false }
         requires fits { Fits (by.App app) request.now }
-        requires ready { MayPlay C.Validator (held_of self.old) }
+        requires ready { MayPlay C.Validator (parts_view self.old) }
         requires empty { empty.list ≡ [] }
-        ensures does { IfOk result (Does C.Validator (deeds_alone 0) (held_of self.old) (held_of self.new) (λ s given. app_effect s app request.now given)) }
+        ensures does { IfOk result (Does C.Validator (events_alone 0) (parts_view self.old) (parts_view self.new) (λ s given. app_effect s app request.now given)) }
         ensures log { self.new.log ≡ self.old.log }
-        ensures err { OnErr result (held_of self.new ≡ held_of self.old) }
+        ensures err { OnErr result (parts_view self.new ≡ parts_view self.old) }
     {
         let tables = &mut self.tables;
         let pending = &mut self.pending;
@@ -238,10 +240,10 @@ impl<B: Bank, C: Validator> Parts<B, C> {
         requires booted { self.old.store.booted ≡ true }
         requires live { self.old.ended ≡ false }
         requires empty { empty.list ≡ [] }
-        ensures makes { IfOk result (Makes B.Bank C.Validator (deeds_alone 0) (held_of self.old) (held_of self.new)) }
-        ensures meets { IfOk result (Meets B.Bank C.Validator (step_of (held_of self.old) (held_of self.new) request.now) (λ s given. app_effect s app request.now given)) }
+        ensures makes { IfOk result (Makes B.Bank C.Validator (events_alone 0) (parts_view self.old) (parts_view self.new)) }
+        ensures meets { IfOk result (Meets B.Bank C.Validator (step_of (parts_view self.old) (parts_view self.new) request.now) (λ s given. app_effect s app request.now given)) }
         ensures log { self.new.log ≡ self.old.log }
-        ensures err { OnErr result (held_of self.new ≡ held_of self.old) }
+        ensures err { OnErr result (parts_view self.new ≡ parts_view self.old) }
     {
         let alloc = self.alloc;
         let store = &mut self.store;
@@ -282,25 +284,25 @@ impl<B: Bank, C: Validator> Parts<B, C> {
         &mut self,
         actor: Actor,
         request: &Request,
-        asked: &Asked,
+        command: &ReadCommand,
         empty: Bytes,
     ) -> Result<Effect, Memory>
         requires fits { Fits actor request.now }
-        requires asked { asked_of asked.now ≡ asked_in request.now }
-        requires calls { asks_store request.now (asked_of asked.now) ≡ true }
+        requires command { command_view command.now ≡ read_command_in request.now }
+        requires calls { asks_store request.now (command_view command.now) ≡ true }
         requires booted { self.old.store.booted ≡ true }
         requires live { self.old.ended ≡ false }
         requires empty { empty.list ≡ [] }
-        ensures makes { IfOk result (Makes B.Bank C.Validator (deeds_alone 0) (held_of self.old) (held_of self.new)) }
-        ensures meets { IfOk result (Meets B.Bank C.Validator (step_of (held_of self.old) (held_of self.new) request.now) (λ s given. effect_of s actor request.now given)) }
+        ensures makes { IfOk result (Makes B.Bank C.Validator (events_alone 0) (parts_view self.old) (parts_view self.new)) }
+        ensures meets { IfOk result (Meets B.Bank C.Validator (step_of (parts_view self.old) (parts_view self.new) request.now) (λ s given. effect_of s actor request.now given)) }
         ensures log { self.new.log ≡ self.old.log }
-        ensures err { OnErr result (held_of self.new ≡ held_of self.old) }
+        ensures err { OnErr result (parts_view self.new ≡ parts_view self.old) }
     {
         match actor {
             Actor::App(app) => self.app_store_request(app, request, empty),
             Actor::Ground => match request {
                 Request::Reset { kind } => self.reset(*kind, empty),
-                _ => match asked {
+                _ => match command {
                     Some(Ok(Ground::DeleteCds { table })) => {
                         delete_cds(self.alloc, &self.tables, &mut self.store, table, empty)
                     }
@@ -316,27 +318,27 @@ impl<B: Bank, C: Validator> Parts<B, C> {
         &mut self,
         actor: Actor,
         request: &Request,
-        asked: &Asked,
+        command: &ReadCommand,
     ) -> Result<Effect, Memory>
         requires fits { Fits actor request.now }
-        requires asked { asked_of asked.now ≡ asked_in request.now }
-        requires ready { MayPlay C.Validator (held_of self.old) }
-        requires fit { AreFit (length self.old.log.entries) (state_of (held_of self.old)) }
+        requires command { command_view command.now ≡ read_command_in request.now }
+        requires ready { MayPlay C.Validator (parts_view self.old) }
+        requires fit { AreFit (length self.old.log.entries) (state_of (parts_view self.old)) }
         requires live { self.old.ended ≡ false }
-        ensures makes { IfOk result (Makes B.Bank C.Validator (bounds_of request.now (asked_of asked.now)) (held_of self.old) (held_of self.new)) }
-        ensures meets { IfOk result (Meets B.Bank C.Validator (step_of (held_of self.old) (held_of self.new) request.now) (λ s given. effect_of s actor request.now given)) }
+        ensures makes { IfOk result (Makes B.Bank C.Validator (bounds_of request.now (command_view command.now)) (parts_view self.old) (parts_view self.new)) }
+        ensures meets { IfOk result (Meets B.Bank C.Validator (step_of (parts_view self.old) (parts_view self.new) request.now) (λ s given. effect_of s actor request.now given)) }
         ensures log { self.new.log ≡ self.old.log }
-        ensures err { OnErr result (held_of self.new ≡ held_of self.old) }
+        ensures err { OnErr result (parts_view self.new ≡ parts_view self.old) }
     {
         let empty = Bytes::make(self.alloc, 0)?;
-        if asks_store(request, asked) {
-            return self.store_request(actor, request, asked, empty);
+        if asks_store(request, command) {
+            return self.store_request(actor, request, command, empty);
         }
-        let deeds = room_for_deeds(self.alloc, request, asked)?;
+        let events = room_for_events(self.alloc, request, command)?;
         match actor {
-            Actor::Ground => self.ground(request, asked, deeds, empty),
+            Actor::Ground => self.ground(request, command, events, empty),
             Actor::App(app) => match owners_handle(request) {
-                Some(handle) => self.owner(app, handle, request, deeds, empty),
+                Some(handle) => self.owner(app, handle, request, events, empty),
                 None => self.user(app, request, empty),
             },
         }

@@ -11,7 +11,7 @@ use request_effects::Clock;
 use std::alloc::Global;
 use std::marker::Model;
 use tbl_kinds::{Entry, Memory, Name40, Name64};
-use tbl_model::Deed;
+use tbl_model::TelemetryEvent;
 
 /// The entries in their order, the running numbers of telemetry, and reserved room for further entries.
 #[derive(Drop)]
@@ -78,15 +78,15 @@ impl Log {
         &mut self,
         tally: Tally,
         clock: Clock,
-        deeds: &[Deed],
+        events: &[TelemetryEvent],
         loaded: Option<&Name40>,
         loaded_file: Option<&Name64>,
     )
         ensures entries { self.new.entries ≡ self.old.entries }
         ensures room { self.new.spare ≡ self.old.spare }
-        ensures counts { self.new.counts ≡ counts_after self.old.counts (tally_view tally clock deeds.now (option_copied loaded.entry) (option_copied loaded_file.entry)) }
+        ensures counts { self.new.counts ≡ counts_after self.old.counts (tally_view tally clock events.now (option_copied loaded.entry) (option_copied loaded_file.entry)) }
     {
-        self.counters.add(tally, clock, deeds, loaded, loaded_file);
+        self.counters.add(tally, clock, events, loaded, loaded_file);
     }
 
     /// Adds an entry, which was counted.

@@ -7,10 +7,10 @@ ghost use Rattle.tbl_kinds.specs.Requests.{Fits};
 ghost use Rattle.tbl_kinds.specs.Records.{record_limit};
 ghost use Rattle.tbl_model.specs.Counts.{no_counts};
 ghost use Rattle.tbl_core.specs.Ended.{OnPlayed};
-ghost use Rattle.tbl_model.specs.Commands.{asked_in};
-ghost use Rattle.request_effects.specs.Asked.{asked_of};
+ghost use Rattle.tbl_model.specs.Commands.{read_command_in};
+ghost use Rattle.request_effects.specs.Requests.{command_view};
 ghost use Rattle.tbl_core.specs.Finish.{packets_room};
-ghost use Rattle.tbl_core.specs.Service.{Plays, IsReady, held_of, view_of};
+ghost use Rattle.tbl_core.specs.Service.{Plays, IsReady, parts_view, view_of};
 
 use crate::boots::session_end;
 use crate::finish::packets_room;
@@ -18,7 +18,7 @@ use crate::log::Log;
 use crate::service::StepFault;
 use cds_store::Store;
 use file_drawer::Drawer;
-use request_effects::{Asked, Clock, Effect, asked_in};
+use request_effects::{Clock, Effect, ReadCommand, read_command_in};
 use sharing::Apps;
 use std::alloc::Global;
 use tbl_kinds::{Actor, Admit, Bytes, Memory, Request};
@@ -69,17 +69,17 @@ fn room_for_entry(
     alloc: Global,
     log: &mut Log,
     request: &Request,
-    asked: &Asked,
+    command: &ReadCommand,
 ) -> Result<Bytes, Memory>
-    requires asked { asked_of asked.now ≡ asked_in request.now }
+    requires command { command_view command.now ≡ read_command_in request.now }
     ensures no_packets { IfOk result (λ packets. packets.list ≡ []) }
-    ensures packets { IfOk result (λ packets. packets_room request.now (asked_of asked.now) ≤ packets.spare) }
+    ensures packets { IfOk result (λ packets. packets_room request.now (command_view command.now) ≤ packets.spare) }
     ensures spare { OnOk result (0 < log.new.spare) }
     ensures entries { log.new.entries ≡ log.old.entries }
     ensures counts { log.new.counts ≡ log.old.counts }
 {
     log.reserve()?;
-    Bytes::make(alloc, packets_room(request, asked))
+    Bytes::make(alloc, packets_room(request, command))
 }
 
 impl<B: Bank, C: Validator> Parts<B, C> {
@@ -135,7 +135,7 @@ impl<B: Bank, C: Validator> Parts<B, C> {
 
     /// Whether a further request is played: no boot has failed or was stopped.
     pub(crate) fn is_live(&self) -> bool
-        ensures { IsTrue result ↔ ((held_of self.now).ended ≡ false) }
+        ensures { IsTrue result ↔ ((parts_view self.now).ended ≡ false) }
     {
         !self.ended
     }
@@ -151,17 +151,17 @@ impl<B: Bank, C: Validator> Parts<B, C> {
         ensures plays { OnPlayed result (Plays B.Bank C.Validator (view_of self.old) (view_of self.new) actor request result) }
         ensures err { result ≡ Err StepFault.Memory → view_of self.new ≡ view_of self.old }
     {
-        let asked = asked_in(&request);
+        let command = read_command_in(&request);
         let clock = self.clock;
-        let Ok(packets) = room_for_entry(self.alloc, &mut self.log, &request, &asked) else {
+        let Ok(packets) = room_for_entry(self.alloc, &mut self.log, &request, &command) else {
             return Err(StepFault::Memory);
         };
-        let Ok(mut effect) = self.effect(actor, &request, &asked) else {
+        let Ok(mut effect) = self.effect(actor, &request, &command) else {
             return Err(StepFault::Memory);
         };
         self.boot_if_stopped(&mut effect);
         let end = session_end(&effect.note);
-        self.finish(clock, actor, request, &asked, effect, packets);
+        self.finish(clock, actor, request, &command, effect, packets);
         end
     }
 }

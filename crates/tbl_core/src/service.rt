@@ -5,7 +5,7 @@ ghost use Rattle.tbl_model.specs.State.{State, first_state, no_tables};
 ghost use Rattle.tbl_model.specs.Vouched.{IsVouched};
 ghost use Rattle.tbl_model.specs.Whole.{IsWhole};
 ghost use Rattle.tbl_session.specs.Crashes.{AfterCrash, calls_in, all_calls_in};
-ghost use Rattle.tbl_session.specs.Completed.{Holds, LeaveAlone};
+ghost use Rattle.tbl_session.specs.Completed.{HasCompleted, LeaveAlone};
 ghost use Rattle.cds_store.specs.Moments.{ShowsIn};
 ghost use Rattle.tbl_kinds.specs.declared.block.Block.{Block};
 ghost use Rattle.tbl_kinds.specs.declared.request.Request.TheVariants as ask;
@@ -23,7 +23,7 @@ ghost use Rattle.tbl_model.specs.History.{begins_at, run_from};
 ghost use Rattle.validation.specs.Kits.{owners};
 ghost use Rattle.tbl_outside.specs.Counts.{Still};
 ghost use Rattle.tbl_outside.specs.declared.validator.KitEntry.{KitEntry as Function};
-ghost use Rattle.tbl_core.specs.Service.{StandsFor, Vouches, AskedBelow, AddsOne, start_fault, StartCounted};
+ghost use Rattle.tbl_core.specs.Service.{FollowsFrom, Vouches, AskedBelow, AddsOne, start_fault, StartCounted};
 ghost use Rattle.tbl_core.specs.Verdicts.{Judged};
 ghost use Rattle.tbl_session.specs.Verdicts.{questions_in, KeepsToFunctions};
 ghost use Rattle.tbl_kinds.specs.declared.entry.Entry.{Entry};
@@ -70,7 +70,7 @@ impl From<BankFault> for StartFault {
 }
 
 /// The table service: its state, the validation functions of its applications, the bank that it keeps blocks in, and the
-/// history of all that was asked and answered.
+/// history of all that was requested and answered.
 #[derive(Drop)]
 pub struct Core<B: Bank, C: Validator> {
     parts: Parts<B, C>,
@@ -102,7 +102,7 @@ impl<B: Bank, C: Validator> Core<B, C> {
         requires room { bank_size ≤ B.size bank }
         requires asked { AskedBelow C.asked (2 ^ 62) kit }
         // The blocks are those that the bank shows.
-        ensures stands { IfOk result (StandsFor B.Bank (first_state (store_of (B.now bank)) (owners kit) admit)) }
+        ensures stands { IfOk result (FollowsFrom B.Bank (first_state (store_of (B.now bank)) (owners kit) admit)) }
         ensures kit { IfOk result (λ core. core.state.kit ≡ kit) }
         ensures admit { IfOk result (λ core. core.state.admit ≡ admit) }
         ensures empty { IfOk result (λ core. core.entries ≡ []) }
@@ -140,7 +140,7 @@ impl<B: Bank, C: Validator> Core<B, C> {
         self.parts.end()
     }
 
-    /// All that was asked and answered, in order.
+    /// All that was requested and answered, in order.
     pub fn history(&self) -> &[Entry]
         ensures entries { result.now ≡ self.now.entries }
         ensures small { All IsSmall result.now }
@@ -164,16 +164,16 @@ impl<B: Bank, C: Validator> Core<B, C> {
         // One entry more, also where a boot in the request was the last; its note and its answer have their causes in the counts
         // of the bank.
         ensures adds { OnPlayed result (AddsOne B.Bank self.old self.new actor request result) }
-        ensures legal { OnPlayed result ((opening : State) → StandsFor B.Bank opening self.old → StandsFor B.Bank opening self.new) }
-        ensures whole { OnPlayed result (B.tells → (opening : State) → opening.tables ≡ no_tables → opening.pending ≡ [] → StandsFor B.Bank opening self.old → IsWhole opening self.new.entries) }
+        ensures legal { OnPlayed result ((opening : State) → FollowsFrom B.Bank opening self.old → FollowsFrom B.Bank opening self.new) }
+        ensures whole { OnPlayed result (B.tells → (opening : State) → opening.tables ≡ no_tables → opening.pending ≡ [] → FollowsFrom B.Bank opening self.old → IsWhole opening self.new.entries) }
         // Each critical table has its block in the store, and at most 32 are critical.
-        ensures backed { OnPlayed result (B.tells → (opening : State) → opening.tables ≡ no_tables → AreSingle opening.store → StandsFor B.Bank opening self.old
+        ensures backed { OnPlayed result (B.tells → (opening : State) → opening.tables ≡ no_tables → AreSingle opening.store → FollowsFrom B.Bank opening self.old
             → AreBacked (run_from (begins_at opening) self.new.entries).state) }
         // The functions were asked what the request asks, and the entry has their verdicts.
-        ensures judged { OnPlayed result ((e : Entry) × (self.new.entries ≡ self.old.entries ++ e ∷ []) × (B.tells → (opening : State) → StandsFor B.Bank opening self.old
+        ensures judged { OnPlayed result ((e : Entry) × (self.new.entries ≡ self.old.entries ++ e ∷ []) × (B.tells → (opening : State) → FollowsFrom B.Bank opening self.old
             → Judged C.Validator self.old.state.kit self.new.state.kit (questions_in (run_from (begins_at opening) self.old.entries) e) e.verdicts)) }
         // No image went active that its table's function didn't answer for.
-        ensures vouched { OnPlayed result (B.tells → (opening : State) → opening.tables ≡ no_tables → opening.pending ≡ [] → StandsFor B.Bank opening self.old → IsVouched opening self.new.entries) }
+        ensures vouched { OnPlayed result (B.tells → (opening : State) → opening.tables ≡ no_tables → opening.pending ≡ [] → FollowsFrom B.Bank opening self.old → IsVouched opening self.new.entries) }
         // Whatever functions it was given at first, the history's verdicts are still theirs.
         ensures verdicts { OnPlayed result ((opening : State) (given : List (Option (Function C))) → Vouches B.Bank C.verdict given opening self.old
             → Vouches B.Bank C.verdict given opening self.new) }
@@ -181,19 +181,19 @@ impl<B: Bank, C: Validator> Core<B, C> {
         ensures kept { OnPlayed result (B.tells → (opening : State) (given : List (Option (Function C))) → Vouches B.Bank C.verdict given opening self.old
             → KeepsToFunctions C.verdict given opening self.new.entries) }
         // What a restore gave is what its block held in the bank as the step began.
-        ensures gave { OnPlayed result ((e : Entry) × (self.new.entries ≡ self.old.entries ++ e ∷ []) × (B.tells → (opening : State) → StandsFor B.Bank opening self.old
+        ensures gave { OnPlayed result ((e : Entry) × (self.new.entries ≡ self.old.entries ++ e ∷ []) × (B.tells → (opening : State) → FollowsFrom B.Bank opening self.old
             → RestoresHeld (B.now self.old.state.store.bank) (all_calls_in (run_from (begins_at opening) self.old.entries) e) (run_from (begins_at opening) self.old.entries).state.store e.note)) }
         // A reset at any moment in it leaves the store as it was after the entries before, or what this request made of it so far.
-        ensures crash { OnPlayed result (B.tells_moments → (opening : State) → StandsFor B.Bank opening self.old
+        ensures crash { OnPlayed result (B.tells_moments → (opening : State) → FollowsFrom B.Bank opening self.old
             → LeavesOnly B.clock B.left_since self.old.state.store.bank self.new.state.store.bank (λ image. AfterCrash opening self.new.entries (length self.old.entries) (store_of image))) }
         // A completed copy of an image stays, each moment, through a request that neither copies into its block nor deletes it and
         // is no power-on.
-        ensures completed { OnPlayed result ((e : Entry) × (self.new.entries ≡ self.old.entries ++ e ∷ []) × (B.tells_moments → (opening : State) → StandsFor B.Bank opening self.old
-            → (slot : ℕ) (block : Block) (copied : List ℕ) → Holds (run_from (begins_at opening) self.old.entries).state.store slot block copied
+        ensures completed { OnPlayed result ((e : Entry) × (self.new.entries ≡ self.old.entries ++ e ∷ []) × (B.tells_moments → (opening : State) → FollowsFrom B.Bank opening self.old
+            → (slot : ℕ) (block : Block) (copied : List ℕ) → HasCompleted (run_from (begins_at opening) self.old.entries).state.store slot block copied
             → LeaveAlone slot (calls_in (run_from (begins_at opening) self.old.entries) e) → request ≢ ask.Reset PowerOn
-            → LeavesOnly B.clock B.left_since self.old.state.store.bank self.new.state.store.bank (λ image. Holds (store_of image) slot block copied))) }
+            → LeavesOnly B.clock B.left_since self.old.state.store.bank self.new.state.store.bank (λ image. HasCompleted (store_of image) slot block copied))) }
         // The bytes that it began with, and that a restore in it read, are some that a reset may have left.
-        ensures left { OnPlayed result (B.tells_moments → (opening : State) → StandsFor B.Bank opening self.old
+        ensures left { OnPlayed result (B.tells_moments → (opening : State) → FollowsFrom B.Bank opening self.old
             → B.left_since self.new.state.store.bank (B.clock self.old.state.store.bank) (B.now self.old.state.store.bank)) }
         ensures live { OnOk result (self.new.state.ended ≡ false) }
         ensures err { result ≡ Err StepFault.Memory → self.new ≡ self.old }

@@ -14,7 +14,7 @@ use Rattle.tbl_kinds.specs.declared.request.Actor.{Actor}
 use Rattle.tbl_kinds.specs.declared.request.Request.{Request}
 use Rattle.tbl_core.specs.declared.service.StepFault.{StepFault}
 use Rattle.tbl_crew.specs.Histories.{HasPlayed, HavePlayed, OneHistory}
-use Rattle.tbl_crew.specs.Holding.{Holding, MayGoOn}
+use Rattle.tbl_crew.specs.CrewView.{CrewView, MayGoOn}
 use Rattle.tbl_outside.specs.declared.bank.Bank.{Ghosts}
 use Rattle.tbl_session.specs.Openings.{Opening}
 use Rattle.tbl_history.proofs.ServingLemmas.{served_of}
@@ -29,12 +29,12 @@ all_played fault None script played left is none was = sym (was ∙ ap (λ (l : 
 all_played fault (Some cause) script played left is none was = was
 
 module _ {B C : Type 0} (g : Ghosts B) (verdict : C → List ℕ → ℤ) where
-  none_left : (h : Holding B C) → MayGoOn h → ((actor : ℕ) → actor < actor_count → HasEnded h actor) → h.fault ≡ None → (actor : ℕ) → script_of h.left actor ≡ []
+  none_left : (h : CrewView B C) → MayGoOn h → ((actor : ℕ) → actor < actor_count → HasEnded h actor) → h.fault ≡ None → (actor : ℕ) → script_of h.left actor ≡ []
   none_left h goes_on ended is actor = dite (dec_lt actor 17)
       (λ within. ended actor within is)
       (λ past. get_or_past h.left actor [] (omega (arith, goes_on.actors)))
 
-  pub one_history : (o : Opening B C) (scripts : List (List Request)) (h : Holding B C) → MayGoOn h → ((actor : ℕ) → actor < actor_count → HasEnded h actor) → LeadsFrom g verdict o scripts h
+  pub one_history : (o : Opening B C) (scripts : List (List Request)) (h : CrewView B C) → MayGoOn h → ((actor : ℕ) → actor < actor_count → HasEnded h actor) → LeadsFrom g verdict o scripts h
       → OneHistory g verdict o scripts h.fault h.core
   one_history o scripts h goes_on ended leads = record {
     served = served_of g verdict o h.core leads.serves;

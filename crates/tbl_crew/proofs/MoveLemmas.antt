@@ -11,44 +11,44 @@ use Rattle.turn_lock.specs.Turns.{Since, Beside, Knows, Idle, IsSeat, seat_view}
 use Rattle.turn_lock.specs.declared.rule.View.{View}
 use Rattle.turn_lock.proofs.Lists.{there, in_take, in_drop, in_append, in_replicate, in_one}
 use Rattle.turn_lock.proofs.Paths.{carried}
-use Rattle.tbl_crew.specs.Holding.{Holding}
+use Rattle.tbl_crew.specs.CrewView.{CrewView}
 use Rattle.tbl_crew.specs.Leading.{LeadsOn}
 use Rattle.tbl_crew.specs.Moves.{Moves, HasEnded, HaveEnded, HaveLeft}
 use Rattle.tbl_crew.specs.Scripts.{script_of}
 use Rattle.tbl_crew.specs.Turns.{PlaysNext}
 
 module _ {B C : Type 0} (g : Ghosts B) (verdict : C → List ℕ → ℤ) where
-  abbrev Moved : Holding B C → ℕ → Holding B C → Type 0
+  abbrev Moved : CrewView B C → ℕ → CrewView B C → Type 0
   Moved old actor new = Moves g verdict old actor new
 
   -- all turns together lead on
-  pub since_leads : (first last : Holding B C) → Since Moved first last → LeadsOn g verdict first last
+  pub since_leads : (first last : CrewView B C) → Since Moved first last → LeadsOn g verdict first last
   since_leads first last since = carried Moved (λ _. Unit {0}) (LeadsOn g verdict first) (λ y z a _ led m o scripts was. m.leads o scripts (led o scripts was)) first last since (λ o scripts was. was)
 
   -- turns of others leave an actor's script
-  pub own_stays : (actor : ℕ) (seen now : Holding B C) → Beside Moved actor seen now → script_of now.left actor ≡ script_of seen.left actor
-  own_stays actor seen now beside = carried Moved (λ other. other ≢ actor) (λ (h : Holding B C). script_of h.left actor ≡ script_of seen.left actor)
+  pub own_stays : (actor : ℕ) (seen now : CrewView B C) → Beside Moved actor seen now → script_of now.left actor ≡ script_of seen.left actor
+  own_stays actor seen now beside = carried Moved (λ other. other ≢ actor) (λ (h : CrewView B C). script_of h.left actor ≡ script_of seen.left actor)
       (λ y z a apart same m. m.others actor (λ e. apart (sym e)) ∙ same) seen now beside refl
 
   -- and that it has ended
-  pub stays_ended : (actor : ℕ) (seen now : Holding B C) → Beside Moved actor seen now → HasEnded seen actor → HasEnded now actor
-  stays_ended actor seen now beside ended = carried Moved (λ other. other ≢ actor) (λ (h : Holding B C). HasEnded h actor)
+  pub stays_ended : (actor : ℕ) (seen now : CrewView B C) → Beside Moved actor seen now → HasEnded seen actor → HasEnded now actor
+  stays_ended actor seen now beside ended = carried Moved (λ other. other ≢ actor) (λ (h : CrewView B C). HasEnded h actor)
       (λ y z a apart had m goes. m.others actor (λ e. apart (sym e)) ∙ had (m.went goes)) seen now beside ended
 
   -- so what the seats of all actors saw holds of the value that comes out
-  pub all_ended : (seen : List (Holding B C)) (now : Holding B C) (count : ℕ) → length seen ≡ count → Knows Moved 0 seen now → HaveEnded 0 seen → (actor : ℕ) → actor < count → HasEnded now actor
+  pub all_ended : (seen : List (CrewView B C)) (now : CrewView B C) (count : ℕ) → length seen ≡ count → Knows Moved 0 seen now → HaveEnded 0 seen → (actor : ℕ) → actor < count → HasEnded now actor
   all_ended seen now count long knows ended actor within = let at = there_is seen actor (omega (arith, long, within)) in
       let same : 0 + actor ≡ actor = omega arith in
       stays_ended actor at.0 now (subst (λ (n : ℕ). Beside Moved n at.0 now) same (knows actor at.0 at.1)) (subst (λ (n : ℕ). HasEnded at.0 n) same (ended actor at.0 at.1))
     where
-      there_is : (l : List (Holding B C)) (i : ℕ) → i < length l → (h : Holding B C) × (get_elem? l i ≡ some h)
+      there_is : (l : List (CrewView B C)) (i : ℕ) → i < length l → (h : CrewView B C) × (get_elem? l i ≡ some h)
       there_is [] i lt = absurd (omega (arith, lt))
       there_is (h ∷ l) zero lt = (h, refl)
       there_is (h ∷ l) (suc i) lt = there_is l i (omega (arith, lt))
 
   -- a turn that played takes one from what its actor had left
-  pub one_less : (actor from : ℕ) (seen : List (Holding B C)) (taken after : Holding B C) (count nth : ℕ) → from ≡ actor → length seen ≡ 1 → Knows Moved from seen taken
-      → ((h : Holding B C) → get_elem? seen 0 ≡ some h → length (script_of h.left actor) + nth ≡ count) → PlaysNext g taken after actor → length (script_of after.left actor) + (nth + 1) ≡ count
+  pub one_less : (actor from : ℕ) (seen : List (CrewView B C)) (taken after : CrewView B C) (count nth : ℕ) → from ≡ actor → length seen ≡ 1 → Knows Moved from seen taken
+      → ((h : CrewView B C) → get_elem? seen 0 ≡ some h → length (script_of h.left actor) + nth ≡ count) → PlaysNext g taken after actor → length (script_of after.left actor) + (nth + 1) ≡ count
   one_less actor from seen taken after count nth is one knows left plays =
       let at = first_of seen one in
       let here : from + 0 ≡ actor = omega (arith, is) in
@@ -56,7 +56,7 @@ module _ {B C : Type 0} (g : Ghosts B) (verdict : C → List ℕ → ℤ) where
       let before : length (script_of taken.left actor) ≡ suc (length (script_of after.left actor)) = ap length plays.takes.next in
       omega (arith, left at.0 at.1, before, ap length same)
     where
-      first_of : (l : List (Holding B C)) → length l ≡ 1 → (h : Holding B C) × (get_elem? l 0 ≡ some h)
+      first_of : (l : List (CrewView B C)) → length l ≡ 1 → (h : CrewView B C) × (get_elem? l 0 ≡ some h)
       first_of [] e = absurd (omega (arith, e))
       first_of (h ∷ l) e = (h, refl)
 
@@ -64,15 +64,15 @@ module _ {B C : Type 0} (g : Ghosts B) (verdict : C → List ℕ → ℤ) where
 
 module _ {B C : Type 0} where
   -- where its script is empty it has ended
-  pub none_left : (h : Holding B C) (actor nth count : ℕ) → length (script_of h.left actor) + nth ≡ count → nth ≡ count → HasEnded h actor
+  pub none_left : (h : CrewView B C) (actor nth count : ℕ) → length (script_of h.left actor) + nth ≡ count → nth ≡ count → HasEnded h actor
   none_left h actor nth count left all goes = nil_from_length (script_of h.left actor) (omega (arith, left, all))
 
-  pub single_ended : (actor : ℕ) (seen : List (Holding B C)) → length seen ≡ 1 → ((h : Holding B C) → get_elem? seen 0 ≡ some h → HasEnded h actor) → HaveEnded actor seen
+  pub single_ended : (actor : ℕ) (seen : List (CrewView B C)) → length seen ≡ 1 → ((h : CrewView B C) → get_elem? seen 0 ≡ some h → HasEnded h actor) → HaveEnded actor seen
   single_ended actor seen one ended zero h at = let same : actor ≡ actor + 0 = omega arith in subst (λ (n : ℕ). HasEnded h n) same (ended h at)
   single_ended actor seen one ended (suc i) h at = absurd (omega (arith, one, there seen (suc i) h at))
 
   -- what it has left at first
-  pub first_left : (actor count : ℕ) (seen : List (Holding B C)) → HaveLeft (λ _. count) actor seen → (h : Holding B C) → get_elem? seen 0 ≡ some h → length (script_of h.left actor) + 0 ≡ count
+  pub first_left : (actor count : ℕ) (seen : List (CrewView B C)) → HaveLeft (λ _. count) actor seen → (h : CrewView B C) → get_elem? seen 0 ≡ some h → length (script_of h.left actor) + 0 ≡ count
   first_left actor count seen left h at =
       let here : actor + 0 ≡ actor = omega arith in
       let is : length (script_of h.left actor) ≡ count = subst (λ (n : ℕ). length (script_of h.left n) ≡ count) here (left 0 h at) in
@@ -81,59 +81,59 @@ module _ {B C : Type 0} where
 -- ---- seats that are split and joined
 
 module _ {B C : Type 0} where
-  pub left_low : (count : ℕ → ℕ) (from n : ℕ) (seen : List (Holding B C)) → HaveLeft count from seen → HaveLeft count from (take n seen)
+  pub left_low : (count : ℕ → ℕ) (from n : ℕ) (seen : List (CrewView B C)) → HaveLeft count from seen → HaveLeft count from (take n seen)
   left_low count from n seen left i h at = left i h (in_take n seen i h at)
 
-  pub left_high : (count : ℕ → ℕ) (from n : ℕ) (seen : List (Holding B C)) → HaveLeft count from seen → HaveLeft count (from + n) (drop n seen)
+  pub left_high : (count : ℕ → ℕ) (from n : ℕ) (seen : List (CrewView B C)) → HaveLeft count from seen → HaveLeft count (from + n) (drop n seen)
   left_high count from n seen left i h at =
       let same : from + (n + i) ≡ (from + n) + i = omega arith in
       subst (λ (actor : ℕ). length (script_of h.left actor) ≡ count actor) same (left (n + i) h (in_drop n seen i h at))
 
   -- of one actor, by its number
-  pub one_left : (counts : List ℕ) (from number : ℕ) (seen : List (Holding B C)) → length seen ≡ 1 → number ≡ from → HaveLeft (slice_index counts) from seen → HaveLeft (λ _. slice_index counts number) from seen
+  pub one_left : (counts : List ℕ) (from number : ℕ) (seen : List (CrewView B C)) → length seen ≡ 1 → number ≡ from → HaveLeft (slice_index counts) from seen → HaveLeft (λ _. slice_index counts number) from seen
   one_left counts from number seen one is left zero h at = let same : from + 0 ≡ number = omega (arith, is) in left zero h at ∙ ap (slice_index counts) same
   one_left counts from number seen one is left (suc i) h at = absurd (omega (arith, one, there seen (suc i) h at))
 
-  pub ended_both : (from middle : ℕ) (low high : List (Holding B C)) → middle ≡ from + length low → HaveEnded from low → HaveEnded middle high → HaveEnded from (low ++ high)
+  pub ended_both : (from middle : ℕ) (low high : List (CrewView B C)) → middle ≡ from + length low → HaveEnded from low → HaveEnded middle high → HaveEnded from (low ++ high)
   ended_both from middle low high meet ended more i h at = ⊎_elim
       (λ (x : get_elem? low i ≡ some h). ended i h x)
       (λ (x : (j : ℕ) × (i ≡ length low + j) × (get_elem? high j ≡ some h)). let same : middle + x.0 ≡ from + i = omega (arith, meet, x.1) in subst (λ (actor : ℕ). HasEnded h actor) same (more x.0 h x.2))
       (in_append low high i h at)
 
-  pub one_ended : (actor : ℕ) (h : Holding B C) → HasEnded h actor → HaveEnded actor (h ∷ [])
-  one_ended actor h ended zero x at = let same : actor ≡ actor + 0 = omega arith in subst (λ (n : ℕ). HasEnded x n) same (subst (λ (y : Holding B C). HasEnded y actor) (in_one h 0 x at) ended)
+  pub one_ended : (actor : ℕ) (h : CrewView B C) → HasEnded h actor → HaveEnded actor (h ∷ [])
+  one_ended actor h ended zero x at = let same : actor ≡ actor + 0 = omega arith in subst (λ (n : ℕ). HasEnded x n) same (subst (λ (y : CrewView B C). HasEnded y actor) (in_one h 0 x at) ended)
   one_ended actor h ended (suc i) x at = absurd (some-ne-none x (sym at))
 
   -- at first each actor has its whole script
-  pub all_left : (first : Holding B C) (actors : ℕ) (counts : List ℕ) → ((actor : ℕ) → actor < actors → length (script_of first.left actor) ≡ slice_index counts actor) → HaveLeft (slice_index counts) 0 (replicate actors first)
+  pub all_left : (first : CrewView B C) (actors : ℕ) (counts : List ℕ) → ((actor : ℕ) → actor < actors → length (script_of first.left actor) ≡ slice_index counts actor) → HaveLeft (slice_index counts) 0 (replicate actors first)
   all_left first actors counts left i h at =
       let within : i < actors = omega (arith, there (replicate actors first) i h at, length-replicate actors first) in
       let same : i ≡ 0 + i = omega arith in
       subst (λ (actor : ℕ). length (script_of h.left actor) ≡ slice_index counts actor) same
-      (subst (λ (x : Holding B C). length (script_of x.left i) ≡ slice_index counts i) (in_replicate actors first i h at) (left i within))
+      (subst (λ (x : CrewView B C). length (script_of x.left i) ≡ slice_index counts i) (in_replicate actors first i h at) (left i within))
 
   -- the halves of a seat, by what a split of it ensures
-  module _ (m m' : Me (Option (Holding B C)) (View (Holding B C))) (from : ℕ) where
+  module _ (m m' : Me (Option (CrewView B C)) (View (CrewView B C))) (from : ℕ) where
     pub low_seat : (count : ℕ) → IsSeat m from count → Idle m' m.0.from (take (length m.0.seen / 2) m.0.seen) → IsSeat m' from (count / 2)
     low_seat count is split =
-        let at = ap (λ (x : Me (Option (Holding B C)) (View (Holding B C))). x.0.from) is.0 in
+        let at = ap (λ (x : Me (Option (CrewView B C)) (View (CrewView B C))). x.0.from) is.0 in
         let half : length m.0.seen / 2 ≤ length m.0.seen = omega arith in
-        let seen = ap (λ (x : Me (Option (Holding B C)) (View (Holding B C))). x.0.seen) split in
+        let seen = ap (λ (x : Me (Option (CrewView B C)) (View (CrewView B C))). x.0.seen) split in
         let long : length m'.0.seen ≡ count / 2 = ap length seen ∙ length-take-le (length m.0.seen / 2) m.0.seen half ∙ ap (λ n. n / 2) is.1 in
         (split ∙ (λ i. (seat_view (at i) (sym seen i), [])), long)
 
     pub high_seat : (count : ℕ) → IsSeat m from count → Idle m' (m.0.from + length m.0.seen / 2) (drop (length m.0.seen / 2) m.0.seen) → IsSeat m' (from + count / 2) (count - count / 2)
     high_seat count is split =
-        let at = ap (λ (x : Me (Option (Holding B C)) (View (Holding B C))). x.0.from) is.0 in
-        let seen = ap (λ (x : Me (Option (Holding B C)) (View (Holding B C))). x.0.seen) split in
+        let at = ap (λ (x : Me (Option (CrewView B C)) (View (CrewView B C))). x.0.from) is.0 in
+        let seen = ap (λ (x : Me (Option (CrewView B C)) (View (CrewView B C))). x.0.seen) split in
         let place : m.0.from + length m.0.seen / 2 ≡ from + count / 2 = λ i. at i + is.1 i / 2 in
         let long : length m'.0.seen ≡ count - count / 2 = ap length seen ∙ length-drop (length m.0.seen / 2) m.0.seen ∙ ap (λ n. n - n / 2) is.1 in
         (split ∙ (λ i. (seat_view (place i) (sym seen i), [])), long)
 
     pub low_left : (count : ℕ → ℕ) → Idle m' m.0.from (take (length m.0.seen / 2) m.0.seen) → HaveLeft count from m.0.seen → HaveLeft count from m'.0.seen
-    low_left count split left = subst (λ (l : List (Holding B C)). HaveLeft count from l) (sym (ap (λ (x : Me (Option (Holding B C)) (View (Holding B C))). x.0.seen) split)) (left_low count from (length m.0.seen / 2) m.0.seen left)
+    low_left count split left = subst (λ (l : List (CrewView B C)). HaveLeft count from l) (sym (ap (λ (x : Me (Option (CrewView B C)) (View (CrewView B C))). x.0.seen) split)) (left_low count from (length m.0.seen / 2) m.0.seen left)
 
     pub high_left : (count : ℕ → ℕ) (number : ℕ) → IsSeat m from number → Idle m' (m.0.from + length m.0.seen / 2) (drop (length m.0.seen / 2) m.0.seen) → HaveLeft count from m.0.seen → HaveLeft count (from + number / 2) m'.0.seen
     high_left count number is split left =
         subst (λ (n : ℕ). HaveLeft count (from + n / 2) m'.0.seen) is.1
-        (subst (λ (l : List (Holding B C)). HaveLeft count (from + length m.0.seen / 2) l) (sym (ap (λ (x : Me (Option (Holding B C)) (View (Holding B C))). x.0.seen) split)) (left_high count from (length m.0.seen / 2) m.0.seen left))
+        (subst (λ (l : List (CrewView B C)). HaveLeft count (from + length m.0.seen / 2) l) (sym (ap (λ (x : Me (Option (CrewView B C)) (View (CrewView B C))). x.0.seen) split)) (left_high count from (length m.0.seen / 2) m.0.seen left))

@@ -8,10 +8,10 @@ use Rattle.tbl_kinds.specs.Transcript.{pairs_of}
 use Rattle.tbl_kinds.specs.declared.entry.Entry.{Entry}
 use Rattle.tbl_kinds.specs.declared.request.Request.{Request}
 use Rattle.tbl_model.specs.State.{State}
-use Rattle.tbl_core.specs.Service.{CoreView, AddsOne, Vouches, StandsFor}
+use Rattle.tbl_core.specs.Service.{CoreView, AddsOne, Vouches, FollowsFrom}
 use Rattle.tbl_core.specs.declared.service.StepFault.{StepFault}
 use Rattle.tbl_core.specs.declared.service.StepFault.TheVariants.{Memory, BootFault, BootStopped}
-use Rattle.tbl_crew.specs.Holding.{Holding, MayGoOn, TellsFault}
+use Rattle.tbl_crew.specs.CrewView.{CrewView, MayGoOn, TellsFault}
 use Rattle.tbl_crew.specs.Leading.{IsPlayed, ArePlayed, LacksOne, LacksAfter, LeadsFrom}
 use Rattle.tbl_session.specs.Openings.{Opening}
 use Rattle.tbl_session.specs.Actors.{actor_of, part, HaveActors}
@@ -39,7 +39,7 @@ failed fault = Err fault
 begins : (fault : StepFault) (script played left : List Request) → IsPlayed None script played left → (f : Option StepFault) → f ≡ Some fault → (behind : List Request) → IsPlayed f script played behind
 begins fault script played left was f is behind = subst (λ (f : Option StepFault). IsPlayed f script played behind) (sym is) (left, was)
 
-module _ {B C : Type 0} (g : Ghosts B) (old new : Holding B C) (actor : ℕ) (request : Request) (goes_on : MayGoOn old) (within : actor < 17) (takes : Takes old new actor request) where
+module _ {B C : Type 0} (g : Ghosts B) (old new : CrewView B C) (actor : ℕ) (request : Request) (goes_on : MayGoOn old) (within : actor < 17) (takes : Takes old new actor request) where
   inside : actor < length old.left
   inside = omega (arith, goes_on.actors)
 
@@ -53,7 +53,7 @@ module _ {B C : Type 0} (g : Ghosts B) (old new : Holding B C) (actor : ℕ) (re
   pub has_room : length old.core.entries < record_limit
   has_room = omega (arith, goes_on.few, fewer)
 
-  -- behind it the crew may go on
+  -- after it the crew may go on
   may_go_on : length new.core.entries ≤ length old.core.entries + 1 → TellsFault new.fault new.core → MayGoOn new
   may_go_on few tells = record {
     actors = scripts.taken_length old.left new.left actor request inside takes.next takes.others ∙ goes_on.actors;
@@ -89,7 +89,7 @@ module _ {B C : Type 0} (g : Ghosts B) (old new : Holding B C) (actor : ℕ) (re
         subst (λ (c : CoreView B C). IsPlayed new.fault (script_of given other) (part other (pairs_of c.entries)) (script_of new.left other)) (sym same)
         (begins fault (script_of given other) (part other (pairs_of old.core.entries)) (script_of old.left other) (so_far other) new.fault is (script_of new.left other))
 
-  -- behind a step that answered a fault the crew may go on, though it plays no more
+  -- after a step that answered a fault the crew may go on, though it plays no more
   pub goes_on_broken : (fault : StepFault) → new.fault ≡ Some fault → old.core.state.ended ≡ false → OnPlayed (Err fault) (AddsOne g old.core new.core (actor_of actor) request (Err fault)) → (failed fault ≡ Err Memory → new.core ≡ old.core) → MayGoOn new
   goes_on_broken Memory is live adds same = goes_on_without (same refl) (subst (λ (f : Option StepFault). TellsFault f new.core) (sym is) (ap (λ (c : CoreView B C). c.state.ended) (same refl) ∙ live))
   goes_on_broken BootFault is live adds same = goes_on_with (Err BootFault) adds (subst (λ (f : Option StepFault). TellsFault f new.core) (sym is) (ends_in_fault g old.core new.core (actor_of actor) request adds))
@@ -101,11 +101,11 @@ pub was_none : (f : Option StepFault) → is_some f ≡ false → f ≡ None
 was_none None is = refl
 was_none (Some fault) is = absurd (cc is)
 
-pub goes_live : {B C : Type 0} (h : Holding B C) → MayGoOn h → h.fault ≡ None → h.core.state.ended ≡ false
+pub goes_live : {B C : Type 0} (h : CrewView B C) → MayGoOn h → h.fault ≡ None → h.core.state.ended ≡ false
 goes_live h goes_on went = subst (λ (f : Option StepFault). TellsFault f h.core) went goes_on.fault
 
 -- a request that wasn't played is one that its actor's script has after what it played
-lacks_one : {B C : Type 0} (old new : Holding B C) (actor : ℕ) (request : Request) → Takes old new actor request → old.fault ≡ None → (scripts : List (List Request)) → ArePlayed old.fault scripts old.core.entries old.left → LacksOne scripts old.core.entries
+lacks_one : {B C : Type 0} (old new : CrewView B C) (actor : ℕ) (request : Request) → Takes old new actor request → old.fault ≡ None → (scripts : List (List Request)) → ArePlayed old.fault scripts old.core.entries old.left → LacksOne scripts old.core.entries
 lacks_one old new actor request takes went scripts was = (
   actor,
   request,
@@ -114,21 +114,21 @@ lacks_one old new actor request takes went scripts was = (
       ∙ ap (λ (l : List Request). part actor (pairs_of old.core.entries) ++ l) takes.next,
 )
 
-module _ {B C : Type 0} (g : Ghosts B) (laws : Laws g) (verdict : C → List ℕ → ℤ) (old new : Holding B C) (actor : ℕ) (request : Request) (goes_on : MayGoOn old) (within : actor < 17) (takes : Takes old new actor request) (went : old.fault ≡ None) where
-  abbrev Leads : Opening B C → List (List Request) → Holding B C → Type 0
+module _ {B C : Type 0} (g : Ghosts B) (laws : Laws g) (verdict : C → List ℕ → ℤ) (old new : CrewView B C) (actor : ℕ) (request : Request) (goes_on : MayGoOn old) (within : actor < 17) (takes : Takes old new actor request) (went : old.fault ≡ None) where
+  abbrev Leads : Opening B C → List (List Request) → CrewView B C → Type 0
   Leads o scripts h = LeadsFrom g verdict o scripts h
 
   abbrev Legal : Type 0
-  Legal = (opening : State) → StandsFor g opening old.core → StandsFor g opening new.core
+  Legal = (opening : State) → FollowsFrom g opening old.core → FollowsFrom g opening new.core
 
   abbrev Verdicts : Type 0
   Verdicts = (opening : State) (given : List (Option (KitEntry C))) → Vouches g verdict given opening old.core → Vouches g verdict given opening new.core
 
   abbrev Crash : Type 0
-  Crash = g.tells_moments → (opening : State) → StandsFor g opening old.core → LeavesOnly g.clock g.left_since old.core.state.store.bank new.core.state.store.bank (λ image. AfterCrash opening new.core.entries (length old.core.entries) (store_of image))
+  Crash = g.tells_moments → (opening : State) → FollowsFrom g opening old.core → LeavesOnly g.clock g.left_since old.core.state.store.bank new.core.state.store.bank (λ image. AfterCrash opening new.core.entries (length old.core.entries) (store_of image))
 
   abbrev Gave : Type 0
-  Gave = (e : Entry) × (new.core.entries ≡ old.core.entries ++ e ∷ []) × (g.tells → (opening : State) → StandsFor g opening old.core → RestoresHeld (g.now old.core.state.store.bank) (all_calls_in (run_from (begins_at opening) old.core.entries) e) (run_from (begins_at opening) old.core.entries).state.store e.note)
+  Gave = (e : Entry) × (new.core.entries ≡ old.core.entries ++ e ∷ []) × (g.tells → (opening : State) → FollowsFrom g opening old.core → RestoresHeld (g.now old.core.state.store.bank) (all_calls_in (run_from (begins_at opening) old.core.entries) e) (run_from (begins_at opening) old.core.entries).state.store e.note)
 
   lead_on : (result : Result Unit StepFault) → AddsOne g old.core new.core (actor_of actor) request result → Legal → Verdicts → Crash → Gave
       → ((scripts : List (List Request)) → ArePlayed old.fault scripts old.core.entries old.left → ArePlayed new.fault scripts new.core.entries new.left)

@@ -4,7 +4,7 @@ use Rattle.std.proofs.Common.{ℤ}
 use Rattle.tbl_outside.specs.declared.bank.Bank.{Ghosts}
 use Rattle.tbl_core.specs.Service.{CoreView}
 use Rattle.tbl_core.specs.declared.service.StepFault.{StepFault}
-use Rattle.tbl_crew.specs.Holding.{TellsFault}
+use Rattle.tbl_crew.specs.CrewView.{TellsFault}
 use Rattle.tbl_crew.specs.Leading.{LacksAfter}
 use Rattle.tbl_session.specs.Openings.{Opening}
 use Rattle.tbl_session.specs.Actors.{part, HaveActors}
@@ -27,7 +27,7 @@ pub record HavePlayed (fault : Option StepFault) (scripts : List (List Request))
   pub actors : HaveActors (pairs_of entries)
 
 -- Whoever played, and in which order their turns came, one history was served. For each actor its requests are its script, in order,
--- each once; where a step answered a fault, the beginning of it, and where that was want of memory, a request is left. It has no more
+-- each once; where a step answered a fault, the beginning of it, and where that was out of memory, a request is left. It has no more
 -- entries than a session may have, and the service has ended where the last of them tells it (`caused`).
 pub record OneHistory {B C : Type 0} (g : Ghosts B) (verdict : C → List ℕ → ℤ) (o : Opening B C) (scripts : List (List Request)) (fault : Option StepFault) (core : CoreView B C) : Type 0 where
   pub served : IsServed g verdict o core.state.store.bank core.entries

@@ -1,5 +1,5 @@
 pub mod Scripts
-pub mod Holding
+pub mod CrewView
 pub mod Leading
 pub mod Turns
 pub mod Histories

@@ -13,7 +13,7 @@ script_of scripts actor = slice_index_or scripts actor []
 abbrev pub with_script : List (List Request) → ℕ → List Request → List (List Request)
 with_script scripts actor script = slice_set scripts actor script
 
--- one request more, behind those of its actor
+-- one request more, after those of its actor
 abbrev pub pushed : List (List Request) → Pair → List (List Request)
 pushed scripts p = with_script scripts (actor_number p.actor) (script_of scripts (actor_number p.actor) ++ p.request ∷ [])
 

@@ -4,7 +4,7 @@ use Rattle.tbl_outside.specs.declared.bank.Bank.{Ghosts}
 use Rattle.tbl_core.specs.Service.{CoreView, AddsOne}
 use Rattle.tbl_core.specs.declared.service.StepFault.{StepFault}
 use Rattle.tbl_core.specs.declared.service.StepFault.TheVariants.{Memory, BootFault, BootStopped}
-use Rattle.tbl_crew.specs.Holding.{Holding}
+use Rattle.tbl_crew.specs.CrewView.{CrewView}
 use Rattle.tbl_session.specs.Actors.{actor_of}
 use Rattle.tbl_crew.specs.Scripts.{script_of, with_script}
 use Rattle.tbl_kinds.specs.declared.request.Request.{Request}
@@ -12,18 +12,18 @@ use Rattle.tbl_crew.specs.declared.held.Turn.{Turn}
 use Rattle.tbl_crew.specs.declared.held.Turn.TheVariants.{Played, Ended, Done}
 
 -- the actor's next request left its script
-pub record Takes {B C : Type 0} (old new : Holding B C) (actor : ℕ) (request : Request) : Type 0 where
+pub record Takes {B C : Type 0} (old new : CrewView B C) (actor : ℕ) (request : Request) : Type 0 where
   pub next : script_of old.left actor ≡ request ∷ script_of new.left actor
   pub others : new.left ≡ with_script old.left actor (script_of new.left actor)
 
--- what a step made of it that answered a fault: nothing for want of memory, or one entry more, the last one
+-- what a step made of it that answered a fault: nothing, out of memory, or one entry more, the last one
 abbrev pub Breaks : {B C : Type 0} → Ghosts B → CoreView B C → CoreView B C → ℕ → Request → StepFault → Type 0
 Breaks g old new actor request Memory = new ≡ old
 Breaks g old new actor request BootFault = AddsOne g old new (actor_of actor) request (Err BootFault)
 Breaks g old new actor request BootStopped = AddsOne g old new (actor_of actor) request (Err BootStopped)
 
 -- this turn's step answered the fault that is kept from now on
-pub record EndsNow {B C : Type 0} (g : Ghosts B) (old new : Holding B C) (actor : ℕ) : Type 0 where
+pub record EndsNow {B C : Type 0} (g : Ghosts B) (old new : CrewView B C) (actor : ℕ) : Type 0 where
   pub request : Request
   pub takes : Takes old new actor request
   pub went : old.fault ≡ None
@@ -32,13 +32,13 @@ pub record EndsNow {B C : Type 0} (g : Ghosts B) (old new : Holding B C) (actor 
   pub breaks : Breaks g old.core new.core actor request fault
 
 -- an earlier step answered it
-pub record EndedBefore {B C : Type 0} (old new : Holding B C) : Type 0 where
+pub record EndedBefore {B C : Type 0} (old new : CrewView B C) : Type 0 where
   pub fault : StepFault
   pub kept : old.fault ≡ Some fault
   pub same : new ≡ old
 
 -- the actor's next request was played, as one entry more
-pub record PlaysNext {B C : Type 0} (g : Ghosts B) (old new : Holding B C) (actor : ℕ) : Type 0 where
+pub record PlaysNext {B C : Type 0} (g : Ghosts B) (old new : CrewView B C) (actor : ℕ) : Type 0 where
   pub request : Request
   pub takes : Takes old new actor request
   pub went : old.fault ≡ None
@@ -46,13 +46,13 @@ pub record PlaysNext {B C : Type 0} (g : Ghosts B) (old new : Holding B C) (acto
   pub adds : AddsOne g old.core new.core (actor_of actor) request (Ok tt)
 
 -- all of its script was played before
-pub record HasDone {B C : Type 0} (old new : Holding B C) (actor : ℕ) : Type 0 where
+pub record HasDone {B C : Type 0} (old new : CrewView B C) (actor : ℕ) : Type 0 where
   pub none : script_of old.left actor ≡ []
   pub went : old.fault ≡ None
   pub same : new ≡ old
 
 -- the one that the answer tells
-abbrev pub Turns : {B C : Type 0} → Ghosts B → Holding B C → Holding B C → ℕ → Turn → Type 0
+abbrev pub Turns : {B C : Type 0} → Ghosts B → CrewView B C → CrewView B C → ℕ → Turn → Type 0
 Turns g old new actor Played = PlaysNext g old new actor
 Turns g old new actor Ended = EndsNow g old new actor ⊎ EndedBefore old new
 Turns g old new actor Done = HasDone old new actor

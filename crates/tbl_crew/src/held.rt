@@ -2,11 +2,11 @@
 
 ghost use Rattle.std.specs.Prelude.{◌≡◌, ℕ, ◌+◌, ◌<◌, ◌≤◌, List, [], ◌∷◌, length, None, false};
 ghost use Rattle.tbl_kinds.specs.Records.{record_limit};
-ghost use Rattle.tbl_kinds.specs.declared.request.Request.{Request as Asked};
+ghost use Rattle.tbl_kinds.specs.declared.request.Request.{Request as AnyRequest};
 ghost use Rattle.tbl_session.specs.Actors.{actor_count, actor_of};
 ghost use Rattle.tbl_session.specs.Openings.{Opening};
 ghost use Rattle.tbl_history.specs.Serving.{Serves};
-ghost use Rattle.tbl_crew.specs.Holding.{Holding, MayGoOn};
+ghost use Rattle.tbl_crew.specs.CrewView.{CrewView, MayGoOn};
 ghost use Rattle.tbl_crew.specs.Leading.{LeadsFrom, LeadsOn};
 ghost use Rattle.tbl_crew.specs.Scripts.{request_count, AllFit};
 ghost use Rattle.tbl_crew.specs.Turns.{Turns};
@@ -28,7 +28,7 @@ pub enum Turn {
     Done,
 }
 
-/// The core, why it plays no further request, and what each actor still has to ask.
+/// The core, why it plays no further request, and what each actor still has to request.
 #[derive(Drop)]
 pub struct Crew<B: Bank, C: Validator> {
     core: Core<B, C>,
@@ -37,9 +37,9 @@ pub struct Crew<B: Bank, C: Validator> {
 }
 
 impl<B: Bank, C: Validator> Model for Crew<B, C> {
-    ghost use Rattle.tbl_crew.specs.Holding.{Holding, MayGoOn};
+    ghost use Rattle.tbl_crew.specs.CrewView.{CrewView, MayGoOn};
 
-    ghost Value = { Holding B C };
+    ghost Value = { CrewView B C };
 
     ghost view = { λ c. record { core = c.core; fault = c.fault; left = c.left } };
 

@@ -85,7 +85,7 @@ impl Model for Scripts {
 }
 
 impl Scripts {
-    /// Scripts without a request. An Err is want of memory.
+    /// Scripts without a request. An Err means out of memory.
     pub fn make(alloc: Global) -> Result<Scripts, Memory>
         ensures { IfOk result (λ scripts. scripts ≡ replicate actor_count []) }
     {
@@ -96,7 +96,7 @@ impl Scripts {
         Ok(Scripts { scripts })
     }
 
-    /// Puts a request last in the script of its actor. An Err is want of memory.
+    /// Puts a request last in the script of its actor. An Err means out of memory.
     pub fn push(&mut self, actor: Actor, request: Request) -> Result<(), Memory>
         requires { actor_number actor < actor_count }
         ensures ok { OnOk result (self.new ≡ pushed self.old (record { actor = actor; request = request })) }

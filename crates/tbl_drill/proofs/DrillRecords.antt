@@ -15,7 +15,7 @@ use Rattle.tbl_kinds.specs.declared.request.Actor.TheVariants.{Ground, App}
 use Rattle.tbl_kinds.specs.declared.request.Request.{Request}
 use Rattle.tbl_kinds.specs.declared.request.Request.TheVariants as ask
 use Rattle.tbl_drill.specs.Generator.{after, drawn, number}
-use Rattle.tbl_drill.specs.Drill.{just, ground, app, size, file_name, roomless, round_from, session, asked, table_name, header, file_for, command}
+use Rattle.tbl_drill.specs.Drill.{just, ground, app, size, file_name, roomless, round_from, session, requested, table_name, header, file_for, command}
 
 -- the room makes no difference
 fits_with_room : (actor : Actor) (request : Request) → Fits actor (without_room request) → Fits actor request
@@ -106,8 +106,8 @@ length-validate h = simp length-append (omega (arith, length-replicate {A = ℕ}
 length-activate : (h : ℕ) → length (payload_of (activate (table_name h))) ≤ 64
 length-activate h = simp length-append (omega (arith, length-replicate {A = ℕ} (40 - length (table_name h)) 0, name_fits h))
 
-asked_record : (k h b : ℕ) → h < 3 → IsRecord (asked k h b)
-asked_record k h b lt =
+requested_record : (k h b : ℕ) → h < 3 → IsRecord (requested k h b)
+requested_record k h b lt =
     either (k == 0) _ _ (image_record h b lt)
     (either (k == 1) _ _ (file_record h b)
     (either (k == 2) _ _ (command_record (load file_name) length-load)
@@ -119,7 +119,7 @@ asked_record k h b lt =
 
 round_record : (x : ℕ) → IsRecord (round_from x)
 unfolding round_from drawn
-round_record x = asked_record (drawn (after x) 8) (drawn (after (after x)) 3) (drawn (after (after (after x))) 256) (omega arith)
+round_record x = requested_record (drawn (after x) 8) (drawn (after (after x)) 3) (drawn (after (after (after x))) 256) (omega arith)
 
 -- ---- the whole
 

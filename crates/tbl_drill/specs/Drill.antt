@@ -76,9 +76,9 @@ file_for h b = table_file header (record { offset = b % 32; name = table_name h;
 unfoldable pub command : GroundCommand → Request
 command c = ask.Command (just (command_bytes 0 c))
 
--- what is asked in a round: one of eight requests, for one of three tables, with a byte
-abbrev pub asked : ℕ → ℕ → ℕ → Pair
-asked k h b =
+-- what is requested in a round: one of eight requests, for one of three tables, with a byte
+abbrev pub requested : ℕ → ℕ → ℕ → Pair
+requested k h b =
     if k == 0 then app 1 (ask.LoadImage h (just (replicate size b)))
     else (if k == 1 then ground (ask.File file_name (just (file_for h b)))
     else (if k == 2 then ground (command (load file_name))
@@ -90,7 +90,7 @@ asked k h b =
 
 -- the round that begins with the generator at this number: three draws decide it
 unfoldable pub round_from : ℕ → Pair
-round_from x = asked (drawn (after x) 8) (drawn (after (after x)) 3) (drawn (after (after (after x))) 256)
+round_from x = requested (drawn (after x) 8) (drawn (after (after x)) 3) (drawn (after (after (after x))) 256)
 
 -- ---- the whole
 

@@ -9,7 +9,7 @@ ghost use Rattle.tbl_kinds.specs.GroundCommands.{load, validate, activate};
 ghost use Rattle.tbl_kinds.specs.declared.request.Request.TheVariants as ask;
 ghost use Rattle.cfe_headers.specs.FileHeaders.{header_of};
 ghost use Rattle.tbl_drill.specs.Generator.{after};
-ghost use Rattle.tbl_drill.specs.Drill.{asked, command, file_for, file_name, header, just, roomless, round_from, size, table_name};
+ghost use Rattle.tbl_drill.specs.Drill.{requested, command, file_for, file_name, header, just, roomless, round_from, size, table_name};
 
 use crate::generator::Generator;
 use crate::opening::TABLE_SIZE;
@@ -130,11 +130,11 @@ fn activate_command(alloc: Global, table: u16) -> Result<Request, Memory>
     command_of(alloc, 5, &table_name_of(table).field())
 }
 
-/// What is asked in a round: by the kind one of eight requests, for a table, with a byte.
-fn asked_of(alloc: Global, kind: u64, table: u16, byte: u8) -> Result<Record, Memory>
+/// What is requested in a round: by the kind one of eight requests, for a table, with a byte.
+fn requested_of(alloc: Global, kind: u64, table: u16, byte: u8) -> Result<Record, Memory>
     requires kind { kind < 8 }
     requires table { table < 3 }
-    ensures { IfOk result (λ p. roomless p ≡ asked kind table byte) }
+    ensures { IfOk result (λ p. roomless p ≡ requested kind table byte) }
 {
     let shared = table + 3;
     let record = match kind {
@@ -167,5 +167,5 @@ pub(crate) fn round_record(alloc: Global, generator: &mut Generator) -> Result<R
     let kind = generator.draw(8);
     let table = generator.draw(3) as u16;
     let byte = generator.draw(256) as u8;
-    asked_of(alloc, kind, table, byte)
+    requested_of(alloc, kind, table, byte)
 }

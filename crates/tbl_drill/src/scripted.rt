@@ -40,11 +40,11 @@ impl Scripted {
     }
 
     /// Puts a record last.
-    fn push(&mut self, asked: Record) -> Result<(), Memory>
-        ensures ok { OnOk result (self.new ≡ self.old ++ asked ∷ []) }
+    fn push(&mut self, requested: Record) -> Result<(), Memory>
+        ensures ok { OnOk result (self.new ≡ self.old ++ requested ∷ []) }
         ensures err { OnErr result (self.new ≡ self.old) }
     {
-        self.records.push_back(asked)?;
+        self.records.push_back(requested)?;
         Ok(())
     }
 

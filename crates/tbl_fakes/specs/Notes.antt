@@ -1,4 +1,4 @@
--- What a bank in memory keeps of the calls that it was asked for.
+-- What a bank in memory keeps of the calls that it got.
 use Rattle.std.specs.Prelude.{◌≡◌, ℕ, ◌-◌, Bool, true, ◌&&◌, nat_lt, nat_le, if◌then◌else◌, List, [], ◌∷◌, length, take, drop}
 use Rattle.std.specs.List.{sum_by}
 use Rattle.tbl_outside.specs.BankCalls.{BankCall, read, write}
@@ -41,7 +41,7 @@ abbrev pub call_of : NotedCall → List ℕ → BankCall
 call_of (Read at count) bytes = read at count
 call_of (Write at count) bytes = write at (take count bytes)
 
--- the calls that are kept, oldest first, with the bytes of the writes one behind the other, on top of earlier ones
+-- the calls that are kept, oldest first, with the bytes of the writes one after the other, on top of earlier ones
 abbrev pub told : List NotedCall → List ℕ → List BankCall → List BankCall
 told [] bytes past = past
 told (call ∷ calls) bytes past = told calls (drop (kept_of call) bytes) (call_of call bytes ∷ past)

@@ -8,7 +8,7 @@ use tbl_kinds::{Bytes, Memory};
 use tbl_outside::{Bank, Failed, Written};
 
 /// Preserved memory that never fails and is never stopped. It keeps no record, so it tells its bytes, and
-/// neither its moments nor what it was asked.
+/// neither its moments nor its calls.
 #[derive(Drop)]
 pub struct CalmBank {
     bytes: Bytes,

@@ -156,7 +156,7 @@ pub struct CountingGate {
 }
 
 impl CountingGate {
-    /// Nothing was told yet of the actors 0 to 16. An Err is want of memory.
+    /// Nothing was told yet of the actors 0 to 16. An Err means out of memory.
     pub fn make(alloc: Global) -> Result<CountingGate, Memory> {
         let mut tallies = Vec::new(alloc);
         for _ in 0..ACTOR_COUNT {

@@ -22,7 +22,7 @@ use tbl_outside::{Bank, Failed, Written};
 const READS_NOTED: usize = 4_096;
 
 /// Preserved memory whose writes break off, and whose reads fail, where their number says so. It keeps a record of its
-/// writes with what stood before them, from which its moments are told, and one of the calls that it was asked for.
+/// writes with what stood before them, from which its moments are told, and one of the calls that it got.
 #[derive(Drop)]
 pub struct MemBank {
     bytes: Bytes,
@@ -165,7 +165,7 @@ impl Bank for MemBank {
         ensures fault_count { self.old.trouble.faults ≤ self.new.trouble.faults }
         ensures stop_count { self.old.trouble.stops ≤ self.new.trouble.stops }
         ensures told { self.new.notes.missed ≡ false → self.old.notes.missed ≡ false }
-        ensures asked { self.new.notes.missed ≡ false →
+        ensures bank_calls { self.new.notes.missed ≡ false →
             self.new.notes.calls ≡ read at (length into.old) ∷ self.old.notes.calls }
 
         // It fails exactly where its number is listed, and then moves nothing. It notes the call where it has room.
@@ -200,7 +200,7 @@ impl Bank for MemBank {
         ensures fault_count { self.old.trouble.faults ≤ self.new.trouble.faults }
         ensures stop_count { self.old.trouble.stops ≤ self.new.trouble.stops }
         ensures told { self.new.notes.missed ≡ false → self.old.notes.missed ≡ false }
-        ensures asked { self.new.notes.missed ≡ false →
+        ensures bank_calls { self.new.notes.missed ≡ false →
             self.new.notes.calls ≡ write at bytes.now ∷ self.old.notes.calls }
 
         // It notes the call where it has room.

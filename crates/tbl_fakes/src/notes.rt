@@ -1,4 +1,4 @@
-// The calls that a bank in memory was asked for.
+// The calls that a bank in memory got.
 ghost use Rattle.std.specs.Prelude.{◌≡◌, ◌+◌, ◌<◌, ◌^◌, true, false, [], IfOk, length};
 ghost use Rattle.tbl_outside.specs.BankCalls.{read, write};
 ghost use Rattle.tbl_fakes.specs.Notes.{has_room_for, with_call, noted, kept_of, call_of};
@@ -14,8 +14,8 @@ pub(crate) enum NotedCall {
     Write(u32, u32),
 }
 
-/// The calls so far, oldest first, the bytes of the writes one behind the other, the room that is left for both, and
-/// whether a call was left out for want of room.
+/// The calls so far, oldest first, the bytes of the writes one after the other, the room that is left for both, and
+/// whether a call was left out for lack of room.
 #[derive(Drop)]
 pub(crate) struct Notes {
     calls: Vec<NotedCall>,

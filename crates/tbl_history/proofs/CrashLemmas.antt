@@ -14,7 +14,7 @@ use Rattle.tbl_outside.specs.declared.bank.Bank.{Ghosts}
 use Rattle.tbl_outside.proofs.Moments.{goes_on, leaves_among}
 use Rattle.cds_layout.specs.Images.{store_of}
 use Rattle.tbl_session.specs.Restores.{RestoresHeld}
-use Rattle.tbl_core.specs.Service.{CoreView, StandsFor}
+use Rattle.tbl_core.specs.Service.{CoreView, FollowsFrom}
 use Rattle.tbl_kinds.specs.declared.entry.Entry.{Entry}
 use Rattle.tbl_session.specs.Moments.{run_at, AtSomePlace, AtExit, GaveLeft, AllGaveLeft}
 use Rattle.tbl_history.specs.Surviving.{Survives}
@@ -30,14 +30,14 @@ pushed (first ∷ xs) y (suc k) x at = elim (pushed xs y k x at) [
   | inr last ↦ inr (ap suc last.0, last.1)
 ]
 
--- the run behind the entries before
+-- the run after the entries before
 run_before : (opening : State) (entries more : List Entry) (place : ℕ) → place ≤ length entries → run_at opening (entries ++ more) place ≡ run_at opening entries place
 run_before opening entries more place within = ap (run_from (begins_at opening)) (take-append-le place entries more within)
 
 run_behind : (opening : State) (entries : List Entry) → run_at opening entries (length entries) ≡ run_from (begins_at opening) entries
 run_behind opening entries = ap (run_from (begins_at opening)) (take-length entries)
 
--- an image that shows the blocks behind all entries
+-- an image that shows the blocks after all entries
 shows_behind : (opening : State) (entries : List Entry) (image : List ℕ) → Shows (run_from (begins_at opening) entries).state.store (store_of image) → AfterCrash opening entries (length entries) (store_of image)
 shows_behind opening entries image shows = inl (subst (λ (r : Run). Shows r.state.store (store_of image)) (sym (run_behind opening entries)) shows)
 
@@ -48,17 +48,17 @@ module _ {B C : Type 0} (g : Ghosts B) (laws : Laws g) where
   Is opening bank core = Survives g opening bank core
 
   -- what the bank of a live service holds shows its blocks
-  now_shows : (opening : State) (core : CoreView B C) → StandsFor g opening core → core.state.ended ≡ false → g.tells_moments → Shows (run_from (begins_at opening) core.entries).state.store (store_of (g.now core.state.store.bank))
+  now_shows : (opening : State) (core : CoreView B C) → FollowsFrom g opening core → core.state.ended ≡ false → g.tells_moments → Shows (run_from (begins_at opening) core.entries).state.store (store_of (g.now core.state.store.bank))
   now_shows opening core stands live told = ((stands.shows (laws.tells_both told)).state.blocks live).shows (laws.tells_both told)
 
   -- so that is what a reset leaves of it
-  exit_live : (opening : State) (core : CoreView B C) → StandsFor g opening core → core.state.ended ≡ false → g.tells_moments → (image : List ℕ) → g.may_leave core.state.store.bank image → AtExit opening core.entries image
+  exit_live : (opening : State) (core : CoreView B C) → FollowsFrom g opening core → core.state.ended ≡ false → g.tells_moments → (image : List ℕ) → g.may_leave core.state.store.bank image → AtExit opening core.entries image
   exit_live opening core stands live told image may =
       inl (shows_behind opening core.entries image (subst (λ (bytes : List ℕ). Shows (run_from (begins_at opening) core.entries).state.store (store_of bytes)) (sym (laws.leaves_only_now core.state.store.bank image told may)) (now_shows opening core stands live told)))
 
   -- ---- one entry more
 
-  module _ (opening : State) (bank : B) (old new : CoreView B C) (entry : Entry) (added : new.entries ≡ old.entries ++ entry ∷ []) (live : old.state.ended ≡ false) (was : Is opening bank old) (stands : StandsFor g opening new)
+  module _ (opening : State) (bank : B) (old new : CoreView B C) (entry : Entry) (added : new.entries ≡ old.entries ++ entry ∷ []) (live : old.state.ended ≡ false) (was : Is opening bank old) (stands : FollowsFrom g opening new)
       (told : g.tells_moments) (crash : LeavesOnly g.clock g.left_since old.state.store.bank new.state.store.bank (λ image. AfterCrash opening new.entries (length old.entries) (store_of image))) where
     longer : length new.entries ≡ length old.entries + 1
     longer = ap length added ∙ length-append old.entries (entry ∷ [])
@@ -107,9 +107,9 @@ module _ {B C : Type 0} (g : Ghosts B) (laws : Laws g) where
     })
 
   pub survives_on : (opening : State) (bank : B) (old new : CoreView B C) (entry : Entry) → new.entries ≡ old.entries ++ entry ∷ [] → new.state.ended ≡ entry.note.ended → old.state.ended ≡ false
-      → ((opening : State) → StandsFor g opening old → StandsFor g opening new)
-      → (g.tells_moments → (opening : State) → StandsFor g opening old → LeavesOnly g.clock g.left_since old.state.store.bank new.state.store.bank (λ image. AfterCrash opening new.entries (length old.entries) (store_of image)))
-      → (e : Entry) × (new.entries ≡ old.entries ++ e ∷ []) × (g.tells → (opening : State) → StandsFor g opening old → RestoresHeld (g.now old.state.store.bank) (all_calls_in (run_from (begins_at opening) old.entries) e) (run_from (begins_at opening) old.entries).state.store e.note)
+      → ((opening : State) → FollowsFrom g opening old → FollowsFrom g opening new)
+      → (g.tells_moments → (opening : State) → FollowsFrom g opening old → LeavesOnly g.clock g.left_since old.state.store.bank new.state.store.bank (λ image. AfterCrash opening new.entries (length old.entries) (store_of image)))
+      → (e : Entry) × (new.entries ≡ old.entries ++ e ∷ []) × (g.tells → (opening : State) → FollowsFrom g opening old → RestoresHeld (g.now old.state.store.bank) (all_calls_in (run_from (begins_at opening) old.entries) e) (run_from (begins_at opening) old.entries).state.store e.note)
       → Is opening bank old → Is opening bank new
   survives_on opening bank old new entry added ended live legal crash gave was =
       let stands = legal opening was.stands in record {
@@ -121,7 +121,7 @@ module _ {B C : Type 0} (g : Ghosts B) (laws : Laws g) where
 
   -- ---- at first
 
-  pub survives_at_first : (opening : State) (bank : B) (core : CoreView B C) → core.entries ≡ [] → core.state.ended ≡ false → StandsFor g opening core
+  pub survives_at_first : (opening : State) (bank : B) (core : CoreView B C) → core.entries ≡ [] → core.state.ended ≡ false → FollowsFrom g opening core
       → (g.tells_moments → LeavesOnly g.clock g.left_since bank core.state.store.bank (λ image. Shows opening.store (store_of image)))
       → Is opening bank core
   survives_at_first opening bank core none live stands crash = record {

@@ -1,4 +1,4 @@
--- What a reset left at a place of a history is the same where further entries stand behind.
+-- What a reset left at a place of a history is the same where further entries follow.
 use Rattle.std.proofs.Common.{◌≡◌, ℕ, ◌≤◌, zero, suc, List, [], ◌∷◌, ◌++◌, length, Some, sym, subst, inl, inr}
 use Rattle.std.specs.Prelude.{slice_get}
 use Rattle.std.proofs.lemmas.List.{take-append-le}

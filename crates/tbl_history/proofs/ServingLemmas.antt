@@ -16,7 +16,7 @@ use Rattle.tbl_session.specs.Crashes.{AfterCrash, all_calls_in}
 use Rattle.tbl_session.specs.Openings.{Opening}
 use Rattle.tbl_session.specs.Restores.{RestoresHeld}
 use Rattle.tbl_session.specs.Served.{IsServed}
-use Rattle.tbl_core.specs.Service.{CoreView, AddsOne, StandsFor, Vouches}
+use Rattle.tbl_core.specs.Service.{CoreView, AddsOne, FollowsFrom, Vouches}
 use Rattle.tbl_core.specs.declared.service.StepFault.{StepFault}
 use Rattle.tbl_core.proofs.Keeping.{keeps}
 use Rattle.std.proofs.Common.{Option}
@@ -70,10 +70,10 @@ module _ {B C : Type 0} (g : Ghosts B) (verdict : C → List ℕ → ℤ) where
 module _ {B C : Type 0} (g : Ghosts B) (laws : Laws g) (verdict : C → List ℕ → ℤ) (old new : CoreView B C) (live : old.state.ended ≡ false) where
   -- a step that added an entry goes on with all of it
   pub step_continues : (actor : Actor) (request : Request) (result : Result Unit StepFault) → AddsOne g old new actor request result
-      → ((opening : State) → StandsFor g opening old → StandsFor g opening new)
+      → ((opening : State) → FollowsFrom g opening old → FollowsFrom g opening new)
       → ((opening : State) (given : List (Option (KitEntry C))) → Vouches g verdict given opening old → Vouches g verdict given opening new)
-      → (g.tells_moments → (opening : State) → StandsFor g opening old → LeavesOnly g.clock g.left_since old.state.store.bank new.state.store.bank (λ image. AfterCrash opening new.entries (length old.entries) (store_of image)))
-      → (e : Entry) × (new.entries ≡ old.entries ++ e ∷ []) × (g.tells → (opening : State) → StandsFor g opening old → RestoresHeld (g.now old.state.store.bank) (all_calls_in (run_from (begins_at opening) old.entries) e) (run_from (begins_at opening) old.entries).state.store e.note)
+      → (g.tells_moments → (opening : State) → FollowsFrom g opening old → LeavesOnly g.clock g.left_since old.state.store.bank new.state.store.bank (λ image. AfterCrash opening new.entries (length old.entries) (store_of image)))
+      → (e : Entry) × (new.entries ≡ old.entries ++ e ∷ []) × (g.tells → (opening : State) → FollowsFrom g opening old → RestoresHeld (g.now old.state.store.bank) (all_calls_in (run_from (begins_at opening) old.entries) e) (run_from (begins_at opening) old.entries).state.store e.note)
       → Continues g verdict old new
   step_continues actor request result one legal vouches crash gave = record {
     stands = legal;

@@ -5,7 +5,7 @@ use Rattle.tbl_model.specs.State.{State}
 use Rattle.tbl_outside.specs.declared.bank.Bank.{Ghosts}
 use Rattle.tbl_outside.specs.declared.validator.KitEntry.{KitEntry}
 use Rattle.tbl_session.specs.Openings.{Opening, IsFirst}
-use Rattle.tbl_core.specs.Service.{CoreView, StandsFor, Vouches}
+use Rattle.tbl_core.specs.Service.{CoreView, FollowsFrom, Vouches}
 use Rattle.tbl_history.specs.Surviving.{Survives}
 use Rattle.tbl_history.specs.Trouble.{IsCaused}
 
@@ -19,7 +19,7 @@ pub record Serves {B C : Type 0} (g : Ghosts B) (verdict : C → List ℕ → �
 
 -- Whatever the old core keeps to, the new one does, each part by itself: so a caller that knows one part alone keeps that.
 pub record Continues {B C : Type 0} (g : Ghosts B) (verdict : C → List ℕ → ℤ) (old new : CoreView B C) : Type 0 where
-  pub stands : (opening : State) → StandsFor g opening old → StandsFor g opening new
+  pub stands : (opening : State) → FollowsFrom g opening old → FollowsFrom g opening new
   pub vouches : (opening : State) (given : List (Option (KitEntry C))) → Vouches g verdict given opening old → Vouches g verdict given opening new
   pub survives : (opening : State) (bank : B) → Survives g opening bank old → Survives g opening bank new
   pub caused : (bank : B) → IsCaused g bank old → IsCaused g bank new

@@ -19,7 +19,7 @@ no_zero_before name k none lt =
     let len : length (name_in name) ≡ length name = ap length none in
     fails_before_first is_zero name k 0 (omega (arith, len, length-take (position_or_len is_zero name) name))
 
--- the byte behind the name is zero
+-- the byte after the name is zero
 behind_name : (width : ℕ) (name : List ℕ) → FitsField width name → length name < length (name_field width name) → get_or (name_field width name) (length name) 0 ≡ 0
 behind_name width name fits lt =
     let here = get_or-append_right name (replicate (width - length name) 0) (length name) (length name) 0 refl (omega arith) in

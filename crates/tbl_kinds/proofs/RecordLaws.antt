@@ -305,11 +305,11 @@ no_validator_255 Ground (ask.Register name size flags validator) fits = absurd f
 no_validator_255 Ground request fits = tt
 no_validator_255 (App number) request fits = fits.3
 
-same_actor : (actor other : Actor) (request asked : Request) → Fits actor request → Fits other asked → actor_number actor ≡ actor_number other → actor ≡ other
-same_actor Ground Ground request asked fits asked-fits e = refl
-same_actor Ground (App number) request asked fits asked-fits e = absurd (omega (arith, asked-fits.0, e))
-same_actor (App number) Ground request asked fits asked-fits e = absurd (omega (arith, fits.0, e))
-same_actor (App number) (App other) request asked fits asked-fits e = ap App e
+same_actor : (actor other : Actor) (request second : Request) → Fits actor request → Fits other second → actor_number actor ≡ actor_number other → actor ≡ other
+same_actor Ground Ground request second fits second-fits e = refl
+same_actor Ground (App number) request second fits second-fits e = absurd (omega (arith, second-fits.0, e))
+same_actor (App number) Ground request second fits second-fits e = absurd (omega (arith, fits.0, e))
+same_actor (App number) (App other) request second fits second-fits e = ap App e
 
 -- a spelling is of one request of one actor
 pub one_request : (p q : Pair) → IsRecord p → IsRecord q → spelling p ≡ spelling q → (p.actor ≡ q.actor) × (without_room p.request ≡ without_room q.request)

@@ -169,7 +169,7 @@ abbrev pub ReadsAsOption : ℕ → Option (List ℕ) → List ℕ → Type 0
 ReadsAsOption width None field = field ≡ []
 ReadsAsOption width (Some name) field = ReadsAs width name field
 
--- the bytes are a packet of this command. What stands in a name field behind the name's zero is free, and so is the function code of a housekeeping request
+-- the bytes are a packet of this command. What stands in a name field after the name's zero is free, and so is the function code of a housekeeping request
 pub record SpellsCommand (bytes : List ℕ) (command : GroundCommand) : Type 0 where
   pub code : ℕ
   pub table_field : List ℕ

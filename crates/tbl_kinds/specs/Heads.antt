@@ -16,7 +16,7 @@ pub record Kind : Type 0 where
 abbrev pub any_body : List ℕ → Bool
 any_body body = true
 
--- behind the field's first zero byte all bytes are zero
+-- after the field's first zero byte all bytes are zero
 abbrev pub is_name_field : List ℕ → Bool
 is_name_field field = list_all is_zero (drop (length (name_in field)) field)
 
@@ -24,7 +24,7 @@ is_name_field field = list_all is_zero (drop (length (name_in field)) field)
 abbrev pub has_name : ℕ → ℕ → List ℕ → Bool
 has_name place width body = is_name_field (piece place width body)
 
--- a body that is such a field behind a handle
+-- a body that is such a field after a handle
 abbrev pub has_name_last : List ℕ → Bool
 has_name_last body = is_name_field (drop 2 body)
 

@@ -2,8 +2,8 @@
 use Rattle.std.specs.Prelude.{◌-◌, vec_capacity, vec_len}
 use Rattle.tbl_kinds.specs.Buffers.{Buffer}
 use Rattle.tbl_kinds.specs.declared.bytes.Items.{Items}
-use Rattle.tbl_kinds.specs.declared.bytes.Items.TheVariants.{Few, Many}
+use Rattle.tbl_kinds.specs.declared.bytes.Items.TheVariants.{Inline, Allocated}
 
 abbrev pub buffer_of : Items → Buffer
-buffer_of (Few few) = few
-buffer_of (Many many) = record { list = many.items; spare = vec_capacity many - vec_len many }
+buffer_of (Inline inline) = inline
+buffer_of (Allocated allocated) = record { list = allocated.items; spare = vec_capacity allocated - vec_len allocated }

@@ -1,10 +1,10 @@
--- Space packets: the primary header of CCSDS 133.0-B, and behind it the secondary header of a command or of telemetry.
+-- Space packets: the primary header of CCSDS 133.0-B, and after it the secondary header of a command or of telemetry.
 use Rattle.std.specs.Prelude.{◌≡◌, ℕ, ◌+◌, ◌-◌, ◌*◌, ◌%◌, ◌^◌, ◌<◌, ◌==◌, List, [], ◌∷◌, ◌++◌, length, drop, not, nat_lt, if◌then◌else◌, Option, Some, None, bit_xor}
 use Rattle.std.specs.List.{fold}
 use Rattle.tbl_kinds.specs.Numbers.{two, four, byte_at, two_at}
 use Rattle.tbl_kinds.specs.declared.telemetry.TlmHead.{TlmHead}
 
--- the message ids: 11 bits of application id behind version 0, the type (1 for a command) and the secondary header flag
+-- the message ids: 11 bits of application id after version 0, the type (1 for a command) and the secondary header flag
 abbrev pub command_id : ℕ
 command_id = 0x1804
 
@@ -24,7 +24,7 @@ registry_id = 0x080C
 unfoldable pub primary_header : ℕ → ℕ → ℕ → List ℕ
 primary_header id count len = two id ++ two (0xC000 + count) ++ two (len - 7)
 
--- a telemetry packet has the time behind its primary header
+-- a telemetry packet has the time after its primary header
 unfoldable pub telemetry_packet : ℕ → TlmHead → List ℕ → List ℕ
 telemetry_packet id head body = primary_header id head.count (12 + length body) ++ four head.seconds ++ two head.sub ++ body
 
@@ -45,7 +45,7 @@ packet_flaw bytes =
     else (if not (checksum bytes == 0) then Some bad_check
     else None))
 
--- what a command packet without a flaw carries: its id, its function code, and the payload behind the eighth byte
+-- what a command packet without a flaw carries: its id, its function code, and the payload after the eighth byte
 abbrev pub packet_id : List ℕ → ℕ
 packet_id bytes = two_at 0 bytes
 

@@ -1,4 +1,4 @@
--- Where a block of the store can be: behind the directory, inside the bank, and apart from the blocks that are there.
+-- Where a block of the store can be: after the directory, inside the bank, and apart from the blocks that are there.
 use Rattle.std.specs.Prelude.{ℕ, ◌+◌, ◌-◌, Bool, ◌&&◌, ◌||◌, nat_le, List, Option, find}
 use Rattle.std.specs.List.{list_all, range_with_len}
 use Rattle.tbl_kinds.specs.declared.block.Block.{Block}
@@ -18,7 +18,7 @@ end_of at size = at + (8 + size)
 abbrev pub are_apart : ℕ → ℕ → ℕ → ℕ → Bool
 are_apart at size at' size' = nat_le (end_of at size) at' || nat_le (end_of at' size') at
 
--- behind the directory and inside the bank
+-- after the directory and inside the bank
 abbrev pub is_inside : ℕ → ℕ → Bool
 is_inside at size = nat_le blocks_begin at && nat_le (end_of at size) bank_size
 

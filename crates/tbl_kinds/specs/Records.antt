@@ -97,7 +97,7 @@ head_of p = kind_of p.request ∷ actor_number p.actor ∷ two (length (body_of 
 unfoldable pub spelling : Pair → List ℕ
 spelling p = head_of p ++ body_of p.request
 
--- the request, whatever room is reserved behind its bytes
+-- the request, whatever room is reserved after its bytes
 abbrev pub without_room : Request → Request
 without_room (ask.Command bytes) = ask.Command (record { list = bytes.list; spare = 0 })
 without_room (ask.File name bytes) = ask.File name (record { list = bytes.list; spare = 0 })

@@ -27,7 +27,7 @@ unfoldable pub file_with : Header → List ℕ → ℕ → List ℕ → List ℕ
 file_with header reserved offset field image =
     file_header header ++ (reserved ++ (four offset ++ (four (length image) ++ (field ++ image))))
 
--- a written file has reserved zeros, and zeros behind the name
+-- a written file has reserved zeros, and zeros after the name
 abbrev pub table_file : Header → TableFile → List ℕ
 table_file header file = file_with header (four 0) file.offset (name_field 40 file.name) file.image
 
@@ -40,7 +40,7 @@ pub record IsWritable (header : Header) (file : TableFile) : Type 0 where
   pub name_fits : length file.name ≤ 40
   pub no_zero : HasNoZero file.name
 
--- the bytes are a table file that tells this, of a spacecraft and a processor that are admitted. The rest of its header, the reserved bytes and what stands in the name field behind the name's zero are free
+-- the bytes are a table file that tells this, of a spacecraft and a processor that are admitted. The rest of its header, the reserved bytes and what stands in the name field after the name's zero are free
 pub record IsTableFile (admit : Admitted) (bytes : List ℕ) (file : TableFile) : Type 0 where
   pub header : Header
   pub reserved : List ℕ

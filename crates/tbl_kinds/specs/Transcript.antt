@@ -20,7 +20,7 @@ pub record EntryFields : Type 0 where
   pub bytes : List ℕ
   pub packets : List ℕ
 
--- place, actor, status, detail, and then the reply's bytes and its packets, each behind its length
+-- place, actor, status, detail, and then the reply's bytes and its packets, each after its length
 unfoldable pub entry_spelling : EntryFields → List ℕ
 entry_spelling f =
     four f.place ++ f.actor ∷ [] ++ four f.status ++ four f.detail

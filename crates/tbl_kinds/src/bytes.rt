@@ -1,6 +1,6 @@
 ghost use Rattle.std.specs.Prelude.{◌≡◌, ℕ, ◌+◌, ◌≤◌, [], ◌++◌, length, take, drop, vec_capacity, IfOk, OnOk, OnErr};
 
-use crate::few::{FEW, Few};
+use crate::inline::{INLINE_LIMIT, InlineBytes};
 use std::alloc::{AllocError, AllocFailed, Global};
 use std::marker::Model;
 
@@ -23,8 +23,8 @@ impl<T: Drop> From<AllocFailed<T>> for Memory {
 /// Where bytes stand: few of them in the value itself, more of them in memory of their own.
 #[derive(Drop)]
 enum Items {
-    Few(Few),
-    Many(Vec<u8>),
+    Inline(InlineBytes),
+    Allocated(Vec<u8>),
 }
 
 /// Bytes in memory, with reserved room after them.
@@ -50,10 +50,10 @@ impl Bytes {
         ensures empty { IfOk result (λ b. b.list ≡ []) }
         ensures room { IfOk result (λ b. b.spare ≡ room) }
     {
-        let items = if room <= FEW {
-            Items::Few(Few::make(room))
+        let items = if room <= INLINE_LIMIT {
+            Items::Inline(InlineBytes::make(room))
         } else {
-            Items::Many(Vec::with_capacity(alloc, room)?)
+            Items::Allocated(Vec::with_capacity(alloc, room)?)
         };
         Ok(Bytes { alloc, items })
     }
@@ -63,8 +63,8 @@ impl Bytes {
         ensures { result.now ≡ self.now.list }
     {
         match &self.items {
-            Items::Few(few) => few.bytes(),
-            Items::Many(many) => many.as_slice(),
+            Items::Inline(inline) => inline.bytes(),
+            Items::Allocated(allocated) => allocated.as_slice(),
         }
     }
 
@@ -78,8 +78,12 @@ impl Bytes {
         ensures { IfOk result (λ b. b.list ≡ self.now.list) }
     {
         let items = match &self.items {
-            Items::Few(few) => Items::Few(few.copy()),
-            Items::Many(many) => Items::Many(copy_of(self.alloc, many.as_slice(), 0)?),
+            Items::Inline(inline) => Items::Inline(inline.copy()),
+            Items::Allocated(allocated) => Items::Allocated(copy_of(
+                self.alloc,
+                allocated.as_slice(),
+                0,
+            )?),
         };
         Ok(Bytes {
             alloc: self.alloc,
@@ -94,9 +98,9 @@ impl Bytes {
         ensures room { self.old.spare ≤ self.new.spare + length piece.now }
     {
         match &mut self.items {
-            Items::Few(few) => few.append(piece),
-            Items::Many(many) => {
-                let _ = many.extend_from_slice(piece);
+            Items::Inline(inline) => inline.append(piece),
+            Items::Allocated(allocated) => {
+                let _ = allocated.extend_from_slice(piece);
             }
         }
     }
@@ -108,8 +112,8 @@ impl Bytes {
         ensures room { self.new.spare ≡ self.old.spare }
     {
         match &mut self.items {
-            Items::Few(few) => few.write_over(at, piece),
-            Items::Many(many) => many[at..at + piece.len()].copy_from_slice(piece),
+            Items::Inline(inline) => inline.write_over(at, piece),
+            Items::Allocated(allocated) => allocated[at..at + piece.len()].copy_from_slice(piece),
         }
     }
 
@@ -120,13 +124,13 @@ impl Bytes {
         ensures err { OnErr result (self.new ≡ self.old) }
     {
         match &mut self.items {
-            Items::Few(few) => {
-                if !few.reserve(more) {
-                    let many = copy_of(self.alloc, few.bytes(), more)?;
-                    self.items = Items::Many(many);
+            Items::Inline(inline) => {
+                if !inline.reserve(more) {
+                    let allocated = copy_of(self.alloc, inline.bytes(), more)?;
+                    self.items = Items::Allocated(allocated);
                 }
             }
-            Items::Many(many) => many.reserve(more)?,
+            Items::Allocated(allocated) => allocated.reserve(more)?,
         }
         Ok(())
     }
@@ -137,21 +141,21 @@ impl Bytes {
         ensures room { self.old.spare + length self.old.list ≤ self.new.spare }
     {
         match &mut self.items {
-            Items::Few(few) => few.clear(),
-            Items::Many(many) => many.clear(),
+            Items::Inline(inline) => inline.clear(),
+            Items::Allocated(allocated) => allocated.clear(),
         }
     }
 }
 
 /// The bytes in memory of their own, with reserved room for this many further ones.
 fn copy_of(alloc: Global, bytes: &[u8], more: usize) -> Result<Vec<u8>, Memory>
-    ensures bytes { IfOk result (λ many. many.items ≡ bytes.now) }
-    ensures room { IfOk result (λ many. length bytes.now + more ≤ vec_capacity many) }
+    ensures bytes { IfOk result (λ allocated. allocated.items ≡ bytes.now) }
+    ensures room { IfOk result (λ allocated. length bytes.now + more ≤ vec_capacity allocated) }
 {
     let Some(room) = bytes.len().checked_add(more) else {
         return Err(Memory);
     };
-    let mut many = Vec::with_capacity(alloc, room)?;
-    let _ = many.extend_from_slice(bytes);
-    Ok(many)
+    let mut allocated = Vec::with_capacity(alloc, room)?;
+    let _ = allocated.extend_from_slice(bytes);
+    Ok(allocated)
 }

@@ -81,7 +81,7 @@ impl<const N: usize> Name<N> {
         Name { items }
     }
 
-    /// The name that a field of `N` bytes is written for. None where a byte behind the field's first zero byte isn't zero.
+    /// The name that a field of `N` bytes is written for. None where a byte after the field's first zero byte isn't zero.
     #[tactic(auto, using(crate::proofs::NameFields::written_again))]
     pub fn exact(field: &[u8]) -> Option<Name<N>>
         requires { length field.now ≡ N }

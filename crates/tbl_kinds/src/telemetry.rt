@@ -74,7 +74,7 @@ pub struct RegistryRow {
     /// Time of this table's last update.
     pub seconds: u32,
     pub sub: u16,
-    /// Bit 0 loaded, 1 activation asked, 2 dump only, 3 double buffered, 4 critical, 5 load open.
+    /// Bit 0 loaded, 1 activation requested, 2 dump only, 3 double buffered, 4 critical, 5 load open.
     pub bits: u8,
     /// The validator's number, 0xFF for none.
     pub validator: u8,

@@ -12,7 +12,7 @@ use Rattle.tbl_kinds.specs.Free.{least_free}
 use Rattle.tbl_kinds.specs.Notes.{restored_image}
 use Rattle.tbl_kinds.specs.StoreSteps.{open_of, stored_at, has_room}
 use Rattle.tbl_kinds.specs.StoreCalls.{StoreCall, copy, restore, delete, after}
-use Rattle.tbl_model.specs.State.{State, Table, Dump, quiet, asked, filled}
+use Rattle.tbl_model.specs.State.{State, Table, Dump, quiet, requested, filled}
 use Rattle.tbl_model.specs.Tables.{table_at, is_critical, critical_count, rows_where}
 use Rattle.tbl_model.specs.TableSteps.{find, handle_at, added, last_image, filled_with, new_table, with_first, as_registered, uncritical, drop_before, end_dump}
 use Rattle.tbl_model.specs.Effects.{Effect, answered}
@@ -57,7 +57,7 @@ ends (row ∷ rows) e backed = ends rows (then_end e row) (one (table_at e.state
 
   of : (name : List ℕ) (dump : Dump) → AreBacked (end_by e row name dump).state
   of name quiet = backed
-  of name (asked file) = backed
+  of name (requested file) = backed
   of name (filled file image) =
       cond_both (is_full_for e.state.drawer file) _ _ (λ (d : Ended). AreBacked d.state) (λ _. descends_backed e.state _ backed over refl) (λ _. descends_backed e.state _ backed over refl)
 
@@ -144,8 +144,8 @@ module _ (s : State) (backed : AreBacked s) (given : Given) where
   abbrev Backs : Effect → Type 0
   Backs e = AreBacked e.next
 
-  refused : (e : Effect) → e.next ≡ s → e.deeds ≡ [] → e.calls ≡ [] → is_refusal e.status ≡ true → Backs e
-  refused e is no_deeds no_calls refuses = rw is backed
+  refused : (e : Effect) → e.next ≡ s → e.events ≡ [] → e.calls ≡ [] → is_refusal e.status ≡ true → Backs e
+  refused e is no_events no_calls refuses = rw is backed
 
   on : (next : State) → Descends s.tables next.tables → next.store ≡ s.store → AreBacked next
   on next descends store = descends_backed s next backed descends store
@@ -184,7 +184,7 @@ module _ (s : State) (backed : AreBacked s) (given : Given) where
   commands = record {
     about = λ e table p. p;
     accepted = backed;
-    housekeeping = ends (rows_where is_filled 0 s.tables.rows) (record { state = s; bytes = []; deeds = [] }) backed;
+    housekeeping = ends (rows_where is_filled 0 s.tables.rows) (record { state = s; bytes = []; events = [] }) backed;
     loaded = λ name file row t there none. on _ (load_descends s.tables row file.offset file.image name) refl;
     pends = λ row t active there none function. same _ refl refl;
     at_once = λ row t active there none no_function. on _ (mark_descends s.tables row active (pos 0)) refl;
@@ -193,7 +193,7 @@ module _ (s : State) (backed : AreBacked s) (given : Given) where
     shown = λ row. backed;
     deletes = λ name slot block none. called (delete slot ∷ []) (answered s SUCCESS 0) refl (table_delete_suits s.tables s.store name slot block none);
     written = λ row file bytes free. rw free (same _ refl refl);
-    dump_asked = λ file row t there only none. rw none (on _ (changed_descends s.tables row (λ u. record u { dump = asked file }) (λ u. refl)) refl);
+    dump_requested = λ file row t there only none. rw none (on _ (changed_descends s.tables row (λ u. record u { dump = requested file }) (λ u. refl)) refl);
   }
 
   pub backs : (actor : Actor) (request : Request) → OfEffect (λ e. IsNoteOf request e.calls s.store given.note → AreBacked e.next) (effect_of s actor request given)
@@ -204,7 +204,7 @@ module _ (s : State) (backed : AreBacked s) (given : Given) where
   backs Ground request = tt
   backs (App app) (ask.Start name) = λ noted. by_start s Backs refused app name (same _ refl refl)
   backs (App app) (ask.Register short size flags validator) = λ noted.
-      by_new s (λ e. Ends given.note.outcome e.calls s.store given.note → AreBacked e.next) (λ e is no_deeds no_calls refuses ended. rw is backed) app short size flags validator given.note
+      by_new s (λ e. Ends given.note.outcome e.calls s.store given.note → AreBacked e.next) (λ e is no_events no_calls refuses ended. rw is backed) app short size flags validator given.note
       (λ name row handle plan new free_row free_handle. registers s backed given.note row free_row (new_table name app size flags validator handle) new) noted.ends
   backs (App app) (ask.Share name) = λ noted. by_share s Backs refused app name (λ row handle free. same _ refl refl)
   backs (App app) (ask.Unregister handle) = λ noted. by_unregister s Backs refused app handle (λ h place own. gives_up s handle backed)
@@ -227,7 +227,7 @@ module _ (s : State) (backed : AreBacked s) (given : Given) where
   backs (App app) (ask.CdsRegister name size) = λ noted. makes_block s Backs refused app name size given.note (λ full.
       called (renewal of_app full size (open_of of_app full s.store)) (answered s SUCCESS (new_slot of_app full (open_of of_app full s.store) s.store)) refl (app_renewal_suits s.tables s.store full size backed.single))
   backs (App app) (ask.CdsCopy slot image) = λ noted. copies_block s Backs refused app slot image.list given.note (called (copy slot image.list ∷ []) (answered s SUCCESS 0) refl (tt, tt))
-  backs (App app) (ask.CdsRestore slot) = λ noted. restores_block s Backs refused app slot given.note (λ e is no_deeds quiet. called (restore slot (restored_image given.note) ∷ []) e is (tt, tt))
+  backs (App app) (ask.CdsRestore slot) = λ noted. restores_block s Backs refused app slot given.note (λ e is no_events quiet. called (restore slot (restored_image given.note) ∷ []) e is (tt, tt))
   backs (App app) (ask.CdsDelete slot) = λ noted. deletes_block s Backs refused app slot given.note (λ b there own. called (delete slot ∷ []) (answered s SUCCESS 0) refl (app_delete_suits s.tables s.store slot b there own))
   backs (App app) request = tt
 

@@ -17,7 +17,7 @@ use Rattle.tbl_kinds.specs.declared.note.BankNote.{BankNote}
 use Rattle.tbl_kinds.specs.declared.request.ResetKind.{ResetKind}
 use Rattle.tbl_session.specs.Backed.{AreSingle, AreBacked}
 use Rattle.tbl_laws.proofs.Pins.{at_set, nothing_there}
-use Rattle.tbl_laws.proofs.Descents.{Stands, Descends}
+use Rattle.tbl_laws.proofs.Descents.{StoodBefore, Descends}
 use Rattle.tbl_laws.proofs.Blocks.{boot_single}
 use Rattle.tbl_laws.proofs.TableBlocks.{HasBlock, has_block, is_block}
 use Rattle.tbl_laws.proofs.Calls.{SuitAll, calls_keep, calls_single}
@@ -82,7 +82,7 @@ descends_backed s next backed descends store = record {
   few = let fewer = critical_fewer s.tables next.tables descends in let few = backed.few in omega (arith, fewer, few);
   single = rw store backed.single;
 } where
-  of : (row : ℕ) (u : Table) → Stands s.tables.rows row u → is_critical u ≡ true → IsSome (block_of u s.store)
+  of : (row : ℕ) (u : Table) → StoodBefore s.tables.rows row u → is_critical u ≡ true → IsSome (block_of u s.store)
   of row u stood critical =
       let was : IsSome (block_of stood.table s.store) = backed.each row stood.table stood.there (rw (← ap (λ (p : List ℕ × ℕ × ℕ). p.2) stood.same) critical) in
       rw (ap (λ (p : List ℕ × ℕ × ℕ). p.0) stood.same, ap (λ (p : List ℕ × ℕ × ℕ). p.1) stood.same) was

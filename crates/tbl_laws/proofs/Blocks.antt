@@ -60,7 +60,7 @@ both_of kind name a b one other =
 -- ---- blocks of a kind and a name
 
 -- in this slot is one of them, open or doubtful
-pub record Stands (store : Store) (kind : BlockKind) (name : List ℕ) (slot : ℕ) : Type 0 where
+pub record IsOneOf (store : Store) (kind : BlockKind) (name : List ℕ) (slot : ℕ) : Type 0 where
   pub b : Stored
   pub there : stored_at store slot ≡ Some b
   pub is : is_of kind name b.block ≡ true
@@ -70,15 +70,15 @@ abbrev pub NoneOf : BlockKind → List ℕ → Store → Type 0
 NoneOf kind name store = (n : ℕ) (b : Stored) → stored_at store n ≡ Some b → is_of kind name b.block ≡ false
 
 module _ (kind : BlockKind) (name : List ℕ) (store : Store) where
-  pub open_stands : (slot : ℕ) → open_of kind name store ≡ Some slot → Stands store kind name slot
+  pub open_stands : (slot : ℕ) → open_of kind name store ≡ Some slot → IsOneOf store kind name slot
   open_stands slot is = by (stored_at store slot) refl (position-Some (is_open_of kind name) store slot None is).1 where
-    by : (found : Option Stored) → stored_at store slot ≡ found → is_open_of kind name found ≡ true → Stands store kind name slot
+    by : (found : Option Stored) → stored_at store slot ≡ found → is_open_of kind name found ≡ true → IsOneOf store kind name slot
     by None there passes = absurd (cc passes)
     by (Some b) there passes = record { b = b; there = there; is = (and_parts (is_of kind name b.block) (not b.doubtful) passes).0 }
 
-  pub doubtful_stands : (slot : ℕ) → doubtful_of kind name store ≡ Some slot → Stands store kind name slot
+  pub doubtful_stands : (slot : ℕ) → doubtful_of kind name store ≡ Some slot → IsOneOf store kind name slot
   doubtful_stands slot is = by (stored_at store slot) refl (position-Some (is_doubtful_of kind name) store slot None is).1 where
-    by : (found : Option Stored) → stored_at store slot ≡ found → is_doubtful_of kind name found ≡ true → Stands store kind name slot
+    by : (found : Option Stored) → stored_at store slot ≡ found → is_doubtful_of kind name found ≡ true → IsOneOf store kind name slot
     by None there passes = absurd (cc passes)
     by (Some b) there passes = record { b = b; there = there; is = (and_parts (is_of kind name b.block) b.doubtful passes).0 }
 
@@ -107,7 +107,7 @@ module _ (kind : BlockKind) (name : List ℕ) (store : Store) where
 
   module _ (single : AreSingle store) where
     -- where the one that there is goes, there is none
-    pub gone : (slot : ℕ) → Stands store kind name slot → NoneOf kind name (slice_set store slot None)
+    pub gone : (slot : ℕ) → IsOneOf store kind name slot → NoneOf kind name (slice_set store slot None)
     gone slot stands n b there = elim (at_put store slot n None b there) [
       | inl here ↦ absurd (cc here.1)
       | inr other ↦ elim (cases_Bool (is_of kind name b.block)) [

@@ -18,7 +18,7 @@ use Rattle.tbl_kinds.specs.declared.block.BlockKind.{BlockKind}
 use Rattle.tbl_kinds.specs.declared.block.BlockKind.TheVariants.{Table as of_table, App}
 use Rattle.tbl_kinds.specs.declared.note.BankNote.{BankNote}
 use Rattle.tbl_session.specs.Backed.{AreSingle}
-use Rattle.tbl_laws.proofs.Blocks.{kinds_same, of_parts, name_is, Stands, open_stands, doubtful_stands, gone, none_open, none_doubtful, closed_none, remain_single, freed_remain, change_remain, made_single}
+use Rattle.tbl_laws.proofs.Blocks.{kinds_same, of_parts, name_is, IsOneOf, open_stands, doubtful_stands, gone, none_open, none_doubtful, closed_none, remain_single, freed_remain, change_remain, made_single}
 use Rattle.tbl_laws.proofs.TableBlocks.{HasBlock, set_keeps, change_keeps, closed_keeps, made_keeps, made_has}
 use Rattle.tbl_laws.proofs.Pins.{none_passes}
 
@@ -127,11 +127,11 @@ module _ (tables : Tables) (store : Store) where
 
   pub table_delete_suits : (name : List ℕ) (slot : ℕ) → any_of of_table name store ≡ Some slot → find name tables ≡ None → SuitAll tables (delete slot ∷ []) store
   table_delete_suits name slot is none = (λ row t registered. rw stands.there (unregistered_apart tables row t registered stands.b name none stands.is), tt) where
-    by : (found : Option ℕ) → open_of of_table name store ≡ found → option_or found (doubtful_of of_table name store) ≡ Some slot → Stands store of_table name slot
+    by : (found : Option ℕ) → open_of of_table name store ≡ found → option_or found (doubtful_of of_table name store) ≡ Some slot → IsOneOf store of_table name slot
     by None none here = doubtful_stands of_table name store slot here
     by (Some k) at here = open_stands of_table name store slot (at ∙ here)
 
-    stands : Stands store of_table name slot
+    stands : IsOneOf store of_table name slot
     stands = by (open_of of_table name store) refl is
 
 -- ---- all of them are done

@@ -22,11 +22,11 @@ use Rattle.tbl_model.specs.TableSteps.{handle_at, access_of, Access, find, is_th
 use Rattle.tbl_model.specs.Registry.{registry_row}
 use Rattle.tbl_model.specs.Effects.{Effect, answered}
 use Rattle.tbl_model.specs.Given.{Given, verdict_at}
-use Rattle.tbl_model.specs.Deeds.{is_good, verdict_bits}
+use Rattle.tbl_model.specs.Telemetry.{is_good, verdict_bits}
 use Rattle.tbl_model.specs.Subjects.{name_of, by_app, by_check, if_handle, by_table, if_its_table, by_row, if_table, by_flaw, by_contents, if_file}
 use Rattle.tbl_model.specs.Applications.{has_dot, full_name, start_effect}
 use Rattle.tbl_model.specs.CriticalTables.{critical_limit, registered, not_kept, recovered, instead, kept_effect}
-use Rattle.tbl_model.specs.Registration.{registration_refusal, new_effect, table_asked, placed_effect, register_effect}
+use Rattle.tbl_model.specs.Registration.{registration_refusal, new_effect, table_requested, placed_effect, register_effect}
 use Rattle.tbl_model.specs.Copies.{went_active, block_of, copy_failed, copied_to, copied_of, then_copy}
 use Rattle.tbl_model.specs.Addresses.{stepped, get_effect, release_effect, read_answer, read_effect}
 use Rattle.tbl_model.specs.Refusals.{by_answer, by_refusal, plan_refusal, image_refusal, closed_refusal, file_refusal, load_refusal, validation_refusal, activation_refusal, update_refusal}
@@ -34,7 +34,7 @@ use Rattle.tbl_model.specs.AppLoads.{activate_effect, with_verdict, by_function,
 use Rattle.tbl_model.specs.GroundLoads.{loaded_effect, load_file_effect, load_effect}
 use Rattle.tbl_model.specs.Validations.{selected, validated_effect, pending_effect, validate_by, validate_effect, first_pending, do_validation, app_validate_effect}
 use Rattle.tbl_model.specs.Activations.{ask_effect, activate_command_effect, updated_effect, update_effect, aborted_effect, abort_effect}
-use Rattle.tbl_model.specs.Management.{manage_answer, all_done, managed_effect, manage_effect, pending_status, get_status_effect, is_asked}
+use Rattle.tbl_model.specs.Management.{manage_answer, all_done, managed_effect, manage_effect, pending_status, get_status_effect, is_requested}
 use Rattle.tbl_model.specs.Dumps.{written_effect, dump_refusal, ask_dump_effect, dump_file, image_dump_effect, dump_by, dump_effect, registry_file, dump_registry_effect, dump_to_buffer_effect, edit_refusal, edit_effect, housekeeping_effect}
 use Rattle.tbl_model.specs.Sharing.{share_by, share_found, share_effect, give_up, unregister_by, unregister_effect, without_handles_of, ended_app, exit_effect, is_notice, notify_effect, info_of, info_effect, send_registry_effect}
 use Rattle.tbl_model.specs.Uplinks.{file_effect}
@@ -43,8 +43,8 @@ use Rattle.tbl_model.specs.Boots.{boot, stopped}
 use Rattle.tbl_model.specs.StoreUse.{left_by, with_calls, by_outcome, then_call}
 use Rattle.tbl_model.specs.AppBlocks.{faulted, any_of, renewal, new_slot, has_size, block_effect, cds_register_effect, is_own, by_block, if_block, cds_copy_effect, restore_answer, cds_restore_effect, cds_delete_effect, delete_table_block, delete_cds_effect}
 use Rattle.tbl_model.specs.Commands.{effect_by, command_effect}
-use Rattle.tbl_model.specs.declared.deeds.Named.{Named}
-use Rattle.tbl_model.specs.declared.deeds.Shown.TheVariants.{Registry}
+use Rattle.tbl_model.specs.declared.telemetry.Named.{Named}
+use Rattle.tbl_model.specs.declared.telemetry.Shown.TheVariants.{Registry}
 use Rattle.tbl_kinds.specs.declared.block.BlockKind.TheVariants.{Table as of_table, App}
 use Rattle.tbl_kinds.specs.declared.entry.Answer.{Answer}
 use Rattle.tbl_kinds.specs.declared.note.BankNote.{BankNote}
@@ -93,9 +93,9 @@ flaw_refuses too_big = refl
 -- what calls of the store make of a request that does nothing else: other blocks and an answer, be it that the bank failed, or the
 -- service begins anew
 pub record CallsStore (s : State) (note : BankNote) (P : Effect → Type 0) : Type 0 where
-  pub answers : (store : Store) (e : Effect) → e.next ≡ record s { store = store } → e.deeds ≡ [] → tells_trouble e.status ≡ false → P e
-  pub fails : (store : Store) (e : Effect) → note.outcome ≡ Failed → e.next ≡ record s { store = store } → e.deeds ≡ [] → e.status ≡ ERR_CDS_FAULT → P e
-  pub restarts : (store : Store) (e : Effect) → note.outcome ≡ Stopped → e.next ≡ boot Processor note (record s { store = store }) → e.deeds ≡ [] → e.status ≡ INFO_STOPPED → P e
+  pub answers : (store : Store) (e : Effect) → e.next ≡ record s { store = store } → e.events ≡ [] → tells_trouble e.status ≡ false → P e
+  pub fails : (store : Store) (e : Effect) → note.outcome ≡ Failed → e.next ≡ record s { store = store } → e.events ≡ [] → e.status ≡ ERR_CDS_FAULT → P e
+  pub restarts : (store : Store) (e : Effect) → note.outcome ≡ Stopped → e.next ≡ boot Processor note (record s { store = store }) → e.events ≡ [] → e.status ≡ INFO_STOPPED → P e
 
 -- what the copy of an image that went active makes of an effect: other blocks, that the bank failed, which is told, or the service
 -- begins anew
@@ -135,7 +135,7 @@ abbrev pub with_blocks : List StoreCall → Store → Effect → Effect
 with_blocks calls store e = record e { calls = calls; next = record e.next { store = store } }
 
 -- a property of effects that each refusal has, and what is done where nothing is refused, is one of the request's effect
-module _ (s : State) (P : Effect → Type 0) (refusal : (e : Effect) → e.next ≡ s → e.deeds ≡ [] → e.calls ≡ [] → is_refusal e.status ≡ true → P e) where
+module _ (s : State) (P : Effect → Type 0) (refusal : (e : Effect) → e.next ≡ s → e.events ≡ [] → e.calls ≡ [] → is_refusal e.status ≡ true → P e) where
   no : (status : Status) (detail : ℕ) → is_refusal status ≡ true → P (answered s status detail)
   no status detail is = refusal (answered s status detail) refl refl refl is
 
@@ -251,7 +251,7 @@ module _ (s : State) (P : Effect → Type 0) (refusal : (e : Effect) → e.next 
     pub by_new : P (register_effect s app short size flags validator note)
     unfolding register_effect
     by_new = by_name (name_of s app) _ (λ app_name. by_full_name (full_name app_name short)) where
-      by_full_name : (name : List ℕ) → P (placed_effect s (registration_refusal s app name short size flags validator) (table_asked s app name size flags validator) note)
+      by_full_name : (name : List ℕ) → P (placed_effect s (registration_refusal s app name short size flags validator) (table_requested s app name size flags validator) note)
       by_full_name name = by_ladder (registration_refusal s app name short size flags validator) _ (registration_refused s app name short size flags validator) (λ none.
           let taken = registration_taken s app name short size flags validator none in
           rw (taken.row.1, taken.handle.1) (done name taken.row.0 taken.handle.0 taken.plan taken.new taken.row.1 taken.handle.1))
@@ -346,7 +346,7 @@ module _ (s : State) (P : Effect → Type 0) (refusal : (e : Effect) → e.next 
 
   -- ---- loads of the owner
 
-  -- a function that there is gives its verdict first, and a bad one is a refusal with a deed
+  -- a function that there is gives its verdict first, and a bad one is a refusal with an event
   pub by_verdict : (row : ℕ) (image : List ℕ) (validator : Option ℕ) (given : Given) (effect : Effect)
       → ((number : ℕ) (verdict : ℤ) → validator ≡ Some number → verdict ≡ verdict_at 0 given → is_good verdict ≡ false → P (with_verdict row image number verdict (answered s ERR_VALIDATION_FAILED (verdict_bits verdict))))
       → ((number : ℕ) (verdict : ℤ) → validator ≡ Some number → verdict ≡ verdict_at 0 given → is_good verdict ≡ true → P (with_verdict row image number verdict effect)) → (validator ≡ None → P effect) → P (by_function s row image validator given effect)
@@ -400,9 +400,9 @@ module _ (s : State) (P : Effect → Type 0) (refusal : (e : Effect) → e.next 
   unfolding get_status_effect
   by_get_status app m done = by_its_table app m false _ (λ row t there. done row t)
 
-  pub by_dump_to_buffer : (app m : ℕ) → ((row : ℕ) (t : Table) → table_at s.tables row ≡ Some t → is_asked t.dump ≡ true → P (record (answered s SUCCESS 0) { next = record s { tables = fill_dump row s.tables } })) → P (dump_to_buffer_effect s app m)
+  pub by_dump_to_buffer : (app m : ℕ) → ((row : ℕ) (t : Table) → table_at s.tables row ≡ Some t → is_requested t.dump ≡ true → P (record (answered s SUCCESS 0) { next = record s { tables = fill_dump row s.tables } })) → P (dump_to_buffer_effect s app m)
   unfolding dump_to_buffer_effect
-  by_dump_to_buffer app m done = by_its_table app m true _ (λ row t there. unless_then (not (is_asked t.dump)) INFO_NO_DUMP_PENDING 0 _ refl (λ is. done row t there (not-false (is_asked t.dump) is)))
+  by_dump_to_buffer app m done = by_its_table app m true _ (λ row t there. unless_then (not (is_requested t.dump)) INFO_NO_DUMP_PENDING 0 _ refl (λ is. done row t there (not-false (is_requested t.dump) is)))
 
   pub by_edit : (app m offset : ℕ) (bytes : List ℕ)
       → ((row : ℕ) (t : Table) → table_at s.tables row ≡ Some t → edit_refusal s.tables row t offset (length bytes) ≡ None → P (record (answered s SUCCESS 0) { next = record s { tables = put row (patched (base t) offset bytes) s.tables } }))
@@ -431,7 +431,7 @@ module _ (s : State) (P : Effect → Type 0) (refusal : (e : Effect) → e.next 
   copies_block app slot image note done = by_own_block app slot _ (λ b there own. unless (not (eqb (length image) b.block.size)) ERR_IMAGE_SIZE 0 _ refl done)
 
   pub restores_block : (app slot : ℕ) (note : BankNote)
-      → ((e : Effect) → e.next ≡ s → e.deeds ≡ [] → tells_trouble e.status ≡ false → P (then_call (restore slot (restored_image note) ∷ []) note faulted e)) → P (cds_restore_effect s app slot note)
+      → ((e : Effect) → e.next ≡ s → e.events ≡ [] → tells_trouble e.status ≡ false → P (then_call (restore slot (restored_image note) ∷ []) note faulted e)) → P (cds_restore_effect s app slot note)
   unfolding cds_restore_effect
   restores_block app slot note done = by_own_block app slot _ (λ b there own. given (restored_image note)) where
     given : (restored : Option (List ℕ)) → P (then_call (restore slot (restored_image note) ∷ []) note faulted (restore_answer s note.torn restored))
@@ -445,16 +445,16 @@ module _ (s : State) (P : Effect → Type 0) (refusal : (e : Effect) → e.next 
 
   -- what they make of the request
   module _ (note : BankNote) (calls_store : CallsStore s note P) where
-    pub by_calls : (calls : List StoreCall) (e : Effect) → e.next ≡ s → e.deeds ≡ [] → tells_trouble e.status ≡ false → P (then_call calls note faulted e)
-    by_calls calls e same no_deeds no_trouble = by note.outcome refl where
+    pub by_calls : (calls : List StoreCall) (e : Effect) → e.next ≡ s → e.events ≡ [] → tells_trouble e.status ≡ false → P (then_call calls note faulted e)
+    by_calls calls e same no_events no_trouble = by note.outcome refl where
       next : (with_calls calls note e).next ≡ record s { store = left_by calls note e.next.store }
       next = ap (λ (t : State). record t { store = left_by calls note e.next.store }) same
 
       by : (outcome : Outcome) → note.outcome ≡ outcome → P (by_outcome outcome (with_calls calls note e) (faulted (with_calls calls note e)) (stopped note (with_calls calls note e)))
-      by Untouched is = calls_store.answers (left_by calls note e.next.store) _ next no_deeds no_trouble
-      by Done is = calls_store.answers (left_by calls note e.next.store) _ next no_deeds no_trouble
-      by Failed is = calls_store.fails (left_by calls note e.next.store) _ is next no_deeds refl
-      by Stopped is = calls_store.restarts (left_by calls note e.next.store) _ is (ap (boot Processor note) next) no_deeds refl
+      by Untouched is = calls_store.answers (left_by calls note e.next.store) _ next no_events no_trouble
+      by Done is = calls_store.answers (left_by calls note e.next.store) _ next no_events no_trouble
+      by Failed is = calls_store.fails (left_by calls note e.next.store) _ is next no_events refl
+      by Stopped is = calls_store.restarts (left_by calls note e.next.store) _ is (ap (boot Processor note) next) no_events refl
 
     pub by_cds_register : (app : ℕ) (short : List ℕ) (size : ℕ) → P (cds_register_effect s app short size note)
     by_cds_register app short size = makes_block app short size note (λ name. by_calls _ (answered s SUCCESS (new_slot App name (open_of App name s.store) s.store)) refl refl refl)
@@ -564,22 +564,22 @@ pub record Commands (s : State) (note : BankNote) (P : Effect → Type 0) : Type
   pub shown : (row : ℕ) → P (record (answered s SUCCESS 0) { shown = Registry row })
   pub deletes : (name : List ℕ) (slot : ℕ) → any_of of_table name s.store ≡ Some slot → find name s.tables ≡ None → P (then_call (delete slot ∷ []) note faulted (answered s SUCCESS 0))
   pub written : (row : Option ℕ) (file bytes : List ℕ) → is_full_for s.drawer file ≡ false → P (written_effect s row file bytes)
-  pub dump_asked : (file : List ℕ) (row : ℕ) (t : Table) → table_at s.tables row ≡ Some t → is_dump_only t ≡ true → dump_refusal s.tables t ≡ None → P (ask_dump_effect s file row t)
+  pub dump_requested : (file : List ℕ) (row : ℕ) (t : Table) → table_at s.tables row ≡ Some t → is_dump_only t ≡ true → dump_refusal s.tables t ≡ None → P (ask_dump_effect s file row t)
 
-module _ (s : State) (note : BankNote) (P : Effect → Type 0) (refusal : (e : Effect) → e.next ≡ s → e.deeds ≡ [] → e.calls ≡ [] → is_refusal e.status ≡ true → P e) (done : Commands s note P) where
-  by_asked : (asked : Result GroundCommand Answer) → CommandRefuses asked → P (effect_by s asked note)
-  by_asked (Err answer) refuses = refusal _ refl refl refl refuses
-  by_asked (Ok housekeeping) refuses = done.housekeeping
-  by_asked (Ok noop) refuses = done.accepted
-  by_asked (Ok reset_counters) refuses = done.accepted
-  by_asked (Ok (load file)) refuses = by_load s P refusal done.about file (done.loaded file)
-  by_asked (Ok (dump select table file)) refuses = by_dump s P refusal done.about done.written select table file (done.dump_asked file)
-  by_asked (Ok (validate select table)) refuses = by_validate s P refusal done.about select table done.pends done.at_once
-  by_asked (Ok (activate table)) refuses = by_activate s P refusal done.about table done.asks
-  by_asked (Ok (dump_registry file)) refuses = by_dump_registry s P refusal done.about done.written file
-  by_asked (Ok (send_registry table)) refuses = by_send_registry s P refusal done.about table done.shown
-  by_asked (Ok (delete_cds table)) refuses = by_delete_cds s P refusal done.about note table (done.deletes table)
-  by_asked (Ok (abort table)) refuses = by_abort s P refusal done.about table done.aborted
+module _ (s : State) (note : BankNote) (P : Effect → Type 0) (refusal : (e : Effect) → e.next ≡ s → e.events ≡ [] → e.calls ≡ [] → is_refusal e.status ≡ true → P e) (done : Commands s note P) where
+  by_read_command : (command : Result GroundCommand Answer) → CommandRefuses command → P (effect_by s command note)
+  by_read_command (Err answer) refuses = refusal _ refl refl refl refuses
+  by_read_command (Ok housekeeping) refuses = done.housekeeping
+  by_read_command (Ok noop) refuses = done.accepted
+  by_read_command (Ok reset_counters) refuses = done.accepted
+  by_read_command (Ok (load file)) refuses = by_load s P refusal done.about file (done.loaded file)
+  by_read_command (Ok (dump select table file)) refuses = by_dump s P refusal done.about done.written select table file (done.dump_requested file)
+  by_read_command (Ok (validate select table)) refuses = by_validate s P refusal done.about select table done.pends done.at_once
+  by_read_command (Ok (activate table)) refuses = by_activate s P refusal done.about table done.asks
+  by_read_command (Ok (dump_registry file)) refuses = by_dump_registry s P refusal done.about done.written file
+  by_read_command (Ok (send_registry table)) refuses = by_send_registry s P refusal done.about table done.shown
+  by_read_command (Ok (delete_cds table)) refuses = by_delete_cds s P refusal done.about note table (done.deletes table)
+  by_read_command (Ok (abort table)) refuses = by_abort s P refusal done.about table done.aborted
 
   pub by_command : (bytes : List ℕ) → P (command_effect s bytes note)
-  by_command bytes = by_asked (command_in bytes) (command_refuses bytes)
+  by_command bytes = by_read_command (command_in bytes) (command_refuses bytes)

@@ -5,7 +5,7 @@ use Rattle.std.proofs.lemmas.Bool.{eq-eqb, or_parts, not-true}
 use Rattle.tbl_model.specs.State.{State, Table, Tables}
 use Rattle.tbl_model.specs.Tables.{is_quiet}
 use Rattle.tbl_model.specs.TableSteps.{locker}
-use Rattle.tbl_model.specs.Deeds.{is_good}
+use Rattle.tbl_model.specs.Telemetry.{is_good}
 use Rattle.tbl_model.specs.Pending.{is_pending}
 use Rattle.tbl_model.specs.Given.{Given, verdict_at}
 use Rattle.tbl_model.specs.Effects.{Effect}
@@ -86,8 +86,8 @@ module _ (s : State) (given : Given) where
   unfolding Caused
   of e none = harmless e.status given.note none
 
-  refused : (e : Effect) → e.next ≡ s → e.deeds ≡ [] → e.calls ≡ [] → is_refusal e.status ≡ true → Caused e
-  refused e same no_deeds no_calls refuses = of e (or_parts (is_done e.status) (tells_trouble e.status) (not-true _ refuses)).1
+  refused : (e : Effect) → e.next ≡ s → e.events ≡ [] → e.calls ≡ [] → is_refusal e.status ≡ true → Caused e
+  refused e same no_events no_calls refuses = of e (or_parts (is_done e.status) (tells_trouble e.status) (not-true _ refuses)).1
 
   -- a stop has its cause in the note
   stop_caused : given.note.outcome ≡ Stopped → HasCause INFO_STOPPED given.note
@@ -105,9 +105,9 @@ module _ (s : State) (given : Given) where
   calls_store : CallsStore s given.note Caused
   unfolding Caused
   calls_store = record {
-    answers = λ store e is no_deeds no_trouble. of e no_trouble;
-    fails = λ store e failed is no_deeds status. rw status (record { stop = λ is. absurd (apart ERR_CDS_FAULT INFO_STOPPED refl is); fault = λ is. failed; boot = λ is. absurd (apart ERR_CDS_FAULT ERR_BOOT_FAULT refl is) });
-    restarts = λ store e stopped is no_deeds status. rw status (stop_caused stopped);
+    answers = λ store e is no_events no_trouble. of e no_trouble;
+    fails = λ store e failed is no_events status. rw status (record { stop = λ is. absurd (apart ERR_CDS_FAULT INFO_STOPPED refl is); fault = λ is. failed; boot = λ is. absurd (apart ERR_CDS_FAULT ERR_BOOT_FAULT refl is) });
+    restarts = λ store e stopped is no_events status. rw status (stop_caused stopped);
   }
 
   commands : Commands s given.note Caused
@@ -124,7 +124,7 @@ module _ (s : State) (given : Given) where
     shown = λ row. harmless _ _ refl;
     deletes = λ name slot block none. by_delete s Caused refused given.note calls_store slot;
     written = λ row file bytes free. rw free (harmless SUCCESS given.note refl);
-    dump_asked = λ file row t there only none. rw none (harmless SUCCESS given.note refl);
+    dump_requested = λ file row t there only none. rw none (harmless SUCCESS given.note refl);
   }
 
   pub caused : (actor : Actor) (request : Request) → OfEffect (λ e. HasCause e.status given.note) (effect_of s actor request given)

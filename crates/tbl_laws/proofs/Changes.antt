@@ -9,10 +9,10 @@ use Rattle.tbl_model.specs.TableSteps.{base, unchecked, with_image, changed, put
 use Rattle.tbl_model.specs.Given.{Given, verdict_at}
 use Rattle.tbl_model.specs.Pending.{is_pair, is_pending, without_pair}
 use Rattle.tbl_model.specs.Refusals.{validation_refusal, activation_refusal, update_refusal}
-use Rattle.tbl_model.specs.Management.{Done, nothing_done, with_validation, then_validate, with_update, then_update, with_fill, then_fill, all_done, is_asked}
+use Rattle.tbl_model.specs.Management.{Done, nothing_done, with_validation, then_validate, with_update, then_update, with_fill, then_fill, all_done, is_requested}
 use Rattle.tbl_model.proofs.RefusalLaws.{validation_taken, activation_taken, update_taken}
 use Rattle.tbl_model.specs.Fit.{AreFit, HasCode}
-use Rattle.tbl_model.specs.declared.deeds.Notice.{Notice}
+use Rattle.tbl_model.specs.declared.telemetry.Notice.{Notice}
 use Rattle.tbl_laws.proofs.Rows.{same_rows, changed_row, put_row, time_row, then_row}
 use Rattle.tbl_laws.proofs.Pairs.{both_images, pending_more_other, pending_less_other, pending_gone, fewer}
 use Rattle.tbl_laws.proofs.Fits.{image_there, last_there, load_there, fit_on, fit_same, was, Becomes, kept, unseen, mark, handles_changed, handles_put, handles_time}
@@ -79,7 +79,7 @@ module _ (n : ℕ) (s : State) (fit : AreFit n s) (row : ℕ) (t : Table) (there
 
   -- bytes of a file go into the load
   pub loads : (offset : ℕ) (bytes name : List ℕ) → t.activation ≡ false → AreFit (suc n) (record s { tables = set_file row name (patch row offset bytes s.tables) })
-  loads offset bytes name unasked =
+  loads offset bytes name no_activation =
       let few = (was n s fit row t there).few in
       let put_in_load : Table → Table = λ u. record u { load = unchecked (patched (base u) offset bytes) } in
       let first = changes put_in_load refl refl refl refl in
@@ -90,9 +90,9 @@ module _ (n : ℕ) (s : State) (fit : AreFit n s) (row : ℕ) (t : Table) (there
         owner = refl;
         validator = refl;
         notice = (was n s fit row t there).notice;
-      }) (omega arith) (omega (arith, few)) (λ asked_now. absurd (cc (asked_now, unasked))) (λ pends open_load not_asked. (refl, unasked))
+      }) (omega arith) (omega (arith, few)) (λ requested_now. absurd (cc (requested_now, no_activation))) (λ pends open_load not_requested. (refl, no_activation))
 
-  -- a validation is asked
+  -- a validation is requested
   pub pends : (active : Bool) → validation_refusal s.pending row t active ≡ None → is_some t.validator ≡ true → AreFit (suc n) (record s { pending = s.pending ++ (row, active) ∷ [] })
   pends active none function =
       let takes = validation_taken s.pending row t active none in
@@ -110,18 +110,18 @@ module _ (n : ℕ) (s : State) (fit : AreFit n s) (row : ℕ) (t : Table) (there
         notice = held.notice;
         checked = held.checked;
         pends = λ a pending. elim (both_images a active) [
-          | inl same ↦ rw same (function, image_there t active (λ last. let some = eqb-false t.count 0 (takes.loaded last) in omega (arith, some)) (λ inactive. (takes.open_load inactive, takes.unasked inactive)))
+          | inl same ↦ rw same (function, image_there t active (λ last. let some = eqb-false t.count 0 (takes.loaded last) in omega (arith, some)) (λ inactive. (takes.open_load inactive, takes.no_activation inactive)))
           | inr other ↦ held.pends a (sym (pending_more_other s.pending row row active a (λ _. other)) ∙ pending)
         ];
       })
 
-  -- the activation of the load is asked
+  -- the activation of the load is requested
   pub asks : activation_refusal s.pending row t ≡ None → AreFit (suc n) (record s { tables = ask row s.tables })
   asks none =
       let takes = activation_taken s.pending row t none in
       let few = (was n s fit row t there).few in
       kept n s fit row t there (suc n) (ask row s.tables) (record t { activation = true }) (omega arith) (changes (λ u. record u { activation = true }) refl refl refl refl) (omega arith) (omega (arith, few))
-      (λ _. takes.checked) (λ pending open_load not_asked. absurd (cc (pending, takes.none_pending)))
+      (λ _. takes.checked) (λ pending open_load not_requested. absurd (cc (pending, takes.none_pending)))
 
   -- the load is dropped, with what is pending for it
   pub aborts : AreFit n (record s { tables = close_load row s.tables; pending = without_pair row false s.pending })
@@ -139,7 +139,7 @@ module _ (n : ℕ) (s : State) (fit : AreFit n s) (row : ℕ) (t : Table) (there
         registered = rw (handles_changed s.tables row (λ v. record v { load = None; activation = false })) held.registered;
         function = held.function;
         notice = held.notice;
-        checked = λ asked_now. cc asked_now;
+        checked = λ requested_now. cc requested_now;
         pends = λ a pending. elim (both_images a false) [
           | inl same ↦ absurd (cc (rw same at pending, pending_gone s.pending row false))
           | inr other ↦
@@ -150,7 +150,7 @@ module _ (n : ℕ) (s : State) (fit : AreFit n s) (row : ℕ) (t : Table) (there
 
   -- the load goes active, at a time
   pub updates : (seconds sub : ℕ) → t.activation ≡ true → AreFit (suc n) (record s { tables = set_time row seconds sub (activate row s.tables) })
-  updates seconds sub asked_before =
+  updates seconds sub requested_before =
       let few = (was n s fit row t there).few in
       let close : Table → Table = λ u. record (with_image s.tables.handles row (load_image u) u) { load = None; activation = false } in
       let first = changes close refl refl refl refl in
@@ -161,7 +161,7 @@ module _ (n : ℕ) (s : State) (fit : AreFit n s) (row : ℕ) (t : Table) (there
         owner = refl;
         validator = refl;
         notice = (was n s fit row t there).notice;
-      }) (omega arith) (omega (arith, few)) (λ asked_now. cc asked_now) (λ pending open_load not_asked. absurd (cc (asked_before, not_asked)))
+      }) (omega arith) (omega (arith, few)) (λ requested_now. cc requested_now) (λ pending open_load not_requested. absurd (cc (requested_before, not_requested)))
 
 -- more images may have been
 pub grown : (n : ℕ) (s : State) → AreFit n s → AreFit (suc n) s
@@ -182,8 +182,8 @@ module _ (n : ℕ) (row : ℕ) (given : Given) where
 
   pub validated : (active : Bool) (d : Done) → AreFit n d.state → AreFit n (then_validate row active given d).state
   validated active d fit = with_found (λ e. AreFit n e.state) d _ (table_at d.state.tables row) refl fit (λ t there.
-      either (λ e. AreFit n e.state) (not (is_pending row active d.state.pending)) d (with_validation row active (verdict_at (length d.asked) given) d t) fit (λ pending.
-      mark n d.state fit row t there active (verdict_at (length d.asked) given) (λ inactive. (load_there t active ((was n d.state fit row t there).pends active (not-false (is_pending row active d.state.pending) pending)).1 inactive).1)))
+      either (λ e. AreFit n e.state) (not (is_pending row active d.state.pending)) d (with_validation row active (verdict_at (length d.questions) given) d t) fit (λ pending.
+      mark n d.state fit row t there active (verdict_at (length d.questions) given) (λ inactive. (load_there t active ((was n d.state fit row t there).pends active (not-false (is_pending row active d.state.pending) pending)).1 inactive).1)))
 
   pub updated : (d : Done) → AreFit n d.state → AreFit (suc n) (then_update row d).state
   updated d fit = with_found (λ e. AreFit (suc n) e.state) d _ (table_at d.state.tables row) refl (grown n d.state fit) (λ t there. by t there (update_refusal d.state.tables row t) refl) where
@@ -193,7 +193,7 @@ module _ (n : ℕ) (row : ℕ) (given : Given) where
 
   filled_up : (m : ℕ) (d : Done) → AreFit m d.state → AreFit m (then_fill row d).state
   filled_up m d fit = with_found (λ e. AreFit m e.state) d _ (table_at d.state.tables row) refl fit (λ t there.
-      either (λ e. AreFit m e.state) (not (is_asked t.dump)) d (with_fill row d) fit (λ is. told m d.state fit row t there m (λ u. record u { dump = filled_with (last_image u) u.dump }) (omega arith) refl refl refl refl refl refl refl))
+      either (λ e. AreFit m e.state) (not (is_requested t.dump)) d (with_fill row d) fit (λ is. told m d.state fit row t there m (λ u. record u { dump = filled_with (last_image u) u.dump }) (omega arith) refl refl refl refl refl refl refl))
 
   pub managed : (s : State) → AreFit n s → AreFit (suc n) (all_done s given row).state
   managed s fit = filled_up (suc n) _ (updated _ (validated false _ (validated true (nothing_done s) fit)))
@@ -205,7 +205,7 @@ module _ (n : ℕ) (row : ℕ) (given : Given) where
     where
       validate : (active : Bool) (d : Done) → (then_validate row active given d).state.ended ≡ d.state.ended
       validate active d = with_found (λ e. e.state.ended ≡ d.state.ended) d _ (table_at d.state.tables row) refl refl (λ t there.
-          either (λ e. e.state.ended ≡ d.state.ended) (not (is_pending row active d.state.pending)) d (with_validation row active (verdict_at (length d.asked) given) d t) refl (λ _. refl))
+          either (λ e. e.state.ended ≡ d.state.ended) (not (is_pending row active d.state.pending)) d (with_validation row active (verdict_at (length d.questions) given) d t) refl (λ _. refl))
 
       update : (d : Done) → (then_update row d).state.ended ≡ d.state.ended
       update d = with_found (λ e. e.state.ended ≡ d.state.ended) d _ (table_at d.state.tables row) refl refl (λ t there.
@@ -213,4 +213,4 @@ module _ (n : ℕ) (row : ℕ) (given : Given) where
 
       fill : (d : Done) → (then_fill row d).state.ended ≡ d.state.ended
       fill d = with_found (λ e. e.state.ended ≡ d.state.ended) d _ (table_at d.state.tables row) refl refl (λ t there.
-          either (λ e. e.state.ended ≡ d.state.ended) (not (is_asked t.dump)) d (with_fill row d) refl (λ _. refl))
+          either (λ e. e.state.ended ≡ d.state.ended) (not (is_requested t.dump)) d (with_fill row d) refl (λ _. refl))

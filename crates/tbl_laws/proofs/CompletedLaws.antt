@@ -21,7 +21,7 @@ use Rattle.tbl_kinds.specs.declared.block.BlockKind.{BlockKind}
 use Rattle.tbl_kinds.specs.declared.entry.Entry.{Entry}
 use Rattle.tbl_kinds.specs.declared.request.Request.TheVariants as ask
 use Rattle.tbl_kinds.specs.declared.request.ResetKind.TheVariants.{PowerOn}
-use Rattle.tbl_session.specs.Completed.{completed, Holds, Touches, LeaveAlone}
+use Rattle.tbl_session.specs.Completed.{completed, HasCompleted, Touches, LeaveAlone}
 
 -- ---- what the calls leave
 
@@ -80,11 +80,11 @@ shown_completed block image None may = absurd (cc may)
 shown_completed block image (Some left) may = ap Some (may.0 ∙ ap (shown (completed block image)) may.1)
 
 -- a completed copy shows as it is
-pub completed_shows : (store left : Store) (slot : ℕ) (block : Block) (image : List ℕ) → Holds store slot block image → Shows store left → Holds left slot block image
+pub completed_shows : (store left : Store) (slot : ℕ) (block : Block) (image : List ℕ) → HasCompleted store slot block image → Shows store left → HasCompleted left slot block image
 completed_shows store left slot block image holds shows = shown_completed block image (stored_at left slot) (rw holds at (shows.each slot))
 
 -- and through calls that leave it alone
-completed_in_calls : (calls : List StoreCall) (store left : Store) (slot : ℕ) (block : Block) (image : List ℕ) → Spare slot calls → Holds store slot block image → DuringCalls calls store left → Holds left slot block image
+completed_in_calls : (calls : List StoreCall) (store left : Store) (slot : ℕ) (block : Block) (image : List ℕ) → Spare slot calls → HasCompleted store slot block image → DuringCalls calls store left → HasCompleted left slot block image
 completed_in_calls calls store left slot block image spare holds during =
     let middle = goes slot (completed block image) refl during.done calls store spare holds in
     elim during.leaves [
@@ -116,7 +116,7 @@ spare_in r e slot alone k call at =
 -- Where no call of a request copies into the block of this slot or deletes it, and the request is no power-on, the completed copy is
 -- there at each moment: whatever else is reserved, copied or deleted
 pub completed_stays : (r : Run) (e : Entry) (left : Store) (slot : ℕ) (block : Block) (image : List ℕ)
-    → Holds r.state.store slot block image → LeaveAlone slot (calls_in r e) → ¬ (e.request ≡ ask.Reset PowerOn) → UnderWay r e left → Holds left slot block image
+    → HasCompleted r.state.store slot block image → LeaveAlone slot (calls_in r e) → ¬ (e.request ≡ ask.Reset PowerOn) → UnderWay r e left → HasCompleted left slot block image
 completed_stays r e left slot block image holds alone no_power_on under = elim under [
   | inl during ↦ completed_in_calls (calls_in r e) r.state.store left slot block image (spare_in r e slot alone) holds during
   | inr power_on ↦ absurd (no_power_on power_on.0)

@@ -13,15 +13,15 @@ use Rattle.tbl_model.specs.Given.{Given, verdict_at}
 use Rattle.tbl_model.specs.Refusals.{by_answer, closed_refusal, image_refusal, file_refusal, update_refusal}
 use Rattle.tbl_model.specs.Pending.{is_pending}
 use Rattle.tbl_model.specs.Validations.{judged_image}
-use Rattle.tbl_model.specs.Deeds.{finished}
+use Rattle.tbl_model.specs.Telemetry.{finished}
 use Rattle.tbl_model.specs.Subjects.{if_file}
 use Rattle.tbl_model.specs.AppLoads.{by_function, activate_effect, from_file, file_image, load_image_of, load_file_of}
 use Rattle.tbl_model.specs.Activations.{updated_effect}
-use Rattle.tbl_model.specs.Management.{Done, nothing_done, with_validation, then_validate, with_update, then_update, is_asked, with_fill, then_fill, manage_answer, all_done, managed_effect}
+use Rattle.tbl_model.specs.Management.{Done, nothing_done, with_validation, then_validate, with_update, then_update, is_requested, with_fill, then_fill, manage_answer, all_done, managed_effect}
 use Rattle.tbl_model.specs.Copies.{is_activation, went_active, block_of, copy_failed}
 use Rattle.tbl_model.specs.StoreUse.{with_calls, by_outcome}
 use Rattle.tbl_model.specs.Boots.{stopped}
-use Rattle.tbl_model.specs.declared.deeds.Deed.{Deed}
+use Rattle.tbl_model.specs.declared.telemetry.TelemetryEvent.{TelemetryEvent}
 use Rattle.tbl_model.proofs.RefusalLaws.{is_refusal, image_refused, closed_refused, file_refused, update_refused}
 use Rattle.tbl_kinds.specs.declared.note.BankNote.{BankNote}
 use Rattle.tbl_kinds.specs.declared.note.Outcome.{Outcome}
@@ -31,7 +31,7 @@ use Rattle.tbl_laws.specs.Copied.{IsCopied}
 use Rattle.tbl_laws.proofs.Rows.{changed_row, put_row, time_row}
 use Rattle.tbl_laws.proofs.Pins.{some_there}
 use Rattle.tbl_laws.proofs.Changes.{with_found, either}
-use Rattle.tbl_laws.proofs.Descents.{Stands, managed_store}
+use Rattle.tbl_laws.proofs.Descents.{StoodBefore, managed_store}
 use Rattle.tbl_laws.proofs.Options.{Leaves, update_leaves, load_image_leaves, app_file_leaves, manage_leaves}
 use Rattle.tbl_laws.proofs.Cases.{by_ladder, by_load_ladder, by_verdict, by_file_of}
 
@@ -64,7 +64,7 @@ module _ (s : State) (row : ℕ) (t : Table) (note : BankNote) (backed : AreBack
     block : (slot : ℕ) × (block_of t s.store ≡ Some slot)
     block = some_there (block_of t s.store) (backed.each row t there critical)
 
-    stood : Stands s.tables.rows row has.table
+    stood : StoodBefore s.tables.rows row has.table
     stood = leaves.each row has.table has.there
 
     one : stood.table ≡ t
@@ -84,10 +84,10 @@ module _ (s : State) (row : ℕ) (t : Table) (note : BankNote) (backed : AreBack
 
 -- ---- what went active is the last image
 
--- one more deed at the end
-last_deed : (deeds : List Deed) (deed : Deed) → slice_get (deeds ++ deed ∷ []) (length (deeds ++ deed ∷ []) - 1) ≡ Some deed
-last_deed deeds deed = let place : length (deeds ++ deed ∷ []) - 1 ≡ length deeds = omega (arith, length_push deeds deed) in rw place (at deeds) where
-  at : (ds : List Deed) → slice_get (ds ++ deed ∷ []) (length ds) ≡ Some deed
+-- one more event at the end
+last_event : (events : List TelemetryEvent) (event : TelemetryEvent) → slice_get (events ++ event ∷ []) (length (events ++ event ∷ []) - 1) ≡ Some event
+last_event events event = let place : length (events ++ event ∷ []) - 1 ≡ length events = omega (arith, length_push events event) in rw place (at events) where
+  at : (ds : List TelemetryEvent) → slice_get (ds ++ event ∷ []) (length ds) ≡ Some event
   at [] = refl
   at (d ∷ ds) = at ds
 
@@ -111,8 +111,8 @@ module _ (s : State) (row : ℕ) (t : Table) (there : table_at s.tables row ≡ 
     last = refl;
   }
 
-  refused : (e : Effect) → e.next ≡ s → e.deeds ≡ [] → e.calls ≡ [] → is_refusal e.status ≡ true → GoesActive s row e
-  refused e is no_deeds no_calls refuses = record { store = ap (λ (x : State). x.store) is; has = λ went. absurd (cc (rw no_deeds at went)) }
+  refused : (e : Effect) → e.next ≡ s → e.events ≡ [] → e.calls ≡ [] → is_refusal e.status ≡ true → GoesActive s row e
+  refused e is no_events no_calls refuses = record { store = ap (λ (x : State). x.store) is; has = λ went. absurd (cc (rw no_events at went)) }
 
   update_goes : GoesActive s row (by_answer s (update_refusal s.tables row t) (updated_effect s row t))
   update_goes = by_ladder s (GoesActive s row) refused (update_refusal s.tables row t) (updated_effect s row t) (update_refused s.tables row t) (λ none. record { store = refl; has = λ went. update_last s row t there })
@@ -144,13 +144,13 @@ module _ (s : State) (row : ℕ) (t : Table) (there : table_at s.tables row ≡ 
 
 -- what was done so far ends with an image that went active only where the table in this row has a last one
 abbrev GoesSoFar : ℕ → Done → Type 0
-GoesSoFar row d = is_activation (slice_get d.deeds (length d.deeds - 1)) ≡ true → HasLast d.state.tables row
+GoesSoFar row d = is_activation (slice_get d.events (length d.events - 1)) ≡ true → HasLast d.state.tables row
 
 module _ (row : ℕ) (given : Given) where
   validate_goes : (active : Bool) (d : Done) → GoesSoFar row d → GoesSoFar row (then_validate row active given d)
   validate_goes active d so_far = with_found 0 row given (GoesSoFar row) d _ (table_at d.state.tables row) refl so_far (λ t there.
-      either 0 row given (GoesSoFar row) (not (is_pending row active d.state.pending)) d (with_validation row active (verdict_at (length d.asked) given) d t) so_far
-      (λ _ went. absurd (cc (ap is_activation (last_deed d.deeds (finished row active t (judged_image t active) (verdict_at (length d.asked) given))), went))))
+      either 0 row given (GoesSoFar row) (not (is_pending row active d.state.pending)) d (with_validation row active (verdict_at (length d.questions) given) d t) so_far
+      (λ _ went. absurd (cc (ap is_activation (last_event d.events (finished row active t (judged_image t active) (verdict_at (length d.questions) given))), went))))
 
   update_goes_on : (d : Done) → GoesSoFar row d → GoesSoFar row (then_update row d)
   update_goes_on d so_far = with_found 0 row given (GoesSoFar row) d _ (table_at d.state.tables row) refl so_far (λ t there.
@@ -158,7 +158,7 @@ module _ (row : ℕ) (given : Given) where
 
   fill_goes : (d : Done) → GoesSoFar row d → GoesSoFar row (then_fill row d)
   fill_goes d so_far = with_found 0 row given (GoesSoFar row) d _ (table_at d.state.tables row) refl so_far (λ t there.
-      either 0 row given (GoesSoFar row) (not (is_asked t.dump)) d (with_fill row d) so_far (λ _ went. filled d (so_far went)))
+      either 0 row given (GoesSoFar row) (not (is_requested t.dump)) d (with_fill row d) so_far (λ _ went. filled d (so_far went)))
     where
       filled : (d : Done) → HasLast d.state.tables row → HasLast (fill_dump row d.state.tables) row
       filled d has = record {

@@ -8,11 +8,11 @@ use Rattle.tbl_model.specs.Tables.{table_at}
 use Rattle.tbl_model.specs.TableSteps.{handle_at, drop_before, with_image, put_in, put, set_time_in, set_time, base, unchecked, patch, set_file, changed, changed_in, load_image, activate, filled_with, last_image, without_handle, give_back_by, registered_by}
 use Rattle.tbl_model.specs.Sharing.{give_up, give_up_by}
 use Rattle.tbl_model.specs.Given.{Given, verdict_at}
-use Rattle.tbl_model.specs.Deeds.{is_good}
+use Rattle.tbl_model.specs.Telemetry.{is_good}
 use Rattle.tbl_model.specs.Pending.{is_pending}
 use Rattle.tbl_model.specs.Refusals.{update_refusal}
 use Rattle.tbl_model.specs.Validations.{marked}
-use Rattle.tbl_model.specs.Management.{Done, nothing_done, with_validation, then_validate, with_update, then_update, with_fill, then_fill, all_done, is_asked}
+use Rattle.tbl_model.specs.Management.{Done, nothing_done, with_validation, then_validate, with_update, then_update, with_fill, then_fill, all_done, is_requested}
 use Rattle.tbl_laws.proofs.Pins.{at_put, at_set}
 use Rattle.tbl_laws.proofs.Changes.{with_found, either}
 
@@ -22,14 +22,14 @@ abbrev pub plan : Table → List ℕ × ℕ × ℕ
 plan t = (t.name, t.size, t.options)
 
 -- in this row stands a table of the same name, size and options
-pub record Stands (rows : List (Option Table)) (row : ℕ) (u : Table) : Type 0 where
+pub record StoodBefore (rows : List (Option Table)) (row : ℕ) (u : Table) : Type 0 where
   pub table : Table
   pub there : slice_index_or rows row None ≡ Some table
   pub same : plan u ≡ plan table
 
 -- each table stood there before
 pub record Descends (old new : Tables) : Type 0 where
-  pub each : (row : ℕ) (u : Table) → table_at new row ≡ Some u → Stands old.rows row u
+  pub each : (row : ℕ) (u : Table) → table_at new row ≡ Some u → StoodBefore old.rows row u
 
 -- ---- changes
 
@@ -140,7 +140,7 @@ Onward d e = Descends d.state.tables e.state.tables
 module _ (row : ℕ) (given : Given) where
   validate : (active : Bool) (d : Done) → Onward d (then_validate row active given d)
   validate active d = with_found 0 row given (Onward d) d _ (table_at d.state.tables row) refl (stays_descends d.state.tables) (λ t there.
-      either 0 row given (Onward d) (not (is_pending row active d.state.pending)) d (with_validation row active (verdict_at (length d.asked) given) d t) (stays_descends d.state.tables) (λ _. mark_descends d.state.tables row active (verdict_at (length d.asked) given)))
+      either 0 row given (Onward d) (not (is_pending row active d.state.pending)) d (with_validation row active (verdict_at (length d.questions) given) d t) (stays_descends d.state.tables) (λ _. mark_descends d.state.tables row active (verdict_at (length d.questions) given)))
 
   update : (d : Done) → Onward d (then_update row d)
   update d = with_found 0 row given (Onward d) d _ (table_at d.state.tables row) refl (stays_descends d.state.tables) (λ t there.
@@ -148,7 +148,7 @@ module _ (row : ℕ) (given : Given) where
 
   fill : (d : Done) → Onward d (then_fill row d)
   fill d = with_found 0 row given (Onward d) d _ (table_at d.state.tables row) refl (stays_descends d.state.tables) (λ t there.
-      either 0 row given (Onward d) (not (is_asked t.dump)) d (with_fill row d) (stays_descends d.state.tables) (λ _. changed_descends d.state.tables row (λ u. record u { dump = filled_with (last_image u) u.dump }) (λ t. refl)))
+      either 0 row given (Onward d) (not (is_requested t.dump)) d (with_fill row d) (stays_descends d.state.tables) (λ _. changed_descends d.state.tables row (λ u. record u { dump = filled_with (last_image u) u.dump }) (λ t. refl)))
 
   pub managed_descends : (s : State) → Descends s.tables (all_done s given row).state.tables
   managed_descends s =
@@ -161,7 +161,7 @@ module _ (row : ℕ) (given : Given) where
 module _ (row : ℕ) (given : Given) where
   validate_store : (active : Bool) (d : Done) → (then_validate row active given d).state.store ≡ d.state.store
   validate_store active d = with_found 0 row given (λ e. e.state.store ≡ d.state.store) d _ (table_at d.state.tables row) refl refl (λ t there.
-      either 0 row given (λ e. e.state.store ≡ d.state.store) (not (is_pending row active d.state.pending)) d (with_validation row active (verdict_at (length d.asked) given) d t) refl (λ _. refl))
+      either 0 row given (λ e. e.state.store ≡ d.state.store) (not (is_pending row active d.state.pending)) d (with_validation row active (verdict_at (length d.questions) given) d t) refl (λ _. refl))
 
   update_store : (d : Done) → (then_update row d).state.store ≡ d.state.store
   update_store d = with_found 0 row given (λ e. e.state.store ≡ d.state.store) d _ (table_at d.state.tables row) refl refl (λ t there.
@@ -169,7 +169,7 @@ module _ (row : ℕ) (given : Given) where
 
   fill_store : (d : Done) → (then_fill row d).state.store ≡ d.state.store
   fill_store d = with_found 0 row given (λ e. e.state.store ≡ d.state.store) d _ (table_at d.state.tables row) refl refl (λ t there.
-      either 0 row given (λ e. e.state.store ≡ d.state.store) (not (is_asked t.dump)) d (with_fill row d) refl (λ _. refl))
+      either 0 row given (λ e. e.state.store ≡ d.state.store) (not (is_requested t.dump)) d (with_fill row d) refl (λ _. refl))
 
   pub managed_store : (s : State) → (all_done s given row).state.store ≡ s.store
   managed_store s =

@@ -86,7 +86,7 @@ refused_spares actor request status app n same no_reset refuses =
 
 -- the request got an address by the handle, which pins the last image of its table
 pub record Gets (old new : Tables) (actor : Actor) (request : Request) (status : Status) (n : ℕ) (h : Handle) (p : ℕ) : Type 0 where
-  pub asked_it : asks_address n request ≡ true
+  pub requested_it : asks_address n request ≡ true
   pub by : is_by h.app actor ≡ true
   pub done : is_done status ≡ true
   pub found : Access
@@ -122,8 +122,8 @@ module _ (s : State) (actor : Actor) (request : Request) where
   fair_plain plain effect keeps goes_on = fair_keeps effect keeps (λ n h p row t at pin of there on. plain_spares actor request effect.status h.app n (kept t) plain goes_on)
 
   -- a refusal leaves the tables as they are
-  pub fair_refused : is_reset request ≡ false → (effect : Effect) → effect.next ≡ s → effect.deeds ≡ [] → effect.calls ≡ [] → is_refusal effect.status ≡ true → Fair s actor request effect
-  fair_refused no_reset effect same no_deeds no_calls refuses = fair_keeps effect (rw same (stays_keeps s.tables)) (λ n h p row t at pin of there on. refused_spares actor request effect.status h.app n (kept t) no_reset refuses)
+  pub fair_refused : is_reset request ≡ false → (effect : Effect) → effect.next ≡ s → effect.events ≡ [] → effect.calls ≡ [] → is_refusal effect.status ≡ true → Fair s actor request effect
+  fair_refused no_reset effect same no_events no_calls refuses = fair_keeps effect (rw same (stays_keeps s.tables)) (λ n h p row t at pin of there on. refused_spares actor request effect.status h.app n (kept t) no_reset refuses)
 
   -- without tables nothing is pinned
   pub fair_anew : (effect : Effect) → effect.next.tables ≡ no_tables → Fair s actor request effect
@@ -151,7 +151,7 @@ pin_fair s app m a leads some =
     let pinning : Handle = record h { pin = Some t.count; told = t.count } in record {
       pins = λ n g p at pin. elim (at_set s.tables.handles m n pinning g at) [
         | inl here ↦ inr record {
-          asked_it = eq-eqb m n (sym here.0);
+          requested_it = eq-eqb m n (sym here.0);
           by = eq-eqb app g.app (sym leads.own ∙ ap (λ (x : Handle). x.app) here.1);
           done = (granted (nat_lt h.told t.count)).0;
           found = a;

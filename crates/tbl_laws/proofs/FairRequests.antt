@@ -11,17 +11,17 @@ use Rattle.tbl_kinds.specs.Blocks.{Stored}
 use Rattle.tbl_kinds.specs.StoreSteps.{stored_at, MayGive}
 use Rattle.tbl_kinds.specs.StoreCalls.{StoreCall, restore}
 use Rattle.tbl_kinds.specs.TableFiles.{TableFile}
-use Rattle.tbl_model.specs.State.{State, Load, Table, Handle, Tables, Dump, quiet, asked, filled}
+use Rattle.tbl_model.specs.State.{State, Load, Table, Handle, Tables, Dump, quiet, requested, filled}
 use Rattle.tbl_model.specs.Tables.{table_at, is_quiet, rows_where}
 use Rattle.tbl_model.specs.TableSteps.{is_checked, locker, handle_at, last_image, put, set_time, set_file, filled_with, end_dump, new_table, base, new_handle}
 use Rattle.tbl_model.specs.Effects.{Effect, answered}
 use Rattle.tbl_model.specs.Given.{Given, verdict_at}
-use Rattle.tbl_model.specs.Deeds.{is_good}
+use Rattle.tbl_model.specs.Telemetry.{is_good}
 use Rattle.tbl_model.specs.Pending.{is_pending}
 use Rattle.tbl_model.specs.Refusals.{image_refusal, file_refusal, update_refusal}
 use Rattle.tbl_model.specs.Validations.{marked}
 use Rattle.tbl_model.specs.AppLoads.{file_image}
-use Rattle.tbl_model.specs.Management.{Done, nothing_done, with_validation, then_validate, with_update, then_update, with_fill, then_fill, all_done, is_asked, manage_answer, pending_status}
+use Rattle.tbl_model.specs.Management.{Done, nothing_done, with_validation, then_validate, with_update, then_update, with_fill, then_fill, all_done, is_requested, manage_answer, pending_status}
 use Rattle.tbl_model.specs.Dumps.{Ended, end_by, then_end, dumps_ended, housekeeping_effect, is_filled}
 use Rattle.tbl_model.specs.Sharing.{give_up, give_up_if, without_handles_of, ended_app}
 use Rattle.tbl_model.specs.AppBlocks.{has_size}
@@ -61,11 +61,11 @@ open_checked t checked = by t.load checked where
 module _ (n : ℕ) (row : ℕ) (given : Given) where
   validate_keeps : (active : Bool) (d : Done) → Keeps d.state.tables (then_validate row active given d).state.tables
   validate_keeps active d = with_found n row given (λ e. Keeps d.state.tables e.state.tables) d _ (table_at d.state.tables row) refl (stays_keeps d.state.tables) (λ t there.
-      either n row given (λ e. Keeps d.state.tables e.state.tables) (not (is_pending row active d.state.pending)) d (with_validation row active (verdict_at (length d.asked) given) d t) (stays_keeps d.state.tables) (λ _. by active))
+      either n row given (λ e. Keeps d.state.tables e.state.tables) (not (is_pending row active d.state.pending)) d (with_validation row active (verdict_at (length d.questions) given) d t) (stays_keeps d.state.tables) (λ _. by active))
     where
-      by : (a : Bool) → Keeps d.state.tables (marked row a (verdict_at (length d.asked) given) d.state.tables)
+      by : (a : Bool) → Keeps d.state.tables (marked row a (verdict_at (length d.questions) given) d.state.tables)
       by true = stays_keeps d.state.tables
-      by false = mark_keeps d.state.tables row (is_good (verdict_at (length d.asked) given))
+      by false = mark_keeps d.state.tables row (is_good (verdict_at (length d.questions) given))
 
   then_update_keeps : (d : Done) → AreFit n d.state → Keeps d.state.tables (then_update row d).state.tables
   then_update_keeps d fit = with_found n row given (λ e. Keeps d.state.tables e.state.tables) d _ (table_at d.state.tables row) refl (stays_keeps d.state.tables) (λ t there. by t there (update_refusal d.state.tables row t) refl) where
@@ -77,7 +77,7 @@ module _ (n : ℕ) (row : ℕ) (given : Given) where
 
   fill_keeps : (d : Done) → Keeps d.state.tables (then_fill row d).state.tables
   fill_keeps d = with_found n row given (λ e. Keeps d.state.tables e.state.tables) d _ (table_at d.state.tables row) refl (stays_keeps d.state.tables) (λ t there.
-      either n row given (λ e. Keeps d.state.tables e.state.tables) (not (is_asked t.dump)) d (with_fill row d) (stays_keeps d.state.tables) (λ _. unseen_keeps d.state.tables row (λ u. record u { dump = filled_with (last_image u) u.dump }) (λ u. refl) (λ u. refl)))
+      either n row given (λ e. Keeps d.state.tables e.state.tables) (not (is_requested t.dump)) d (with_fill row d) (stays_keeps d.state.tables) (λ _. unseen_keeps d.state.tables row (λ u. record u { dump = filled_with (last_image u) u.dump }) (λ u. refl) (λ u. refl)))
 
   pub manage_keeps : (s : State) → AreFit n s → Keeps s.tables (all_done s given row).state.tables
   manage_keeps s fit =
@@ -105,7 +105,7 @@ ends_keep (row ∷ rows) e = then_keeps e.state.tables (then_end e row).state.ta
 
   dump : (name : List ℕ) (d : Dump) → Keeps e.state.tables (end_by e row name d).state.tables
   dump name quiet = stays_keeps e.state.tables
-  dump name (asked file) = stays_keeps e.state.tables
+  dump name (requested file) = stays_keeps e.state.tables
   dump name (filled file image) = cond_both (is_full_for e.state.drawer file) _ _ (λ (d : Ended). Keeps e.state.tables d.state.tables) (λ _. over) (λ _. over)
 
   one : (found : Option Table) → Keeps e.state.tables (option_map_or (λ (t : Table). end_by e row t.name t.dump) found e).state.tables
@@ -118,9 +118,9 @@ module _ (s : State) (n : ℕ) (fit : AreFit n s) where
   -- a request that calls the store and does nothing else
   calls_store : (actor : Actor) (request : Request) (note : BankNote) → IsPlain request → CallsStore s note (Fair s actor request)
   calls_store actor request note plain = record {
-    answers = λ store e is no_deeds no_trouble. fair_plain s actor request plain e (rw is (stays_keeps s.tables)) (no_stop e.status no_trouble);
-    fails = λ store e failed is no_deeds status. fair_plain s actor request plain e (rw is (stays_keeps s.tables)) (rw status refl);
-    restarts = λ store e stopped is no_deeds status. fair_anew s actor request e (ap (λ (t : State). t.tables) is);
+    answers = λ store e is no_events no_trouble. fair_plain s actor request plain e (rw is (stays_keeps s.tables)) (no_stop e.status no_trouble);
+    fails = λ store e failed is no_events status. fair_plain s actor request plain e (rw is (stays_keeps s.tables)) (rw status refl);
+    restarts = λ store e stopped is no_events status. fair_anew s actor request e (ap (λ (t : State). t.tables) is);
   }
 
   commands : (bytes : Buffer) (note : BankNote) → Commands s note (Fair s Ground (ask.Command bytes))
@@ -131,7 +131,7 @@ module _ (s : State) (n : ℕ) (fit : AreFit n s) where
       let keeps = fair_plain s Ground request plain in record {
         about = λ e table p. record { pins = p.pins; loaded = p.loaded };
         accepted = keeps _ (stays_keeps s.tables) refl;
-        housekeeping = keeps _ (ends_keep (rows_where is_filled 0 s.tables.rows) (record { state = s; bytes = []; deeds = [] })) refl;
+        housekeeping = keeps _ (ends_keep (rows_where is_filled 0 s.tables.rows) (record { state = s; bytes = []; events = [] })) refl;
         loaded = λ name file row t there none. keeps _ (file_keeps s.tables row file.offset file.image name t there (load_taken s.tables row t file.offset (length file.image) none).within) refl;
         pends = λ row t active there none function. keeps _ (stays_keeps s.tables) refl;
         at_once = λ row t active there none no_function. keeps _ (marks_at_once row active) refl;
@@ -140,7 +140,7 @@ module _ (s : State) (n : ℕ) (fit : AreFit n s) where
         shown = λ row. keeps _ (stays_keeps s.tables) refl;
         deletes = λ name slot block none. by_delete s (Fair s Ground request) (fair_refused s Ground request plain.no_reset) note (calls_store Ground request note plain) slot;
         written = λ row file bytes free. rw free (keeps _ (stays_keeps s.tables) refl);
-        dump_asked = λ file row t there only none. rw none (keeps _ (unseen_keeps s.tables row (λ u. record u { dump = asked file }) (λ u. refl) (λ u. refl)) refl);
+        dump_requested = λ file row t there only none. rw none (keeps _ (unseen_keeps s.tables row (λ u. record u { dump = requested file }) (λ u. refl) (λ u. refl)) refl);
       }
     where
       marks_at_once : (row : ℕ) (active : Bool) → Keeps s.tables (marked row active (pos 0) s.tables)
@@ -206,7 +206,7 @@ module _ (s : State) (n : ℕ) (fit : AreFit n s) where
     keeps : (effect : Effect) → Keeps s.tables effect.next.tables → eqb effect.status.0 INFO_STOPPED.0 ≡ false → Fair s (App app) request effect
     keeps effect kept_all goes_on = fair_plain s (App app) request plain effect kept_all goes_on
 
-    refuses : (effect : Effect) → effect.next ≡ s → effect.deeds ≡ [] → effect.calls ≡ [] → is_refusal effect.status ≡ true → Fair s (App app) request effect
+    refuses : (effect : Effect) → effect.next ≡ s → effect.events ≡ [] → effect.calls ≡ [] → is_refusal effect.status ≡ true → Fair s (App app) request effect
     refuses = fair_refused s (App app) request plain.no_reset
 
     quiet_fair : (effect : Effect) → effect.next.tables ≡ s.tables → eqb effect.status.0 INFO_STOPPED.0 ≡ false → Fair s (App app) request effect
@@ -253,10 +253,10 @@ module _ (s : State) (n : ℕ) (fit : AreFit n s) where
   registered_fair : (app : ℕ) (short : List ℕ) (size flags : ℕ) (validator : Option ℕ) (request : Request) (note : BankNote) → IsPlain request → Goes (App app) request note (register_effect s app short size flags validator note)
   registered_fair app short size flags validator request note plain =
       let store_called = calls_store (App app) request note plain in
-      by_register s (Goes (App app) request note) (λ e same no_deeds no_calls is noted. refuses app request plain e same no_deeds no_calls is) app short size flags validator note (record {
-        answers = λ store e is no_deeds quiet noted. store_called.answers store e is no_deeds quiet;
-        fails = λ store e failed is no_deeds status noted. store_called.fails store e failed is no_deeds status;
-        restarts = λ store e stopped is no_deeds status noted. store_called.restarts store e stopped is no_deeds status;
+      by_register s (Goes (App app) request note) (λ e same no_events no_calls is noted. refuses app request plain e same no_events no_calls is) app short size flags validator note (record {
+        answers = λ store e is no_events quiet noted. store_called.answers store e is no_events quiet;
+        fails = λ store e failed is no_events status noted. store_called.fails store e failed is no_events status;
+        restarts = λ store e stopped is no_events status noted. store_called.restarts store e stopped is no_events status;
       }) (λ name row handle options first status calls store plan free_row free_handle begins quiet noted.
       keeps app request plain _ (add_keeps s.tables row (new_table name app size options validator handle) first (free_place s.tables.rows row free_row).1 refl (sized note request size calls first begins noted)) (no_stop status quiet))
 

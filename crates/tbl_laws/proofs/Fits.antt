@@ -6,7 +6,7 @@ use Rattle.std.proofs.lemmas.Bool.{cases_eq}
 use Rattle.tbl_model.specs.State.{State, Load, Table, Handle, Tables}
 use Rattle.tbl_model.specs.Tables.{table_at}
 use Rattle.tbl_model.specs.TableSteps.{is_checked, set_checked, changed, changed_in, put, put_in, set_time, set_time_in}
-use Rattle.tbl_model.specs.Deeds.{is_good}
+use Rattle.tbl_model.specs.Telemetry.{is_good}
 use Rattle.tbl_model.specs.Pending.{is_pair, is_pending, without_pair}
 use Rattle.tbl_model.specs.Validations.{judged}
 use Rattle.tbl_model.specs.Fit.{HasImage, owner_at, IsRegistered, HasCode, IsFit, FitAt, AreFit}
@@ -126,9 +126,9 @@ module _ (n : ℕ) (s : State) (fit : AreFit n s) (row : ℕ) (t : Table) (there
         );
   })
 
-  -- its load and what is asked of it stay
+  -- its load and what is requested of it stay
   pub unseen : (m : ℕ) (tables : Tables) (u : Table) → n ≤ m → Becomes tables u → t.count ≤ u.count → u.count ≤ m → u.load ≡ t.load → u.activation ≡ t.activation → AreFit m (record s { tables = tables })
-  unseen m tables u low is grows few load activation = kept m tables u low is grows few (λ asked. rw load (was.checked (rw activation at asked))) (λ pends open_load unasked. (rw load open_load, rw activation unasked))
+  unseen m tables u low is grows few load activation = kept m tables u low is grows few (λ requested. rw load (was.checked (rw activation at requested))) (λ pends open_load no_activation. (rw load open_load, rw activation no_activation))
 
   -- a validation comes to its end
   module _ (active : Bool) (tables : Tables) (u : Table) (is : Becomes tables u) (grows : t.count ≤ u.count) (few : u.count ≤ n) (checked : u.activation ≡ true → is_checked u ≡ true) (load : is_some u.load ≡ is_some t.load) (activation : u.activation ≡ t.activation) where
@@ -160,12 +160,12 @@ module _ (n : ℕ) (s : State) (fit : AreFit n s) (row : ℕ) (t : Table) (there
 
   -- the mark of a load changes, or there is none
   pub mark : (active : Bool) (verdict : ℤ) → (active ≡ false → t.activation ≡ false) → AreFit n (judged s row active verdict)
-  mark true verdict unasked = less true s.tables t (same_table s.tables refl refl) (omega arith) was.few was.checked refl refl
-  mark false verdict unasked =
+  mark true verdict no_activation = less true s.tables t (same_table s.tables refl refl) (omega arith) was.few was.checked refl refl
+  mark false verdict no_activation =
       let u : Table = record t { load = option_map (λ (load : Load). record load { checked = is_good verdict }) t.load } in
       less false (set_checked row (is_good verdict) s.tables) u
       (record { changes = changed_row s.tables row (λ t. record t { load = option_map (λ (load : Load). record load { checked = is_good verdict }) t.load }) t there; handles = rw there refl; handle = refl; owner = refl; validator = refl; notice = was.notice })
-      (omega arith) was.few (λ asked. absurd (cc (asked, unasked refl))) (same_some t.load) refl
+      (omega arith) was.few (λ requested. absurd (cc (requested, no_activation refl))) (same_some t.load) refl
     where
       same_some : (load : Option Load) → is_some (option_map (λ (load : Load). record load { checked = is_good verdict }) load) ≡ is_some load
       same_some None = refl

@@ -7,35 +7,35 @@ use Rattle.std.proofs.lemmas.Option.{same_Some}
 use Rattle.tbl_model.specs.State.{State, Load, Table, Tables}
 use Rattle.tbl_model.specs.Tables.{table_at}
 use Rattle.tbl_model.specs.Effects.{Effect}
-use Rattle.tbl_model.specs.Deeds.{is_good}
+use Rattle.tbl_model.specs.Telemetry.{is_good}
 use Rattle.tbl_model.specs.Vouched.{verdict_for}
-use Rattle.tbl_model.specs.declared.deeds.Deed.{Deed}
-use Rattle.tbl_model.specs.declared.deeds.Deed.TheVariants.{Activated}
+use Rattle.tbl_model.specs.declared.telemetry.TelemetryEvent.{TelemetryEvent}
+use Rattle.tbl_model.specs.declared.telemetry.TelemetryEvent.TheVariants.{Activated}
 use Rattle.tbl_laws.proofs.Rows.{OneRow}
 
--- ---- deeds and their images
+-- ---- events and their images
 
-pub record TellsIn (deeds : List Deed) (images : List (Option (List ℕ))) (place : ℕ) (deed : Deed) (image : List ℕ) : Type 0 where
-  pub deed_is : slice_get deeds place ≡ Some deed
+pub record TellsIn (events : List TelemetryEvent) (images : List (Option (List ℕ))) (place : ℕ) (event : TelemetryEvent) (image : List ℕ) : Type 0 where
+  pub event_is : slice_get events place ≡ Some event
   pub image_is : slice_index_or images place None ≡ Some image
 
--- one of the first so many deeds tells verdict 0 on this image for the table in this row
-pub record PassesIn (deeds : List Deed) (images : List (Option (List ℕ))) (row : ℕ) (image : List ℕ) (most : ℕ) : Type 0 where
+-- one of the first so many events tells verdict 0 on this image for the table in this row
+pub record PassesIn (events : List TelemetryEvent) (images : List (Option (List ℕ))) (row : ℕ) (image : List ℕ) (most : ℕ) : Type 0 where
   pub place : ℕ
   pub first : place < most
-  pub deed : Deed
-  pub tells : TellsIn deeds images place deed image
+  pub event : TelemetryEvent
+  pub tells : TellsIn events images place event image
   pub verdict : ℤ
-  pub is : verdict_for row deed ≡ Some verdict
+  pub is : verdict_for row event ≡ Some verdict
   pub good : is_good verdict ≡ true
 
-abbrev pub is_activated : Deed → Bool
+abbrev pub is_activated : TelemetryEvent → Bool
 is_activated (Activated row count name) = true
 is_activated _ = false
 
 -- none of them tells of an image that goes active
-abbrev pub NoneActive : List Deed → Type 0
-NoneActive deeds = (place row count : ℕ) (name : List ℕ) → slice_get deeds place ≢ Some (Activated row count name)
+abbrev pub NoneActive : List TelemetryEvent → Type 0
+NoneActive events = (place row count : ℕ) (name : List ℕ) → slice_get events place ≢ Some (Activated row count name)
 
 -- ---- marks
 
@@ -70,27 +70,27 @@ inherits_none old new row found one none k v l at load checked = elim (cases_eq 
 
 -- ---- effects
 
--- each image that goes active on a table with a function has verdict 0 in an earlier deed, or was marked; and so has each mark
+-- each image that goes active on a table with a function has verdict 0 in an earlier event, or was marked; and so has each mark
 pub record IsHonest (s : State) (e : Effect) : Type 0 where
-  pub active : (place row count : ℕ) (name image : List ℕ) (t : Table) → TellsIn e.deeds e.images place (Activated row count name) image → table_at s.tables row ≡ Some t → is_some t.validator ≡ true
-      → PassesIn e.deeds e.images row image place ⊎ ((l : Load) × (t.load ≡ Some l) × (l.checked ≡ true) × (l.image ≡ image))
+  pub active : (place row count : ℕ) (name image : List ℕ) (t : Table) → TellsIn e.events e.images place (Activated row count name) image → table_at s.tables row ≡ Some t → is_some t.validator ≡ true
+      → PassesIn e.events e.images row image place ⊎ ((l : Load) × (t.load ≡ Some l) × (l.checked ≡ true) × (l.image ≡ image))
   pub marks : (row : ℕ) (u : Table) (l : Load) → table_at e.next.tables row ≡ Some u → u.load ≡ Some l → l.checked ≡ true → is_some u.validator ≡ true
-      → PassesIn e.deeds e.images row l.image (length e.deeds) ⊎ ((t : Table) × (table_at s.tables row ≡ Some t) × (t.load ≡ Some l) × (t.validator ≡ u.validator))
+      → PassesIn e.events e.images row l.image (length e.events) ⊎ ((t : Table) × (table_at s.tables row ≡ Some t) × (t.load ≡ Some l) × (t.validator ≡ u.validator))
 
 -- nothing goes active, and each mark was there
-pub honest_plain : (s : State) (e : Effect) → NoneActive e.deeds → Inherits s.tables e.next.tables → IsHonest s e
+pub honest_plain : (s : State) (e : Effect) → NoneActive e.events → Inherits s.tables e.next.tables → IsHonest s e
 honest_plain s e none inherits = record {
-  active = λ place row count name image t tells there function. absurd (none place row count name tells.deed_is);
+  active = λ place row count name image t tells there function. absurd (none place row count name tells.event_is);
   marks = λ row u l there load checked function. inr (inherits row u l there load checked);
 }
 
-pub none_active_nil : (deeds : List Deed) → deeds ≡ [] → NoneActive deeds
+pub none_active_nil : (events : List TelemetryEvent) → events ≡ [] → NoneActive events
 none_active_nil [] empty zero row count name is = cc is
 none_active_nil [] empty (suc place) row count name is = cc is
 none_active_nil (d ∷ ds) empty place row count name is = cc empty
 
--- one deed, which is none of an image that goes active
-pub none_active_one : (d : Deed) → is_activated d ≡ false → NoneActive (d ∷ [])
+-- one event, which is none of an image that goes active
+pub none_active_one : (d : TelemetryEvent) → is_activated d ≡ false → NoneActive (d ∷ [])
 none_active_one d not_active zero row count name is = cc (ap is_activated (same_Some d (Activated row count name) is), not_active)
 none_active_one d not_active (suc zero) row count name is = cc is
 none_active_one d not_active (suc (suc place)) row count name is = cc is
@@ -103,8 +103,8 @@ slice_get_more [] x y (suc (suc place)) is = absurd (cc is)
 slice_get_more (z ∷ zs) x y zero is = inl is
 slice_get_more (z ∷ zs) x y (suc place) is = elim (slice_get_more zs x y place is) [ inl there ↦ inl there | inr last ↦ inr (ap suc last.0, last.1) ]
 
-pub none_active_more : (deeds : List Deed) (d : Deed) → NoneActive deeds → is_activated d ≡ false → NoneActive (deeds ++ d ∷ [])
-none_active_more deeds d none not_active place row count name is = elim (slice_get_more deeds d (Activated row count name) place is) [
+pub none_active_more : (events : List TelemetryEvent) (d : TelemetryEvent) → NoneActive events → is_activated d ≡ false → NoneActive (events ++ d ∷ [])
+none_active_more events d none not_active place row count name is = elim (slice_get_more events d (Activated row count name) place is) [
   | inl there ↦ none place row count name there
   | inr last ↦ cc (ap is_activated last.1, not_active)
 ]
@@ -129,20 +129,20 @@ index_none [] (suc place) x is = absurd (cc is)
 index_none (z ∷ zs) zero x is = is
 index_none (z ∷ zs) (suc place) x is = index_none zs place x is
 
-pub passes_more : (deeds more : List Deed) (images others : List (Option (List ℕ))) (row : ℕ) (image : List ℕ) (most least : ℕ) → most ≤ least → PassesIn deeds images row image most → PassesIn (deeds ++ more) (images ++ others) row image least
-passes_more deeds more images others row image most least low p = record {
+pub passes_more : (events more : List TelemetryEvent) (images others : List (Option (List ℕ))) (row : ℕ) (image : List ℕ) (most least : ℕ) → most ≤ least → PassesIn events images row image most → PassesIn (events ++ more) (images ++ others) row image least
+passes_more events more images others row image most least low p = record {
   place = p.place;
   first = let first = p.first in omega (arith, first, low);
-  deed = p.deed;
-  tells = record { deed_is = get_before deeds more p.place p.deed p.tells.deed_is; image_is = index_before images others p.place image p.tells.image_is };
+  event = p.event;
+  tells = record { event_is = get_before events more p.place p.event p.tells.event_is; image_is = index_before images others p.place image p.tells.image_is };
   verdict = p.verdict;
   is = p.is;
   good = p.good;
 }
 
 -- the last one tells it
-pub last_tells : (deeds : List Deed) (images : List (Option (List ℕ))) (d : Deed) (image : List ℕ) → length deeds ≡ length images → TellsIn (deeds ++ d ∷ []) (images ++ Some image ∷ []) (length deeds) d image
-last_tells deeds images d image long = record { deed_is = get_last deeds d; image_is = ap (λ (k : ℕ). slice_index_or (images ++ Some image ∷ []) k None) long ∙ index_last images image } where
+pub last_tells : (events : List TelemetryEvent) (images : List (Option (List ℕ))) (d : TelemetryEvent) (image : List ℕ) → length events ≡ length images → TellsIn (events ++ d ∷ []) (images ++ Some image ∷ []) (length events) d image
+last_tells events images d image long = record { event_is = get_last events d; image_is = ap (λ (k : ℕ). slice_index_or (images ++ Some image ∷ []) k None) long ∙ index_last images image } where
   get_last : {X : Type 0} (xs : List X) (x : X) → slice_get (xs ++ x ∷ []) (length xs) ≡ Some x
   get_last [] x = refl
   get_last (z ∷ zs) x = get_last zs x

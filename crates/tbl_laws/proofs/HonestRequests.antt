@@ -8,11 +8,11 @@ use Rattle.std.proofs.lemmas.List.{get_or-set_same, get_or-set_other}
 use Rattle.std.proofs.lemmas.Option.{same_Some}
 use Rattle.tbl_kinds.specs.Drawer.{is_full_for}
 use Rattle.tbl_kinds.specs.Numbers.{patched}
-use Rattle.tbl_model.specs.State.{State, Load, Table, Handle, Tables, Dump, quiet, asked, filled, no_tables}
+use Rattle.tbl_model.specs.State.{State, Load, Table, Handle, Tables, Dump, quiet, requested, filled, no_tables}
 use Rattle.tbl_model.specs.Tables.{table_at, rows_where}
 use Rattle.tbl_model.specs.TableSteps.{handle_at, base, unchecked, last_image, load_image, drop_before, with_image, put, put_in, set_time, set_time_in, set_file, set_checked, patch, activate, changed, changed_in, filled_with, end_dump, without_handle, give_back_by, remove, registered_by, with_table, with_handle, new_table, with_first, added}
 use Rattle.tbl_model.specs.Effects.{Effect, answered}
-use Rattle.tbl_model.specs.Deeds.{is_good, verdict_bits, activated, finished}
+use Rattle.tbl_model.specs.Telemetry.{is_good, verdict_bits, activated, finished}
 use Rattle.tbl_model.specs.Given.{Given, verdict_at}
 use Rattle.tbl_model.specs.Pending.{is_pending}
 use Rattle.tbl_model.specs.Refusals.{update_refusal}
@@ -20,12 +20,12 @@ use Rattle.tbl_model.specs.Validations.{judged_image, marked, validated_effect}
 use Rattle.tbl_model.specs.AppLoads.{activate_effect, with_verdict, file_image}
 use Rattle.tbl_model.specs.Activations.{updated_effect}
 use Rattle.tbl_model.specs.Copies.{copy_failed}
-use Rattle.tbl_model.specs.Management.{Done, nothing_done, with_validation, then_validate, with_update, then_update, with_fill, then_fill, all_done, is_asked}
+use Rattle.tbl_model.specs.Management.{Done, nothing_done, with_validation, then_validate, with_update, then_update, with_fill, then_fill, all_done, is_requested}
 use Rattle.tbl_model.specs.Dumps.{Ended, end_by, then_end, dumps_ended, housekeeping_effect, is_filled}
 use Rattle.tbl_model.specs.Sharing.{give_up, give_up_by, give_up_if, is_handle_of, without_handles_of}
 use Rattle.tbl_model.specs.Dispatch.{effect_of}
-use Rattle.tbl_model.specs.declared.deeds.Deed.{Deed}
-use Rattle.tbl_model.specs.declared.deeds.Deed.TheVariants.{Judged, Activated, CopyFailed, Dumped, NotDumped}
+use Rattle.tbl_model.specs.declared.telemetry.TelemetryEvent.{TelemetryEvent}
+use Rattle.tbl_model.specs.declared.telemetry.TelemetryEvent.TheVariants.{Judged, Activated, CopyFailed, Dumped, NotDumped}
 use Rattle.tbl_model.proofs.RefusalLaws.{is_refusal, update_taken}
 use Rattle.tbl_kinds.specs.declared.entry.Answer.{Answer}
 use Rattle.tbl_kinds.specs.declared.status.TheConstants.Status.{ERR_VALIDATION_FAILED}
@@ -117,10 +117,10 @@ inherits_without : (app : ℕ) (s : State) → Inherits s.tables (without_handle
 unfolding without_handles_of
 inherits_without app s = inherits_left app (range_with_len 0 (length s.tables.handles)) s
 
--- ---- deeds
+-- ---- events
 
 -- the row of an image that goes active
-row_of : Deed → Option ℕ
+row_of : TelemetryEvent → Option ℕ
 row_of (Activated row count name) = Some row
 row_of _ = None
 
@@ -128,56 +128,56 @@ same_row : (row k n m : ℕ) (a b : List ℕ) → Activated row n a ≡ Activate
 unfolding row_of
 same_row row k n m a b is = same_Some row k (ap row_of is)
 
--- one deed, of an image that goes active
+-- one event, of an image that goes active
 one_active : (row n : ℕ) (name image : List ℕ) (place k m : ℕ) (other found : List ℕ) → TellsIn (Activated row n name ∷ []) (Some image ∷ []) place (Activated k m other) found → (row ≡ k) × (image ≡ found)
-one_active row n name image zero k m other found tells = (same_row row k n m name other (same_Some _ _ tells.deed_is), same_Some _ _ tells.image_is)
-one_active row n name image (suc zero) k m other found tells = absurd (cc tells.deed_is)
-one_active row n name image (suc (suc place)) k m other found tells = absurd (cc tells.deed_is)
+one_active row n name image zero k m other found tells = (same_row row k n m name other (same_Some _ _ tells.event_is), same_Some _ _ tells.image_is)
+one_active row n name image (suc zero) k m other found tells = absurd (cc tells.event_is)
+one_active row n name image (suc (suc place)) k m other found tells = absurd (cc tells.event_is)
 
 -- a verdict, and then an image that goes active
 verdict_active : (verdict : ℤ) (row n : ℕ) (name image : List ℕ) (place k m : ℕ) (other found : List ℕ) → is_good verdict ≡ true → TellsIn (Judged row verdict ∷ Activated row n name ∷ []) (Some image ∷ Some image ∷ []) place (Activated k m other) found
     → PassesIn (Judged row verdict ∷ Activated row n name ∷ []) (Some image ∷ Some image ∷ []) k found place
 unfolding row_of
-verdict_active verdict row n name image zero k m other found good tells = absurd (cc (ap row_of (same_Some _ _ tells.deed_is)))
+verdict_active verdict row n name image zero k m other found good tells = absurd (cc (ap row_of (same_Some _ _ tells.event_is)))
 verdict_active verdict row n name image (suc zero) k m other found good tells = record {
   place = 0;
   first = omega arith;
-  deed = Judged row verdict;
-  tells = record { deed_is = refl; image_is = tells.image_is };
+  event = Judged row verdict;
+  tells = record { event_is = refl; image_is = tells.image_is };
   verdict = verdict;
-  is = rw (eq-eqb row k (same_row row k n m name other (same_Some _ _ tells.deed_is))) refl;
+  is = rw (eq-eqb row k (same_row row k n m name other (same_Some _ _ tells.event_is))) refl;
   good = good;
 }
-verdict_active verdict row n name image (suc (suc zero)) k m other found good tells = absurd (cc tells.deed_is)
-verdict_active verdict row n name image (suc (suc (suc place))) k m other found good tells = absurd (cc tells.deed_is)
+verdict_active verdict row n name image (suc (suc zero)) k m other found good tells = absurd (cc tells.event_is)
+verdict_active verdict row n name image (suc (suc (suc place))) k m other found good tells = absurd (cc tells.event_is)
 
 -- ---- loads of the owner, validations and updates
 
 module _ (s : State) where
   -- an image of a table without a function
-  plain_active : (row : ℕ) (t : Table) (image : List ℕ) (e : Effect) → table_at s.tables row ≡ Some t → t.validator ≡ None → e.deeds ≡ activated row t ∷ [] → e.images ≡ Some image ∷ [] → Inherits s.tables e.next.tables → IsHonest s e
-  plain_active row t image e there no_function deeds images inherits = record {
+  plain_active : (row : ℕ) (t : Table) (image : List ℕ) (e : Effect) → table_at s.tables row ≡ Some t → t.validator ≡ None → e.events ≡ activated row t ∷ [] → e.images ≡ Some image ∷ [] → Inherits s.tables e.next.tables → IsHonest s e
+  plain_active row t image e there no_function events images inherits = record {
     active = λ place k count name found u tells at function.
-        let one = one_active row (t.count + 1) t.name image place k count name found (record { deed_is = rw deeds at tells.deed_is; image_is = rw images at tells.image_is }) in
+        let one = one_active row (t.count + 1) t.name image place k count name found (record { event_is = rw events at tells.event_is; image_is = rw images at tells.image_is }) in
         let same : t ≡ u = same_Some t u (sym there ∙ ap (λ (j : ℕ). table_at s.tables j) one.0 ∙ at) in
         absurd (cc (function, ap (λ (x : Table). is_some x.validator) same, no_function));
     marks = λ k u l at load checked function. inr (inherits k u l at load checked);
   }
 
   -- of a table whose function had verdict 0
-  judged_active : (row : ℕ) (t : Table) (image : List ℕ) (verdict : ℤ) (e : Effect) → is_good verdict ≡ true → e.deeds ≡ Judged row verdict ∷ activated row t ∷ [] → e.images ≡ Some image ∷ Some image ∷ [] → Inherits s.tables e.next.tables → IsHonest s e
-  judged_active row t image verdict e good deeds images inherits = record {
-    active = λ place k count name found u tells at function. inl (rw (deeds, images) (verdict_active verdict row (t.count + 1) t.name image place k count name found good (record { deed_is = rw deeds at tells.deed_is; image_is = rw images at tells.image_is })));
+  judged_active : (row : ℕ) (t : Table) (image : List ℕ) (verdict : ℤ) (e : Effect) → is_good verdict ≡ true → e.events ≡ Judged row verdict ∷ activated row t ∷ [] → e.images ≡ Some image ∷ Some image ∷ [] → Inherits s.tables e.next.tables → IsHonest s e
+  judged_active row t image verdict e good events images inherits = record {
+    active = λ place k count name found u tells at function. inl (rw (events, images) (verdict_active verdict row (t.count + 1) t.name image place k count name found good (record { event_is = rw events at tells.event_is; image_is = rw images at tells.image_is })));
     marks = λ k u l at load checked function. inr (inherits k u l at load checked);
   }
 
   -- a marked load that goes active
   loaded_active : (n : ℕ) → AreFit n s → (row : ℕ) (t : Table) → table_at s.tables row ≡ Some t → t.activation ≡ true → IsHonest s (updated_effect s row t)
-  loaded_active n fit row t there asked_before = record {
+  loaded_active n fit row t there requested_before = record {
     active = λ place k count name found u tells at function.
         let one = one_active row (t.count + 1) t.name (load_image t) place k count name found tells in
         let same : t ≡ u = same_Some t u (sym there ∙ ap (λ (j : ℕ). table_at s.tables j) one.0 ∙ at) in
-        let load = checked_load t.load ((was n s fit row t there).checked asked_before) in
+        let load = checked_load t.load ((was n s fit row t there).checked requested_before) in
         inr (load.0, ap (λ (x : Table). x.load) (sym same) ∙ load.1, load.2, load.3 ∙ one.1);
     marks = λ k u l at load checked function. inr (inherits_updated s.tables row s.seconds s.sub k u l at load checked);
   } where
@@ -203,16 +203,16 @@ module _ (s : State) where
     the_mark (Some x) is = (ap (λ (y : Load). y.checked) (same_Some _ l is) ∙ checked, sym (ap (λ (y : Load). y.image) (same_Some _ l is)))
 
   -- a validation that comes to its end
-  validated_mark : (row : ℕ) (t : Table) (active : Bool) (verdict : ℤ) (e : Effect) → table_at s.tables row ≡ Some t → e.deeds ≡ finished row active t (judged_image t active) verdict ∷ [] → e.images ≡ Some (judged_image t active) ∷ [] → e.next.tables ≡ marked row active verdict s.tables → IsHonest s e
-  validated_mark row t true verdict e there deeds images next = honest_plain s e (subst NoneActive (sym deeds) (none_active_one (finished row true t (judged_image t true) verdict) refl)) (inherits_same s.tables e.next.tables (ap (λ (x : Tables). x.rows) next))
-  validated_mark row t false verdict e there deeds images next = record {
-    active = λ place k count name found u tells at function. absurd ((none_active_one (finished row false t (judged_image t false) verdict) refl) place k count name (rw deeds at tells.deed_is));
+  validated_mark : (row : ℕ) (t : Table) (active : Bool) (verdict : ℤ) (e : Effect) → table_at s.tables row ≡ Some t → e.events ≡ finished row active t (judged_image t active) verdict ∷ [] → e.images ≡ Some (judged_image t active) ∷ [] → e.next.tables ≡ marked row active verdict s.tables → IsHonest s e
+  validated_mark row t true verdict e there events images next = honest_plain s e (subst NoneActive (sym events) (none_active_one (finished row true t (judged_image t true) verdict) refl)) (inherits_same s.tables e.next.tables (ap (λ (x : Tables). x.rows) next))
+  validated_mark row t false verdict e there events images next = record {
+    active = λ place k count name found u tells at function. absurd ((none_active_one (finished row false t (judged_image t false) verdict) refl) place k count name (rw events at tells.event_is));
     marks = λ k u l at load checked function. elim (marked_by row t verdict there k u l (rw next at at) load checked) [
       | inl new ↦ inl record {
         place = 0;
-        first = rw deeds (omega arith);
-        deed = finished row false t (judged_image t false) verdict;
-        tells = record { deed_is = rw deeds refl; image_is = rw images (ap (λ (x : List ℕ). Some x) (sym new.2)) };
+        first = rw events (omega arith);
+        event = finished row false t (judged_image t false) verdict;
+        tells = record { event_is = rw events refl; image_is = rw images (ap (λ (x : List ℕ). Some x) (sym new.2)) };
         verdict = verdict;
         is = rw (eq-eqb row k (sym new.0)) refl;
         good = new.1;
@@ -225,10 +225,10 @@ module _ (s : State) where
 
 -- what was done so far tells of no image that went active, and each mark has a verdict in it or was there
 record SoFar (s : State) (d : Done) : Type 0 where
-  none : NoneActive d.deeds
-  long : length d.deeds ≡ length d.images
+  none : NoneActive d.events
+  long : length d.events ≡ length d.images
   marks : (row : ℕ) (u : Table) (l : Load) → table_at d.state.tables row ≡ Some u → u.load ≡ Some l → l.checked ≡ true
-      → PassesIn d.deeds d.images row l.image (length d.deeds) ⊎ ((t : Table) × (table_at s.tables row ≡ Some t) × (t.load ≡ Some l) × (t.validator ≡ u.validator))
+      → PassesIn d.events d.images row l.image (length d.events) ⊎ ((t : Table) × (table_at s.tables row ≡ Some t) × (t.load ≡ Some l) × (t.validator ≡ u.validator))
 
 long_more : {X Y : Type 0} (xs : List X) (ys : List Y) (x : X) (y : Y) → length xs ≡ length ys → length (xs ++ x ∷ []) ≡ length (ys ++ y ∷ [])
 long_more xs ys x y same = omega (arith, same, length-append xs (x ∷ []), length-append ys (y ∷ []))
@@ -237,33 +237,33 @@ module _ (n : ℕ) (row : ℕ) (given : Given) (s : State) where
   -- one validation more
   so_far_validated : (active : Bool) (d : Done) → SoFar s d → SoFar s (then_validate row active given d)
   so_far_validated active d so_far = with_found n row given (SoFar s) d _ (table_at d.state.tables row) refl so_far (λ t there.
-      either n row given (SoFar s) (not (is_pending row active d.state.pending)) d (with_validation row active (verdict_at (length d.asked) given) d t) so_far (λ _. by t there active (verdict_at (length d.asked) given)))
+      either n row given (SoFar s) (not (is_pending row active d.state.pending)) d (with_validation row active (verdict_at (length d.questions) given) d t) so_far (λ _. by t there active (verdict_at (length d.questions) given)))
     where
       by : (t : Table) → table_at d.state.tables row ≡ Some t → (a : Bool) (verdict : ℤ) → SoFar s (with_validation row a verdict d t)
       by t there true verdict = record {
-        none = none_active_more d.deeds (finished row true t (judged_image t true) verdict) so_far.none refl;
-        long = long_more d.deeds d.images (finished row true t (judged_image t true) verdict) (Some (judged_image t true)) so_far.long;
+        none = none_active_more d.events (finished row true t (judged_image t true) verdict) so_far.none refl;
+        long = long_more d.events d.images (finished row true t (judged_image t true) verdict) (Some (judged_image t true)) so_far.long;
         marks = λ k u l at load checked. elim (so_far.marks k u l at load checked) [
-          | inl passes ↦ inl (passes_more d.deeds (finished row true t (judged_image t true) verdict ∷ []) d.images (Some (judged_image t true) ∷ []) k l.image (length d.deeds) _ (omega (arith, length-append d.deeds (finished row true t (judged_image t true) verdict ∷ []))) passes)
+          | inl passes ↦ inl (passes_more d.events (finished row true t (judged_image t true) verdict ∷ []) d.images (Some (judged_image t true) ∷ []) k l.image (length d.events) _ (omega (arith, length-append d.events (finished row true t (judged_image t true) verdict ∷ []))) passes)
           | inr before ↦ inr before
         ];
       }
       by t there false verdict = record {
-        none = none_active_more d.deeds (finished row false t (judged_image t false) verdict) so_far.none refl;
-        long = long_more d.deeds d.images (finished row false t (judged_image t false) verdict) (Some (judged_image t false)) so_far.long;
+        none = none_active_more d.events (finished row false t (judged_image t false) verdict) so_far.none refl;
+        long = long_more d.events d.images (finished row false t (judged_image t false) verdict) (Some (judged_image t false)) so_far.long;
         marks = λ k u l at load checked. elim (marked_by d.state row t verdict there k u l at load checked) [
           | inl new ↦ inl record {
-            place = length d.deeds;
-            first = omega (arith, length-append d.deeds (finished row false t (judged_image t false) verdict ∷ []));
-            deed = finished row false t (judged_image t false) verdict;
-            tells = subst (TellsIn (d.deeds ++ finished row false t (judged_image t false) verdict ∷ []) (d.images ++ Some (judged_image t false) ∷ []) (length d.deeds) (finished row false t (judged_image t false) verdict)) (sym new.2)
-                (last_tells d.deeds d.images (finished row false t (judged_image t false) verdict) (judged_image t false) so_far.long);
+            place = length d.events;
+            first = omega (arith, length-append d.events (finished row false t (judged_image t false) verdict ∷ []));
+            event = finished row false t (judged_image t false) verdict;
+            tells = subst (TellsIn (d.events ++ finished row false t (judged_image t false) verdict ∷ []) (d.images ++ Some (judged_image t false) ∷ []) (length d.events) (finished row false t (judged_image t false) verdict)) (sym new.2)
+                (last_tells d.events d.images (finished row false t (judged_image t false) verdict) (judged_image t false) so_far.long);
             verdict = verdict;
             is = rw (eq-eqb row k (sym new.0)) refl;
             good = new.1;
           }
           | inr before ↦ elim (so_far.marks k before.0 l before.1 before.2 checked) [
-            | inl passes ↦ inl (passes_more d.deeds (finished row false t (judged_image t false) verdict ∷ []) d.images (Some (judged_image t false) ∷ []) k l.image (length d.deeds) _ (omega (arith, length-append d.deeds (finished row false t (judged_image t false) verdict ∷ []))) passes)
+            | inl passes ↦ inl (passes_more d.events (finished row false t (judged_image t false) verdict ∷ []) d.images (Some (judged_image t false) ∷ []) k l.image (length d.events) _ (omega (arith, length-append d.events (finished row false t (judged_image t false) verdict ∷ []))) passes)
             | inr earlier ↦ inr (earlier.0, earlier.1, earlier.2, earlier.3 ∙ before.3)
           ]
         ];
@@ -271,13 +271,13 @@ module _ (n : ℕ) (row : ℕ) (given : Given) (s : State) where
 
   -- and then the update
   record AtEnd (d : Done) : Type 0 where
-    active : (place k count : ℕ) (name image : List ℕ) (t : Table) → TellsIn d.deeds d.images place (Activated k count name) image → table_at s.tables k ≡ Some t → is_some t.validator ≡ true
-        → PassesIn d.deeds d.images k image place ⊎ ((l : Load) × (t.load ≡ Some l) × (l.checked ≡ true) × (l.image ≡ image))
+    active : (place k count : ℕ) (name image : List ℕ) (t : Table) → TellsIn d.events d.images place (Activated k count name) image → table_at s.tables k ≡ Some t → is_some t.validator ≡ true
+        → PassesIn d.events d.images k image place ⊎ ((l : Load) × (t.load ≡ Some l) × (l.checked ≡ true) × (l.image ≡ image))
     marks : (k : ℕ) (u : Table) (l : Load) → table_at d.state.tables k ≡ Some u → u.load ≡ Some l → l.checked ≡ true
-        → PassesIn d.deeds d.images k l.image (length d.deeds) ⊎ ((t : Table) × (table_at s.tables k ≡ Some t) × (t.load ≡ Some l) × (t.validator ≡ u.validator))
+        → PassesIn d.events d.images k l.image (length d.events) ⊎ ((t : Table) × (table_at s.tables k ≡ Some t) × (t.load ≡ Some l) × (t.validator ≡ u.validator))
 
   no_update : (d : Done) → SoFar s d → AtEnd d
-  no_update d so_far = record { active = λ place k count name image t tells there function. absurd (so_far.none place k count name tells.deed_is); marks = so_far.marks }
+  no_update d so_far = record { active = λ place k count name image t tells there function. absurd (so_far.none place k count name tells.event_is); marks = so_far.marks }
 
   index_at : {X : Type 0} (xs : List (Option X)) (x y : X) (place : ℕ) → place ≡ length xs → slice_index_or (xs ++ Some x ∷ []) place None ≡ Some y → x ≡ y
   index_at [] x y zero same is = same_Some x y is
@@ -290,16 +290,16 @@ module _ (n : ℕ) (row : ℕ) (given : Given) (s : State) where
     by : (t : Table) → table_at d.state.tables row ≡ Some t → (r : Option Answer) → update_refusal d.state.tables row t ≡ r → AtEnd (cond (is_some r) d (with_update row d t))
     by t there (Some answer) is = no_update d so_far
     by t there None is = record {
-      active = λ place k count name image u tells at function. elim (slice_get_more d.deeds (activated row t) (Activated k count name) place tells.deed_is) [
+      active = λ place k count name image u tells at function. elim (slice_get_more d.events (activated row t) (Activated k count name) place tells.event_is) [
         | inl before ↦ absurd (so_far.none place k count name before)
         | inr last ↦
             let here : row ≡ k = same_row row k (t.count + 1) count t.name name last.1 in
             let found : load_image t ≡ image = index_at d.images (load_image t) image place (last.0 ∙ so_far.long) tells.image_is in
             let load = checked_load t.load ((was n d.state fit row t there).checked (update_taken d.state.tables row t is).0) in
             elim (so_far.marks row t load.0 there load.1 load.2) [
-              | inl passes ↦ inl (subst (λ (j : ℕ). PassesIn (d.deeds ++ activated row t ∷ []) (d.images ++ Some (load_image t) ∷ []) j image place) here
-                  (subst (λ (x : List ℕ). PassesIn (d.deeds ++ activated row t ∷ []) (d.images ++ Some (load_image t) ∷ []) row x place) (load.3 ∙ found)
-                  (passes_more d.deeds (activated row t ∷ []) d.images (Some (load_image t) ∷ []) row load.0.image (length d.deeds) place (omega (arith, last.0)) passes)))
+              | inl passes ↦ inl (subst (λ (j : ℕ). PassesIn (d.events ++ activated row t ∷ []) (d.images ++ Some (load_image t) ∷ []) j image place) here
+                  (subst (λ (x : List ℕ). PassesIn (d.events ++ activated row t ∷ []) (d.images ++ Some (load_image t) ∷ []) row x place) (load.3 ∙ found)
+                  (passes_more d.events (activated row t ∷ []) d.images (Some (load_image t) ∷ []) row load.0.image (length d.events) place (omega (arith, last.0)) passes)))
               | inr before ↦
                   let same : before.0 ≡ u = same_Some before.0 u (sym before.1 ∙ ap (λ (j : ℕ). table_at s.tables j) here ∙ at) in
                   inr (load.0, ap (λ (x : Table). x.load) (sym same) ∙ before.2, load.2, load.3 ∙ found)
@@ -308,7 +308,7 @@ module _ (n : ℕ) (row : ℕ) (given : Given) (s : State) where
       marks = λ k u l at load checked.
           let inherited = inherits_updated d.state.tables row d.state.seconds d.state.sub k u l at load checked in
           elim (so_far.marks k inherited.0 l inherited.1 inherited.2 checked) [
-            | inl passes ↦ inl (passes_more d.deeds (activated row t ∷ []) d.images (Some (load_image t) ∷ []) k l.image (length d.deeds) _ (omega (arith, length-append d.deeds (activated row t ∷ []))) passes)
+            | inl passes ↦ inl (passes_more d.events (activated row t ∷ []) d.images (Some (load_image t) ∷ []) k l.image (length d.events) _ (omega (arith, length-append d.events (activated row t ∷ []))) passes)
             | inr earlier ↦ inr (earlier.0, earlier.1, earlier.2, earlier.3 ∙ inherited.3)
           ];
     } where
@@ -319,7 +319,7 @@ module _ (n : ℕ) (row : ℕ) (given : Given) (s : State) where
   -- the filling of a dump touches no load
   at_end_filled : (d : Done) → AtEnd d → AtEnd (then_fill row d)
   at_end_filled d end = with_found n row given AtEnd d _ (table_at d.state.tables row) refl end (λ t there.
-      either n row given AtEnd (not (is_asked t.dump)) d (with_fill row d) end (λ _. record {
+      either n row given AtEnd (not (is_requested t.dump)) d (with_fill row d) end (λ _. record {
         active = end.active;
         marks = λ k u l at load checked.
             let inherited = inherits_unseen d.state.tables row (λ v. record v { dump = filled_with (last_image v) v.dump }) (λ v. refl) (λ v. refl) k u l at load checked in
@@ -344,7 +344,7 @@ module _ (n : ℕ) (row : ℕ) (given : Given) (s : State) where
 
 -- the dumps that came to their end tell of files alone
 record OnlyFiles (s : State) (e : Ended) : Type 0 where
-  none : NoneActive e.deeds
+  none : NoneActive e.events
   inherits : Inherits s.tables e.state.tables
 
 only_files : (s : State) (rows : List ℕ) (e : Ended) → OnlyFiles s e → OnlyFiles s (fold then_end e rows)
@@ -355,10 +355,10 @@ only_files s (row ∷ rows) e only = only_files s rows (then_end e row) (one (ta
 
   of : (name : List ℕ) (d : Dump) → OnlyFiles s (end_by e row name d)
   of name quiet = only
-  of name (asked file) = only
+  of name (requested file) = only
   of name (filled file image) = cond_both (is_full_for e.state.drawer file) _ _ (OnlyFiles s)
-      (λ _. record { none = none_active_more e.deeds (NotDumped row) only.none refl; inherits = over })
-      (λ _. record { none = none_active_more e.deeds _ only.none refl; inherits = over })
+      (λ _. record { none = none_active_more e.events (NotDumped row) only.none refl; inherits = over })
+      (λ _. record { none = none_active_more e.events _ only.none refl; inherits = over })
 
   one : (found : Option Table) → OnlyFiles s (option_map_or (λ (t : Table). end_by e row t.name t.dump) found e)
   one None = only
@@ -367,43 +367,43 @@ only_files s (row ∷ rows) e only = only_files s rows (then_end e row) (one (ta
 -- ---- all requests
 
 module _ (s : State) (n : ℕ) (fit : AreFit n s) where
-  -- an effect without deeds, which makes no mark
-  plain : (e : Effect) → e.deeds ≡ [] → Inherits s.tables e.next.tables → IsHonest s e
-  plain e no_deeds inherits = honest_plain s e (none_active_nil e.deeds no_deeds) inherits
+  -- an effect without events, which makes no mark
+  plain : (e : Effect) → e.events ≡ [] → Inherits s.tables e.next.tables → IsHonest s e
+  plain e no_events inherits = honest_plain s e (none_active_nil e.events no_events) inherits
 
-  same_tables : (e : Effect) → e.deeds ≡ [] → e.next.tables ≡ s.tables → IsHonest s e
-  same_tables e no_deeds same = plain e no_deeds (inherits_same s.tables e.next.tables (ap (λ (t : Tables). t.rows) same))
+  same_tables : (e : Effect) → e.events ≡ [] → e.next.tables ≡ s.tables → IsHonest s e
+  same_tables e no_events same = plain e no_events (inherits_same s.tables e.next.tables (ap (λ (t : Tables). t.rows) same))
 
-  same_rows_of : (e : Effect) → e.deeds ≡ [] → e.next.tables.rows ≡ s.tables.rows → IsHonest s e
-  same_rows_of e no_deeds same = plain e no_deeds (inherits_same s.tables e.next.tables same)
+  same_rows_of : (e : Effect) → e.events ≡ [] → e.next.tables.rows ≡ s.tables.rows → IsHonest s e
+  same_rows_of e no_events same = plain e no_events (inherits_same s.tables e.next.tables same)
 
   -- without tables there is no mark
-  anew : (e : Effect) → e.deeds ≡ [] → e.next.tables ≡ no_tables → IsHonest s e
-  anew e no_deeds none = plain e no_deeds (λ row u l there load checked. absurd (nothing_there 128 row u (rw none at there)))
+  anew : (e : Effect) → e.events ≡ [] → e.next.tables ≡ no_tables → IsHonest s e
+  anew e no_events none = plain e no_events (λ row u l there load checked. absurd (nothing_there 128 row u (rw none at there)))
 
-  refused : (e : Effect) → e.next ≡ s → e.deeds ≡ [] → e.calls ≡ [] → is_refusal e.status ≡ true → IsHonest s e
-  refused e same no_deeds no_calls refuses = same_tables e no_deeds (ap (λ (x : State). x.tables) same)
+  refused : (e : Effect) → e.next ≡ s → e.events ≡ [] → e.calls ≡ [] → is_refusal e.status ≡ true → IsHonest s e
+  refused e same no_events no_calls refuses = same_tables e no_events (ap (λ (x : State). x.tables) same)
 
   -- a request that calls the store and does nothing else
   calls_store : (note : BankNote) → CallsStore s note (IsHonest s)
   calls_store note = record {
-    answers = λ store e is no_deeds no_trouble. same_tables e no_deeds (ap (λ (t : State). t.tables) is);
-    fails = λ store e failed is no_deeds status. same_tables e no_deeds (ap (λ (t : State). t.tables) is);
-    restarts = λ store e stopped is no_deeds status. anew e no_deeds (ap (λ (t : State). t.tables) is);
+    answers = λ store e is no_events no_trouble. same_tables e no_events (ap (λ (t : State). t.tables) is);
+    fails = λ store e failed is no_events status. same_tables e no_events (ap (λ (t : State). t.tables) is);
+    restarts = λ store e stopped is no_events status. anew e no_events (ap (λ (t : State). t.tables) is);
   }
 
   -- that a copy failed is told after all else
   failed : (row slot : ℕ) (e : Effect) → IsHonest s e → IsHonest s (copy_failed row slot e)
   failed row slot e p = record {
-    active = λ place k count name image t tells there function. elim (slice_get_more e.deeds (CopyFailed row slot) (Activated k count name) place tells.deed_is) [
-      | inl old ↦ elim (p.active place k count name image t (record { deed_is = old; image_is = index_none e.images place image tells.image_is }) there function) [
-        | inl passes ↦ inl (passes_more e.deeds (CopyFailed row slot ∷ []) e.images (None ∷ []) k image place place (omega arith) passes)
+    active = λ place k count name image t tells there function. elim (slice_get_more e.events (CopyFailed row slot) (Activated k count name) place tells.event_is) [
+      | inl old ↦ elim (p.active place k count name image t (record { event_is = old; image_is = index_none e.images place image tells.image_is }) there function) [
+        | inl passes ↦ inl (passes_more e.events (CopyFailed row slot ∷ []) e.images (None ∷ []) k image place place (omega arith) passes)
         | inr load ↦ inr load
       ]
       | inr end ↦ absurd (cc (ap is_activated end.1))
     ];
     marks = λ k u l at load checked function. elim (p.marks k u l at load checked function) [
-      | inl passes ↦ inl (passes_more e.deeds (CopyFailed row slot ∷ []) e.images (None ∷ []) k l.image (length e.deeds) _ (omega (arith, length-append e.deeds (CopyFailed row slot ∷ []))) passes)
+      | inl passes ↦ inl (passes_more e.events (CopyFailed row slot ∷ []) e.images (None ∷ []) k l.image (length e.events) _ (omega (arith, length-append e.events (CopyFailed row slot ∷ []))) passes)
       | inr before ↦ inr before
     ];
   }
@@ -421,7 +421,7 @@ module _ (s : State) (n : ℕ) (fit : AreFit n s) where
   commands note = record {
     about = λ e table p. record { active = p.active; marks = p.marks };
     accepted = same_tables _ refl refl;
-    housekeeping = let files = only_files s (rows_where is_filled 0 s.tables.rows) (record { state = s; bytes = []; deeds = [] }) (record { none = none_active_nil [] refl; inherits = inherits_same s.tables s.tables refl }) in honest_plain s _ files.none files.inherits;
+    housekeeping = let files = only_files s (rows_where is_filled 0 s.tables.rows) (record { state = s; bytes = []; events = [] }) (record { none = none_active_nil [] refl; inherits = inherits_same s.tables s.tables refl }) in honest_plain s _ files.none files.inherits;
     loaded = λ name file row t there none. plain _ refl (then_inherits s.tables (patch row file.offset file.image s.tables) (set_file row name (patch row file.offset file.image s.tables))
         (inherits_changed s.tables row (λ u. record u { load = unchecked (patched (base u) file.offset file.image) }) (λ u. refl) (λ u l is checked. absurd (cc (ap (λ (x : Load). x.checked) (same_Some _ l is), checked))))
         (inherits_file (patch row file.offset file.image s.tables) row name));
@@ -432,7 +432,7 @@ module _ (s : State) (n : ℕ) (fit : AreFit n s) where
     shown = λ row. same_tables _ refl refl;
     deletes = λ name slot block none. by_delete s (IsHonest s) refused note (calls_store note) slot;
     written = λ row file bytes free. rw free (honest_plain s _ (none_active_one (Dumped row file (length bytes)) refl) (inherits_same s.tables s.tables refl));
-    dump_asked = λ file row t there only none. rw none (plain _ refl (inherits_unseen s.tables row (λ u. record u { dump = asked file }) (λ u. refl) (λ u. refl)));
+    dump_requested = λ file row t there only none. rw none (plain _ refl (inherits_unseen s.tables row (λ u. record u { dump = requested file }) (λ u. refl) (λ u. refl)));
   } where
     without_function : (row : ℕ) (t : Table) (active : Bool) → table_at s.tables row ≡ Some t → is_some t.validator ≡ false → IsHonest s (validated_effect s active row t)
     without_function row t active there no_function = validated_mark s row t active (pos 0) (validated_effect s active row t) there refl refl refl
@@ -443,8 +443,8 @@ module _ (s : State) (n : ℕ) (fit : AreFit n s) where
   inherits_from : (row : ℕ) (image name : List ℕ) → Inherits s.tables (set_file row name (set_time row s.seconds s.sub (put row image s.tables)))
   inherits_from row image name = then_inherits s.tables (set_time row s.seconds s.sub (put row image s.tables)) (set_file row name (set_time row s.seconds s.sub (put row image s.tables))) (inherits_imaged s.tables row image s.seconds s.sub) (inherits_file (set_time row s.seconds s.sub (put row image s.tables)) row name)
 
-  judged_badly : (row : ℕ) (image : List ℕ) (number : ℕ) (verdict : ℤ) (e : Effect) → e.deeds ≡ [] → e.next.tables ≡ s.tables → IsHonest s (with_verdict row image number verdict e)
-  judged_badly row image number verdict e no_deeds same = honest_plain s _ (subst (λ (ds : List Deed). NoneActive (Judged row verdict ∷ ds)) (sym no_deeds) (none_active_one (Judged row verdict) refl)) (inherits_same s.tables e.next.tables (ap (λ (t : Tables). t.rows) same))
+  judged_badly : (row : ℕ) (image : List ℕ) (number : ℕ) (verdict : ℤ) (e : Effect) → e.events ≡ [] → e.next.tables ≡ s.tables → IsHonest s (with_verdict row image number verdict e)
+  judged_badly row image number verdict e no_events same = honest_plain s _ (subst (λ (ds : List TelemetryEvent). NoneActive (Judged row verdict ∷ ds)) (sym no_events) (none_active_one (Judged row verdict) refl)) (inherits_same s.tables e.next.tables (ap (λ (t : Tables). t.rows) same))
 
   pub honest : (actor : Actor) (request : Request) (given : Given) → OfEffect (IsHonest s) (effect_of s actor request given)
   honest Ground (ask.Command bytes) given = by_command s given.note (IsHonest s) refused (commands given.note) bytes.list

@@ -7,22 +7,22 @@ use Rattle.tbl_kinds.specs.Drawer.{is_full_for}
 use Rattle.std.proofs.lemmas.Option.{same_Some}
 use Rattle.std.proofs.lemmas.Bool.{cases_eq, eqb-true, cond_both}
 use Rattle.std.proofs.lemmas.List.{append-nil}
-use Rattle.tbl_model.specs.State.{State, Table, Tables, Load, Dump, quiet, asked, filled}
+use Rattle.tbl_model.specs.State.{State, Table, Tables, Load, Dump, quiet, requested, filled}
 use Rattle.tbl_model.specs.Tables.{table_at, rows_where}
 use Rattle.tbl_model.specs.TableSteps.{set_checked, load_image}
 use Rattle.tbl_model.specs.Pending.{is_pending}
-use Rattle.tbl_model.specs.Deeds.{Question, is_good, verdict_bits, activated, finished}
+use Rattle.tbl_model.specs.Telemetry.{Question, is_good, verdict_bits, activated, finished}
 use Rattle.tbl_model.specs.Given.{Given, verdict_at}
 use Rattle.tbl_model.specs.Effects.{Effect, answered}
 use Rattle.tbl_model.specs.Dispatch.{effect_of}
 use Rattle.tbl_model.specs.Refusals.{update_refusal}
 use Rattle.tbl_model.specs.Validations.{judged_image, questions, marked, validated_effect}
 use Rattle.tbl_model.specs.AppLoads.{activate_effect, with_verdict, from_file, file_image}
-use Rattle.tbl_model.specs.Management.{Done, nothing_done, is_asked, with_validation, then_validate, with_update, then_update, with_fill, then_fill, all_done}
+use Rattle.tbl_model.specs.Management.{Done, nothing_done, is_requested, with_validation, then_validate, with_update, then_update, with_fill, then_fill, all_done}
 use Rattle.tbl_model.specs.Dumps.{Ended, end_by, then_end, is_filled, dumps_ended, housekeeping_effect}
 use Rattle.tbl_model.specs.Vouched.{verdict_for}
-use Rattle.tbl_model.specs.declared.deeds.Deed.{Deed}
-use Rattle.tbl_model.specs.declared.deeds.Deed.TheVariants.{Judged, Activated, CopyFailed, Dumped, NotDumped}
+use Rattle.tbl_model.specs.declared.telemetry.TelemetryEvent.{TelemetryEvent}
+use Rattle.tbl_model.specs.declared.telemetry.TelemetryEvent.TheVariants.{Judged, Activated, CopyFailed, Dumped, NotDumped}
 use Rattle.tbl_kinds.specs.declared.status.TheConstants.Status.{ERR_VALIDATION_FAILED}
 use Rattle.tbl_kinds.specs.declared.request.Actor.{Actor}
 use Rattle.tbl_kinds.specs.declared.request.Actor.TheVariants.{Ground, App}
@@ -40,29 +40,29 @@ pub record WasAsked (questions : List Question) (given : Given) (number : ℕ) (
   pub question : slice_get questions place ≡ Some (record { number = number; image = image })
   pub answer : v ≡ verdict_at place given
 
--- so is each verdict of these deeds, of a table with a function
-abbrev pub AreAsked : State → Given → List Deed → List (Option (List ℕ)) → List Question → Type 0
-AreAsked s given deeds images questions = (place row number : ℕ) (deed : Deed) (image : List ℕ) (v : ℤ) (t : Table) → TellsIn deeds images place deed image → verdict_for row deed ≡ Some v
+-- so is each verdict of these events, of a table with a function
+abbrev pub AreAsked : State → Given → List TelemetryEvent → List (Option (List ℕ)) → List Question → Type 0
+AreAsked s given events images questions = (place row number : ℕ) (event : TelemetryEvent) (image : List ℕ) (v : ℤ) (t : Table) → TellsIn events images place event image → verdict_for row event ≡ Some v
     → table_at s.tables row ≡ Some t → t.validator ≡ Some number → WasAsked questions given number image v
 
 abbrev pub IsKept : State → Given → Effect → Type 0
-IsKept s given e = AreAsked s given e.deeds e.images e.asked
+IsKept s given e = AreAsked s given e.events e.images e.questions
 
--- ---- few deeds
+-- ---- few events
 
-none_told : (s : State) (given : Given) (deeds : List Deed) (images : List (Option (List ℕ))) (questions : List Question) → deeds ≡ [] → AreAsked s given deeds images questions
-none_told s given [] images questions no_deeds zero row number deed image v t tells is there function = absurd (cc tells.deed_is)
-none_told s given [] images questions no_deeds (suc place) row number deed image v t tells is there function = absurd (cc tells.deed_is)
-none_told s given (d ∷ ds) images questions no_deeds place row number deed image v t tells is there function = absurd (cc no_deeds)
+none_told : (s : State) (given : Given) (events : List TelemetryEvent) (images : List (Option (List ℕ))) (questions : List Question) → events ≡ [] → AreAsked s given events images questions
+none_told s given [] images questions no_events zero row number event image v t tells is there function = absurd (cc tells.event_is)
+none_told s given [] images questions no_events (suc place) row number event image v t tells is there function = absurd (cc tells.event_is)
+none_told s given (d ∷ ds) images questions no_events place row number event image v t tells is there function = absurd (cc no_events)
 
--- a deed that tells no verdict
-abbrev IsSilent : Deed → Type 0
+-- an event that tells no verdict
+abbrev IsSilent : TelemetryEvent → Type 0
 IsSilent d = (row : ℕ) → verdict_for row d ≡ None
 
-one_told : (s : State) (given : Given) (d : Deed) (images : List (Option (List ℕ))) (questions : List Question) → IsSilent d → AreAsked s given (d ∷ []) images questions
-one_told s given d images questions silent zero row number deed image v t tells is there function = absurd (cc (silent row, ap (verdict_for row) (same_Some d deed tells.deed_is), is))
-one_told s given d images questions silent (suc zero) row number deed image v t tells is there function = absurd (cc tells.deed_is)
-one_told s given d images questions silent (suc (suc place)) row number deed image v t tells is there function = absurd (cc tells.deed_is)
+one_told : (s : State) (given : Given) (d : TelemetryEvent) (images : List (Option (List ℕ))) (questions : List Question) → IsSilent d → AreAsked s given (d ∷ []) images questions
+one_told s given d images questions silent zero row number event image v t tells is there function = absurd (cc (silent row, ap (verdict_for row) (same_Some d event tells.event_is), is))
+one_told s given d images questions silent (suc zero) row number event image v t tells is there function = absurd (cc tells.event_is)
+one_told s given d images questions silent (suc (suc place)) row number event image v t tells is there function = absurd (cc tells.event_is)
 
 -- the row that a verdict is told of
 told_of : (b : Bool) (v w : ℤ) → cond b (Some v) None ≡ Some w → (b ≡ true) × (v ≡ w)
@@ -70,22 +70,22 @@ told_of true v w is = (refl, same_Some v w is)
 told_of false v w is = absurd (cc is)
 
 -- the only verdict is that of a table whose function was asked for it
-judged_told : (s : State) (given : Given) (r : ℕ) (u : Table) (number : ℕ) (image : List ℕ) (verdict : ℤ) (more : List Deed) (images : List (Option (List ℕ))) → table_at s.tables r ≡ Some u → u.validator ≡ Some number
-    → verdict ≡ verdict_at 0 given → ((place : ℕ) (d : Deed) → slice_get more place ≡ Some d → IsSilent d)
+judged_told : (s : State) (given : Given) (r : ℕ) (u : Table) (number : ℕ) (image : List ℕ) (verdict : ℤ) (more : List TelemetryEvent) (images : List (Option (List ℕ))) → table_at s.tables r ≡ Some u → u.validator ≡ Some number
+    → verdict ≡ verdict_at 0 given → ((place : ℕ) (d : TelemetryEvent) → slice_get more place ≡ Some d → IsSilent d)
     → AreAsked s given (Judged r verdict ∷ more) (Some image ∷ images) (record { number = number; image = image } ∷ [])
-judged_told s given r u number image verdict more images there function one silent zero row n deed found v t tells is at has =
-    let told = told_of (eqb r row) verdict v (ap (verdict_for row) (same_Some _ deed tells.deed_is) ∙ is) in
+judged_told s given r u number image verdict more images there function one silent zero row n event found v t tells is at has =
+    let told = told_of (eqb r row) verdict v (ap (verdict_for row) (same_Some _ event tells.event_is) ∙ is) in
     let here : r ≡ row = eqb-true r row told.0 in
     let same : u ≡ t = same_Some u t (sym there ∙ ap (λ (j : ℕ). table_at s.tables j) here ∙ at) in
     let numbers : number ≡ n = same_Some number n (sym function ∙ ap (λ (x : Table). x.validator) same ∙ has) in
     record { place = 0; question = rw (numbers, same_Some image found tells.image_is) refl; answer = sym told.1 ∙ one }
-judged_told s given r u number image verdict more images there function one silent (suc place) row n deed found v t tells is at has = absurd (cc (silent place deed tells.deed_is row, is))
+judged_told s given r u number image verdict more images there function one silent (suc place) row n event found v t tells is at has = absurd (cc (silent place event tells.event_is row, is))
 
-nothing_silent : (place : ℕ) (d : Deed) → slice_get [] place ≡ Some d → IsSilent d
+nothing_silent : (place : ℕ) (d : TelemetryEvent) → slice_get [] place ≡ Some d → IsSilent d
 nothing_silent zero d is row = absurd (cc is)
 nothing_silent (suc place) d is row = absurd (cc is)
 
-active_silent : (r count : ℕ) (name : List ℕ) (place : ℕ) (d : Deed) → slice_get (Activated r count name ∷ []) place ≡ Some d → IsSilent d
+active_silent : (r count : ℕ) (name : List ℕ) (place : ℕ) (d : TelemetryEvent) → slice_get (Activated r count name ∷ []) place ≡ Some d → IsSilent d
 active_silent r count name zero d is row = ap (verdict_for row) (sym (same_Some _ d is))
 active_silent r count name (suc zero) d is row = absurd (cc is)
 active_silent r count name (suc (suc place)) d is row = absurd (cc is)
@@ -93,14 +93,14 @@ active_silent r count name (suc (suc place)) d is row = absurd (cc is)
 -- a validation that came to its end, of a table whose function was asked for it, if it has one
 finished_told : (s : State) (given : Given) (r : ℕ) (u : Table) (active : Bool) (image : List ℕ) (verdict : ℤ) → table_at s.tables r ≡ Some u → (is_some u.validator ≡ true → verdict ≡ verdict_at 0 given)
     → AreAsked s given (finished r active u image verdict ∷ []) (Some image ∷ []) (questions u image)
-finished_told s given r u active image verdict there one zero row n deed found v t tells is at has =
-    let told = told_of (eqb r row) verdict v (ap (verdict_for row) (same_Some _ deed tells.deed_is) ∙ is) in
+finished_told s given r u active image verdict there one zero row n event found v t tells is at has =
+    let told = told_of (eqb r row) verdict v (ap (verdict_for row) (same_Some _ event tells.event_is) ∙ is) in
     let here : r ≡ row = eqb-true r row told.0 in
     let same : u ≡ t = same_Some u t (sym there ∙ ap (λ (j : ℕ). table_at s.tables j) here ∙ at) in
     let function : u.validator ≡ Some n = ap (λ (x : Table). x.validator) same ∙ has in
     record { place = 0; question = rw (function, same_Some image found tells.image_is) refl; answer = sym told.1 ∙ one (rw function refl) }
-finished_told s given r u active image verdict there one (suc zero) row n deed found v t tells is at has = absurd (cc tells.deed_is)
-finished_told s given r u active image verdict there one (suc (suc place)) row n deed found v t tells is at has = absurd (cc tells.deed_is)
+finished_told s given r u active image verdict there one (suc zero) row n event found v t tells is at has = absurd (cc tells.event_is)
+finished_told s given r u active image verdict there one (suc (suc place)) row n event found v t tells is at has = absurd (cc tells.event_is)
 
 -- ---- Manage
 
@@ -109,8 +109,8 @@ abbrev Keeps : Tables → Tables → Type 0
 Keeps old new = (row : ℕ) (t u : Table) → table_at old row ≡ Some t → table_at new row ≡ Some u → u.validator ≡ t.validator
 
 record SoFar (s : State) (given : Given) (d : Done) : Type 0 where
-  asked : AreAsked s given d.deeds d.images d.asked
-  long : length d.deeds ≡ length d.images
+  asked : AreAsked s given d.events d.images d.questions
+  long : length d.events ≡ length d.images
   keeps : Keeps s.tables d.state.tables
 
 keeps_then : (first mid new : Tables) (row : ℕ) (x y : Table) → Keeps first mid → table_at mid row ≡ Some x → OneRow mid new row (Some y) → y.validator ≡ x.validator → Keeps first new
@@ -127,7 +127,7 @@ keeps_marked first mid row false verdict x keeps at =
     let change : Table → Table = λ v. record v { load = option_map (λ (l : Load). record l { checked = is_good verdict }) v.load } in
     keeps_then first mid (set_checked row (is_good verdict) mid) row x (change x) keeps at (changed_row mid row change x at) refl
 
--- the image of a deed that stood there before one more
+-- the image of an event that stood there before one more
 index_old : {X Y : Type 0} (xs : List X) (ys : List (Option Y)) (x : X) (y z : Y) (place : ℕ) → length xs ≡ length ys → slice_get xs place ≡ Some x → slice_index_or (ys ++ Some y ∷ []) place None ≡ Some z → slice_index_or ys place None ≡ Some z
 index_old [] ys x y z zero same got is = absurd (cc got)
 index_old [] ys x y z (suc place) same got is = absurd (cc got)
@@ -140,16 +140,16 @@ get_last [] x = refl
 get_last (z ∷ zs) x = get_last zs x
 
 module _ (s : State) (given : Given) where
-  -- one deed more
-  asked_more : (deeds : List Deed) (images : List (Option (List ℕ))) (questions more : List Question) (new : Deed) (about : List ℕ) → length deeds ≡ length images → AreAsked s given deeds images questions
+  -- one event more
+  asked_more : (events : List TelemetryEvent) (images : List (Option (List ℕ))) (questions more : List Question) (new : TelemetryEvent) (about : List ℕ) → length events ≡ length images → AreAsked s given events images questions
       → ((row number : ℕ) (v : ℤ) (t : Table) → verdict_for row new ≡ Some v → table_at s.tables row ≡ Some t → t.validator ≡ Some number → WasAsked (questions ++ more) given number about v)
-      → AreAsked s given (deeds ++ new ∷ []) (images ++ Some about ∷ []) (questions ++ more)
-  asked_more deeds images questions more new about long before last place row number deed image v t tells is there function = elim (slice_get_more deeds new deed place tells.deed_is) [
+      → AreAsked s given (events ++ new ∷ []) (images ++ Some about ∷ []) (questions ++ more)
+  asked_more events images questions more new about long before last place row number event image v t tells is there function = elim (slice_get_more events new event place tells.event_is) [
     | inl old ↦
-        let was = before place row number deed image v t (record { deed_is = old; image_is = index_old deeds images deed about image place long old tells.image_is }) is there function in
+        let was = before place row number event image v t (record { event_is = old; image_is = index_old events images event about image place long old tells.image_is }) is there function in
         record { place = was.place; question = get_before questions more was.place _ was.question; answer = was.answer }
     | inr end ↦
-        let ends = last_tells deeds images new about long in
+        let ends = last_tells events images new about long in
         let same : about ≡ image = same_Some about image (sym ends.image_is ∙ ap (λ (j : ℕ). slice_index_or (images ++ Some about ∷ []) j None) (sym end.0) ∙ tells.image_is) in
         subst (λ (x : List ℕ). WasAsked (questions ++ more) given number x v) same (last row number v t (ap (verdict_for row) end.1 ∙ is) there function)
   ]
@@ -157,30 +157,30 @@ module _ (s : State) (given : Given) where
   module _ (n row : ℕ) where
     validates : (active : Bool) (d : Done) → SoFar s given d → SoFar s given (then_validate row active given d)
     validates active d so_far = with_found n row given (SoFar s given) d _ (table_at d.state.tables row) refl so_far (λ u at.
-        either n row given (SoFar s given) (not (is_pending row active d.state.pending)) d (with_validation row active (verdict_at (length d.asked) given) d u) so_far (λ _.
-        let verdict = verdict_at (length d.asked) given in
+        either n row given (SoFar s given) (not (is_pending row active d.state.pending)) d (with_validation row active (verdict_at (length d.questions) given) d u) so_far (λ _.
+        let verdict = verdict_at (length d.questions) given in
         let image = judged_image u active in
         let new = finished row active u image verdict in record {
-          asked = asked_more d.deeds d.images d.asked (questions u image) new image so_far.long so_far.asked (λ k number v t is there function.
+          asked = asked_more d.events d.images d.questions (questions u image) new image so_far.long so_far.asked (λ k number v t is there function.
               let told = told_of (eqb row k) verdict v is in
               let here : row ≡ k = eqb-true row k told.0 in
               let has : u.validator ≡ Some number = so_far.keeps k t u there (ap (λ (j : ℕ). table_at d.state.tables j) (sym here) ∙ at) ∙ function in
-              record { place = length d.asked; question = rw has (get_last d.asked (record { number = number; image = image })); answer = sym told.1 });
-          long = omega (arith, so_far.long, length-append d.deeds (new ∷ []), length-append d.images (Some image ∷ []));
+              record { place = length d.questions; question = rw has (get_last d.questions (record { number = number; image = image })); answer = sym told.1 });
+          long = omega (arith, so_far.long, length-append d.events (new ∷ []), length-append d.images (Some image ∷ []));
           keeps = keeps_marked s.tables d.state.tables row active verdict u so_far.keeps at;
         }))
 
     abbrev Told : Done → Type 0
-    Told d = AreAsked s given d.deeds d.images d.asked
+    Told d = AreAsked s given d.events d.images d.questions
 
     updates : (d : Done) → SoFar s given d → Told (then_update row d)
     updates d so_far = with_found n row given Told d _ (table_at d.state.tables row) refl so_far.asked (λ u at.
         either n row given Told (is_some (update_refusal d.state.tables row u)) d (with_update row d u) so_far.asked (λ _.
-        subst (AreAsked s given (d.deeds ++ activated row u ∷ []) (d.images ++ Some (load_image u) ∷ [])) (append-nil d.asked)
-        (asked_more d.deeds d.images d.asked [] (activated row u) (load_image u) so_far.long so_far.asked (λ k number v t is there function. absurd (cc is)))))
+        subst (AreAsked s given (d.events ++ activated row u ∷ []) (d.images ++ Some (load_image u) ∷ [])) (append-nil d.questions)
+        (asked_more d.events d.images d.questions [] (activated row u) (load_image u) so_far.long so_far.asked (λ k number v t is there function. absurd (cc is)))))
 
     fills : (d : Done) → Told d → Told (then_fill row d)
-    fills d told = with_found n row given Told d _ (table_at d.state.tables row) refl told (λ u at. either n row given Told (not (is_asked u.dump)) d (with_fill row d) told (λ _. told))
+    fills d told = with_found n row given Told d _ (table_at d.state.tables row) refl told (λ u at. either n row given Told (not (is_requested u.dump)) d (with_fill row d) told (λ _. told))
 
     manages : Told (all_done s given row)
     manages =
@@ -197,8 +197,8 @@ module _ (s : State) (given : Given) where
   nothing_told : AreAsked s given [] [] []
   nothing_told = none_told s given [] [] [] refl
 
-  refused : (e : Effect) → e.next ≡ s → e.deeds ≡ [] → e.calls ≡ [] → is_refusal e.status ≡ true → IsKept s given e
-  refused e same no_deeds no_calls refuses = none_told s given e.deeds e.images e.asked no_deeds
+  refused : (e : Effect) → e.next ≡ s → e.events ≡ [] → e.calls ≡ [] → is_refusal e.status ≡ true → IsKept s given e
+  refused e same no_events no_calls refuses = none_told s given e.events e.images e.questions no_events
 
   no_questions : (t : Table) (image : List ℕ) → is_some t.validator ≡ false → questions t image ≡ []
   no_questions t image none = by t.validator none where
@@ -206,27 +206,27 @@ module _ (s : State) (given : Given) where
     by None is = refl
     by (Some number) is = absurd (cc is)
 
-  -- deeds of files alone
-  abbrev AreSilent : List Deed → Type 0
-  AreSilent deeds = (place : ℕ) (d : Deed) → slice_get deeds place ≡ Some d → IsSilent d
+  -- events of files alone
+  abbrev AreSilent : List TelemetryEvent → Type 0
+  AreSilent events = (place : ℕ) (d : TelemetryEvent) → slice_get events place ≡ Some d → IsSilent d
 
-  silent_more : (deeds : List Deed) (new : Deed) → AreSilent deeds → IsSilent new → AreSilent (deeds ++ new ∷ [])
-  silent_more deeds new before last place d is = elim (slice_get_more deeds new d place is) [
+  silent_more : (events : List TelemetryEvent) (new : TelemetryEvent) → AreSilent events → IsSilent new → AreSilent (events ++ new ∷ [])
+  silent_more events new before last place d is = elim (slice_get_more events new d place is) [
     | inl there ↦ before place d there
     | inr end ↦ subst IsSilent end.1 last
   ]
 
-  ends_silent : (rows : List ℕ) (e : Ended) → AreSilent e.deeds → AreSilent (fold then_end e rows).deeds
+  ends_silent : (rows : List ℕ) (e : Ended) → AreSilent e.events → AreSilent (fold then_end e rows).events
   ends_silent [] e silent = silent
   ends_silent (row ∷ rows) e silent = ends_silent rows (then_end e row) (one (table_at e.state.tables row)) where
-    of : (name : List ℕ) (d : Dump) → AreSilent (end_by e row name d).deeds
+    of : (name : List ℕ) (d : Dump) → AreSilent (end_by e row name d).events
     of name quiet = silent
-    of name (asked file) = silent
-    of name (filled file image) = cond_both (is_full_for e.state.drawer file) _ _ (λ (after : Ended). AreSilent after.deeds)
-        (λ _. silent_more e.deeds (NotDumped row) silent (λ r. refl))
-        (λ _. silent_more e.deeds _ silent (λ r. refl))
+    of name (requested file) = silent
+    of name (filled file image) = cond_both (is_full_for e.state.drawer file) _ _ (λ (after : Ended). AreSilent after.events)
+        (λ _. silent_more e.events (NotDumped row) silent (λ r. refl))
+        (λ _. silent_more e.events _ silent (λ r. refl))
 
-    one : (found : Option Table) → AreSilent (option_map_or (λ (t : Table). end_by e row t.name t.dump) found e).deeds
+    one : (found : Option Table) → AreSilent (option_map_or (λ (t : Table). end_by e row t.name t.dump) found e).events
     one None = silent
     one (Some t) = of t.name t.dump
 
@@ -237,17 +237,17 @@ module _ (s : State) (given : Given) where
 
   calls_store : CallsStore s given.note (IsKept s given)
   calls_store = record {
-    answers = λ store e is no_deeds no_trouble. none_told s given e.deeds e.images e.asked no_deeds;
-    fails = λ store e failed is no_deeds status. none_told s given e.deeds e.images e.asked no_deeds;
-    restarts = λ store e stopped is no_deeds status. none_told s given e.deeds e.images e.asked no_deeds;
+    answers = λ store e is no_events no_trouble. none_told s given e.events e.images e.questions no_events;
+    fails = λ store e failed is no_events status. none_told s given e.events e.images e.questions no_events;
+    restarts = λ store e stopped is no_events status. none_told s given e.events e.images e.questions no_events;
   }
 
   -- that a copy failed is no verdict
   copies : Copies given.note (IsKept s given)
   copies = record {
     left = λ slot image e p. p;
-    fails = λ row slot e failed p place k number deed image v t tells is there function. elim (slice_get_more e.deeds (CopyFailed row slot) deed place tells.deed_is) [
-      | inl old ↦ p place k number deed image v t (record { deed_is = old; image_is = index_none e.images place image tells.image_is }) is there function
+    fails = λ row slot e failed p place k number event image v t tells is there function. elim (slice_get_more e.events (CopyFailed row slot) event place tells.event_is) [
+      | inl old ↦ p place k number event image v t (record { event_is = old; image_is = index_none e.images place image tells.image_is }) is there function
       | inr end ↦ absurd (cc (ap (verdict_for k) end.1, is))
     ];
     stops = λ e stop p. p;
@@ -258,7 +258,7 @@ module _ (s : State) (given : Given) where
   commands = record {
     about = λ e table p. p;
     accepted = nothing_told;
-    housekeeping = λ place row number deed image v t tells is there function. absurd (cc (ends_silent (rows_where is_filled 0 s.tables.rows) (record { state = s; bytes = []; deeds = [] }) nothing_silent place deed tells.deed_is row, is));
+    housekeeping = λ place row number event image v t tells is there function. absurd (cc (ends_silent (rows_where is_filled 0 s.tables.rows) (record { state = s; bytes = []; events = [] }) nothing_silent place event tells.event_is row, is));
     loaded = λ name file row t there none. nothing_told;
     pends = λ row t active there none function. nothing_told;
     at_once = λ row t active there none no_function. at_once row t active there no_function;
@@ -267,17 +267,17 @@ module _ (s : State) (given : Given) where
     shown = λ row. nothing_told;
     deletes = λ name slot block none. by_delete s (IsKept s given) refused given.note calls_store slot;
     written = λ row file bytes free. rw free (one_told s given (Dumped row file (length bytes)) (None ∷ []) [] (λ r. refl));
-    dump_asked = λ file row t there only none. rw none (nothing_told);
+    dump_requested = λ file row t there only none. rw none (nothing_told);
   }
 
-  judged_well : (row : ℕ) (t : Table) (image : List ℕ) (number : ℕ) (verdict : ℤ) (e : Effect) → table_at s.tables row ≡ Some t → t.validator ≡ Some number → verdict ≡ verdict_at 0 given → e.deeds ≡ activated row t ∷ [] → IsKept s given (with_verdict row image number verdict e)
-  judged_well row t image number verdict e there is one deeds =
-      subst (λ (ds : List Deed). AreAsked s given (Judged row verdict ∷ ds) (Some image ∷ e.images) (record { number = number; image = image } ∷ [])) (sym deeds)
+  judged_well : (row : ℕ) (t : Table) (image : List ℕ) (number : ℕ) (verdict : ℤ) (e : Effect) → table_at s.tables row ≡ Some t → t.validator ≡ Some number → verdict ≡ verdict_at 0 given → e.events ≡ activated row t ∷ [] → IsKept s given (with_verdict row image number verdict e)
+  judged_well row t image number verdict e there is one events =
+      subst (λ (ds : List TelemetryEvent). AreAsked s given (Judged row verdict ∷ ds) (Some image ∷ e.images) (record { number = number; image = image } ∷ [])) (sym events)
       (judged_told s given row t number image verdict (activated row t ∷ []) e.images there is one (active_silent row (t.count + 1) t.name))
 
-  judged_badly : (row : ℕ) (t : Table) (image : List ℕ) (number : ℕ) (verdict : ℤ) (e : Effect) → table_at s.tables row ≡ Some t → t.validator ≡ Some number → verdict ≡ verdict_at 0 given → e.deeds ≡ [] → IsKept s given (with_verdict row image number verdict e)
-  judged_badly row t image number verdict e there is one deeds =
-      subst (λ (ds : List Deed). AreAsked s given (Judged row verdict ∷ ds) (Some image ∷ e.images) (record { number = number; image = image } ∷ [])) (sym deeds)
+  judged_badly : (row : ℕ) (t : Table) (image : List ℕ) (number : ℕ) (verdict : ℤ) (e : Effect) → table_at s.tables row ≡ Some t → t.validator ≡ Some number → verdict ≡ verdict_at 0 given → e.events ≡ [] → IsKept s given (with_verdict row image number verdict e)
+  judged_badly row t image number verdict e there is one events =
+      subst (λ (ds : List TelemetryEvent). AreAsked s given (Judged row verdict ∷ ds) (Some image ∷ e.images) (record { number = number; image = image } ∷ [])) (sym events)
       (judged_told s given row t number image verdict [] e.images there is one nothing_silent)
 
   pub kept : (actor : Actor) (request : Request) → OfEffect (IsKept s given) (effect_of s actor request given)

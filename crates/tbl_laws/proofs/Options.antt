@@ -22,8 +22,8 @@ abbrev pub Leaves : State → Effect → Type 0
 Leaves s e = Descends s.tables e.next.tables
 
 module _ (s : State) (row : ℕ) (t : Table) where
-  refused : (e : Effect) → e.next ≡ s → e.deeds ≡ [] → e.calls ≡ [] → is_refusal e.status ≡ true → Leaves s e
-  refused e is no_deeds no_calls refuses = rw is (stays_descends s.tables)
+  refused : (e : Effect) → e.next ≡ s → e.events ≡ [] → e.calls ≡ [] → is_refusal e.status ≡ true → Leaves s e
+  refused e is no_events no_calls refuses = rw is (stays_descends s.tables)
 
   pub update_leaves : Leaves s (by_answer s (update_refusal s.tables row t) (updated_effect s row t))
   update_leaves = by_ladder s (Leaves s) refused (update_refusal s.tables row t) (updated_effect s row t) (update_refused s.tables row t) (λ none. update_descends s.tables row s.seconds s.sub)

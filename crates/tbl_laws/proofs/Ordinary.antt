@@ -11,7 +11,7 @@ use Rattle.std.proofs.lemmas.List.{get_or-set_same, get_or-set_other}
 use Rattle.std.proofs.lemmas.List.Quantifiers.{position-Some}
 use Rattle.std.proofs.lemmas.Option.{same_Some, get_or_from_slice_get}
 use Rattle.tbl_kinds.specs.Free.{least_free}
-use Rattle.tbl_model.specs.State.{State, Table, Handle, Tables, Dump, quiet, asked, filled, no_tables}
+use Rattle.tbl_model.specs.State.{State, Table, Handle, Tables, Dump, quiet, requested, filled, no_tables}
 use Rattle.tbl_model.specs.Tables.{table_at, rows_where}
 use Rattle.tbl_model.specs.TableSteps.{is_that, end_dump, handle_at, Access, drop_before, with_table, with_handle, new_table, new_handle, filled_with, last_image, with_first, added}
 use Rattle.tbl_model.specs.Effects.{Effect}
@@ -101,7 +101,7 @@ module _ (s : State) (n : ℕ) (fit : AreFit n s) (name : List ℕ) (row handle 
         registered = record { handle = new_handle app row; place = get_or-set_same s.tables.handles handle (Some (new_handle app row)) None number.0; app = refl; leads = refl };
         function = usable s.kit app validator may;
         notice = tt;
-        checked = λ asked_now. cc asked_now;
+        checked = λ requested_now. cc requested_now;
         pends = λ active pending. absurd (cc (pending, (subst (FitAt n s.kit s.pending s.tables.handles row) place.1 (fit.each row)) active));
       })
     where
@@ -120,8 +120,8 @@ module _ (s : State) (n : ℕ) (lives : s.ended ≡ false) (fit : AreFit n s) (g
   same : (e : Effect) → e.next ≡ s → IsOrdinary n given.note e
   same e is = rw is (record { fit = grown n s fit; live = live })
 
-  refused : (e : Effect) → e.next ≡ s → e.deeds ≡ [] → e.calls ≡ [] → is_refusal e.status ≡ true → IsOrdinary n given.note e
-  refused e is no_deeds no_calls refuses = same e is
+  refused : (e : Effect) → e.next ≡ s → e.events ≡ [] → e.calls ≡ [] → is_refusal e.status ≡ true → IsOrdinary n given.note e
+  refused e is no_events no_calls refuses = same e is
 
   -- what changes neither tables nor what is pending, nor the kit
   elsewhere : (next : State) → next.tables ≡ s.tables → next.pending ≡ s.pending → next.kit ≡ s.kit → AreFit (suc n) next
@@ -155,7 +155,7 @@ module _ (s : State) (n : ℕ) (lives : s.ended ≡ false) (fit : AreFit n s) (g
   end_dump_of : (row : ℕ) (t : Table) (e : Ended) (dump : Dump) → table_at e.state.tables row ≡ Some t → EndsWell e → EndsWell (end_by e row t.name dump)
   unfolding EndsWell
   end_dump_of row t e quiet there well = well
-  end_dump_of row t e (asked file) there well = well
+  end_dump_of row t e (requested file) there well = well
   end_dump_of row t e (filled file image) there well =
       let fits = over row t e there well.0 in
       cond_both (is_full_for e.state.drawer file) _ _ (λ (d : Ended). AreFit n d.state × (d.state.ended ≡ s.ended)) (λ _. (fits, well.1))
@@ -173,16 +173,16 @@ module _ (s : State) (n : ℕ) (lives : s.ended ≡ false) (fit : AreFit n s) (g
 
   housekept : IsOrdinary n given.note (housekeeping_effect s)
   unfolding EndsWell housekeeping_effect dumps_ended
-  housekept = let all = ends (rows_where is_filled 0 s.tables.rows) (record { state = s; bytes = []; deeds = [] }) (fit, refl) in record { fit = grown n _ all.0; live = λ _. all.1 ∙ lives }
+  housekept = let all = ends (rows_where is_filled 0 s.tables.rows) (record { state = s; bytes = []; events = [] }) (fit, refl) in record { fit = grown n _ all.0; live = λ _. all.1 ∙ lives }
 
   -- ---- commands
 
   -- other blocks, or no tables at all
   calls_store : CallsStore s given.note (IsOrdinary n given.note)
   calls_store = record {
-    answers = λ store e is no_deeds no_trouble. ordinary_of (record s { store = store }) (elsewhere _ refl refl refl) refl e is;
-    fails = λ store e failed is no_deeds status. ordinary_of (record s { store = store }) (elsewhere _ refl refl refl) refl e is;
-    restarts = λ store e stopped is no_deeds status. rw is (record { fit = fit_at_first (suc n) (boot Processor given.note (record s { store = store })) refl refl; live = λ goes. goes });
+    answers = λ store e is no_events no_trouble. ordinary_of (record s { store = store }) (elsewhere _ refl refl refl) refl e is;
+    fails = λ store e failed is no_events status. ordinary_of (record s { store = store }) (elsewhere _ refl refl refl) refl e is;
+    restarts = λ store e stopped is no_events status. rw is (record { fit = fit_at_first (suc n) (boot Processor given.note (record s { store = store })) refl refl; live = λ goes. goes });
   }
 
   copies : Copies given.note (IsOrdinary n given.note)
@@ -197,15 +197,15 @@ module _ (s : State) (n : ℕ) (lives : s.ended ≡ false) (fit : AreFit n s) (g
     about = λ e table p. record { fit = p.fit; live = p.live };
     accepted = same _ refl;
     housekeeping = housekept;
-    loaded = λ name file row t there none. record { fit = loads n s fit row t there file.offset file.image name (load_taken s.tables row t file.offset (length file.image) none).unasked; live = live };
+    loaded = λ name file row t there none. record { fit = loads n s fit row t there file.offset file.image name (load_taken s.tables row t file.offset (length file.image) none).no_activation; live = live };
     pends = λ row t active there none function. record { fit = pends n s fit row t there active none function; live = live };
-    at_once = λ row t active there none no_function. record { fit = grown n _ (mark n s fit row t there active (pos 0) (validation_taken s.pending row t active none).unasked); live = live };
+    at_once = λ row t active there none no_function. record { fit = grown n _ (mark n s fit row t there active (pos 0) (validation_taken s.pending row t active none).no_activation); live = live };
     asks = λ row t there none. record { fit = asks n s fit row t there none; live = live };
     aborted = λ row t there open_load. record { fit = grown n _ (aborts n s fit row t there); live = live };
     shown = λ row. same _ refl;
     deletes = λ name slot block none. by_delete s (IsOrdinary n given.note) refused given.note calls_store slot;
     written = λ row file bytes free. rw free (record { fit = elsewhere _ refl refl refl; live = live });
-    dump_asked = λ file row t there only none. rw none (record { fit = told n s fit row t there (suc n) (λ u. record u { dump = asked file }) (omega arith) refl refl refl refl refl refl refl; live = live });
+    dump_requested = λ file row t there only none. rw none (record { fit = told n s fit row t there (suc n) (λ u. record u { dump = requested file }) (omega arith) refl refl refl refl refl refl refl; live = live });
   }
 
   -- ---- all requests

@@ -1,4 +1,4 @@
--- Pending validations: what stays pending when one is asked, done or dropped.
+-- Pending validations: what stays pending when one is requested, done or dropped.
 use Rattle.std.proofs.Common.{◌≡◌, ◌≢◌, ℕ, suc, ◌≤◌, List, [], ◌∷◌, ◌++◌, length, Bool, true, false, not, ◌&&◌, ◌||◌, cond, refl, sym, ap, ◌∙◌, arith, inl, inr, ◌⊎◌}
 use Rattle.std.specs.Prelude.{◌==◌, filter}
 use Rattle.std.proofs.lemmas.Bool.{eqb-true, ne_eqb, and_parts}

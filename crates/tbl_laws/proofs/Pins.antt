@@ -87,8 +87,8 @@ pin_found handles n h row p is =
     list_any_at (pins row p) handles n None (within handles n h is.place) (rw (is.place, is.row_is, is.pin, eq-eqb row row refl, eq-eqb p p refl) refl)
 
 -- the image before the last isn't let go while a handle pins it
-pub let_go_gives : (handles : List (Option Handle)) (n : ℕ) (h : Handle) (row p : ℕ) (t : Table) → PinsAt handles n h row p → IsNear p t → Gives t p (drop_before handles row t)
-let_go_gives handles n h row p t is near = record {
+pub drop_before_gives : (handles : List (Option Handle)) (n : ℕ) (h : Handle) (row p : ℕ) (t : Table) → PinsAt handles n h row p → IsNear p t → Gives t p (drop_before handles row t)
+drop_before_gives handles n h row p t is near = record {
   same = refl;
   near = near;
   image = elim near [
@@ -181,7 +181,7 @@ release_keeps tables m h row t there =
     set_keeps tables row (drop_before handles row t) handles (λ n g p at pin. (unpinned_set tables.handles m (record h { pin = None }) n g p refl at pin).1)
     (λ n g p u is stood near.
     let one : t ≡ u = same_Some t u (sym there ∙ stood) in
-    subst (λ (v : Table). Gives v p (drop_before handles row t)) one (let_go_gives handles n g row p t is (subst (IsNear p) (sym one) near)))
+    subst (λ (v : Table). Gives v p (drop_before handles row t)) one (drop_before_gives handles n g row p t is (subst (IsNear p) (sym one) near)))
     (λ all. let loaded = all row t there in record { some = loaded.some; sized = loaded.sized; load_sized = loaded.load_sized })
 
 -- a table comes into a free row, with a handle that pins nothing
@@ -213,26 +213,26 @@ put_keeps tables row t image seconds sub there free size =
     (λ all. record { some = λ some. refl; sized = λ other is. ap length (sym (same_Some image other is)) ∙ size; load_sized = (all row t there).load_sized }))
 
 -- what handles that pin an image of a table see of it: its images, and what it keeps as long as it is registered
-record Held : Type 0 where
+record SeenByPins : Type 0 where
   count : ℕ
   last : Option (List ℕ)
   before : Option (List ℕ)
   kept : ℕ × ℕ × ℕ
 
-abbrev held : Table → Held
-held t = record { count = t.count; last = t.last; before = t.before; kept = kept t }
+abbrev seen_by_pins : Table → SeenByPins
+seen_by_pins t = record { count = t.count; last = t.last; before = t.before; kept = kept t }
 
 -- a table of which they see the same
-same_gives : (t u : Table) (p : ℕ) → held u ≡ held t → IsNear p t → Gives t p u
+same_gives : (t u : Table) (p : ℕ) → seen_by_pins u ≡ seen_by_pins t → IsNear p t → Gives t p u
 same_gives t u p same near =
-    let count : u.count ≡ t.count = ap (λ (k : Held). k.count) same in record {
-      same = ap (λ (k : Held). k.kept) same;
+    let count : u.count ≡ t.count = ap (λ (k : SeenByPins). k.count) same in record {
+      same = ap (λ (k : SeenByPins). k.kept) same;
       near = rw count near;
-      image = ap (λ (k : Held). cond (eqb p k.count) k.last k.before) same;
+      image = ap (λ (k : SeenByPins). cond (eqb p k.count) k.last k.before) same;
     }
 
 -- a table changes, but not what is seen of it by pins
-pub changed_keeps : (tables : Tables) (row : ℕ) (change : Table → Table) → ((t : Table) → held (change t) ≡ held t) → ((t : Table) → table_at tables row ≡ Some t → IsLoaded t → IsLoaded (change t)) → Keeps tables (changed row change tables)
+pub changed_keeps : (tables : Tables) (row : ℕ) (change : Table → Table) → ((t : Table) → seen_by_pins (change t) ≡ seen_by_pins t) → ((t : Table) → table_at tables row ≡ Some t → IsLoaded t → IsLoaded (change t)) → Keeps tables (changed row change tables)
 changed_keeps tables row change same loaded = here (table_at tables row) refl where
   here : (found : Option Table) → table_at tables row ≡ found → Keeps tables (changed_in tables row change found)
   here None at = stays_keeps tables
@@ -242,11 +242,11 @@ changed_keeps tables row change same loaded = here (table_at tables row) refl wh
       (λ all. loaded t at (all row t at))
 
 -- nor its load
-pub unseen_keeps : (tables : Tables) (row : ℕ) (change : Table → Table) → ((t : Table) → held (change t) ≡ held t) → ((t : Table) → (change t).load ≡ t.load) → Keeps tables (changed row change tables)
+pub unseen_keeps : (tables : Tables) (row : ℕ) (change : Table → Table) → ((t : Table) → seen_by_pins (change t) ≡ seen_by_pins t) → ((t : Table) → (change t).load ≡ t.load) → Keeps tables (changed row change tables)
 unseen_keeps tables row change same load = changed_keeps tables row change same (λ t there loaded.
-    let count : (change t).count ≡ t.count = ap (λ (k : Held). k.count) (same t) in
-    let last : (change t).last ≡ t.last = ap (λ (k : Held). k.last) (same t) in
-    let size : (change t).size ≡ t.size = ap (λ (k : Held). k.kept.0) (same t) in record {
+    let count : (change t).count ≡ t.count = ap (λ (k : SeenByPins). k.count) (same t) in
+    let last : (change t).last ≡ t.last = ap (λ (k : SeenByPins). k.last) (same t) in
+    let size : (change t).size ≡ t.size = ap (λ (k : SeenByPins). k.kept.0) (same t) in record {
       some = λ some. rw last (loaded.some (rw count at some));
       sized = λ image is. loaded.sized image (sym last ∙ is) ∙ sym size;
       load_sized = λ open_load is. loaded.load_sized open_load (sym (load t) ∙ is) ∙ sym size;

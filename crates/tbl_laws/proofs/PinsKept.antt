@@ -11,7 +11,7 @@ use Rattle.tbl_model.specs.Tables.{table_at}
 use Rattle.tbl_model.specs.TableSteps.{is_that, handle_at, is_in_way, locker, drop_before, with_table, with_image, put, set_time, changed, load_image, activate, without_handle, give_back_by, orphaned, remove, registered_by}
 use Rattle.tbl_model.specs.Sharing.{give_up, give_up_by, give_up_if}
 use Rattle.tbl_laws.proofs.Rows.{within}
-use Rattle.tbl_laws.proofs.Pins.{none_passes, kept, IsNear, Gives, Keeps, stays_goes_on, stays_keeps, set_keeps, let_go_gives, image_gives, then_keeps}
+use Rattle.tbl_laws.proofs.Pins.{none_passes, kept, IsNear, Gives, Keeps, stays_goes_on, stays_keeps, set_keeps, drop_before_gives, image_gives, then_keeps}
 use Rattle.tbl_laws.proofs.GivingUp.{fewer_without}
 
 -- ---- activation
@@ -67,7 +67,7 @@ back_keeps tables m (Some row) = by (table_at tables row) refl where
   by None there = rw there (without_keeps tables m)
   by (Some t) there = rw there (set_keeps tables row (drop_before (slice_set tables.handles m None) row t) (slice_set tables.handles m None) (λ n g p at pin. fewer_without tables.handles m n g at)
       (λ n g p u pins stood near. let one : t ≡ u = same_Some t u (sym there ∙ stood) in
-      subst (λ (v : Table). Gives v p (drop_before (slice_set tables.handles m None) row t)) one (let_go_gives (slice_set tables.handles m None) n g row p t pins (subst (IsNear p) (sym one) near)))
+      subst (λ (v : Table). Gives v p (drop_before (slice_set tables.handles m None) row t)) one (drop_before_gives (slice_set tables.handles m None) n g row p t pins (subst (IsNear p) (sym one) near)))
       (λ all. let loaded = all row t there in record { some = loaded.some; sized = loaded.sized; load_sized = loaded.load_sized }))
 
 -- a handle of another row, or of none, stays as it is

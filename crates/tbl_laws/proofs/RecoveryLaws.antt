@@ -33,7 +33,7 @@ use Rattle.tbl_kinds.specs.declared.note.Outcome.{Outcome}
 use Rattle.tbl_kinds.specs.declared.note.Outcome.TheVariants.{Done as AllDone}
 use Rattle.tbl_kinds.specs.declared.status.TheConstants.Status.{SUCCESS, INFO_RECOVERED_TBL}
 use Rattle.tbl_session.specs.Backed.{AreSingle}
-use Rattle.tbl_session.specs.Completed.{completed, Holds}
+use Rattle.tbl_session.specs.Completed.{completed, HasCompleted}
 use Rattle.tbl_session.specs.Recovery.{IsHistory, blocks_at, IsBlockOf, IsShown, WasCopied, NotByChance, Registration, registering, Registers, Begins, Recovers, BeginsEmpty, ComesBack, request_of, started}
 use Rattle.tbl_laws.proofs.Blocks.{is_of_parts}
 use Rattle.tbl_laws.proofs.Calls.{all_done}
@@ -184,7 +184,7 @@ module _ (opening : State) (entries : List Entry) (place : ℕ) (left : Store) (
   single = crash_single opening entries place left crash history
 
   -- a table whose last copy was completed begins with its image
-  pub recovers : (slot : ℕ) (block : Block) (image : List ℕ) → IsBlockOf name r.size block → Holds Blocks slot block image → Recovers left (registering s r) name image
+  pub recovers : (slot : ℕ) (block : Block) (image : List ℕ) → IsBlockOf name r.size block → HasCompleted Blocks slot block image → Recovers left (registering s r) name image
   recovers slot block image is holds = sure_comes_back left s name r over Blocks shows single slot (completed block image) is holds (open_shown Blocks left slot (completed block image) shows holds refl) refl
 
   -- a block that the reset left, and that isn't in doubt, gives what it holds

@@ -45,8 +45,8 @@ module _ (s : State) (single : AreSingle s.store) (given : Given) where
   abbrev Suited : Effect → Type 0
   Suited e = SuitAll s.tables (writes e.calls) s.store
 
-  refused : (e : Effect) → e.next ≡ s → e.deeds ≡ [] → e.calls ≡ [] → is_refusal e.status ≡ true → Suited e
-  refused e is no_deeds no_calls refuses = rw no_calls tt
+  refused : (e : Effect) → e.next ≡ s → e.events ≡ [] → e.calls ≡ [] → is_refusal e.status ≡ true → Suited e
+  refused e is no_events no_calls refuses = rw no_calls tt
 
   copies : Copies given.note Suited
   copies = record { left = λ slot image e p. (tt, tt); fails = λ row slot e failed p. p; stops = λ e stop p. p }
@@ -88,7 +88,7 @@ module _ (s : State) (single : AreSingle s.store) (given : Given) where
     shown = λ row. tt;
     deletes = λ name slot block none. called (delete slot ∷ []) faulted (answered s SUCCESS 0) (λ left. refl) (table_delete_suits s.tables s.store name slot block none);
     written = λ row file bytes free. rw free tt;
-    dump_asked = λ file row t there only none. rw none tt;
+    dump_requested = λ file row t there only none. rw none tt;
   }
 
   pub suits : (actor : Actor) (request : Request) → OfEffect (λ e. SuitAll s.tables (writes e.calls) s.store) (effect_of s actor request given)
@@ -122,7 +122,7 @@ module _ (s : State) (single : AreSingle s.store) (given : Given) where
       called (renewal of_app full size (open_of of_app full s.store)) faulted (answered s SUCCESS (new_slot of_app full (open_of of_app full s.store) s.store)) (λ left. refl)
       (rw (renewal_writes of_app full size (open_of of_app full s.store)) (app_renewal_suits s.tables s.store full size single)))
   suits (App app) (ask.CdsCopy slot image) = copies_block s Suited refused app slot image.list given.note (called (copy slot image.list ∷ []) faulted (answered s SUCCESS 0) (λ left. refl) (tt, tt))
-  suits (App app) (ask.CdsRestore slot) = restores_block s Suited refused app slot given.note (λ e is no_deeds quiet. called (restore slot (restored_image given.note) ∷ []) faulted e (λ left. refl) tt)
+  suits (App app) (ask.CdsRestore slot) = restores_block s Suited refused app slot given.note (λ e is no_events quiet. called (restore slot (restored_image given.note) ∷ []) faulted e (λ left. refl) tt)
   suits (App app) (ask.CdsDelete slot) = deletes_block s Suited refused app slot given.note (λ b there own. called (delete slot ∷ []) faulted (answered s SUCCESS 0) (λ left. refl) (app_delete_suits s.tables s.store slot b there own))
   suits (App app) request = tt
 

@@ -25,20 +25,20 @@ record Passed (past : List Told) (row : ℕ) (image : List ℕ) : Type 0 where
   one : Told
   between : List Told
   split : past ≡ sooner ++ one ∷ between
-  passes : Passes one row image (length one.effect.deeds)
+  passes : Passes one row image (length one.effect.events)
   registered : list_all (λ w. is_some (table_before w row)) between ≡ true
 
 -- each mark of a load of a table with a function has one
-record Holds (past : List Told) (entries : List Entry) (s : State) : Type 0 where
+record Invariant (past : List Told) (entries : List Entry) (s : State) : Type 0 where
   marks : (row : ℕ) (u : Table) (l : Load) → table_at s.tables row ≡ Some u → u.load ≡ Some l → l.checked ≡ true → is_some u.validator ≡ true → Passed past row l.image
   fit : AreFit (length entries) s
 
-holds_start : (opening : State) → opening.tables ≡ no_tables → opening.pending ≡ [] → Holds [] [] opening
+holds_start : (opening : State) → opening.tables ≡ no_tables → opening.pending ≡ [] → Invariant [] [] opening
 holds_start opening tables pending = record { marks = λ row u l there load checked function. absurd (nothing_there 128 row u (rw tables at there)); fit = fit_at_first 0 opening tables pending }
 
 -- what is told in lists is told of the entry
-passes_of : (t : Told) (row : ℕ) (image : List ℕ) (most : ℕ) → PassesIn t.effect.deeds t.effect.images row image most → Passes t row image most
-passes_of t row image most p = record { place = p.place; first = p.first; deed = p.deed; tells = record { deed_is = p.tells.deed_is; image_is = p.tells.image_is }; verdict = p.verdict; is = p.is; good = p.good }
+passes_of : (t : Told) (row : ℕ) (image : List ℕ) (most : ℕ) → PassesIn t.effect.events t.effect.images row image most → Passes t row image most
+passes_of t row image most p = record { place = p.place; first = p.first; event = p.event; tells = record { event_is = p.tells.event_is; image_is = p.tells.image_is }; verdict = p.verdict; is = p.is; good = p.good }
 
 all_more : {X : Type 0} (p : X → Bool) (xs : List X) (x : X) → list_all p xs ≡ true → p x ≡ true → list_all p (xs ++ x ∷ []) ≡ true
 all_more p [] x all last = rw last refl
@@ -47,7 +47,7 @@ all_more p (y ∷ ys) x all last =
     rw (parts.0, all_more p ys x parts.1 last) refl
 
 -- one entry more, with this effect
-module _ (past : List Told) (entries : List Entry) (e : Entry) (s : State) (effect : Effect) (holds : Holds past entries s) (honest_of : IsHonest s effect) (left : IsOrdinary (length entries) e.note effect) where
+module _ (past : List Told) (entries : List Entry) (e : Entry) (s : State) (effect : Effect) (holds : Invariant past entries s) (honest_of : IsHonest s effect) (left : IsOrdinary (length entries) e.note effect) where
   it : Told
   it = told s e.actor e.request effect
 
@@ -56,7 +56,7 @@ module _ (past : List Told) (entries : List Entry) (e : Entry) (s : State) (effe
   vouched_entry place row count name image tells function = by (table_at s.tables row) refl function where
     by : (found : Option Table) → table_at s.tables row ≡ found → is_some (Rattle.std.specs.Option.option_and_then (λ (t : Table). t.validator) found) ≡ true → Passes it row image place ⊎ PassedBefore past it row image
     by None there has = absurd (cc has)
-    by (Some t) there has = elim (honest_of.active place row count name image t (record { deed_is = tells.deed_is; image_is = tells.image_is }) there has) [
+    by (Some t) there has = elim (honest_of.active place row count name image t (record { event_is = tells.event_is; image_is = tells.image_is }) there has) [
       | inl passes ↦ inl (passes_of it row image place passes)
       | inr load ↦
           let passed = holds.marks row t load.0 there load.1 load.2 has in inr record {
@@ -64,16 +64,16 @@ module _ (past : List Told) (entries : List Entry) (e : Entry) (s : State) (effe
             one = passed.one;
             between = passed.between;
             split = passed.split;
-            passes = subst (λ (x : List ℕ). Passes passed.one row x (length passed.one.effect.deeds)) load.3 passed.passes;
+            passes = subst (λ (x : List ℕ). Passes passed.one row x (length passed.one.effect.events)) load.3 passed.passes;
             registered = all_more (λ w. is_some (table_before w row)) passed.between it passed.registered (rw there refl);
           }
     ]
 
-  holds_on : Holds (past ++ it ∷ []) (entries ++ e ∷ []) effect.next
+  holds_on : Invariant (past ++ it ∷ []) (entries ++ e ∷ []) effect.next
   unfolding it
   holds_on = record {
     marks = λ row u l there load checked function. elim (honest_of.marks row u l there load checked function) [
-      | inl passes ↦ record { sooner = past; one = it; between = []; split = refl; passes = passes_of it row l.image (length effect.deeds) passes; registered = refl }
+      | inl passes ↦ record { sooner = past; one = it; between = []; split = refl; passes = passes_of it row l.image (length effect.events) passes; registered = refl }
       | inr before ↦
           let passed = holds.marks row before.0 l before.1 before.2 checked (rw before.3 function) in record {
             sooner = passed.sooner;
@@ -92,7 +92,7 @@ module _ (opening : State) where
   run_at entries = run_from (begins_at opening) entries
 
   abbrev HoldsAt : List Entry → Type 0
-  HoldsAt entries = Holds (run_at entries).past entries (run_at entries).state
+  HoldsAt entries = Invariant (run_at entries).past entries (run_at entries).state
 
   abbrev VouchedAt : List Entry → Entry → Type 0
   VouchedAt entries e = (effect : Effect) → effect_in (run_at entries) e ≡ Some effect → IsVouchedEntry (run_at entries).past (told (run_at entries).state e.actor e.request effect)
@@ -114,8 +114,8 @@ module _ (opening : State) where
     unfolding it
     holds_after =
         let on = holds_on (run_at entries).past entries e (run_at entries).state is.effect holds honest_effect left in
-        subst (λ (r : Run). Holds r.past (entries ++ e ∷ []) r.state) (sym (run_push (begins_at opening) entries e))
-        (subst (λ (found : Option Effect). Holds (onward_by (run_at entries) e found).past (entries ++ e ∷ []) (onward_by (run_at entries) e found).state) (sym is.effect_is) on)
+        subst (λ (r : Run). Invariant r.past (entries ++ e ∷ []) r.state) (sym (run_push (begins_at opening) entries e))
+        (subst (λ (found : Option Effect). Invariant (onward_by (run_at entries) e found).past (entries ++ e ∷ []) (onward_by (run_at entries) e found).state) (sym is.effect_is) on)
 
   -- all entries, from some that were played on
   vouched_from : (done before after : List Entry) (e : Entry) → HoldsAt done → AreAnswered (run_at done) (before ++ e ∷ after) → VouchedAt (done ++ before) e

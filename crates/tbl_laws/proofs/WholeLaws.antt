@@ -48,13 +48,13 @@ record Pinned (opening : State) (entries : List Entry) (tables : Tables) (n : �
   reads : (offset len : ℕ) → offset + len ≤ table.size → WholeOf opening entries h.app n (kept table) offset len image
 
 -- this holds of each pinned handle
-record Holds (opening : State) (entries : List Entry) (s : State) : Type 0 where
+record Invariant (opening : State) (entries : List Entry) (s : State) : Type 0 where
   pinned : (n : ℕ) (h : Handle) (p : ℕ) → handle_at s.tables n ≡ Some h → h.pin ≡ Some p → Pinned opening entries s.tables n h p
   loaded : AreLoaded s.tables.rows
   fit : AreFit (length entries) s
 
 -- without tables nothing is pinned
-holds_start : (opening : State) → opening.tables ≡ no_tables → opening.pending ≡ [] → Holds opening [] opening
+holds_start : (opening : State) → opening.tables ≡ no_tables → opening.pending ≡ [] → Invariant opening [] opening
 holds_start opening tables pending = record {
   pinned = λ n h p at pin. absurd (nothing_there 256 n h (rw tables at at));
   loaded = λ row t there. absurd (nothing_there 128 row t (rw tables at there));
@@ -89,7 +89,7 @@ whole_on opening entries app n same offset len image e no_get no_end whole = let
 )
 
 -- one more entry, answered with this effect
-module _ (opening : State) (entries : List Entry) (e : Entry) (s : State) (effect : Effect) (here : (run_from (begins_at opening) entries).state.tables ≡ s.tables) (holds : Holds opening entries s)
+module _ (opening : State) (entries : List Entry) (e : Entry) (s : State) (effect : Effect) (here : (run_from (begins_at opening) entries).state.tables ≡ s.tables) (holds : Invariant opening entries s)
     (status : e.reply.status ≡ effect.status) (fair : Fair s e.actor e.request effect) (ordinary_left : IsOrdinary (length entries) e.note effect) where
   -- a handle that stays leads to the same image, and the call that pinned it is still the latest
   stays_pinned : (n : ℕ) (h : Handle) (p : ℕ) → h.pin ≡ Some p → Stays s.tables effect.next.tables e.actor e.request effect.status n h p → Pinned opening (entries ++ e ∷ []) effect.next.tables n h p
@@ -129,7 +129,7 @@ module _ (opening : State) (entries : List Entry) (e : Entry) (s : State) (effec
             get = e;
             between = [];
             split = refl;
-            got = rw (gets.by, gets.asked_it, status, gets.done) refl;
+            got = rw (gets.by, gets.requested_it, status, gets.done) refl;
             latest = refl;
             found = gets.found;
             leads = rw here gets.leads;
@@ -145,7 +145,7 @@ module _ (opening : State) (entries : List Entry) (e : Entry) (s : State) (effec
       }
 
   -- what holds of the pinned handles holds with one entry more
-  holds_on : Holds opening (entries ++ e ∷ []) effect.next
+  holds_on : Invariant opening (entries ++ e ∷ []) effect.next
   holds_on = record {
     pinned = λ n h p at pin. elim (fair.pins n h p at pin) [ inl stays ↦ stays_pinned n h p pin stays | inr gets ↦ gets_pinned n h p gets ];
     loaded = fair.loaded holds.loaded;
@@ -158,12 +158,12 @@ module _ (opening : State) (entries : List Entry) (e : Entry) (s : State) (effec
 read_is : (h : Handle) (t : Table) (p offset len : ℕ) (image : List ℕ) → h.pin ≡ Some p → image_of t p ≡ Some image → piece offset len (unwrap_or (image_of t (unwrap_or h.pin 0)) []) ≡ piece offset len image
 read_is h t p offset len image pin is = rw (pin, is) refl
 
-module _ (opening : State) (entries : List Entry) (s : State) (holds : Holds opening entries s) where
+module _ (opening : State) (entries : List Entry) (s : State) (holds : Invariant opening entries s) where
   -- so each read that is answered with bytes is whole
   whole_read : (app n offset len : ℕ) → (read_effect s app n offset len).status ≡ SUCCESS → IsWholeRead opening entries app n offset len (read_effect s app n offset len).bytes
   whole_read app n offset len =
       by_read s (λ effect. effect.status ≡ SUCCESS → IsWholeRead opening entries app n offset len effect.bytes)
-      (λ effect same no_deeds no_calls refuses ok. absurd (cc (rw ok at refuses))) app n offset len
+      (λ effect same no_events no_calls refuses ok. absurd (cc (rw ok at refuses))) app n offset len
       (λ a leads pinned inside _.
       let pin : (p : ℕ) × (a.handle.pin ≡ Some p) = some_there a.handle.pin pinned in
       let is : Pinned opening entries s.tables n a.handle pin.0 = holds.pinned n a.handle pin.0 leads.place pin.1 in
@@ -172,7 +172,7 @@ module _ (opening : State) (entries : List Entry) (s : State) (holds : Holds ope
       rw (read_is a.handle a.table pin.0 offset len is.image pin.1 (rw one at is.image_is))
       (subst (λ (by : ℕ). IsWholeRead opening entries by n offset len (piece offset len is.image)) leads.own (is.reads offset len (rw one inside)).0))
 
-  -- and nothing is asked of other requests
+  -- and other requests owe nothing
   whole_by : (actor : Actor) (request : Request) (given : Given) → OfEffect (λ e. e.status ≡ SUCCESS → IsWholeBy opening entries actor request e.bytes) (effect_of s actor request given)
   whole_by (App app) (ask.Read n offset len) given = whole_read app n offset len
   whole_by actor request given = of_all (effect_of s actor request given) where
@@ -186,7 +186,7 @@ module _ (opening : State) where
   run_at entries = run_from (begins_at opening) entries
 
   abbrev HoldsAt : List Entry → Type 0
-  HoldsAt entries = Holds opening entries (run_at entries).state
+  HoldsAt entries = Invariant opening entries (run_at entries).state
 
   -- the next entry, where it is a read
   whole_entry : (entries : List Entry) (e : Entry) → HoldsAt entries → IsAnswered (run_at entries) e → IsWholeEntry opening entries e
@@ -200,9 +200,9 @@ module _ (opening : State) where
       let s : State = (run_at entries).state in
       let fair : Fair s e.actor e.request is.effect = (subst (OfEffect (λ (f : Effect). IsNoteOf e.request f.calls s.store e.note → Fair s e.actor e.request f)) is.effect_is (request_fair s (length entries) holds.fit holds.loaded e.actor e.request (given_in e))) is.given.note in
       let left : IsOrdinary (length entries) e.note is.effect = subst (OfEffect (IsOrdinary (length entries) e.note)) is.effect_is (ordinary s (length entries) is.live holds.fit e.actor e.request (given_in e)) in
-      let on : Holds opening (entries ++ e ∷ []) is.effect.next = holds_on opening entries e s is.effect refl holds is.status fair left in
-      subst (λ (r : Run). Holds opening (entries ++ e ∷ []) r.state) (sym (run_push (begins_at opening) entries e))
-      (subst (λ (found : Option Effect). Holds opening (entries ++ e ∷ []) (onward_by (run_at entries) e found).state) (sym is.effect_is) on)
+      let on : Invariant opening (entries ++ e ∷ []) is.effect.next = holds_on opening entries e s is.effect refl holds is.status fair left in
+      subst (λ (r : Run). Invariant opening (entries ++ e ∷ []) r.state) (sym (run_push (begins_at opening) entries e))
+      (subst (λ (found : Option Effect). Invariant opening (entries ++ e ∷ []) (onward_by (run_at entries) e found).state) (sym is.effect_is) on)
 
   -- all entries, from some that were played on
   whole_from : (done before after : List Entry) (e : Entry) → HoldsAt done → AreAnswered (run_at done) (before ++ e ∷ after) → IsWholeEntry opening (done ++ before) e

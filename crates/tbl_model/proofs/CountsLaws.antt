@@ -6,8 +6,8 @@ use Rattle.std.specs.Option.{option_or}
 use Rattle.std.proofs.lemmas.List.{reverse-append, length-append, drop_all, drop-append-le}
 use Rattle.std.proofs.lemmas.List.Sums.{sum_by_push, suffix_len-le-length, fold_push}
 use Rattle.std.proofs.Math.Nat.{mod-add-mod, zero-mod}
-use Rattle.tbl_model.specs.Commands.{asked_in}
-use Rattle.tbl_model.specs.Counts.{Told, counts_of, restarts, clears_counters, adds_accepted, adds_refused, adds_request, deeds_by, latest, is_finished, is_finished_well, is_finished_badly, events_in, is_housekeeping, is_registry, no_validation, validation_in, no_update, update_in, loaded_in, loaded_file_in, dump_in}
+use Rattle.tbl_model.specs.Commands.{read_command_in}
+use Rattle.tbl_model.specs.Counts.{Told, counts_of, restarts, clears_counters, adds_accepted, adds_refused, adds_request, events_by, latest, is_finished, is_finished_well, is_finished_badly, events_in, is_housekeeping, is_registry, no_validation, validation_in, no_update, update_in, loaded_in, loaded_file_in, dump_in}
 use Rattle.tbl_model.specs.CountsAfter.{bit, tally_of, counts_after}
 
 after_last_by : {X : Type 0} (xs : List X) (x : X) (b : Bool) (k : ℕ) → k ≤ length xs
@@ -51,12 +51,12 @@ latest_push pick none clears xs x = ap (λ ys. unwrap_or (latest pick ys) none) 
 pub counts_push : (past : List Told) (t : Told) → counts_of (past ++ t ∷ []) ≡ counts_after (counts_of past) (tally_of t)
 unfolding counts_of
 counts_push past t =
-    let accepted = counted_push (λ t. bit (adds_accepted (asked_in t.request) t.effect)) clears_counters 256 past t in
-    let refused = counted_push (λ t. bit (adds_refused (asked_in t.request) t.effect)) clears_counters 256 past t in
-    let finished = counted_push (deeds_by is_finished) clears_counters 65536 past t in
-    let good = counted_push (deeds_by is_finished_well) clears_counters 256 past t in
-    let bad = counted_push (deeds_by is_finished_badly) clears_counters 256 past t in
-    let requests = counted_push (λ t. bit (adds_request (asked_in t.request) t.effect)) clears_counters 256 past t in
+    let accepted = counted_push (λ t. bit (adds_accepted (read_command_in t.request) t.effect)) clears_counters 256 past t in
+    let refused = counted_push (λ t. bit (adds_refused (read_command_in t.request) t.effect)) clears_counters 256 past t in
+    let finished = counted_push (events_by is_finished) clears_counters 65536 past t in
+    let good = counted_push (events_by is_finished_well) clears_counters 256 past t in
+    let bad = counted_push (events_by is_finished_badly) clears_counters 256 past t in
+    let requests = counted_push (λ t. bit (adds_request (read_command_in t.request) t.effect)) clears_counters 256 past t in
     let events = counted_push events_in restarts 16384 past t in
     let housekeepings = counted_push (λ t. bit (is_housekeeping t.effect.shown)) restarts 16384 past t in
     let registries = counted_push (λ t. bit (is_registry t.effect.shown)) restarts 16384 past t in

@@ -96,7 +96,7 @@ part_taken t offset len none =
 -- bytes that go into the load of their table
 pub record TakesLoad (tables : Tables) (row : ℕ) (t : Table) (offset len : ℕ) : Type 0 where
   pub dump_only : is_dump_only t ≡ false
-  pub unasked : t.activation ≡ false
+  pub no_activation : t.activation ≡ false
   pub within : offset + len ≤ t.size
   pub whole : (t.count == 0) ≡ true → (offset == 0 && len == t.size) ≡ true
   pub opens : t.load ≡ None → open_refusal tables row t ≡ None
@@ -108,7 +108,7 @@ load_taken tables row t offset len none =
     let c = neither (part_refusal t offset len) _ b.1 in
     let part = part_taken t offset len c.0 in record {
       dump_only = a.0;
-      unasked = b.0;
+      no_activation = b.0;
       within = part.0;
       whole = part.1;
       opens = λ closed. rw closed at c.1;
@@ -122,11 +122,11 @@ file_taken tables row t file none =
     let parts = neither (part_refusal t file.offset (length file.image)) _ a.1 in
     ((part_taken t file.offset (length file.image) parts.0).0, not_busy tables row t parts.1)
 
--- a validation that may be asked
+-- a validation that may be requested
 pub record TakesValidation (pending : List (ℕ × Bool)) (row : ℕ) (t : Table) (active : Bool) : Type 0 where
   pub loaded : active ≡ true → (t.count == 0) ≡ false
   pub open_load : active ≡ false → is_some t.load ≡ true
-  pub unasked : active ≡ false → t.activation ≡ false
+  pub no_activation : active ≡ false → t.activation ≡ false
   pub new : is_some t.validator ≡ true → is_pending row active pending ≡ false
   pub room : is_some t.validator ≡ true → (length pending == 10) ≡ false
 
@@ -138,16 +138,16 @@ validation_taken pending row t active none =
     let rest = c.1 in record {
       loaded = λ is. rw is at a.0;
       open_load = λ is. not_false _ (rw is at b.0);
-      unasked = λ is. rw is at c.0;
+      no_activation = λ is. rw is at c.0;
       new = λ function. (passed (is_pending row active pending) _ _ (rw function at rest)).0;
       room = λ function. (passed (length pending == 10) _ None (passed (is_pending row active pending) _ _ (rw function at rest)).1).0;
     }
 
--- an activation that may be asked
+-- an activation that may be requested
 pub record TakesActivation (pending : List (ℕ × Bool)) (row : ℕ) (t : Table) : Type 0 where
   pub dump_only : is_dump_only t ≡ false
   pub open_load : is_some t.load ≡ true
-  pub unasked : t.activation ≡ false
+  pub no_activation : t.activation ≡ false
   pub none_pending : is_pending row false pending ≡ false
   pub checked : is_checked t ≡ true
 
@@ -160,7 +160,7 @@ activation_taken pending row t none =
     let e = passed (not (is_checked t)) _ None d.1 in record {
       dump_only = a.0;
       open_load = not_false _ b.0;
-      unasked = c.0;
+      no_activation = c.0;
       none_pending = d.0;
       checked = not_false _ e.0;
     }

@@ -3,7 +3,7 @@ use Rattle.std.specs.Prelude.{ℕ, List, [], ◌∷◌, false, if◌then◌else�
 use Rattle.tbl_model.specs.State.{State, Table}
 use Rattle.tbl_model.specs.TableSteps.{load_image, ask, activate, close_load, set_time}
 use Rattle.tbl_model.specs.Pending.{without_pair}
-use Rattle.tbl_model.specs.Deeds.{activated}
+use Rattle.tbl_model.specs.Telemetry.{activated}
 use Rattle.tbl_model.specs.Effects.{Effect, answered, named}
 use Rattle.tbl_model.specs.Refusals.{by_answer, activation_refusal, update_refusal}
 use Rattle.tbl_model.specs.Subjects.{if_table, if_owner}
@@ -11,7 +11,7 @@ use Rattle.tbl_model.specs.Copies.{then_copy}
 use Rattle.tbl_kinds.specs.declared.note.BankNote.{BankNote}
 use Rattle.tbl_kinds.specs.declared.status.TheConstants.Status.{SUCCESS, ERR_NO_LOAD}
 
--- the activation is asked, and the owner is told
+-- the activation is requested, and the owner is told
 abbrev pub ask_effect : State → ℕ → Table → Effect
 ask_effect s row t = record (answered s SUCCESS 0) { notice = t.notice; next = record s { tables = ask row s.tables } }
 
@@ -26,7 +26,7 @@ activate_command_effect s name = if_table s name (activation_of s)
 abbrev pub updated_effect : State → ℕ → Table → Effect
 updated_effect s row t = record (answered s SUCCESS 0) {
   table = named t.name (Some row);
-  deeds = activated row t ∷ [];
+  events = activated row t ∷ [];
   images = Some (load_image t) ∷ [];
   next = record s { tables = set_time row s.seconds s.sub (activate row s.tables) };
 }

@@ -5,20 +5,20 @@ use Rattle.tbl_kinds.specs.Numbers.{patched}
 use Rattle.tbl_kinds.specs.TableFiles.{TableFile}
 use Rattle.tbl_model.specs.State.{State, Table}
 use Rattle.tbl_model.specs.TableSteps.{base, put, set_time, set_file}
-use Rattle.tbl_model.specs.Deeds.{activated, is_good, verdict_bits}
+use Rattle.tbl_model.specs.Telemetry.{activated, is_good, verdict_bits}
 use Rattle.tbl_model.specs.Effects.{Effect, answered, named}
 use Rattle.tbl_model.specs.Given.{Given, verdict_at}
 use Rattle.tbl_model.specs.Refusals.{by_answer, by_refusal, closed_refusal, image_refusal, file_refusal}
 use Rattle.tbl_model.specs.Subjects.{if_owner, if_file}
 use Rattle.tbl_model.specs.Copies.{then_copy}
-use Rattle.tbl_model.specs.declared.deeds.Deed.TheVariants.{Judged}
+use Rattle.tbl_model.specs.declared.telemetry.TelemetryEvent.TheVariants.{Judged}
 use Rattle.tbl_kinds.specs.declared.status.TheConstants.Status.{SUCCESS, ERR_VALIDATION_FAILED}
 
 -- the image becomes the table's last one, at the service's time
 abbrev pub activate_effect : State → ℕ → Table → List ℕ → Effect
 activate_effect s row t image = record (answered s SUCCESS 0) {
   table = named t.name (Some row);
-  deeds = activated row t ∷ [];
+  events = activated row t ∷ [];
   images = Some image ∷ [];
   next = record s { tables = set_time row s.seconds s.sub (put row image s.tables) };
 }
@@ -26,9 +26,9 @@ activate_effect s row t image = record (answered s SUCCESS 0) {
 -- before that the function of this number gave its verdict on the image
 abbrev pub with_verdict : ℕ → List ℕ → ℕ → ℤ → Effect → Effect
 with_verdict row image number verdict effect = record effect {
-  deeds = Judged row verdict ∷ effect.deeds;
+  events = Judged row verdict ∷ effect.events;
   images = Some image ∷ effect.images;
-  asked = record { number = number; image = image } ∷ [];
+  questions = record { number = number; image = image } ∷ [];
 }
 
 -- where the table has a function, the image goes active with its verdict 0 alone

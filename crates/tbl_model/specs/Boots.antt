@@ -49,4 +49,4 @@ reset_effect s kind note = record (answered s (reset_status note) 0) { next = bo
 
 -- a request was stopped: nothing of its effect is told but what was done before, and the service boots at once, over the state that it left
 abbrev pub stopped : BankNote → Effect → Effect
-stopped note e = record (answered (boot Processor note e.next) INFO_STOPPED 0) { deeds = e.deeds; images = e.images; asked = e.asked; calls = e.calls }
+stopped note e = record (answered (boot Processor note e.next) INFO_STOPPED 0) { events = e.events; images = e.images; questions = e.questions; calls = e.calls }

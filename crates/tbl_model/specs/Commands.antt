@@ -18,34 +18,34 @@ use Rattle.tbl_kinds.specs.declared.status.TheConstants.Status.{SUCCESS}
 -- ---- what a packet asks for
 
 -- what the packet of a command reads as, none of a request that is no command
-abbrev pub Asked : Type 0
-Asked = Option (Result GroundCommand Answer)
+abbrev pub ReadCommand : Type 0
+ReadCommand = Option (Result GroundCommand Answer)
 
-abbrev pub asked_in : Request → Asked
-asked_in (ask.Command bytes) = Some (command_in bytes.list)
-asked_in _ = None
+abbrev pub read_command_in : Request → ReadCommand
+read_command_in (ask.Command bytes) = Some (command_in bytes.list)
+read_command_in _ = None
 
-abbrev pub asks_housekeeping : Asked → Bool
+abbrev pub asks_housekeeping : ReadCommand → Bool
 asks_housekeeping (Some (Ok housekeeping)) = true
 asks_housekeeping _ = false
 
-abbrev pub asks_reset_counters : Asked → Bool
+abbrev pub asks_reset_counters : ReadCommand → Bool
 asks_reset_counters (Some (Ok reset_counters)) = true
 asks_reset_counters _ = false
 
-abbrev pub asks_validate : Asked → Bool
+abbrev pub asks_validate : ReadCommand → Bool
 asks_validate (Some (Ok (validate select table))) = true
 asks_validate _ = false
 
 -- the file that a LOAD names
-abbrev pub asked_file : Asked → Option (List ℕ)
-asked_file (Some (Ok (load file))) = Some file
-asked_file _ = None
+abbrev pub file_of_load : ReadCommand → Option (List ℕ)
+file_of_load (Some (Ok (load file))) = Some file
+file_of_load _ = None
 
 -- the function code that event 1 tells
-abbrev pub asked_code : Asked → ℕ
-asked_code (Some (Ok command)) = code_of command
-asked_code _ = 0
+abbrev pub command_code : ReadCommand → ℕ
+command_code (Some (Ok command)) = code_of command
+command_code _ = 0
 
 -- ---- what it gets
 

@@ -8,19 +8,19 @@ use Rattle.tbl_model.specs.Tables.{table_at, is_critical}
 use Rattle.tbl_model.specs.Effects.{Effect}
 use Rattle.tbl_model.specs.StoreUse.{then_call}
 use Rattle.tbl_model.specs.AppBlocks.{has_size}
-use Rattle.tbl_model.specs.declared.deeds.Deed.{Deed}
-use Rattle.tbl_model.specs.declared.deeds.Deed.TheVariants.{Activated, CopyFailed}
+use Rattle.tbl_model.specs.declared.telemetry.TelemetryEvent.{TelemetryEvent}
+use Rattle.tbl_model.specs.declared.telemetry.TelemetryEvent.TheVariants.{Activated, CopyFailed}
 use Rattle.tbl_kinds.specs.declared.block.BlockKind.TheVariants as kind
 use Rattle.tbl_kinds.specs.declared.note.BankNote.{BankNote}
 
 -- an image went active by it: that is the last thing that it did
-abbrev pub is_activation : Option Deed → Bool
+abbrev pub is_activation : Option TelemetryEvent → Bool
 is_activation None = false
 is_activation (Some (Activated row count name)) = true
-is_activation (Some deed) = false
+is_activation (Some event) = false
 
 abbrev pub went_active : Effect → Bool
-went_active e = is_activation (slice_get e.deeds (length e.deeds - 1))
+went_active e = is_activation (slice_get e.events (length e.events - 1))
 
 -- the table's block: the open one of its name, where it has its size
 abbrev pub block_of : Table → Store → Option ℕ
@@ -28,7 +28,7 @@ block_of t store = if has_size t.size (option_and_then (stored_at store) (open_o
 
 -- the bank failed: that is told, and the image is active all the same
 abbrev pub copy_failed : ℕ → ℕ → Effect → Effect
-copy_failed row slot e = record e { deeds = e.deeds ++ CopyFailed row slot ∷ []; images = e.images ++ None ∷ [] }
+copy_failed row slot e = record e { events = e.events ++ CopyFailed row slot ∷ []; images = e.images ++ None ∷ [] }
 
 abbrev pub copied_to : ℕ → BankNote → Effect → Option ℕ → Option (List ℕ) → Effect
 copied_to row note e None image = e

@@ -1,7 +1,7 @@
 -- One entry more: what it adds to the counts, and how each count goes on.
 use Rattle.std.specs.Prelude.{ℕ, ◌+◌, ◌%◌, List, [], Bool, false, if◌then◌else◌, Option, None, unwrap_or, is_some}
-use Rattle.tbl_model.specs.Commands.{asked_in}
-use Rattle.tbl_model.specs.Counts.{Told, Counts, restarts, clears_counters, adds_accepted, adds_refused, adds_request, deeds_by, is_finished, is_finished_well, is_finished_badly, events_in, is_housekeeping, is_registry, Validation, no_validation, validation_in, Update, no_update, update_in, loaded_in, loaded_file_in, dump_in}
+use Rattle.tbl_model.specs.Commands.{read_command_in}
+use Rattle.tbl_model.specs.Counts.{Told, Counts, restarts, clears_counters, adds_accepted, adds_refused, adds_request, events_by, is_finished, is_finished_well, is_finished_badly, events_in, is_housekeeping, is_registry, Validation, no_validation, validation_in, Update, no_update, update_in, loaded_in, loaded_file_in, dump_in}
 
 -- what an entry adds
 pub record Tally : Type 0 where
@@ -27,12 +27,12 @@ abbrev pub tally_of : Told → Tally
 tally_of t = record {
   restarted = restarts t;
   cleared = clears_counters t;
-  accepted = adds_accepted (asked_in t.request) t.effect;
-  refused = adds_refused (asked_in t.request) t.effect;
-  finished = deeds_by is_finished t;
-  good = deeds_by is_finished_well t;
-  bad = deeds_by is_finished_badly t;
-  request = adds_request (asked_in t.request) t.effect;
+  accepted = adds_accepted (read_command_in t.request) t.effect;
+  refused = adds_refused (read_command_in t.request) t.effect;
+  finished = events_by is_finished t;
+  good = events_by is_finished_well t;
+  bad = events_by is_finished_badly t;
+  request = adds_request (read_command_in t.request) t.effect;
   events = events_in t;
   housekeeping = is_housekeeping t.effect.shown;
   registry = is_registry t.effect.shown;

@@ -16,10 +16,10 @@ use Rattle.tbl_model.specs.Effects.{Effect, answered}
 use Rattle.tbl_model.specs.Refusals.{refusal, by_answer, by_refusal, lock_refusal, buffer_refusal}
 use Rattle.tbl_model.specs.Subjects.{if_table, if_owner}
 use Rattle.tbl_model.specs.Validations.{selected}
-use Rattle.tbl_model.specs.Management.{is_asked}
-use Rattle.tbl_model.specs.declared.deeds.Deed.{Deed}
-use Rattle.tbl_model.specs.declared.deeds.Deed.TheVariants.{Dumped, NotDumped}
-use Rattle.tbl_model.specs.declared.deeds.Shown.TheVariants.{Housekeeping}
+use Rattle.tbl_model.specs.Management.{is_requested}
+use Rattle.tbl_model.specs.declared.telemetry.TelemetryEvent.{TelemetryEvent}
+use Rattle.tbl_model.specs.declared.telemetry.TelemetryEvent.TheVariants.{Dumped, NotDumped}
+use Rattle.tbl_model.specs.declared.telemetry.Shown.TheVariants.{Housekeeping}
 use Rattle.tbl_kinds.specs.declared.entry.Answer.{Answer}
 use Rattle.tbl_kinds.specs.declared.status.TheConstants.Status.{SUCCESS, INFO_NO_DUMP_PENDING, ERR_NEVER_LOADED, ERR_OUT_OF_RANGE, ERR_NOT_DUMP_ONLY, ERR_NO_LOAD, ERR_DUMP_PENDING, ERR_DRAWER_FULL, ERR_BAD_SELECT}
 
@@ -62,12 +62,12 @@ written_effect s row file bytes =
     if is_full_for s.drawer file then answered s ERR_DRAWER_FULL 0
     else record (answered s SUCCESS 0) {
       bytes = bytes;
-      deeds = Dumped row file (length bytes) ∷ [];
+      events = Dumped row file (length bytes) ∷ [];
       images = None ∷ [];
       next = record s { drawer = with_file s.drawer file bytes };
     }
 
--- why the dump of a dump-only table isn't asked
+-- why the dump of a dump-only table isn't requested
 abbrev pub dump_refusal : Tables → Table → Option Answer
 dump_refusal tables t = if not (is_quiet t.dump) then refusal ERR_DUMP_PENDING else buffer_refusal tables t
 
@@ -92,10 +92,10 @@ dump_registry_effect s file = written_effect s None file (registry_file s)
 
 -- ---- the owner's part
 
--- the asked dump of the table in this row is filled
+-- the requested dump of the table in this row is filled
 abbrev pub filled_effect : State → ℕ → Table → Effect
 filled_effect s row t =
-    if not (is_asked t.dump) then answered s INFO_NO_DUMP_PENDING 0
+    if not (is_requested t.dump) then answered s INFO_NO_DUMP_PENDING 0
     else record (answered s SUCCESS 0) { next = record s { tables = fill_dump row s.tables } }
 
 unfoldable pub dump_to_buffer_effect : State → ℕ → ℕ → Effect
@@ -123,18 +123,18 @@ edit_effect s app handle offset bytes = if_owner s app handle (λ row t. edited_
 pub record Ended : Type 0 where
   pub state : State
   pub bytes : List ℕ
-  pub deeds : List Deed
+  pub events : List TelemetryEvent
 
 -- its file is written, unless the drawer is full; the dump is over in both cases
 abbrev pub end_by : Ended → ℕ → List ℕ → Dump → Ended
 end_by e row name (filled file image) =
     let over = record e.state { tables = end_dump row e.state.tables } in
     let bytes = dump_file e.state name image in
-    if is_full_for e.state.drawer file then record e { state = over; deeds = e.deeds ++ NotDumped row ∷ [] }
+    if is_full_for e.state.drawer file then record e { state = over; events = e.events ++ NotDumped row ∷ [] }
     else record {
       state = record over { drawer = with_file e.state.drawer file bytes };
       bytes = e.bytes ++ bytes;
-      deeds = e.deeds ++ Dumped (Some row) file (length bytes) ∷ [];
+      events = e.events ++ Dumped (Some row) file (length bytes) ∷ [];
     }
 end_by e row name _ = e
 
@@ -143,11 +143,11 @@ then_end e row = option_map_or (λ (t : Table). end_by e row t.name t.dump) (tab
 
 abbrev pub is_filled : Option Table → Bool
 is_filled None = false
-is_filled (Some t) = not (is_quiet t.dump) && not (is_asked t.dump)
+is_filled (Some t) = not (is_quiet t.dump) && not (is_requested t.dump)
 
 -- each filled dump, in order of rows
 unfoldable pub dumps_ended : State → Ended
-dumps_ended s = fold then_end (record { state = s; bytes = []; deeds = [] }) (rows_where is_filled 0 s.tables.rows)
+dumps_ended s = fold then_end (record { state = s; bytes = []; events = [] }) (rows_where is_filled 0 s.tables.rows)
 
 -- the packet tells the state after
 unfoldable pub housekeeping_effect : State → Effect
@@ -155,8 +155,8 @@ housekeeping_effect s =
     let e = dumps_ended s in
     record (answered s SUCCESS 0) {
       bytes = e.bytes;
-      deeds = e.deeds;
-      images = map (λ (deed : Deed). None) e.deeds;
+      events = e.events;
+      images = map (λ (event : TelemetryEvent). None) e.events;
       shown = Housekeeping;
       next = e.state;
     }

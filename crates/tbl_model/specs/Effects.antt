@@ -1,14 +1,14 @@
--- The effect of a request: its answer, its deeds, and the state that it leaves.
+-- The effect of a request: its answer, its events, and the state that it leaves.
 use Rattle.std.specs.Prelude.{ℕ, List, [], Bool, Option, None}
 use Rattle.std.specs.Option.{option_map}
 use Rattle.tbl_kinds.specs.StoreCalls.{StoreCall}
 use Rattle.tbl_model.specs.State.{State, Tables}
-use Rattle.tbl_model.specs.Deeds.{Question}
-use Rattle.tbl_model.specs.declared.deeds.Deed.{Deed}
-use Rattle.tbl_model.specs.declared.deeds.Named.{Named}
-use Rattle.tbl_model.specs.declared.deeds.Notice.{Notice}
-use Rattle.tbl_model.specs.declared.deeds.Shown.{Shown}
-use Rattle.tbl_model.specs.declared.deeds.Shown.TheVariants.{Nothing}
+use Rattle.tbl_model.specs.Telemetry.{Question}
+use Rattle.tbl_model.specs.declared.telemetry.TelemetryEvent.{TelemetryEvent}
+use Rattle.tbl_model.specs.declared.telemetry.Named.{Named}
+use Rattle.tbl_model.specs.declared.telemetry.Notice.{Notice}
+use Rattle.tbl_model.specs.declared.telemetry.Shown.{Shown}
+use Rattle.tbl_model.specs.declared.telemetry.Shown.TheVariants.{Nothing}
 use Rattle.tbl_kinds.specs.declared.entry.Answer.{Answer}
 use Rattle.tbl_kinds.specs.declared.status.Status.{Status}
 
@@ -17,9 +17,9 @@ pub record Effect : Type 0 where
   pub detail : ℕ
   pub bytes : List ℕ  -- the reply's bytes
   pub table : Option Named  -- the table that a command names or a load fills
-  pub deeds : List Deed  -- what is done that telemetry tells of, in order
-  pub images : List (Option (List ℕ))  -- the image that each deed is about, none where it is about no image
-  pub asked : List Question  -- what validation functions are asked, in order
+  pub events : List TelemetryEvent  -- what is done that telemetry tells of, in order
+  pub images : List (Option (List ℕ))  -- the image that each event is about, none where it is about no image
+  pub questions : List Question  -- what validation functions are asked, in order
   pub calls : List StoreCall  -- the calls of the store, in order
   pub shown : Shown  -- the packet after the events
   pub notice : Option Notice
@@ -32,9 +32,9 @@ answered s status detail = record {
   detail = detail;
   bytes = [];
   table = None;
-  deeds = [];
+  events = [];
   images = [];
-  asked = [];
+  questions = [];
   calls = [];
   shown = Nothing;
   notice = None;

@@ -4,9 +4,9 @@ use Rattle.tbl_model.specs.State.{State, Table, Handle}
 use Rattle.tbl_model.specs.Tables.{table_at}
 use Rattle.tbl_model.specs.TableSteps.{is_checked}
 use Rattle.tbl_model.specs.Pending.{is_pending}
-use Rattle.tbl_model.specs.declared.deeds.Notice.{Notice}
+use Rattle.tbl_model.specs.declared.telemetry.Notice.{Notice}
 
--- the image that is to be judged is there: the last one, or that of an open load whose activation isn't asked, as another
+-- the image that is to be judged is there: the last one, or that of an open load whose activation isn't requested, as another
 -- verdict could take the mark from a load that is about to go active
 abbrev pub HasImage : Table → Bool → Type 0
 HasImage t true = 0 < t.count

@@ -2,7 +2,7 @@
 use Rattle.std.specs.Prelude.{◌≡◌, ℕ, List, [], ◌∷◌, Option, Some, None, unwrap_or, slice_index_or}
 use Rattle.std.proofs.Common.{ℤ, pos}
 use Rattle.tbl_model.specs.State.{State}
-use Rattle.tbl_model.specs.Deeds.{Question}
+use Rattle.tbl_model.specs.Telemetry.{Question}
 use Rattle.tbl_model.specs.Effects.{Effect}
 use Rattle.tbl_model.specs.StoreNotes.{IsNoteOf}
 use Rattle.tbl_kinds.specs.declared.note.BankNote.{BankNote}
@@ -30,4 +30,4 @@ AnswersEach (first ∷ more) verdicts = (v w : ℤ) × (verdicts ≡ Some v ∷ 
 -- what it may give in a request that has this effect in this state
 pub record MayBeGiven (s : State) (request : Request) (effect : Effect) (given : Given) : Type 0 where
   pub note : IsNoteOf request effect.calls s.store given.note
-  pub verdicts : AnswersEach effect.asked given.verdicts
+  pub verdicts : AnswersEach effect.questions given.verdicts

@@ -1,6 +1,6 @@
 pub mod State
 pub mod Tables
-pub mod Deeds
+pub mod Telemetry
 pub mod Effects
 pub mod Boots
 pub mod StoreUse

@@ -108,7 +108,7 @@ load_refusal tables row t offset len =
 
 -- ---- validation and activation
 
--- why the validation of the last image of the table in this row, or of its load's, isn't asked
+-- why the validation of the last image of the table in this row, or of its load's, isn't requested
 abbrev pub validation_refusal : List (ℕ × Bool) → ℕ → Table → Bool → Option Answer
 validation_refusal pending row t active =
     if active && (t.count == 0) then refusal ERR_NEVER_LOADED
@@ -119,7 +119,7 @@ validation_refusal pending row t active =
     else (if length pending == 10 then refusal ERR_VALIDATIONS_FULL
     else None)))))
 
--- why the activation of its load isn't asked
+-- why the activation of its load isn't requested
 abbrev pub activation_refusal : List (ℕ × Bool) → ℕ → Table → Option Answer
 activation_refusal pending row t =
     if is_dump_only t then refusal ERR_DUMP_ONLY

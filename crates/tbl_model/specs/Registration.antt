@@ -45,8 +45,8 @@ abbrev pub new_effect : State → ℕ → Table → BankNote → Effect
 new_effect s row t note = if is_critical t then critical_effect s row t note else registered s row (as_registered t) SUCCESS
 
 -- the table takes the least free handle
-abbrev pub table_asked : State → ℕ → List ℕ → ℕ → ℕ → Option ℕ → Table
-table_asked s app name size flags validator = new_table name app size flags validator (unwrap_or (least_free s.tables.handles) 0)
+abbrev pub table_requested : State → ℕ → List ℕ → ℕ → ℕ → Option ℕ → Table
+table_requested s app name size flags validator = new_table name app size flags validator (unwrap_or (least_free s.tables.handles) 0)
 
 -- and the least free row, unless something refuses it
 abbrev pub placed_effect : State → Option Answer → Table → BankNote → Effect
@@ -55,4 +55,4 @@ placed_effect s refused t note = by_answer s refused (new_effect s (unwrap_or (l
 unfoldable pub register_effect : State → ℕ → List ℕ → ℕ → ℕ → Option ℕ → BankNote → Effect
 register_effect s app short size flags validator note = if_running s app (λ app_name.
     let name = full_name app_name short in
-    placed_effect s (registration_refusal s app name short size flags validator) (table_asked s app name size flags validator) note)
+    placed_effect s (registration_refusal s app name short size flags validator) (table_requested s app name size flags validator) note)

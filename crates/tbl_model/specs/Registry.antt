@@ -15,7 +15,7 @@ owner_name name = take 20 (take (position_or_len (λ b. b == 46) name) name)
 abbrev pub bit_at : ℕ → Bool → ℕ
 bit_at value b = if b then value else 0
 
--- loaded, activation asked, dump-only, double-buffered, critical, load open
+-- loaded, activation requested, dump-only, double-buffered, critical, load open
 abbrev pub bits_of : Table → ℕ
 bits_of t =
     bit_at 1 (is_some t.last) + bit_at 2 t.activation + bit_at 4 (is_dump_only t)

@@ -8,9 +8,9 @@ use Rattle.tbl_kinds.specs.Packets.{housekeeping_id, event_id, registry_id, tele
 use Rattle.tbl_kinds.specs.Telemetry.{event_body, housekeeping_body, registry_record}
 use Rattle.tbl_model.specs.Events.{events_of}
 use Rattle.tbl_model.specs.Counts.{Told, Counts, counts_of, is_stopped}
-use Rattle.tbl_model.specs.declared.deeds.Notice.{Notice}
-use Rattle.tbl_model.specs.declared.deeds.Shown.{Shown}
-use Rattle.tbl_model.specs.declared.deeds.Shown.TheVariants.{Nothing, Housekeeping, Registry}
+use Rattle.tbl_model.specs.declared.telemetry.Notice.{Notice}
+use Rattle.tbl_model.specs.declared.telemetry.Shown.{Shown}
+use Rattle.tbl_model.specs.declared.telemetry.Shown.TheVariants.{Nothing, Housekeeping, Registry}
 use Rattle.tbl_kinds.specs.declared.telemetry.Event.{Event}
 use Rattle.tbl_kinds.specs.declared.telemetry.Housekeeping.{Housekeeping as Body}
 use Rattle.tbl_kinds.specs.declared.telemetry.TlmHead.{TlmHead}

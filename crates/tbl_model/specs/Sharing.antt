@@ -10,7 +10,7 @@ use Rattle.tbl_model.specs.Pending.{of_other_rows}
 use Rattle.tbl_model.specs.Registry.{registry_row}
 use Rattle.tbl_model.specs.Effects.{Effect, answered}
 use Rattle.tbl_model.specs.Subjects.{if_running, if_table, if_owner, by_table}
-use Rattle.tbl_model.specs.declared.deeds.Shown.TheVariants.{Registry}
+use Rattle.tbl_model.specs.declared.telemetry.Shown.TheVariants.{Registry}
 use Rattle.tbl_kinds.specs.declared.status.TheConstants.Status.{SUCCESS, ERR_INVALID_HANDLE, ERR_NO_ACCESS, ERR_INVALID_NAME, ERR_HANDLES_FULL, ERR_NOTICE_ID}
 
 -- ---- further handles

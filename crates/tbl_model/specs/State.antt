@@ -2,7 +2,7 @@
 use Rattle.std.specs.Prelude.{ℕ, List, [], replicate, Bool, false, Option, None}
 use Rattle.tbl_kinds.specs.Admitted.{Admitted}
 use Rattle.tbl_kinds.specs.Blocks.{Store}
-use Rattle.tbl_model.specs.declared.deeds.Notice.{Notice}
+use Rattle.tbl_model.specs.declared.telemetry.Notice.{Notice}
 
 -- ---- tables and handles
 
@@ -11,10 +11,10 @@ pub record Load : Type 0 where
   pub image : List ℕ
   pub checked : Bool
 
--- a dump of a dump-only table: none, asked under a file name, or filled with an image under it
+-- a dump of a dump-only table: none, requested under a file name, or filled with an image under it
 pub data Dump : Type 0 where
   quiet : Dump
-  asked : List ℕ → Dump
+  requested : List ℕ → Dump
   filled : List ℕ → List ℕ → Dump  -- the file's name, and the image
 
 pub record Table : Type 0 where
@@ -28,7 +28,7 @@ pub record Table : Type 0 where
   pub last : Option (List ℕ)  -- the newest image, none where the count is 0
   pub before : Option (List ℕ)  -- the one before it, exactly while a handle pins it
   pub load : Option Load
-  pub activation : Bool  -- the activation of the load is asked
+  pub activation : Bool  -- the activation of the load is requested
   pub dump : Dump
   pub notice : Option Notice
   pub seconds : ℕ  -- the time of the last update

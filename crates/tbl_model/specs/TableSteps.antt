@@ -4,8 +4,8 @@ use Rattle.std.specs.List.{list_any}
 use Rattle.std.specs.Option.{option_map, option_map_or}
 use Rattle.std.specs.Str.{bytes_eq}
 use Rattle.tbl_kinds.specs.Numbers.{piece, patched}
-use Rattle.tbl_model.specs.State.{Load, Table, Handle, Tables, Dump, quiet, asked, filled}
-use Rattle.tbl_model.specs.declared.deeds.Notice.{Notice}
+use Rattle.tbl_model.specs.State.{Load, Table, Handle, Tables, Dump, quiet, requested, filled}
+use Rattle.tbl_model.specs.declared.telemetry.Notice.{Notice}
 use Rattle.tbl_model.specs.Tables.{table_at, is_double, is_dump_only}
 use Rattle.tbl_kinds.specs.declared.status.Status.{Status}
 use Rattle.tbl_kinds.specs.declared.status.TheConstants.Status.{SUCCESS, INFO_UPDATED, ERR_INVALID_HANDLE, ERR_NO_ACCESS, ERR_UNREGISTERED, ERR_ALREADY_PINNED, ERR_NEVER_LOADED, ERR_NOT_PINNED, ERR_OUT_OF_RANGE}
@@ -213,11 +213,11 @@ load_image t = option_map_or (λ (load : Load). load.image) t.load []
 abbrev pub is_checked : Table → Bool
 is_checked t = option_map_or (λ (load : Load). load.checked) t.load false
 
--- the activation of the load is asked
+-- the activation of the load is requested
 abbrev pub ask : ℕ → Tables → Tables
 ask row tables = changed row (λ t. record t { activation = true }) tables
 
--- the load is dropped, and its activation isn't asked any more
+-- the load is dropped, and its activation isn't requested any more
 abbrev pub close_load : ℕ → Tables → Tables
 close_load row tables = changed row (λ t. record t { load = None; activation = false }) tables
 
@@ -227,14 +227,14 @@ activate row tables = changed row (λ t. record (with_image tables.handles row (
 
 -- ---- dumps
 
--- the dump is filled with the image, under the name that was asked
+-- the dump is filled with the image, under the name that was requested
 abbrev pub filled_with : List ℕ → Dump → Dump
 filled_with image quiet = quiet
-filled_with image (asked file) = filled file image
+filled_with image (requested file) = filled file image
 filled_with image (filled file earlier) = filled file image
 
 abbrev pub ask_dump : ℕ → List ℕ → Tables → Tables
-ask_dump row file tables = changed row (λ t. record t { dump = asked file }) tables
+ask_dump row file tables = changed row (λ t. record t { dump = requested file }) tables
 
 abbrev pub fill_dump : ℕ → Tables → Tables
 fill_dump row tables = changed row (λ t. record t { dump = filled_with (last_image t) t.dump }) tables

@@ -6,7 +6,7 @@ use Rattle.tbl_model.specs.State.{State, Table, Tables}
 use Rattle.tbl_model.specs.Tables.{is_dump_only}
 use Rattle.tbl_model.specs.TableSteps.{last_image, load_image, set_checked}
 use Rattle.tbl_model.specs.Pending.{is_pending, without_pair}
-use Rattle.tbl_model.specs.Deeds.{Question, finished, is_good, verdict_bits}
+use Rattle.tbl_model.specs.Telemetry.{Question, finished, is_good, verdict_bits}
 use Rattle.tbl_model.specs.Effects.{Effect, answered}
 use Rattle.tbl_model.specs.Given.{Given, verdict_at}
 use Rattle.tbl_model.specs.Refusals.{by_answer, validation_refusal}
@@ -40,7 +40,7 @@ selected t select = if nat_lt 1 select then None else Some (is_dump_only t || (s
 -- a table without a function needs none: verdict 0 comes at once
 abbrev pub validated_effect : State → Bool → ℕ → Table → Effect
 validated_effect s active row t = record (answered s SUCCESS 0) {
-  deeds = finished row active t (judged_image t active) (pos 0) ∷ [];
+  events = finished row active t (judged_image t active) (pos 0) ∷ [];
   images = Some (judged_image t active) ∷ [];
   next = judged s row active (pos 0);
 }
@@ -72,9 +72,9 @@ do_validation s given row t (Some active) =
     let image = judged_image t active in
     let verdict = verdict_at 0 given in
     record (answered s (if is_good verdict then SUCCESS else ERR_VALIDATION_FAILED) (verdict_bits verdict)) {
-      deeds = finished row active t image verdict ∷ [];
+      events = finished row active t image verdict ∷ [];
       images = Some image ∷ [];
-      asked = questions t image;
+      questions = questions t image;
       next = judged s row active verdict;
     }
 

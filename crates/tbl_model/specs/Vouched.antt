@@ -5,12 +5,12 @@ use Rattle.std.specs.Option.{option_and_then}
 use Rattle.std.proofs.Common.{ℤ}
 use Rattle.tbl_model.specs.State.{State, Table}
 use Rattle.tbl_model.specs.Tables.{table_at}
-use Rattle.tbl_model.specs.Deeds.{is_good}
+use Rattle.tbl_model.specs.Telemetry.{is_good}
 use Rattle.tbl_model.specs.Effects.{Effect}
 use Rattle.tbl_model.specs.Counts.{Told}
 use Rattle.tbl_model.specs.History.{begins_at, run_from, effect_in, told}
-use Rattle.tbl_model.specs.declared.deeds.Deed.{Deed}
-use Rattle.tbl_model.specs.declared.deeds.Deed.TheVariants.{Finished, Judged, Activated}
+use Rattle.tbl_model.specs.declared.telemetry.TelemetryEvent.{TelemetryEvent}
+use Rattle.tbl_model.specs.declared.telemetry.TelemetryEvent.TheVariants.{Finished, Judged, Activated}
 use Rattle.tbl_kinds.specs.declared.entry.Entry.{Entry}
 
 -- ---- what an entry tells
@@ -23,27 +23,27 @@ table_before t row = table_at t.before.tables row
 abbrev pub function_before : Told → ℕ → Option ℕ
 function_before t row = option_and_then (λ (table : Table). table.validator) (table_before t row)
 
--- a deed of the entry, by its place, with the image that it is about
-pub record Tells (t : Told) (place : ℕ) (deed : Deed) (image : List ℕ) : Type 0 where
-  pub deed_is : slice_get t.effect.deeds place ≡ Some deed
+-- an event of the entry, by its place, with the image that it is about
+pub record Tells (t : Told) (place : ℕ) (event : TelemetryEvent) (image : List ℕ) : Type 0 where
+  pub event_is : slice_get t.effect.events place ≡ Some event
   pub image_is : slice_index_or t.effect.images place None ≡ Some image
 
--- the verdict that a deed tells for the table in this row: of a validation that came to its end, or of a load
-abbrev pub verdict_for : ℕ → Deed → Option ℤ
+-- the verdict that an event tells for the table in this row: of a validation that came to its end, or of a load
+abbrev pub verdict_for : ℕ → TelemetryEvent → Option ℤ
 verdict_for row (Finished r active check verdict name) = if r == row then Some verdict else None
 verdict_for row (Judged r verdict) = if r == row then Some verdict else None
 verdict_for row _ = None
 
 -- ---- vouched histories
 
--- one of the entry's first so many deeds tells verdict 0 on this image for the table in this row
+-- one of the entry's first so many events tells verdict 0 on this image for the table in this row
 pub record Passes (t : Told) (row : ℕ) (image : List ℕ) (most : ℕ) : Type 0 where
   pub place : ℕ
   pub first : place < most
-  pub deed : Deed
-  pub tells : Tells t place deed image
+  pub event : TelemetryEvent
+  pub tells : Tells t place event image
   pub verdict : ℤ
-  pub is : verdict_for row deed ≡ Some verdict
+  pub is : verdict_for row event ≡ Some verdict
   pub good : is_good verdict ≡ true
 
 -- one of the earlier entries does, and the table has been registered ever since
@@ -52,7 +52,7 @@ pub record PassedBefore (earlier : List Told) (t : Told) (row : ℕ) (image : Li
   pub one : Told
   pub between : List Told
   pub split : earlier ≡ sooner ++ one ∷ between
-  pub passes : Passes one row image (length one.effect.deeds)
+  pub passes : Passes one row image (length one.effect.events)
   pub registered : list_all (λ w. is_some (table_before w row)) (between ++ t ∷ []) ≡ true
 
 -- an image that goes active on a table with a function has passed it before, in the same entry or since the registration
@@ -69,4 +69,4 @@ IsVouched opening entries = (before after : List Entry) (e : Entry) (effect : Ef
 
 -- each verdict that the entry tells of a table with a function is the one that this function gives on the image
 abbrev pub KeepsTo : (ℕ → List ℕ → ℤ) → Told → Type 0
-KeepsTo verdict t = (place row number : ℕ) (deed : Deed) (image : List ℕ) (v : ℤ) → Tells t place deed image → verdict_for row deed ≡ Some v → function_before t row ≡ Some number → v ≡ verdict number image
+KeepsTo verdict t = (place row number : ℕ) (event : TelemetryEvent) (image : List ℕ) (v : ℤ) → Tells t place event image → verdict_for row event ≡ Some v → function_before t row ≡ Some number → v ≡ verdict number image

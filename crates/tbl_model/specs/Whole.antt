@@ -20,7 +20,7 @@ abbrev pub is_by : ℕ → Actor → Bool
 is_by app Ground = false
 is_by app (App number) = number == app
 
--- the call did what was asked
+-- the call did what was requested
 abbrev pub is_done : Status → Bool
 is_done status = (status.0 == SUCCESS.0) || (status.0 == INFO_UPDATED.0)
 

@@ -2,6 +2,6 @@
 //! histories that are legal and whole; the layers above cite them in their contracts.
 #![tactic(auto)]
 
-mod deeds;
+mod telemetry;
 
-pub use deeds::{Deed, Named, Notice, Shown};
+pub use telemetry::{Named, Notice, Shown, TelemetryEvent};

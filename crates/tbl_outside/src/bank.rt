@@ -48,10 +48,10 @@ pub trait Bank: Drop {
     /// How often a write was stopped. It may stand still from 2^64 - 1 on.
     ghost stops: { Self → ℕ };
 
-    /// Whether it tells what it was asked. It may stop to, where it has no room left to keep it, and doesn't begin again.
+    /// Whether it tells its calls. It may stop to, where it has no room left to keep them, and doesn't begin again.
     ghost tells_calls: { Self → Type 0 };
 
-    /// What it was asked so far, the newest call first. Asking for its size isn't among it.
+    /// The calls that it got so far, the newest first. Asking for its size isn't among it.
     ghost calls: { Self → List BankCall };
 
     /// How many bytes it has.
@@ -71,7 +71,7 @@ pub trait Bank: Drop {
         ensures fault_count { faults self.old ≤ faults self.new }
         ensures stop_count { stops self.old ≤ stops self.new }
         ensures told { tells_calls self.new → tells_calls self.old }
-        ensures asked { tells_calls self.new → calls self.new ≡ read at (length into.old) ∷ calls self.old };
+        ensures bank_calls { tells_calls self.new → calls self.new ≡ read at (length into.old) ∷ calls self.old };
 
     /// Writes over a piece that lies inside the bank.
     fn write_at(&mut self, at: u32, bytes: &[u8]) -> Written
@@ -85,7 +85,7 @@ pub trait Bank: Drop {
         ensures fault_count { faults self.old ≤ faults self.new }
         ensures stop_count { stops self.old ≤ stops self.new }
         ensures told { tells_calls self.new → tells_calls self.old }
-        ensures asked { tells_calls self.new → calls self.new ≡ write at bytes.now ∷ calls self.old };
+        ensures bank_calls { tells_calls self.new → calls self.new ≡ write at bytes.now ∷ calls self.old };
 
     /// A bank that tells its moments tells its bytes.
     ghost tells_both: { tells_moments → tells };

@@ -17,7 +17,7 @@ pub trait Source {
     ghost faults: { Self → ℕ };
 
     /// Moves bytes from the front of what is left into the front of a piece, and answers how many. What stands in the
-    /// piece behind them, and in the whole piece after a failure, is left open.
+    /// piece after them, and in the whole piece after a failure, is left open.
     fn read(&mut self, into: &mut [u8]) -> Result<usize, Failed>
         ensures fits { IfOk result (λ n. n ≤ length into.old) }
         ensures moved { IfOk result (λ n. left self.old ≡ prepend_known (take n into.new) (left self.new)) }

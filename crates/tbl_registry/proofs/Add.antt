@@ -9,7 +9,7 @@ use Rattle.tbl_model.specs.Tables.{uses_buffer}
 use Rattle.tbl_model.specs.TableSteps.{has_name, new_handle, with_table, with_handle}
 use Rattle.access_desc.specs.declared.handle_view.HandleView.{HandleView}
 use Rattle.access_desc.specs.Steps.{new_handle as new_view}
-use Rattle.working_buffers.specs.Places.{Held}
+use Rattle.working_buffers.specs.Places.{LentBuffer}
 use Rattle.tbl_registry.specs.Pins.{AtEachPlace}
 use Rattle.tbl_registry.specs.Seen.{tables_of, handle_of}
 use Rattle.tbl_registry.specs.Sound.{IsSound}
@@ -35,7 +35,7 @@ pub no_buffer : (double : Bool) → (not double && false || false) ≡ false
 no_buffer true = refl
 no_buffer false = refl
 
-module _ (rows : List (Option Table)) (handles : List (Option HandleView)) (buffers : List (Option Held)) (row handle app : ℕ) (t : Table) (sound : IsSound rows handles buffers) (free : least_free rows ≡ Some row) where
+module _ (rows : List (Option Table)) (handles : List (Option HandleView)) (buffers : List (Option LentBuffer)) (row handle app : ℕ) (t : Table) (sound : IsSound rows handles buffers) (free : least_free rows ≡ Some row) where
   empty : slice_index_or rows row None ≡ None
   empty = least_free-None rows row free
 

@@ -6,11 +6,11 @@ use Rattle.std.proofs.lemmas.List.{length-set, set-get_or}
 use Rattle.std.specs.Prelude.{bit_and}
 use Rattle.std.proofs.lemmas.Nat.{and_assoc}
 use Rattle.tbl_kinds.specs.Numbers.{patched}
-use Rattle.tbl_model.specs.State.{Table, Tables, Load, Dump, quiet, asked, filled}
+use Rattle.tbl_model.specs.State.{Table, Tables, Load, Dump, quiet, requested, filled}
 use Rattle.tbl_model.specs.Tables.{table_at, has_option, is_double, is_quiet, uses_buffer}
 use Rattle.tbl_model.specs.TableSteps.{with_table, locker, base, unchecked, patch, last_image, filled_with}
 use Rattle.access_desc.specs.declared.handle_view.HandleView.{HandleView}
-use Rattle.working_buffers.specs.Places.{Held}
+use Rattle.working_buffers.specs.Places.{LentBuffer}
 use Rattle.tbl_registry.specs.Rows.{IsTable}
 use Rattle.tbl_registry.specs.Pins.{AtEachPlace, Leads}
 use Rattle.tbl_registry.specs.Lent.{IsSettled, HasItsBuffer}
@@ -26,15 +26,15 @@ pub other_option : (options bit : ℕ) → bit_and 0xFFF7 bit ≡ bit → has_op
 other_option options bit stays = rw (and_assoc bit options 0xFFF7, stays) refl
 
 -- this table stands in the row, in what the registry keeps
-pub record Stands (rows : List (Option Table)) (handles : List (Option HandleView)) (buffers : List (Option Held)) (n : ℕ) (t : Table) : Type 0 where
+pub record FoundRow (rows : List (Option Table)) (handles : List (Option HandleView)) (buffers : List (Option LentBuffer)) (n : ℕ) (t : Table) : Type 0 where
   pub there : slice_index_or rows n None ≡ Some t
   pub sound : IsSound rows handles buffers
 
 -- as a call finds it
-pub stands : {rows : List (Option Table)} {handles : List (Option HandleView)} {buffers : List (Option Held)} {found : Option Table} {t : Table} (n : ℕ) → IsSound rows handles buffers → found ≡ slice_index_or rows n found → found ≡ Some t → IsSome (slice_index_or rows n None) → Stands rows handles buffers n t
+pub stands : {rows : List (Option Table)} {handles : List (Option HandleView)} {buffers : List (Option LentBuffer)} {found : Option Table} {t : Table} (n : ℕ) → IsSound rows handles buffers → found ≡ slice_index_or rows n found → found ≡ Some t → IsSome (slice_index_or rows n None) → FoundRow rows handles buffers n t
 stands {rows = rows} {found = found} {t = t} n sound read is there = record { there = at_place-read rows n found t read is there; sound = sound }
 
-module _ {rows : List (Option Table)} {handles : List (Option HandleView)} {buffers : List (Option Held)} {n : ℕ} {t : Table} (row : Stands rows handles buffers n t) where
+module _ {rows : List (Option Table)} {handles : List (Option HandleView)} {buffers : List (Option LentBuffer)} {n : ℕ} {t : Table} (row : FoundRow rows handles buffers n t) where
   there : slice_index_or rows n None ≡ Some t
   there = row.there
 
@@ -55,7 +55,7 @@ module _ {rows : List (Option Table)} {handles : List (Option HandleView)} {buff
   pinned = pins_of rows handles n t there sound.leads
 
   -- it changes under its name, and has a buffer where it uses one now
-  pub changed_sound : (u : Table) (handles' : List (Option HandleView)) (buffers' : List (Option Held)) → u.name ≡ t.name → AtEachPlace (Leads (slice_set rows n (Some u))) handles'
+  pub changed_sound : (u : Table) (handles' : List (Option HandleView)) (buffers' : List (Option LentBuffer)) → u.name ≡ t.name → AtEachPlace (Leads (slice_set rows n (Some u))) handles'
       → IsSettled buffers buffers' n (uses_buffer (Some t)) (uses_buffer (Some u)) → IsSound (slice_set rows n (Some u)) handles' buffers'
   changed_sound u handles' buffers' name leads settled = record {
     all_rows = simp length-set sound.all_rows;
@@ -65,11 +65,11 @@ module _ {rows : List (Option Table)} {handles : List (Option HandleView)} {buff
   }
 
   -- its handles pin images that it still has
-  pub pins_sound : (u : Table) (buffers' : List (Option Held)) → u.name ≡ t.name → PinsOf n u handles → IsSettled buffers buffers' n (uses_buffer (Some t)) (uses_buffer (Some u)) → IsSound (slice_set rows n (Some u)) handles buffers'
+  pub pins_sound : (u : Table) (buffers' : List (Option LentBuffer)) → u.name ≡ t.name → PinsOf n u handles → IsSettled buffers buffers' n (uses_buffer (Some t)) (uses_buffer (Some u)) → IsSound (slice_set rows n (Some u)) handles buffers'
   pins_sound u buffers' name pins settled = changed_sound u handles buffers' name (leads_on rows n u within handles sound.leads pins) settled
 
   -- it keeps its images, and opens no load: its handles see the same
-  pub row_sound : (u : Table) (buffers' : List (Option Held)) → u.name ≡ t.name → u.count ≡ t.count → u.before ≡ t.before → (t.load ≡ None → u.load ≡ None)
+  pub row_sound : (u : Table) (buffers' : List (Option LentBuffer)) → u.name ≡ t.name → u.count ≡ t.count → u.before ≡ t.before → (t.load ≡ None → u.load ≡ None)
       → IsSettled buffers buffers' n (uses_buffer (Some t)) (uses_buffer (Some u)) → IsSound (slice_set rows n (Some u)) handles buffers'
   row_sound u buffers' name count before load settled = pins_sound u buffers' name (λ k h at of is. let p = pinned k h at of is in record {
     loaded = rw count p.loaded;
@@ -112,7 +112,7 @@ module _ {rows : List (Option Table)} {handles : List (Option HandleView)} {buff
         | inr single ↦ cc (rw (table.single single) at (p.kept old))
       ]
 
-  pub set_load_sound : (image : List ℕ) (buffers' : List (Option Held)) → IsTable t → (t.load ≡ None → is_double t ≡ true → locker (tables_of rows handles) n t ≡ None)
+  pub set_load_sound : (image : List ℕ) (buffers' : List (Option LentBuffer)) → IsTable t → (t.load ≡ None → is_double t ≡ true → locker (tables_of rows handles) n t ≡ None)
       → IsSettled buffers buffers' n (uses_buffer (Some t)) (uses_buffer (Some (record t { load = unchecked image }))) → IsSound (slice_set rows n (Some (record t { load = unchecked image }))) handles buffers'
   set_load_sound image buffers' table free settled = pins_sound (record t { load = unchecked image }) buffers' refl (λ k h at of is. let p = pinned k h at of is in record {
     loaded = p.loaded;
@@ -133,7 +133,7 @@ module _ {rows : List (Option Table)} {handles : List (Option HandleView)} {buff
 
   same_quiet : (image : List ℕ) (dump : Dump) → is_quiet (filled_with image dump) ≡ is_quiet dump
   same_quiet image quiet = refl
-  same_quiet image (asked file) = refl
+  same_quiet image (requested file) = refl
   same_quiet image (filled file earlier) = refl
 
   pub filled_sound : IsSound (slice_set rows n (Some (record t { dump = filled_with (last_image t) t.dump }))) handles buffers

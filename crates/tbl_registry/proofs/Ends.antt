@@ -7,7 +7,7 @@ use Rattle.tbl_model.specs.Tables.{uses_buffer}
 use Rattle.tbl_model.specs.TableSteps.{orphaned, remove}
 use Rattle.access_desc.specs.declared.handle_view.HandleView.{HandleView}
 use Rattle.access_desc.specs.Steps.{is_of, after_end}
-use Rattle.working_buffers.specs.Places.{Held}
+use Rattle.working_buffers.specs.Places.{LentBuffer}
 use Rattle.tbl_registry.specs.Pins.{Leads}
 use Rattle.tbl_registry.specs.Lent.{IsSettled}
 use Rattle.tbl_registry.specs.Seen.{tables_of, handle_of}
@@ -16,9 +16,9 @@ use Rattle.tbl_registry.proofs.Places.{within_places, AtEachPlace-map}
 use Rattle.tbl_registry.proofs.Named.{named_removed}
 use Rattle.tbl_registry.proofs.Pins.{tables_with, handle_other, that_is, here_of}
 use Rattle.tbl_registry.proofs.Lent.{lent_settled}
-use Rattle.tbl_registry.proofs.Changes.{Stands}
+use Rattle.tbl_registry.proofs.Changes.{FoundRow}
 
-module _ {rows : List (Option Table)} {handles : List (Option HandleView)} {buffers : List (Option Held)} {row : ℕ} {t : Table} (stood : Stands rows handles buffers row t) where
+module _ {rows : List (Option Table)} {handles : List (Option HandleView)} {buffers : List (Option LentBuffer)} {row : ℕ} {t : Table} (stood : FoundRow rows handles buffers row t) where
   there : slice_index_or rows row None ≡ Some t
   there = stood.there
 
@@ -40,7 +40,7 @@ module _ {rows : List (Option Table)} {handles : List (Option HandleView)} {buff
       pins = λ pinned k of u is. (sound.leads n h at).pins pinned k of u (sym (get_or-set_other rows row k None None (not_here h isnt k of)) ∙ is);
     }
 
-  pub removed_sound : (buffers' : List (Option Held)) → IsSettled buffers buffers' row (uses_buffer (Some t)) false → IsSound rows' (map (option_map (after_end row)) handles) buffers'
+  pub removed_sound : (buffers' : List (Option LentBuffer)) → IsSettled buffers buffers' row (uses_buffer (Some t)) false → IsSound rows' (map (option_map (after_end row)) handles) buffers'
   removed_sound buffers' settled = record {
     all_rows = simp length-set sound.all_rows;
     named = named_removed rows row t there sound.named;

@@ -11,7 +11,7 @@ use Rattle.tbl_model.specs.Tables.{is_double, uses_buffer}
 use Rattle.tbl_model.specs.TableSteps.{locker, with_table, with_image, load_image, put, activate, pins as image_pins}
 use Rattle.access_desc.specs.declared.handle_view.HandleView.{HandleView}
 use Rattle.access_desc.specs.Steps.{has, is_of, pins, pins_old, after_new_image}
-use Rattle.working_buffers.specs.Places.{Held}
+use Rattle.working_buffers.specs.Places.{LentBuffer}
 use Rattle.tbl_registry.specs.Rows.{IsTable}
 use Rattle.tbl_registry.specs.Pins.{AtEachPlace, Pins, Leads}
 use Rattle.tbl_registry.specs.Lent.{IsSettled}
@@ -20,10 +20,10 @@ use Rattle.tbl_registry.specs.Sound.{IsSound}
 use Rattle.tbl_registry.proofs.Places.{within_places, position-seen, any_is_found, map-through, AtEachPlace-map}
 use Rattle.tbl_kinds.proofs.PositionLaws.{position-None}
 use Rattle.tbl_registry.proofs.Pins.{PinsOf, pins_of, leads_on, tables_with, handle_other, pins_last, of_row, no_old_pin, no_pin, pins_here}
-use Rattle.tbl_registry.proofs.Changes.{Stands, changed_sound}
+use Rattle.tbl_registry.proofs.Changes.{FoundRow, changed_sound}
 use Rattle.tbl_registry.proofs.Lent.{settled_same}
 
-module _ {rows : List (Option Table)} {handles : List (Option HandleView)} {buffers : List (Option Held)} {row : ℕ} {t : Table} (stood : Stands rows handles buffers row t) (free : locker (tables_of rows handles) row t ≡ None) where
+module _ {rows : List (Option Table)} {handles : List (Option HandleView)} {buffers : List (Option LentBuffer)} {row : ℕ} {t : Table} (stood : FoundRow rows handles buffers row t) (free : locker (tables_of rows handles) row t ≡ None) where
   there : slice_index_or rows row None ≡ Some t
   there = stood.there
 
@@ -145,7 +145,7 @@ module _ {rows : List (Option Table)} {handles : List (Option HandleView)} {buff
         }
         each false isnt = leads n h at
 
-      moved_sound : (buffers' : List (Option Held)) → u.name ≡ t.name → IsSettled buffers buffers' row (uses_buffer (Some t)) (uses_buffer (Some u)) → IsSound rows' moved buffers'
+      moved_sound : (buffers' : List (Option LentBuffer)) → u.name ≡ t.name → IsSettled buffers buffers' row (uses_buffer (Some t)) (uses_buffer (Some u)) → IsSound rows' moved buffers'
       moved_sound buffers' name settled = changed_sound stood u moved buffers' name (AtEachPlace-map (Leads rows') (after_new_image row) handles moved_leads) settled
 
   -- ---- put, and the load that goes active
@@ -162,5 +162,5 @@ module _ {rows : List (Option Table)} {handles : List (Option HandleView)} {buff
   pub put_sound : (image : List ℕ) → IsTable t → t.load ≡ None → IsSound (slice_set rows row (Some (with_next t image stays))) moved buffers
   put_sound image table closed = moved_sound (with_next t image stays) refl table (before_is (is_double t) refl) closed buffers refl (settled_same buffers row (uses_buffer (Some t)))
 
-  pub activate_sound : (buffers' : List (Option Held)) → IsTable t → IsSettled buffers buffers' row (uses_buffer (Some t)) (uses_buffer (Some activated)) → IsSound (slice_set rows row (Some activated)) moved buffers'
+  pub activate_sound : (buffers' : List (Option LentBuffer)) → IsTable t → IsSettled buffers buffers' row (uses_buffer (Some t)) (uses_buffer (Some activated)) → IsSound (slice_set rows row (Some activated)) moved buffers'
   activate_sound buffers' table settled = moved_sound activated refl table (before_is (is_double t) refl) refl buffers' refl settled

@@ -2,13 +2,13 @@
 use Rattle.std.proofs.Common.{◌≡◌, List, replicate, Option, None, refl}
 use Rattle.tbl_model.specs.State.{Table, no_tables}
 use Rattle.access_desc.specs.declared.handle_view.HandleView.{HandleView}
-use Rattle.working_buffers.specs.Places.{Held}
+use Rattle.working_buffers.specs.Places.{LentBuffer}
 use Rattle.tbl_registry.specs.Seen.{tables_of}
 use Rattle.tbl_registry.specs.Sound.{IsSound}
 use Rattle.tbl_registry.proofs.Lent.{lent_start}
 use Rattle.tbl_registry.proofs.Places.{get_or-replicate_None}
 
-pub sound_start : (rows : List (Option Table)) (handles : List (Option HandleView)) (buffers : List (Option Held)) → rows ≡ replicate 128 None → handles ≡ replicate 256 None → buffers ≡ replicate 4 None → IsSound rows handles buffers
+pub sound_start : (rows : List (Option Table)) (handles : List (Option HandleView)) (buffers : List (Option LentBuffer)) → rows ≡ replicate 128 None → handles ≡ replicate 256 None → buffers ≡ replicate 4 None → IsSound rows handles buffers
 sound_start rows handles buffers r h b = rw (r, h) record {
   all_rows = refl;
   named = λ k t there. absurd (cc (get_or-replicate_None {X = Table} 128 k));

@@ -10,14 +10,14 @@ use Rattle.tbl_model.specs.TableSteps.{access_of, handle_at, new_handle, with_ha
 use Rattle.tbl_model.specs.Tables.{uses_buffer}
 use Rattle.access_desc.specs.declared.handle_view.HandleView.{HandleView}
 use Rattle.access_desc.specs.Steps.{at_place, changed_at, has, pins_old, with_no_pin, new_handle as new_view}
-use Rattle.working_buffers.specs.Places.{Held}
+use Rattle.working_buffers.specs.Places.{LentBuffer}
 use Rattle.std.proofs.Math.ListN.{get_or-map}
 use Rattle.tbl_registry.specs.Pins.{Pins, Leads}
 use Rattle.tbl_registry.specs.Sound.{IsSound}
 use Rattle.tbl_registry.specs.Seen.{tables_of, handle_of, with_last, drop_before_unless}
 use Rattle.tbl_registry.proofs.Places.{AtEachPlace-set, none_passes}
 use Rattle.tbl_registry.proofs.Pins.{PinsOf, pins_of, pins_here, tables_with, before_is_pinned}
-use Rattle.tbl_registry.proofs.Changes.{Stands, pins_sound, row_seen}
+use Rattle.tbl_registry.proofs.Changes.{FoundRow, pins_sound, row_seen}
 use Rattle.tbl_registry.proofs.Lent.{settled_same}
 
 not_zero : (n : ℕ) → (n ≡ 0 → ⊥) → (n == 0) ≡ false
@@ -29,7 +29,7 @@ leads_nowhere tables other n same none some = cc (rw (← same, none) at some)
 
 -- ---- the image before the last stays where a handle of the row pins it
 
-module _ {rows : List (Option Table)} {handles : List (Option HandleView)} {buffers : List (Option Held)} {row : ℕ} {t : Table} (stood : Stands rows handles buffers row t) where
+module _ {rows : List (Option Table)} {handles : List (Option HandleView)} {buffers : List (Option LentBuffer)} {row : ℕ} {t : Table} (stood : FoundRow rows handles buffers row t) where
   there : slice_index_or rows row None ≡ Some t
   there = stood.there
 
@@ -52,17 +52,17 @@ module _ {rows : List (Option Table)} {handles : List (Option HandleView)} {buff
       closed = p.closed;
     }
 
-  pub let_go_sound : IsSound (slice_set rows row (Some (drop_before_unless stays t))) handles buffers
-  let_go_sound = pins_sound stood (drop_before_unless stays t) buffers refl kept_pins (settled_same buffers row (uses_buffer (Some t)))
+  pub drop_before_sound : IsSound (slice_set rows row (Some (drop_before_unless stays t))) handles buffers
+  drop_before_sound = pins_sound stood (drop_before_unless stays t) buffers refl kept_pins (settled_same buffers row (uses_buffer (Some t)))
 
-  pub let_go_seen : tables_of (slice_set rows row (Some (drop_before_unless stays t))) handles ≡ with_table row (drop_before (tables_of rows handles).handles row t) (tables_of rows handles)
-  let_go_seen =
+  pub drop_before_seen : tables_of (slice_set rows row (Some (drop_before_unless stays t))) handles ≡ with_table row (drop_before (tables_of rows handles).handles row t) (tables_of rows handles)
+  drop_before_seen =
       row_seen stood (drop_before_unless stays t) refl
       ∙ ap (λ (b : Bool). with_table row (drop_before_unless b t) (tables_of rows handles)) (sym (before_is_pinned rows row t there handles (pins_of rows handles row t there sound.leads)))
 
 -- ---- a handle is given, and taken back
 
-module _ (rows : List (Option Table)) (handles : List (Option HandleView)) (buffers : List (Option Held)) (sound : IsSound rows handles buffers) (n : ℕ) where
+module _ (rows : List (Option Table)) (handles : List (Option HandleView)) (buffers : List (Option LentBuffer)) (sound : IsSound rows handles buffers) (n : ℕ) where
   place_seen : (place : Option HandleView) → tables_of rows (slice_set handles n place) ≡ tables_with rows (slice_set (tables_of rows handles).handles n (option_map (handle_of rows) place))
   place_seen place = ap (λ (hs : List (Option Handle)). tables_with rows hs) (map-set (option_map (handle_of rows)) handles n place)
 
@@ -98,7 +98,7 @@ module _ (rows : List (Option Table)) (handles : List (Option HandleView)) (buff
   pub taken_back_seen : (h : HandleView) (row : ℕ) (t : Table) → at_place handles n ≡ Some h → h.row ≡ Some row → slice_index_or rows row None ≡ Some t
       → tables_of (slice_set rows row (Some (drop_before_unless (is_some (position (has (pins_old row)) (slice_set handles n None))) t))) (slice_set handles n None) ≡ give_back n (tables_of rows handles)
   taken_back_seen h row t place of there =
-      let_go_seen record { there = there; sound = freed_sound }
+      drop_before_seen record { there = there; sound = freed_sound }
       ∙ ap (λ (freed : Tables). with_table row (drop_before freed.handles row t) freed) (place_seen None)
       ∙ sym (ap (λ (at : Option Handle). give_back_by n (tables_of rows handles) (option_and_then (λ (g : Handle). g.row) at)) (handle_seen h place) ∙ rw (of, there) refl)
 
@@ -108,7 +108,7 @@ pub record Leading (rows : List (Option Table)) (handles : List (Option HandleVi
   pub row_is : h.row ≡ Some row
   pub table : slice_index_or rows row None ≡ Some t
 
-module _ (rows : List (Option Table)) (handles : List (Option HandleView)) (buffers : List (Option Held)) (n : ℕ) (h : HandleView) (row : ℕ) (t : Table) (l : Leading rows handles n h row t) (sound : IsSound rows handles buffers) where
+module _ (rows : List (Option Table)) (handles : List (Option HandleView)) (buffers : List (Option LentBuffer)) (n : ℕ) (h : HandleView) (row : ℕ) (t : Table) (l : Leading rows handles n h row t) (sound : IsSound rows handles buffers) where
   pub access_is : access_of (tables_of rows handles) n ≡ Some (record { handle = handle_of rows h; row = row; table = t })
   access_is = rw (get_or-map (option_map (handle_of rows)) handles n None, l.place, l.row_is, l.table) refl
 
@@ -149,12 +149,12 @@ module _ (rows : List (Option Table)) (handles : List (Option HandleView)) (buff
   free_sound = step_sound with_no_pin record { table = (sound.leads n h l.place).table; pins = λ pinned. absurd (cc pinned) }
 
   pub released_sound : IsSound (slice_set rows row (Some (drop_before_unless (is_some (position (has (pins_old row)) free)) t))) free buffers
-  released_sound = let_go_sound record { there = l.table; sound = free_sound }
+  released_sound = drop_before_sound record { there = l.table; sound = free_sound }
 
   pub released_seen : h.pinned ≡ true → tables_of (slice_set rows row (Some (drop_before_unless (is_some (position (has (pins_old row)) free)) t))) free ≡ (release n (tables_of rows handles)).tables
   released_seen pinned =
       let after : Tables → Tables = λ ts. with_table row (drop_before ts.handles row t) ts in
-      let_go_seen record { there = l.table; sound = free_sound } ∙ ap after (step_seen with_no_pin) ∙ rw (access_is, pinned) refl
+      drop_before_seen record { there = l.table; sound = free_sound } ∙ ap after (step_seen with_no_pin) ∙ rw (access_is, pinned) refl
 
   -- ---- it reads the image that it pins
 

@@ -1,7 +1,7 @@
 -- What a registry row shows, and what holds of it.
 use Rattle.std.specs.Prelude.{◌≡◌, ◌<◌, ◌≤◌, ◌==◌, ℕ, List, [], length, unwrap_or, true, false, not, Option, None, is_some, IfSome}
 use Rattle.tbl_kinds.specs.Limits.{table_limit}
-use Rattle.tbl_model.specs.State.{Table, Dump, quiet, asked, filled}
+use Rattle.tbl_model.specs.State.{Table, Dump, quiet, requested, filled}
 use Rattle.tbl_model.specs.Tables.{option_bits, is_double, is_dump_only}
 use Rattle.tbl_registry.specs.Views.{filled_image}
 use Rattle.tbl_registry.specs.declared.row.DumpFile.{DumpFile}
@@ -25,7 +25,7 @@ pub record IsTable (t : Table) : Type 0 where
 -- a dump, by its file and the image that is kept for it
 abbrev pub dump_of : DumpFile → Option (List ℕ) → Dump
 dump_of Quiet kept = quiet
-dump_of (Asked file) kept = asked file
+dump_of (Asked file) kept = requested file
 dump_of (Filled file) kept = filled file (unwrap_or kept [])
 
 abbrev pub table_of : Inside → Table

@@ -4,7 +4,7 @@ use Rattle.std.specs.Option.{ForSome}
 use Rattle.tbl_model.specs.State.{Table}
 use Rattle.tbl_model.specs.TableSteps.{has_name}
 use Rattle.access_desc.specs.declared.handle_view.HandleView.{HandleView}
-use Rattle.working_buffers.specs.Places.{Held}
+use Rattle.working_buffers.specs.Places.{LentBuffer}
 use Rattle.tbl_registry.specs.Pins.{AtEachPlace, Leads}
 use Rattle.tbl_registry.specs.Lent.{AreLent}
 
@@ -12,7 +12,7 @@ use Rattle.tbl_registry.specs.Lent.{AreLent}
 abbrev pub AreNamed : List (Option Table) → Type 0
 AreNamed rows = (row : ℕ) → ForSome (slice_index_or rows row None) (λ t. position (has_name t.name) rows ≡ Some row)
 
-pub record IsSound (rows : List (Option Table)) (handles : List (Option HandleView)) (buffers : List (Option Held)) : Type 0 where
+pub record IsSound (rows : List (Option Table)) (handles : List (Option HandleView)) (buffers : List (Option LentBuffer)) : Type 0 where
   pub all_rows : length rows ≡ 128
   pub named : AreNamed rows
   pub leads : AtEachPlace (Leads rows) handles

@@ -1,7 +1,7 @@
 -- What can be seen of a table.
 use Rattle.std.specs.Prelude.{◌==◌, ℕ, List, Bool, true, false, not, is_some, Option, Some, None}
 use Rattle.std.specs.Option.{option_map_or}
-use Rattle.tbl_model.specs.State.{Load, Table, Dump, quiet, asked, filled}
+use Rattle.tbl_model.specs.State.{Load, Table, Dump, quiet, requested, filled}
 use Rattle.tbl_registry.specs.declared.row.RowView.{RowView}
 use Rattle.tbl_registry.specs.declared.row.Dump.{Dump as View}
 use Rattle.tbl_registry.specs.declared.row.Dump.TheVariants.{Quiet, Asked, Filled}
@@ -9,18 +9,18 @@ use Rattle.tbl_registry.specs.declared.row.Dump.TheVariants.{Quiet, Asked, Fille
 -- how far a dump has come
 abbrev pub dump_view : Dump → View
 dump_view quiet = Quiet
-dump_view (asked file) = Asked
+dump_view (requested file) = Asked
 dump_view (filled file image) = Filled
 
 -- the name of its file, and the image that it was filled with
 abbrev pub dump_name : Dump → Option (List ℕ)
 dump_name quiet = None
-dump_name (asked file) = Some file
+dump_name (requested file) = Some file
 dump_name (filled file image) = Some file
 
 abbrev pub filled_image : Dump → Option (List ℕ)
 filled_image quiet = None
-filled_image (asked file) = None
+filled_image (requested file) = None
 filled_image (filled file image) = Some image
 
 -- it has a last image, or an open load

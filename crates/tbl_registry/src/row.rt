@@ -4,7 +4,7 @@ ghost use Rattle.std.specs.Borrow.{Bor};
 ghost use Rattle.std.specs.Str.{bytes_eq};
 ghost use Rattle.tbl_kinds.specs.Limits.{table_limit};
 ghost use Rattle.tbl_kinds.specs.Numbers.{patched};
-ghost use Rattle.tbl_model.specs.State.{Load, quiet, asked};
+ghost use Rattle.tbl_model.specs.State.{Load, quiet, requested};
 ghost use Rattle.tbl_model.specs.Tables.{has_option, option_bits, is_double, is_dump_only, is_critical, is_quiet, uses_buffer};
 ghost use Rattle.tbl_model.specs.Management.{pending_status};
 ghost use Rattle.tbl_model.specs.TableSteps.{new_table, with_first, unchecked, base, filled_with, last_image};
@@ -34,7 +34,7 @@ pub struct NewTable {
 /// How far a dump of a dump-only table has come.
 #[derive(Clone, Copy, PartialEq, Eq)]
 pub enum Dump {
-    /// None is asked.
+    /// None is requested.
     Quiet,
     /// The ground asked for it.
     Asked,
@@ -60,7 +60,7 @@ pub struct RowView {
     pub load: bool,
     /// Whether the open load was validated since its last change.
     pub checked: bool,
-    /// Whether the activation of the open load was asked.
+    /// Whether the activation of the open load was requested.
     pub asked: bool,
     pub dump: Dump,
     /// The command packet that tells the owner of pending work.
@@ -268,15 +268,15 @@ impl Row {
         }
     }
 
-    /// A dump is asked, as this file.
+    /// A dump is requested, as this file.
     pub(crate) fn ask_dump(&mut self, file: &Name64)
         requires { is_quiet self.old.dump ≡ true }
-        ensures { self.new ≡ record self.old { dump = asked file.now } }
+        ensures { self.new ≡ record self.old { dump = requested file.now } }
     {
         self.dump = DumpFile::Asked(file.copy());
     }
 
-    /// The asked dump is filled with the last image.
+    /// The requested dump is filled with the last image.
     pub(crate) fn fill_dump(&mut self)
         ensures { self.new ≡ record self.old { dump = filled_with (last_image self.old) self.old.dump } }
     {
@@ -379,14 +379,14 @@ impl Row {
         self.flags.remove(Options::CRITICAL);
     }
 
-    /// The activation of its open load is asked.
+    /// The activation of its open load is requested.
     pub(crate) fn ask(&mut self)
         ensures { self.new ≡ record self.old { activation = true } }
     {
         self.asked = true;
     }
 
-    /// Closes its load, whose activation isn't asked any more, and gives the load's image.
+    /// Closes its load, whose activation isn't requested any more, and gives the load's image.
     pub(crate) fn end_load(&mut self) -> Option<Image>
         ensures table { IsTable self.old }
         ensures image { result ≡ option_map (λ (load : Load). load.image) self.old.load }

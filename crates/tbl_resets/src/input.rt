@@ -13,17 +13,17 @@ const PIECE: usize = 4_096;
 /// How an input ended.
 #[derive(Clone, Copy)]
 pub(crate) enum End {
-    /// Behind its last record.
+    /// After its last record.
     Whole,
     /// A read failed.
     ReadFailed,
     /// In a record that is bad or cut short.
     BadRecord,
-    /// It goes on behind as many records as a session may have.
+    /// It goes on after as many records as a session may have.
     TooLong,
 }
 
-/// What was read of an input: the whole records at its front, what stands behind them, and how it ended.
+/// What was read of an input: the whole records at its front, what stands after them, and how it ended.
 #[derive(Drop)]
 pub(crate) struct Session {
     pub(crate) bytes: Vec<u8>,
@@ -34,7 +34,7 @@ pub(crate) struct Session {
 }
 
 impl Session {
-    /// Counts what stands behind the whole records, if it is one more. None where it is no part of a record.
+    /// Counts what stands after the whole records, if it is one more. None where it is no part of a record.
     fn count(&mut self, next: &Next) -> Option<bool> {
         match next {
             Next::Item { used, .. } => {
@@ -47,7 +47,7 @@ impl Session {
         }
     }
 
-    /// Takes the next record, if there is a whole one. None where the bytes behind the records are no part of one, or where
+    /// Takes the next record, if there is a whole one. None where the bytes after the records are no part of one, or where
     /// no further record is taken.
     fn take_record(&mut self, alloc: Global) -> Result<Option<bool>, Memory> {
         let Some(rest) = self.bytes.get(self.whole..) else {

@@ -88,7 +88,7 @@ fn image_of(core: &mut Service, actor: Actor, handle: u16, size: u32) -> Result<
     }
 }
 
-/// The image that a handle's table has behind the request at a place.
+/// The image that a handle's table has after the request at a place.
 fn image_behind(
     alloc: Global,
     records: &[u8],

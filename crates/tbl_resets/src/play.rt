@@ -145,7 +145,7 @@ pub(crate) fn last_entry(core: &Service) -> Result<&Entry, Fault> {
     }
 }
 
-/// Plays a request. The answer is whether the service goes on behind it: not where the processor was reset in it.
+/// Plays a request. The answer is whether the service goes on after it: not where the processor was reset in it.
 fn step(core: &mut Service, actor: Actor, request: Request) -> Result<bool, Fault>
     ensures added { IfOk result (λ _. length core.new.entries ≡ length core.old.entries + 1) }
 {
@@ -199,7 +199,7 @@ pub(crate) fn close(core: Service) {
     let _bank = core.end();
 }
 
-/// The service behind so many records more.
+/// The service after so many records more.
 fn played_on(
     alloc: Global,
     mut core: Service,
@@ -215,7 +215,7 @@ fn played_on(
     }
 }
 
-/// The service behind the first so many records of a session, over a bank that nothing was written to.
+/// The service after the first so many records of a session, over a bank that nothing was written to.
 pub(crate) fn behind(
     alloc: Global,
     records: &[u8],
@@ -244,7 +244,7 @@ fn played_to_stop(alloc: Global, core: Service, records: &[u8]) -> Result<Left, 
     left_in(alloc, &core.end(), played)
 }
 
-/// Plays a session up to a write, in which the processor is reset after so many bytes. The boot behind the reset is stopped
+/// Plays a session up to a write, in which the processor is reset after so many bytes. The boot after the reset is stopped
 /// before its first write, so that the bank has what the reset left.
 pub(crate) fn with_stop(
     alloc: Global,

@@ -1,4 +1,4 @@
-// What comes back behind a reset: asked from the service that starts anew over the bank that was left.
+// What comes back after a reset: asked from the service that starts anew over the bank that was left.
 use crate::plan::Plan;
 use crate::play::{Fault, Service, anew, ask, close};
 use crate::tables::{Back, Registration, Table};
@@ -145,7 +145,7 @@ fn come_back_in(
     Ok(())
 }
 
-/// What comes back in each table behind a reset that left these bytes in the bank, in the last of so many requests and after
+/// What comes back in each table after a reset that left these bytes in the bank, in the last of so many requests and after
 /// so many bytes of a write.
 pub(crate) fn come_back(
     plan: &Plan<'_>,

@@ -46,7 +46,7 @@ pub(crate) struct Table {
     pub(crate) events: Vec<Event>,
 }
 
-/// What came back in a table, registered anew behind a reset.
+/// What came back in a table, registered anew after a reset.
 #[derive(Clone, Copy, PartialEq)]
 pub(crate) enum Back {
     /// No image.
@@ -141,7 +141,7 @@ impl Table {
         None
     }
 
-    /// Which image these bytes are that came back behind a reset in the last of so many requests.
+    /// Which image these bytes are that came back after a reset in the last of so many requests.
     pub(crate) fn judge(&self, played: usize, bytes: &[u8], crc: u16) -> Back {
         if let Some(image) = self.completed(played) {
             if image.bytes.bytes() == bytes {

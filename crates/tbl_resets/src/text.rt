@@ -7,14 +7,14 @@ use std::fmt::Write as _;
 use tbl_fakes::Span;
 use tbl_kinds::{Actor, Entry, Request};
 
-/// Where the columns behind the first begin.
+/// Where the columns after the first begin.
 const BYTES_AT: usize = 7;
 
 const REQUEST_AT: usize = 14;
 
 const WRITES_AT: usize = 38;
 
-/// How wide the column of what is written is beside the name of a table, and the one of the bytes behind it.
+/// How wide the column of what is written is beside the name of a table, and the one of the bytes after it.
 const COPY_LEN: usize = 14;
 
 const RANGE_LEN: usize = 14;
@@ -22,7 +22,7 @@ const RANGE_LEN: usize = 14;
 /// What is written is at least as wide as this.
 const LEAST_NAME: usize = 16;
 
-/// Where the column begins that says after which bytes the reset came: behind the longest name of a table.
+/// Where the column begins that says after which bytes the reset came: after the longest name of a table.
 fn after_at(plan: &Plan<'_>) -> usize {
     let mut widest = LEAST_NAME;
     for table in plan.tables {
@@ -189,7 +189,7 @@ fn tell_head(
     tell_piece(text, plan, played, span, is_first)
 }
 
-/// Writes the ranges of the table at a place, the first behind what stands in the line. The answer is where the next line
+/// Writes the ranges of the table at a place, the first after what stands in the line. The answer is where the next line
 /// begins.
 fn tell_runs(
     text: &mut String,
@@ -240,7 +240,7 @@ fn tell_range(text: &mut String, run: Run) -> Result<(), AllocError> {
     }
 }
 
-/// Writes a range, the table and what came back, behind what stands in the line.
+/// Writes a range, the table and what came back, after what stands in the line.
 fn tell_run(
     text: &mut String,
     line: usize,

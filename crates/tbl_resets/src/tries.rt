@@ -100,7 +100,7 @@ impl Runs {
         Ok(())
     }
 
-    /// Lets each range reach to so many bytes, and counts what came back behind that reset.
+    /// Lets each range reach to so many bytes, and counts what came back after that reset.
     fn reach(&mut self, after: u32, counts: &mut Counts) {
         for run in &mut self.open {
             run.to = after;
@@ -171,7 +171,7 @@ impl Sweep {
         Ok(starts)
     }
 
-    /// Writes the byte of a write at this place, from 0, and tries a reset behind it. `bytes` are those of the bank once the
+    /// Writes the byte of a write at this place, from 0, and tries a reset after it. `bytes` are those of the bank once the
     /// whole write is there. The answer is whether the service was started anew.
     fn try_byte(
         &mut self,
@@ -197,7 +197,7 @@ impl Sweep {
     }
 }
 
-/// Tries a reset after no byte of a write, and then writes each byte of it, and tries a reset behind that.
+/// Tries a reset after no byte of a write, and then writes each byte of it, and tries a reset after that.
 fn try_bytes<R: Eprint>(
     rt: &R,
     plan: &Plan<'_>,

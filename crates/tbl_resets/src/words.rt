@@ -16,7 +16,7 @@ pub(crate) enum Words {
     Memory,
 }
 
-/// What a word behind `--every` asks for.
+/// What a word after `--every` asks for.
 fn try_every(word: &str) -> Words {
     match word.parse::<u32>() {
         Ok(every) if every > 0 => Words::Try { every },
@@ -25,7 +25,7 @@ fn try_every(word: &str) -> Words {
 }
 
 /// What words ask for, of which the first one is the program's name.
-fn asked(words: &[String]) -> Words {
+fn read_words(words: &[String]) -> Words {
     match words {
         [] | [_] => Words::Try { every: 1 },
         [_, word] if word.as_str() == "--help" => Words::Help,
@@ -43,7 +43,7 @@ pub(crate) fn given_words<R: Env + AllocGlobal>(rt: &R) -> Words {
     };
     let words: Result<Vec<String>, AllocError> = given.collect(rt.alloc());
     match words {
-        Ok(words) => asked(&words),
+        Ok(words) => read_words(&words),
         Err(_) => Words::Memory,
     }
 }

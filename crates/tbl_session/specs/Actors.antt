@@ -1,4 +1,4 @@
--- Who asks: the ground and sixteen applications, and what each asked in a history.
+-- Who requests: the ground and sixteen applications, and what each requested in a history.
 use Rattle.std.specs.Prelude.{◌≡◌, ℕ, zero, suc, ◌==◌, List, [], ◌∷◌, if◌then◌else◌}
 use Rattle.std.specs.List.{AllByRecursion}
 use Rattle.tbl_kinds.specs.Records.{Pair, actor_number}

@@ -10,8 +10,8 @@ abbrev pub completed : Block → List ℕ → Stored
 completed block image = record { block = block; held = Some image; trying = []; doubtful = false }
 
 -- it stands in this slot
-abbrev pub Holds : Store → ℕ → Block → List ℕ → Type 0
-Holds store slot block image = stored_at store slot ≡ Some (completed block image)
+abbrev pub HasCompleted : Store → ℕ → Block → List ℕ → Type 0
+HasCompleted store slot block image = stored_at store slot ≡ Some (completed block image)
 
 -- a call copies into the block of this slot, or deletes it
 abbrev pub Touches : ℕ → StoreCall → Type 0

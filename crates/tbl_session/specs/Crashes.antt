@@ -47,7 +47,7 @@ UnderWay r e left = DuringCalls (calls_in r e) r.state.store left ⊎ ((e.reques
 
 -- ---- a history
 
--- a reset behind the first so many entries leaves their store, or what the next one, if there is one, made of it so far
+-- a reset after the first so many entries leaves their store, or what the next one, if there is one, made of it so far
 abbrev pub AfterCrash : State → List Entry → ℕ → Store → Type 0
 AfterCrash opening entries place left =
     let r = run_from (begins_at opening) (take place entries) in

@@ -11,13 +11,13 @@ use Rattle.tbl_kinds.specs.declared.request.Request.{Request}
 abbrev pub InOrder : ℕ → List Pair → List Entry → Type 0
 InOrder status pairs entries = pairs_of entries ≡ pairs
 
--- what an actor asked is what is its own among the records, in order, each once; after 1, 4, 7 and 8 the beginning of it
-pub record AskedBy (status : ℕ) (own asked : List Request) : Type 0 where
+-- what an actor requested is what is its own among the records, in order, each once; after 1, 4, 7 and 8 the beginning of it
+pub record RequestedBy (status : ℕ) (own requested : List Request) : Type 0 where
   pub left : List Request
-  pub parts : own ≡ asked ++ left
+  pub parts : own ≡ requested ++ left
   pub whole : IsEnded status → left ≡ []
 
 -- so it is of each actor, whatever the order between them, and no entry is of any other
 pub record ByActor (status : ℕ) (pairs : List Pair) (entries : List Entry) : Type 0 where
-  pub each : (actor : ℕ) → AskedBy status (part actor pairs) (part actor (pairs_of entries))
+  pub each : (actor : ℕ) → RequestedBy status (part actor pairs) (part actor (pairs_of entries))
   pub actors : HaveActors (pairs_of entries)

@@ -9,7 +9,7 @@ use Rattle.tbl_model.specs.Applications.{full_name}
 use Rattle.tbl_model.specs.Refusals.{plan_refusal}
 use Rattle.tbl_model.specs.History.{Run, onward}
 use Rattle.tbl_session.specs.Crashes.{AfterCrash}
-use Rattle.tbl_session.specs.Completed.{Holds}
+use Rattle.tbl_session.specs.Completed.{HasCompleted}
 use Rattle.tbl_session.specs.Recovery.{blocks_at, IsBlockOf, IsShown, WasCopied, NotByChance, Registration, request_of, Registers}
 use Rattle.cds_layout.specs.Images.{store_of}
 use Rattle.tbl_kinds.specs.declared.block.Block.{Block}
@@ -53,7 +53,7 @@ pub record RegistersFirst (kit : List (Option ℕ)) (entries : List Entry) (firs
 
 -- ---- what it is answered, and what the table begins with
 
--- this status, and behind the entry the table of this full name has this image, or none
+-- this status, and after the entry the table of this full name has this image, or none
 pub record TableBegins (r : Run) (e : Entry) (name : List ℕ) (status : Status) (first : Option (List ℕ)) : Type 0 where
   pub answered : e.reply.status ≡ status
   pub row : ℕ
@@ -90,7 +90,7 @@ pub record RecoversFrom (opening : State) (entries : List Entry) (image : List �
   pub place : ℕ
   pub within : place ≤ length entries
   pub crash : AfterCrash opening entries place (store_of image)
-  pub completed : (slot : ℕ) (block : Block) (copied : List ℕ) → IsBlockOf name size block → Holds (blocks_at opening entries place (store_of image) crash) slot block copied → IsRecovered r e name copied
+  pub completed : (slot : ℕ) (block : Block) (copied : List ℕ) → IsBlockOf name size block → HasCompleted (blocks_at opening entries place (store_of image) crash) slot block copied → IsRecovered r e name copied
   pub sure : (slot : ℕ) (b : Stored) → IsBlockOf name size b.block → IsShown (blocks_at opening entries place (store_of image) crash) (store_of image) slot b → b.trying ≡ [] → IsGivenBack b.held r e name
   pub broken : (slot : ℕ) (b : Stored) → IsBlockOf name size b.block → IsShown (blocks_at opening entries place (store_of image) crash) (store_of image) slot b → b.trying ≢ []
       → IsRecoveredOrEmpty (λ copied. length copied ≡ size) r e name

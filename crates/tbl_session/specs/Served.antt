@@ -1,4 +1,4 @@
--- What the service made of a session, whoever asked.
+-- What the service made of a session, whoever requested it.
 use Rattle.std.specs.Prelude.{ℕ, List}
 use Rattle.std.proofs.Common.{ℤ}
 use Rattle.tbl_model.specs.State.{State}
@@ -19,7 +19,7 @@ use Rattle.tbl_kinds.specs.declared.entry.Entry.{Entry}
 --
 -- Each answer that tells of trouble has its cause in its note, and the counts of the bank rose by what the notes tell at least. Where
 -- the bank tells its bytes, the history is legal, no image goes active that its table's function didn't answer for, each verdict, also
--- as a deed tells it, is that of the function which was given under its number, and each critical table has its block. Where the bank
+-- as an event tells it, is that of the function which was given under its number, and each critical table has its block. Where the bank
 -- tells its moments, each image that a reset may have left since is one of a place of this history (`moments`), at the exit of its
 -- last one (`exit`), and what a restore gave stood in one of them (`restored`).
 pub record IsServed {B C : Type 0} (g : Ghosts B) (verdict : C → List ℕ → ℤ) (o : Opening B C) (bank_then : B) (entries : List Entry) : Type 0 where

@@ -136,7 +136,7 @@ Boots g bank r entries read status = BootsAs status entries read (Rose (g.faults
 -- byte is the sequential service's, in which each pinned read is of one whole activated image, and from which a reset at any moment
 -- recovers each critical table's last completed image, one whose copy broke off since, or none.
 --
--- The records of what was read were asked for as `plays` says, in order or by actor. The history is the one that was served
+-- The records of what was read were requested as `plays` says, in order or by actor. The history is the one that was served
 -- (`IsServed`). What a registration over an image that a reset left has of its table is the law of recovery (`Recovered.antt`).
 pub record Session {B C : Type 0} (plays : ℕ → List Pair → List Entry → Type 0) (g : Ghosts B) (verdict : C → List ℕ → ℤ) (o : Opening B C) (r : Ran B) : Type 0 where
   -- what was read: records, and the rest after them
@@ -152,7 +152,7 @@ pub record Session {B C : Type 0} (plays : ℕ → List Pair → List Entry → 
   pub records : IsEnded r.status → AreRecords read pairs
   -- what was served
   pub entries : List Entry
-  pub asked : plays r.status pairs entries
+  pub requested : plays r.status pairs entries
   pub served : IsServed g verdict o r.bank_then entries
   -- what is told of it
   pub known : IsStatus r.status

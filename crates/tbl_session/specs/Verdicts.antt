@@ -2,7 +2,7 @@
 use Rattle.std.specs.Prelude.{◌≡◌, ℕ, List, [], ◌∷◌, ◌++◌, Option, Some, None}
 use Rattle.std.specs.Option.{option_map_or}
 use Rattle.std.proofs.Common.{ℤ, pos}
-use Rattle.tbl_model.specs.Deeds.{Question}
+use Rattle.tbl_model.specs.Telemetry.{Question}
 use Rattle.tbl_model.specs.Effects as model
 use Rattle.tbl_model.specs.History.{Run, begins_at, onward, run_from, effect_in, told}
 use Rattle.tbl_model.specs.State.{State}
@@ -14,7 +14,7 @@ use Rattle.tbl_kinds.specs.declared.entry.Entry.{Entry}
 
 -- what the request of an entry asks
 abbrev pub questions_in : Run → Entry → List Question
-questions_in r e = option_map_or (λ (effect : model.Effect). effect.asked) (effect_in r e) []
+questions_in r e = option_map_or (λ (effect : model.Effect). effect.questions) (effect_in r e) []
 
 -- ---- over a history
 

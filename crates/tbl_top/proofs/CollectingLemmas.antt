@@ -31,7 +31,7 @@ put_last-snoc : (scripts : List (List Request)) (pairs : List Pair) (p : Pair) �
 put_last-snoc scripts [] p = refl
 put_last-snoc scripts (q ∷ pairs) p = put_last-snoc (pushed scripts q) pairs p
 
--- within a piece: these records were taken, and behind them stands what wasn't looked at yet
+-- within a piece: these records were taken, and after them stands what wasn't looked at yet
 pub record IsTaking (fed : List ℕ) (at : ℕ) (pairs : List Pair) (c : Collecting) : Type 0 where
   pub parts : fed ≡ joined pairs ++ drop at c.rest
   pub each : AllByRecursion IsRecord pairs

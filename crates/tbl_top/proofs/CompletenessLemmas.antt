@@ -45,7 +45,7 @@ at_end_is : (left_new : Option (List ℕ)) (left : List ℕ) → left_new ≡ So
 at_end_is None left e end = absurd cc
 at_end_is (Some xs) left e end = let same : xs ≡ left = cc in sym same ∙ end
 
--- what the source has left is the input behind what was read
+-- what the source has left is the input after what was read
 rest_of_input : (left_new : Option (List ℕ)) (read input : List ℕ) → Some input ≡ prepend_known read left_new → (left : List ℕ) × (left_new ≡ Some left) × (input ≡ read ++ left)
 rest_of_input None read input e = absurd cc
 rest_of_input (Some xs) read input e = (xs, refl, cc)

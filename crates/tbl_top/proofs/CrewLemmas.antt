@@ -7,10 +7,10 @@ use Rattle.tbl_core.specs.Service.{CoreView}
 use Rattle.tbl_core.specs.declared.service.StepFault.{StepFault}
 use Rattle.tbl_core.specs.declared.service.StepFault.TheVariants.{Memory as NoMemory, BootFault as Faulted, BootStopped as Stopped}
 use Rattle.tbl_crew.specs.Histories.{HasPlayed, HavePlayed}
-use Rattle.tbl_crew.specs.Holding.{TellsFault}
+use Rattle.tbl_crew.specs.CrewView.{TellsFault}
 use Rattle.tbl_session.specs.Actors.{part}
 use Rattle.tbl_crew.specs.Scripts.{script_of}
-use Rattle.tbl_session.specs.Orders.{AskedBy, ByActor}
+use Rattle.tbl_session.specs.Orders.{RequestedBy, ByActor}
 use Rattle.tbl_top.specs.Reading.{HasRead}
 use Rattle.tbl_session.specs.Session.{IsEnded}
 use Rattle.tbl_top.specs.Feeding.{IsKept}
@@ -21,22 +21,22 @@ use Rattle.tbl_top.specs.declared.playback.Standing.TheVariants.{Open, Bad, Full
 use Rattle.tbl_kinds.specs.declared.entry.Entry.{Entry}
 use Rattle.tbl_kinds.specs.declared.request.Request.{Request}
 
--- where nothing was read nobody asked for anything
-pub nothing_asked : (status : ℕ) → ByActor status [] []
-nothing_asked status = record {
+-- where nothing was read nobody requested anything
+pub nothing_requested : (status : ℕ) → ByActor status [] []
+nothing_requested status = record {
   each = λ actor. record { left = []; parts = refl; whole = λ _. refl };
   actors = tt;
 }
 
--- ---- what each actor asked
+-- ---- what each actor requested
 
-asked_by : (status : ℕ) (fault : Option StepFault) (own script asked : List Request) → script ≡ own → (IsEnded status → fault ≡ None) → HasPlayed fault script asked → AskedBy status own asked
-asked_by status None own script asked same none played = record { left = []; parts = sym same ∙ sym played ∙ sym (append-nil asked); whole = λ _. refl }
-asked_by status (Some fault) own script asked same none played = record { left = played.0; parts = sym same ∙ played.1; whole = λ ended. absurd (let e = none ended in cc) }
+requested_by : (status : ℕ) (fault : Option StepFault) (own script requested : List Request) → script ≡ own → (IsEnded status → fault ≡ None) → HasPlayed fault script requested → RequestedBy status own requested
+requested_by status None own script requested same none played = record { left = []; parts = sym same ∙ sym played ∙ sym (append-nil requested); whole = λ _. refl }
+requested_by status (Some fault) own script requested same none played = record { left = played.0; parts = sym same ∙ played.1; whole = λ ended. absurd (let e = none ended in cc) }
 
 pub by_actor : (status : ℕ) (fault : Option StepFault) (scripts : List (List Request)) (pairs : List Pair) (entries : List Entry) → ((actor : ℕ) → script_of scripts actor ≡ part actor pairs) → (IsEnded status → fault ≡ None) → HavePlayed fault scripts entries → ByActor status pairs entries
 by_actor status fault scripts pairs entries same none played = record {
-  each = λ actor. asked_by status fault (part actor pairs) (script_of scripts actor) (part actor (pairs_of entries)) (same actor) none (played.parts actor);
+  each = λ actor. requested_by status fault (part actor pairs) (script_of scripts actor) (part actor (pairs_of entries)) (same actor) none (played.parts actor);
   actors = played.actors;
 }
 

@@ -87,7 +87,7 @@ module _ {B C : Type 0} (seed rounds : ℕ) (g : Ghosts B) (verdict : C → List
   made : IsKnown r.status → ((r.status ≡ 0) ⊎ (r.status ≡ 4) → standing ≡ Open) → Boots g o.bank r core.entries [] r.status → Drills seed rounds g verdict o r
   made known whole boots = record {
     entries = core.entries;
-    asked = asks whole;
+    requested = asks whole;
     served = subst (λ (b : B). IsServed g verdict o b core.entries) (sym bank_is) (served_of g verdict o core serves);
     known = known;
     boots = boots;
@@ -143,7 +143,7 @@ module _ {B C : Type 0} (seed rounds : ℕ) (g : Ghosts B) (laws : Laws g) (verd
   empty : IsKnown r.status → (r.status ≢ 0) → (r.status ≢ 4) → Rises g o.bank r.bank_then [] → Boots g o.bank r [] [] r.status → Drills seed rounds g verdict o r
   empty known not_zero not_four rises boots = record {
     entries = [];
-    asked = record { left = drill.session seed rounds; parts = refl; whole = λ some. absurd (elim some [ inl zero ↦ not_zero zero | inr four ↦ not_four four ]) };
+    requested = record { left = drill.session seed rounds; parts = refl; whole = λ some. absurd (elim some [ inl zero ↦ not_zero zero | inr four ↦ not_four four ]) };
     served = served_nothing g laws verdict o first r.bank_then crash rises;
     known = known;
     boots = boots;

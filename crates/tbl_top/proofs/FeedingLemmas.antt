@@ -18,7 +18,7 @@ pub beginning_length : (played : ℕ) (rest : List ℕ) → IsBeginning played r
 beginning_length played rest (inl none) = rw none (omega arith)
 beginning_length played rest (inr short) = short-length rest short.0
 
--- what ends a session stays so, whatever comes behind
+-- what ends a session stays so, whatever comes after
 pub leaves_more : (standing : Standing) (played : ℕ) (behind more : List ℕ) → standing ≢ Open → Leaves standing played behind → Leaves standing played (behind ++ more)
 leaves_more Open played behind more is leaves = absurd (is refl)
 leaves_more Bad played behind more is leaves = (bad-append behind more leaves.0, leaves.1)
@@ -31,7 +31,7 @@ leaves_more Unwritten played behind more is leaves = tt
 
 -- ---- the record whose beginning was kept
 
--- the bytes that were moved behind the kept ones come from the piece
+-- the bytes that were moved after the kept ones come from the piece
 pub completed : {B C : Type 0} (old new : CoreView B C) (kept left piece : List ℕ) (at count : ℕ) → played_before new left ≡ played_before old (kept ++ take count (drop at piece))
     → played_before new (left ++ drop (at + count) piece) ≡ played_before old (kept ++ drop at piece)
 completed old new kept left piece at count played =

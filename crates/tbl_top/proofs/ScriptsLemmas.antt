@@ -52,7 +52,7 @@ module _ (scripts : List (List Request)) (p : Pair) (actors : length scripts ≡
       let apart : actor ≢ actor_number p.actor = λ same. absurd (grind (arith, nat_tests)) in
       get_or-set_other scripts (actor_number p.actor) actor own [] apart
 
-  -- with the parts of the records behind it
+  -- with the parts of the records after it
   part_behind : (actor : ℕ) (rest : List Request) (b : Bool) → (actor_number p.actor == actor) ≡ b
       → script_of (pushed scripts p) actor ++ rest ≡ script_of scripts actor ++ (if b then p.request ∷ rest else rest)
   part_behind actor rest true is =
@@ -77,7 +77,7 @@ module _ (scripts : List (List Request)) (p : Pair) (actors : length scripts ≡
   pushed_each : (P : Pair → Type 0) → P p → OfEach P scripts → OfEach P (pushed scripts p)
   pushed_each P holds each actor = each_by_actor P actor (actor_number p.actor == actor) refl holds each
 
--- ---- all of them, behind any scripts
+-- ---- all of them, after any scripts
 
 put_count : (scripts : List (List Request)) (pairs : List Pair) → length scripts ≡ actor_count → AllByRecursion IsRecord pairs → request_count (put_last scripts pairs) ≡ request_count scripts + length pairs
 put_count scripts [] actors each = omega arith
@@ -100,7 +100,7 @@ put_part scripts (p ∷ pairs) actor actors each =
     put_part (pushed scripts p) pairs actor (pushed_actors scripts p actors each.0.fits) each.1
     ∙ part_behind scripts p actors each.0.fits actor (part actor pairs) (actor_number p.actor == actor) refl
 
--- ---- behind none
+-- ---- after none
 
 none_each : OfEach IsRecord (replicate actor_count [])
 none_each actor =

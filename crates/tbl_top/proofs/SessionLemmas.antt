@@ -63,7 +63,7 @@ rose_further a b c le (inr top) up = dite (ℕ_discrete c b)
 
 module _ {B C : Type 0} (plays : ℕ → List Pair → List Entry → Type 0) (g : Ghosts B) (verdict : C → List ℕ → ℤ) (o : Opening B C) (core : CoreView B C) (standing : Standing) (pairs : List Pair) (kept read : List ℕ) (failed : Bool) (r : Ran B) (mid : Option (List ℕ)) (mid_faults : ℕ)
     (bank_is : r.bank_then ≡ core.state.store.bank) (came : r.left ≡ prepend_known read r.left_then)
-    (served : IsServed g verdict o core.state.store.bank core.entries) (caused : IsCaused g o.bank core) (asked : (IsEnded r.status → HasPlayedAll standing) → plays r.status pairs core.entries)
+    (served : IsServed g verdict o core.state.store.bank core.entries) (caused : IsCaused g o.bank core) (requested : (IsEnded r.status → HasPlayedAll standing) → plays r.status pairs core.entries)
     (has : HasRead standing pairs kept read failed (IsAtEnd r.left_then)) (cause : failed ≡ true → Rose r.unread r.unread_then) (boot : TellsBoot standing core)
     (sink_up : r.unwritten ≤ mid_faults) where
   abbrev Ending : ℕ → Type 0
@@ -97,7 +97,7 @@ module _ {B C : Type 0} (plays : ℕ → List Pair → List Entry → Type 0) (g
     stops = has.stops;
     records = λ ended. are_records read pairs has.behind has.each has.few has.parts (ends_before r.status pairs has.behind _ _ ended ends_is);
     entries = core.entries;
-    asked = asked all;
+    requested = requested all;
     served = subst (λ (b : B). IsServed g verdict o b core.entries) (sym bank_is) served;
     known = known;
     ends = ends_is;
@@ -216,7 +216,7 @@ module _ {B C : Type 0} (g : Ghosts B) (laws : Laws g) (verdict : C → List ℕ
   }
 
 module _ {B C : Type 0} (plays : ℕ → List Pair → List Entry → Type 0) (g : Ghosts B) (laws : Laws g) (verdict : C → List ℕ → ℤ) (o : Opening B C) (first : IsFirst o.state) (r : Ran B)
-    (same : r.left_then ≡ r.left) (crash : g.tells_moments → LeavesOnly g.clock g.left_since o.bank r.bank_then (λ image. Shows o.state.store (store_of image))) (asked : plays r.status [] []) where
+    (same : r.left_then ≡ r.left) (crash : g.tells_moments → LeavesOnly g.clock g.left_since o.bank r.bank_then (λ image. Shows o.state.store (store_of image))) (requested : plays r.status [] []) where
   abbrev Empty : ℕ → Type 0
   Empty n = Ends r 0 [] n
 
@@ -240,7 +240,7 @@ module _ {B C : Type 0} (plays : ℕ → List Pair → List Entry → Type 0) (g
     stops = no_reading;
     records = λ ended. absurd (never ended);
     entries = [];
-    asked = asked;
+    requested = requested;
     served = served_nothing g laws verdict o first r.bank_then crash rises;
     known = known;
     ends = tells_none r.status 0 [] _ _ never;

@@ -179,7 +179,7 @@ ends_before status pairs rest at_end read_failed (inr (inr (inr six))) ends = in
 -- ---- what the sink took
 
 module _ (status result : ℕ) (entries : List Entry) (would_end : ℕ → Type 0) (before mid after : Option (List ℕ)) (faults faults_then : ℕ) where
-  -- behind whole entries
+  -- after whole entries
   pub tells_end : (status ≢ 4) → would_end status → IsWritten before entries mid → WritesEnd status result entries (mid, faults) (after, faults_then) → Tells result entries would_end before after
   tells_end not_four ends_status written (inl w) =
       let all : after ≡ append_known before (transcript entries status) = written_more before mid after (entries_bytes 0 entries) (end_bytes status (length entries) (offset_of entries)) written w.1 in

@@ -11,7 +11,7 @@ use Rattle.tbl_top.specs.Reading.{HasRead}
 use Rattle.tbl_top.specs.declared.playback.Standing.{Standing}
 use Rattle.tbl_top.specs.declared.playback.Standing.TheVariants.{Open}
 
--- the records by their actors, how many they are, and the bytes behind them
+-- the records by their actors, how many they are, and the bytes after them
 pub record Collecting : Type 0 where
   pub scripts : List (List Request)
   pub count : ℕ
@@ -26,7 +26,7 @@ put_last scripts (p ∷ pairs) = put_last (pushed scripts p) pairs
 abbrev pub scripts_of : List Pair → List (List Request)
 scripts_of pairs = put_last (replicate actor_count []) pairs
 
--- of what was fed these records were taken, and behind them are at most so many bytes, of which a standing tells
+-- of what was fed these records were taken, and after them are at most so many bytes, of which a standing tells
 pub record HasTaken (standing : Standing) (fed : List ℕ) (most : ℕ) (pairs : List Pair) (c : Collecting) : Type 0 where
   pub behind : List ℕ
   pub parts : fed ≡ joined pairs ++ behind

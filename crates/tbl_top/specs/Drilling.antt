@@ -70,7 +70,7 @@ pub record AsksFront (status : ℕ) (pairs : List Pair) (entries : List Entry) :
 -- The session of this seed was served, and its line was written.
 pub record Drills {B C : Type 0} (seed rounds : ℕ) (g : Ghosts B) (verdict : C → List ℕ → ℤ) (o : Opening B C) (r : Ran B) : Type 0 where
   pub entries : List Entry
-  pub asked : AsksFront r.status (session seed rounds) entries
+  pub requested : AsksFront r.status (session seed rounds) entries
   pub served : IsServed g verdict o r.bank_then entries
   pub known : (r.status ≡ 0) ⊎ (r.status ≡ 1) ⊎ (r.status ≡ 4) ⊎ (r.status ≡ 7) ⊎ (r.status ≡ 8)
   pub boots : Boots g o.bank r entries [] r.status

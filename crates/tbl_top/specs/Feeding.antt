@@ -19,12 +19,12 @@ answer_of SinkFailed = fed.Over
 answer_of Memory = fed.Memory
 answer_of Unwritten = fed.Memory
 
--- an open session keeps what is behind the records that were played
+-- an open session keeps what is after the records that were played
 abbrev pub IsKept : Standing → List ℕ → List ℕ → Type 0
 IsKept Open behind kept = kept ≡ behind
 IsKept _ behind kept = Unit {0}
 
--- what was fed is the spellings of what was played, and behind them what this standing says
+-- what was fed is the spellings of what was played, and after them what this standing says
 pub record Feeds {B C : Type 0} (standing : Standing) (fed : List ℕ) (most : ℕ) (core : CoreView B C) (kept : List ℕ) : Type 0 where
   pub behind : List ℕ
   pub parts : fed ≡ played_before core behind

@@ -10,7 +10,7 @@ use Rattle.tbl_core.specs.declared.service.StartFault.{StartFault}
 use Rattle.tbl_core.specs.declared.service.StartFault.TheVariants.{Memory as NoMemory, BootFault as FirstFault, BootStopped as FirstStopped}
 use Rattle.tbl_kinds.specs.declared.entry.Entry.{Entry}
 
--- the status of an end, by whether a read failed and whether no byte is left behind the records that were played
+-- the status of an end, by whether a read failed and whether no byte is left after the records that were played
 abbrev pub status_of : Standing → Bool → Bool → ℕ
 status_of Open failed whole = if failed then 3 else if whole then 0 else 5
 status_of Bad failed whole = 5

@@ -9,7 +9,7 @@ use Rattle.tbl_top.specs.Standing.{Leaves}
 use Rattle.tbl_top.specs.declared.playback.Standing.{Standing}
 use Rattle.tbl_top.specs.declared.playback.Standing.TheVariants.{Open}
 
--- This was read: these records, and behind them what a standing tells. What is kept of it is what stands behind them as long as more
+-- This was read: these records, and after them what a standing tells. What is kept of it is what stands after them as long as more
 -- could follow; and more could only where the input ended or a read failed.
 pub record HasRead (standing : Standing) (pairs : List Pair) (kept read : List ℕ) (failed : Bool) (at_end : Type 0) : Type 0 where
   pub behind : List ℕ

@@ -14,7 +14,7 @@ use Rattle.tbl_core.specs.declared.service.StepFault.{StepFault}
 use Rattle.tbl_core.specs.declared.service.StepFault.TheVariants.{Memory as NoMemory, BootFault as Faulted, BootStopped as Stopped}
 use Rattle.tbl_kinds.specs.declared.entry.Entry.{Entry}
 
--- what stands behind so many records that were played
+-- what stands after so many records that were played
 abbrev pub Leaves : Standing → ℕ → List ℕ → Type 0
 Leaves Open played behind = IsBeginning played behind
 Leaves Bad played behind = IsBad behind × (played < record_limit)
@@ -75,7 +75,7 @@ TellsBoot BootStopped core = EndsInBoot true core.entries
 TellsBoot SinkFailed core = Unit {0}
 TellsBoot Unwritten core = Unit {0}
 
--- how a session stands behind what its crew played: a fault that a step answered goes before what was read
+-- how a session stands after what its crew played: a fault that a step answered goes before what was read
 abbrev pub standing_behind : Option StepFault → Standing → Standing
 standing_behind None read = read
 standing_behind (Some NoMemory) read = Memory
@@ -92,7 +92,7 @@ IsStop _ = ⊥
 abbrev pub StandsBehind : Option StepFault → Standing → Standing → Type 0
 StandsBehind fault read standing = (standing ≡ standing_behind fault read) ⊎ IsStop standing
 
--- the same behind a record that was played: None where a further one may follow
+-- the same after a record that was played: None where a further one may follow
 abbrev pub TellsService : {B C : Type 0} → Option Standing → CoreView B C → Type 0
 TellsService None core = core.state.ended ≡ false
 TellsService (Some standing) core = TellsBoot standing core
@@ -110,7 +110,7 @@ TellsStop SinkFailed before after piece = TakesFront before after piece
 TellsStop Unwritten before after piece = after ≡ before
 TellsStop _ before after piece = ⊥
 
--- a stop is the sink's failure, or want of memory for a spelling
+-- a stop is the sink's failure, or no memory for a spelling
 abbrev pub TellsWhy : Option Standing → ℕ → ℕ → Type 0
 TellsWhy None before after = Unit {0}
 TellsWhy (Some SinkFailed) before after = Rose before after

@@ -44,7 +44,7 @@ impl Model for Collector {
 }
 
 impl Collector {
-    /// Before the first byte. An Err is want of memory.
+    /// Before the first byte. An Err means out of memory.
     pub(crate) fn make(alloc: Global) -> Result<Collector, Memory>
         ensures { IfOk result (HasTaken Open [] 0 []) }
     {
@@ -92,9 +92,9 @@ impl Collector {
         }
     }
 
-    /// Takes the records that are whole with this piece of the input, and answers what stands behind them.
+    /// Takes the records that are whole with this piece of the input, and answers what stands after them.
     fn feed(&mut self, piece: &[u8]) -> Standing
-        // Of whatever was fed before, more records are taken, and what is behind them is what the answer says.
+        // Of whatever was fed before, more records are taken, and what is after them is what the answer says.
         ensures takes { (fed : List ℕ) (most : ℕ) (pairs : List Pair) → HasTaken Open fed most pairs self.old
             → (more : List Pair) × HasTaken result (fed ++ piece.now) (length self.old.rest + length piece.now) more self.new }
         ensures input { IsOfInput result }

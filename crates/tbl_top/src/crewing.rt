@@ -11,7 +11,7 @@ ghost use Rattle.tbl_session.specs.Openings.{Opening};
 ghost use Rattle.tbl_session.specs.Orders.{ByActor};
 ghost use Rattle.tbl_session.specs.Session.{Session, opening_of, ran};
 ghost use Rattle.tbl_history.specs.Serving.{Serves};
-ghost use Rattle.tbl_crew.specs.Holding.{TellsFault};
+ghost use Rattle.tbl_crew.specs.CrewView.{TellsFault};
 ghost use Rattle.tbl_top.specs.Collecting.{HasTaken};
 ghost use Rattle.tbl_top.specs.Standing.{IsOfInput, StandsBehind, TellsBoot, TellsCause, TellsWritten, standing_behind};
 ghost use Rattle.tbl_top.specs.declared.playback.Standing.TheVariants.{Open};
@@ -27,7 +27,7 @@ use tbl_core::{Core, StartFault, StepFault};
 use tbl_kinds::Admit;
 use tbl_outside::{Back, Bank, Gate, KitEntry, Sink, Source, Validator};
 
-/// How a session stands behind what its crew played.
+/// How a session stands after what its crew played.
 fn standing_behind(fault: Option<StepFault>, read: Standing) -> Standing
     ensures { result ≡ standing_behind fault read }
 {
@@ -39,7 +39,7 @@ fn standing_behind(fault: Option<StepFault>, read: Standing) -> Standing
     }
 }
 
-/// Writes what a crew played, and answers how the session stands behind it.
+/// Writes what a crew played, and answers how the session stands after it.
 fn tell_crew<B: Bank, C: Validator, K: Sink>(
     playback: &mut Playback<B, C>,
     fault: Option<StepFault>,

@@ -25,7 +25,7 @@ pub(crate) const SINK_FAILED: u8 = 4;
 /// A bad record, or the beginning of one at the end of the input.
 const BAD_RECORD: u8 = 5;
 
-/// A byte behind as many records as a session may have.
+/// A byte after as many records as a session may have.
 const TOO_MANY_RECORDS: u8 = 6;
 
 /// The bank failed in a boot.
@@ -34,7 +34,7 @@ pub(crate) const BANK_FAILED: u8 = 7;
 /// The processor was reset in a boot.
 const BANK_STOPPED: u8 = 8;
 
-/// The status of an end, by whether a read failed and whether no byte is left behind the records that were played.
+/// The status of an end, by whether a read failed and whether no byte is left after the records that were played.
 pub(crate) fn end_status(standing: Standing, read_failed: bool, is_whole: bool) -> u8
     ensures { result ≡ status_of standing read_failed is_whole }
 {

@@ -268,7 +268,7 @@ fn offset_of(entries: &[Entry]) -> u32
 }
 
 impl<B: Bank + Send, C: Validator + Send> Playback<B, C> {
-    /// Plays scripts with a thread for each actor, where nothing was played yet. The session behind it, of which no entry is
+    /// Plays scripts with a thread for each actor, where nothing was played yet. The session after it, of which no entry is
     /// told yet, and the fault that a step answered.
     pub(crate) fn play_beside<R: Threads + Wait + Sync, G: Gate + Sync>(
         self,

@@ -9,7 +9,7 @@ ghost use Rattle.tbl_kinds.specs.Records.{AreRecords, BeginsWith};
 ghost use Rattle.tbl_kinds.specs.Heads.{IsShort};
 ghost use Rattle.tbl_kinds.specs.Transcript.{pairs_of};
 ghost use Rattle.tbl_session.specs.Backed.{AreSingle, AreBacked};
-ghost use Rattle.tbl_core.specs.Service.{StandsFor};
+ghost use Rattle.tbl_core.specs.Service.{FollowsFrom};
 ghost use Rattle.tbl_history.specs.Serving.{Continues};
 ghost use Rattle.tbl_top.specs.Playing.{played_before, bytes_fed, IsSession, IsWritten};
 ghost use Rattle.tbl_session.specs.Inputs.{IsBeginning};
@@ -64,7 +64,7 @@ impl<B: Bank, C: Validator> Model for Player<B, C> {
 }
 
 impl<B: Bank, C: Validator> Player<B, C> {
-    /// A session over a service with an empty history, of which nothing was fed yet. An Err is want of memory, and gives
+    /// A session over a service with an empty history, of which nothing was fed yet. An Err means out of memory, and gives
     /// the core back.
     pub fn make(alloc: Global, core: Core<B, C>) -> Result<Player<B, C>, Core<B, C>>
         requires live { core.state.ended ≡ false }
@@ -87,7 +87,7 @@ impl<B: Bank, C: Validator> Player<B, C> {
         requires is_open { self.old.standing ≡ Open }
         ensures answer { result ≡ answer_of self.new.standing }
 
-        // All that was fed is the spellings of what was played, and behind them what the answer says.
+        // All that was fed is the spellings of what was played, and after them what the answer says.
         ensures feeds { Feeds self.new.standing (bytes_fed self.old ++ piece.now) (length self.old.rest + length piece.now) self.new.core self.new.rest }
         ensures more { result ≡ Fed.More → bytes_fed self.new ≡ bytes_fed self.old ++ piece.now }
         ensures kept { result ≡ Fed.More → length self.new.rest < 32836 }
@@ -99,9 +99,9 @@ impl<B: Bank, C: Validator> Player<B, C> {
         // Where the bank tells its bytes, the history stays legal, each read of it is whole, no image goes active unjudged, the
         // verdicts are the functions', and each critical table has its block.
         ensures continues { Continues B.Bank C.verdict self.old.core self.new.core }
-        ensures vouched { B.tells → (opening : State) → opening.tables ≡ no_tables → opening.pending ≡ [] → StandsFor B.Bank opening self.old.core → IsVouched opening self.new.core.entries }
-        ensures whole { B.tells → (opening : State) → opening.tables ≡ no_tables → opening.pending ≡ [] → StandsFor B.Bank opening self.old.core → HasWholeReads opening self.new.core.entries }
-        ensures backed { B.tells → (opening : State) → opening.tables ≡ no_tables → AreSingle opening.store → StandsFor B.Bank opening self.old.core
+        ensures vouched { B.tells → (opening : State) → opening.tables ≡ no_tables → opening.pending ≡ [] → FollowsFrom B.Bank opening self.old.core → IsVouched opening self.new.core.entries }
+        ensures whole { B.tells → (opening : State) → opening.tables ≡ no_tables → opening.pending ≡ [] → FollowsFrom B.Bank opening self.old.core → HasWholeReads opening self.new.core.entries }
+        ensures backed { B.tells → (opening : State) → opening.tables ≡ no_tables → AreSingle opening.store → FollowsFrom B.Bank opening self.old.core
             → AreBacked (run_from (begins_at opening) self.new.core.entries).state }
         ensures session { IsSession self.new.core }
 
@@ -196,7 +196,7 @@ fn feed_fields<B: Bank, C: Validator, K: Sink>(
     answer(*standing)
 }
 
-/// Completes the record whose beginning is kept, and plays what is whole behind it.
+/// Completes the record whose beginning is kept, and plays what is whole after it.
 fn play_piece<B: Bank, C: Validator, K: Sink>(
     playback: &mut Playback<B, C>,
     kept: &mut Vec<u8>,
@@ -227,7 +227,7 @@ fn play_piece<B: Bank, C: Validator, K: Sink>(
     play_rest(playback, kept, piece, at, sink)
 }
 
-/// Moves bytes of the piece behind the kept ones, as many as the record's head or its body lacks, and plays the record
+/// Moves bytes of the piece after the kept ones, as many as the record's head or its body lacks, and plays the record
 /// where it is whole.
 fn complete<B: Bank, C: Validator, K: Sink>(
     playback: &mut Playback<B, C>,
@@ -287,7 +287,7 @@ fn play_kept<B: Bank, C: Validator, K: Sink>(
     standing
 }
 
-/// Plays what is whole of a piece from a place on, and keeps the beginning of a record behind it.
+/// Plays what is whole of a piece from a place on, and keeps the beginning of a record after it.
 fn play_rest<B: Bank, C: Validator, K: Sink>(
     playback: &mut Playback<B, C>,
     kept: &mut Vec<u8>,

@@ -6,7 +6,7 @@ ghost use Rattle.tbl_kinds.specs.Places.{bank_size};
 ghost use Rattle.tbl_outside.specs.declared.validator.KitEntry.{KitEntry as Entry};
 ghost use Rattle.tbl_session.specs.Session.{opening_of, ran};
 ghost use Rattle.tbl_top.specs.Words.{Asks, Outcome, Completes, ReadsNothing};
-ghost use Rattle.tbl_top.specs.declared.words.Word.{Word as Asked};
+ghost use Rattle.tbl_top.specs.declared.words.Word.{Word as CommandWord};
 
 use crate::crewing::run_crew;
 use crate::session::run_in_order;
@@ -42,19 +42,19 @@ pub fn run<
     requires room { bank_size ≤ B.size bank }
     requires asked { All (λ (e : Entry C). C.asked e.check < 2 ^ 62) kit.items }
     // 2 exactly where the words are none that it knows; then nothing is read or written.
-    ensures usage { (result.0 ≡ 2) ↔ ((word : Asked) (admit : Admitted) → ¬ Asks words.now word admit) }
-    ensures untouched { ((word : Asked) (admit : Admitted) → ¬ Asks words.now word admit) → (source.new ≡ source.old) × (sink.new ≡ sink.old) × (result.1 ≡ bank) }
+    ensures usage { (result.0 ≡ 2) ↔ ((word : CommandWord) (admit : Admitted) → ¬ Asks words.now word admit) }
+    ensures untouched { ((word : CommandWord) (admit : Admitted) → ¬ Asks words.now word admit) → (source.new ≡ source.old) × (sink.new ≡ sink.old) × (result.1 ≡ bank) }
 
     // Where the word needs no records, the source isn't read.
-    ensures unread { (word : Asked) (admit : Admitted) → Asks words.now word admit → ReadsNothing word → source.new ≡ source.old }
+    ensures unread { (word : CommandWord) (admit : Admitted) → Asks words.now word admit → ReadsNothing word → source.new ≡ source.old }
 
     // What each word does, from the history that is served to the status and the bytes that the sink took.
-    ensures outcome { (word : Asked) (admit : Admitted) → Asks words.now word admit
+    ensures outcome { (word : CommandWord) (admit : Admitted) → Asks words.now word admit
         → Outcome word B.Bank C.verdict (opening_of B.Bank bank kit.items admit) (ran S.Source K.Sink (source.old, sink.old) (source.new, sink.new) result) }
 
     // Nothing is given up early: a session's records and nothing else are played to their end, and a store is written whole, unless
     // something outside failed, a boot was stopped, or memory ran out.
-    ensures complete { (word : Asked) (admit : Admitted) → Asks words.now word admit → Completes word B.Bank bank (ran S.Source K.Sink (source.old, sink.old) (source.new, sink.new) result) }
+    ensures complete { (word : CommandWord) (admit : Admitted) → Asks words.now word admit → Completes word B.Bank bank (ran S.Source K.Sink (source.old, sink.old) (source.new, sink.new) result) }
 
     // The bank that comes back has room for a further call.
     ensures room { bank_size ≤ B.size result.1 }

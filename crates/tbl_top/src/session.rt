@@ -16,7 +16,7 @@ ghost use Rattle.tbl_history.specs.Serving.{Serves};
 ghost use Rattle.tbl_top.specs.Playing.{bytes_fed, IsSession};
 ghost use Rattle.tbl_top.specs.Words.{Asks, Outcome, Completes, ReadsNothing};
 ghost use Rattle.tbl_top.specs.declared.playback.Standing.TheVariants.{Open};
-ghost use Rattle.tbl_top.specs.declared.words.Word.{Word as Asked};
+ghost use Rattle.tbl_top.specs.declared.words.Word.{Word as CommandWord};
 ghost use Rattle.tbl_top.specs.declared.words.Word.TheVariants.{Crew};
 
 use crate::drilling::run_drill;
@@ -143,12 +143,12 @@ pub fn run_in_order<S: Source, K: Sink, B: Bank, C: Validator>(
 ) -> (u8, B)
     requires room { bank_size ≤ B.size bank }
     requires asked { All (λ (e : Entry C). C.asked e.check < 2 ^ 62) kit.items }
-    ensures usage { (result.0 ≡ 2) ↔ ((word : Asked) (admit : Admitted) → Asks words.now word admit → word ≡ Crew) }
-    ensures untouched { ((word : Asked) (admit : Admitted) → Asks words.now word admit → word ≡ Crew) → (source.new ≡ source.old) × (sink.new ≡ sink.old) × (result.1 ≡ bank) }
-    ensures unread { (word : Asked) (admit : Admitted) → Asks words.now word admit → ReadsNothing word → source.new ≡ source.old }
-    ensures outcome { (word : Asked) (admit : Admitted) → Asks words.now word admit → word ≢ Crew
+    ensures usage { (result.0 ≡ 2) ↔ ((word : CommandWord) (admit : Admitted) → Asks words.now word admit → word ≡ Crew) }
+    ensures untouched { ((word : CommandWord) (admit : Admitted) → Asks words.now word admit → word ≡ Crew) → (source.new ≡ source.old) × (sink.new ≡ sink.old) × (result.1 ≡ bank) }
+    ensures unread { (word : CommandWord) (admit : Admitted) → Asks words.now word admit → ReadsNothing word → source.new ≡ source.old }
+    ensures outcome { (word : CommandWord) (admit : Admitted) → Asks words.now word admit → word ≢ Crew
         → Outcome word B.Bank C.verdict (opening_of B.Bank bank kit.items admit) (ran S.Source K.Sink (source.old, sink.old) (source.new, sink.new) result) }
-    ensures complete { (word : Asked) (admit : Admitted) → Asks words.now word admit → word ≢ Crew
+    ensures complete { (word : CommandWord) (admit : Admitted) → Asks words.now word admit → word ≢ Crew
         → Completes word B.Bank bank (ran S.Source K.Sink (source.old, sink.old) (source.new, sink.new) result) }
     ensures room { bank_size ≤ B.size result.1 }
 {

@@ -3,7 +3,7 @@
 ghost use Rattle.std.specs.Prelude.{◌≡◌, ◌↔◌, Some, ◌∷◌, []};
 ghost use Rattle.tbl_kinds.specs.Admitted.{Admitted, all_admitted};
 ghost use Rattle.tbl_top.specs.Words.{Asks, Spells};
-ghost use Rattle.tbl_top.specs.declared.words.Word.{Word as Asked};
+ghost use Rattle.tbl_top.specs.declared.words.Word.{Word as CommandWord};
 ghost use Rattle.tbl_top.specs.declared.words.Word.TheVariants.{Crew};
 
 use admit_lists::read_admit;
@@ -28,7 +28,7 @@ pub enum Word {
 
 /// What a word asks for that stands alone.
 fn lone_word(word: &[u8]) -> Option<Word>
-    ensures { (asked : Asked) → (result ≡ Some asked) ↔ Spells (word.now ∷ []) asked all_admitted }
+    ensures { (given : CommandWord) → (result ≡ Some given) ↔ Spells (word.now ∷ []) given all_admitted }
 {
     if word == b"play".as_slice() {
         Some(Word::Play)
@@ -43,7 +43,7 @@ fn lone_word(word: &[u8]) -> Option<Word>
 
 /// What three words ask for: a drill.
 fn drill_of(word: &[u8], seed: &[u8], rounds: &[u8]) -> Option<Word>
-    ensures { (asked : Asked) → (result ≡ Some asked) ↔ Spells (word.now ∷ seed.now ∷ rounds.now ∷ []) asked all_admitted }
+    ensures { (given : CommandWord) → (result ≡ Some given) ↔ Spells (word.now ∷ seed.now ∷ rounds.now ∷ []) given all_admitted }
 {
     if word != b"drill".as_slice() {
         return None;
@@ -63,7 +63,7 @@ fn four_words(
     spacecraft: &[u8],
     processors: &[u8],
 ) -> Option<(Word, Admit)>
-    ensures { (asked : Asked) (admit : Admitted) → (result ≡ Some (asked, admit)) ↔ Spells (word.now ∷ more.now ∷ spacecraft.now ∷ processors.now ∷ []) asked admit }
+    ensures { (given : CommandWord) (admit : Admitted) → (result ≡ Some (given, admit)) ↔ Spells (word.now ∷ more.now ∷ spacecraft.now ∷ processors.now ∷ []) given admit }
 {
     if more != b"admit".as_slice() {
         return None;
@@ -80,21 +80,21 @@ fn four_words(
 
 /// The word, with files of all spacecraft and processors admitted.
 fn admitting_all(word: Option<Word>) -> Option<(Word, Admit)>
-    ensures { (asked : Asked) (admit : Admitted) → (result ≡ Some (asked, admit)) ↔ ((word ≡ Some asked) × (admit ≡ all_admitted)) }
+    ensures { (given : CommandWord) (admit : Admitted) → (result ≡ Some (given, admit)) ↔ ((word ≡ Some given) × (admit ≡ all_admitted)) }
 {
     Some((word?, Admit::all()))
 }
 
 /// What one word asks for.
 fn one_word(word: &[u8]) -> Option<(Word, Admit)>
-    ensures { (asked : Asked) (admit : Admitted) → (result ≡ Some (asked, admit)) ↔ Spells (word.now ∷ []) asked admit }
+    ensures { (given : CommandWord) (admit : Admitted) → (result ≡ Some (given, admit)) ↔ Spells (word.now ∷ []) given admit }
 {
     admitting_all(lone_word(word))
 }
 
 /// What three words ask for.
 fn three_words(word: &[u8], seed: &[u8], rounds: &[u8]) -> Option<(Word, Admit)>
-    ensures { (asked : Asked) (admit : Admitted) → (result ≡ Some (asked, admit)) ↔ Spells (word.now ∷ seed.now ∷ rounds.now ∷ []) asked admit }
+    ensures { (given : CommandWord) (admit : Admitted) → (result ≡ Some (given, admit)) ↔ Spells (word.now ∷ seed.now ∷ rounds.now ∷ []) given admit }
 {
     admitting_all(drill_of(word, seed, rounds))
 }
@@ -102,7 +102,7 @@ fn three_words(word: &[u8], seed: &[u8], rounds: &[u8]) -> Option<(Word, Admit)>
 /// What the words ask for, and from which spacecraft and processors files are admitted then; None where they are none that the
 /// program knows.
 pub(crate) fn word_of(words: &[Bytes]) -> Option<(Word, Admit)>
-    ensures { (asked : Asked) (admit : Admitted) → (result ≡ Some (asked, admit)) ↔ Asks words.now asked admit }
+    ensures { (given : CommandWord) (admit : Admitted) → (result ≡ Some (given, admit)) ↔ Asks words.now given admit }
 {
     match words {
         [word] => one_word(word.bytes()),
@@ -118,10 +118,10 @@ pub(crate) fn word_of(words: &[Bytes]) -> Option<(Word, Admit)>
 }
 
 /// The lists of a session with a thread for each actor, where the words ask for one.
-pub(crate) fn crew_lists(asked: Option<(Word, Admit)>) -> Option<Admit>
-    ensures { (admit : Admitted) → (result ≡ Some admit) ↔ (asked ≡ Some (Crew, admit)) }
+pub(crate) fn crew_lists(given: Option<(Word, Admit)>) -> Option<Admit>
+    ensures { (admit : Admitted) → (result ≡ Some admit) ↔ (given ≡ Some (Crew, admit)) }
 {
-    let (word, admit) = asked?;
+    let (word, admit) = given?;
     match word {
         Word::Crew => Some(admit),
         Word::Play => None,

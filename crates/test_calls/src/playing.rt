@@ -65,7 +65,7 @@ fn play_calls<R: Print + AllocGlobal>(rt: &R, script: &str, store: &mut Served) 
     Ok(())
 }
 
-/// Tells what a bank holds behind the calls.
+/// Tells what a bank holds after the calls.
 fn show_end<R: Print + AllocGlobal>(rt: &R, script: &str, bank: &mut MemBank) -> io::Result<()>
     requires { bank_size ≤ length bank.old.bytes }
 {
@@ -77,7 +77,7 @@ fn show_end<R: Print + AllocGlobal>(rt: &R, script: &str, bank: &mut MemBank) ->
     show_bytes(rt, bank.bytes())
 }
 
-/// Makes the calls of a script over a bank, and tells what it holds behind them.
+/// Makes the calls of a script over a bank, and tells what it holds after them.
 fn play_over<R: Print + AllocGlobal>(rt: &R, script: &str, bank: MemBank) -> io::Result<()>
     requires { bank_size ≤ length bank.bytes }
 {

@@ -9,7 +9,7 @@ use tbl_outside::{Sink, Source};
 
 /// What tells more than its calls answer.
 pub(crate) trait Shown {
-    /// Tells it behind this line.
+    /// Tells it after this line.
     fn show<R: Print>(&self, rt: &R, line: &str) -> io::Result<()>;
 }
 

@@ -104,7 +104,7 @@ fn name_in(pieces: &Pieces, cell: &str) -> Result<Name40, CaseFault> {
     Ok(Name::of(&bytes))
 }
 
-/// A table file is written, behind this header.
+/// A table file is written, after this header.
 fn try_written(
     alloc: Global,
     header: &FileHeader,
@@ -127,7 +127,7 @@ fn try_written(
     same_bytes(alloc, out.bytes(), wanted)
 }
 
-/// A table file is written, behind the header that the first cell begins with: header, offset, name and image.
+/// A table file is written, after the header that the first cell begins with: header, offset, name and image.
 pub(crate) fn try_written_cells(
     alloc: Global,
     pieces: &Pieces,

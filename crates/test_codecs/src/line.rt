@@ -49,7 +49,7 @@ impl Line {
         self.word(text_of(name));
     }
 
-    /// A word, and a name behind it.
+    /// A word, and a name after it.
     pub(crate) fn named(&mut self, word: &str, name: &[u8]) {
         self.word(word);
         self.name(name);
@@ -67,7 +67,7 @@ impl Line {
         }
     }
 
-    /// A word, and numbers behind it.
+    /// A word, and numbers after it.
     pub(crate) fn numbered(&mut self, word: &str, numbers: &[u32]) {
         self.word(word);
         self.numbers(numbers);

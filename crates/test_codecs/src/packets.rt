@@ -7,7 +7,7 @@ use std::alloc::Global;
 use test_tables::{CaseFault, same_bytes};
 
 /// What a command asks.
-fn tell_asked(line: &mut Line, command: &Ground) {
+fn tell_ground_command(line: &mut Line, command: &Ground) {
     match command {
         Ground::Load { file } => line.named("Load", file.bytes()),
         Ground::Dump {
@@ -54,7 +54,7 @@ pub(crate) fn tell_packet(line: &mut Line, bytes: &[u8]) {
 /// A command is read. One that is refused is told with the status and the detail of its answer.
 pub(crate) fn tell_command(line: &mut Line, bytes: &[u8]) {
     match read_command(bytes) {
-        Ok(command) => tell_asked(line, &command),
+        Ok(command) => tell_ground_command(line, &command),
         Err(fault) => {
             let answer = fault.answer();
             line.shown(&fault);

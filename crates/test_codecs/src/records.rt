@@ -23,7 +23,7 @@ fn tell_short(line: &mut Line, request: &Request) {
     }
 }
 
-/// A word, and a number behind it.
+/// A word, and a number after it.
 fn tell_number(line: &mut Line, word: &str, number: u16) {
     line.word(word);
     line.number(u32::from(number));

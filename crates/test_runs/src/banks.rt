@@ -1,4 +1,4 @@
-//! What stands in a bank behind a session.
+//! What stands in a bank after a session.
 
 use std::fmt::{self, Write};
 use tbl_fakes::Span;

@@ -60,7 +60,7 @@ fn sink_in(row: &Row, at: usize, room: u32) -> Result<MemSink, CaseFault> {
     Ok(MemSink::make(row.alloc(), room, &bad_writes)?)
 }
 
-/// Runs with these words, the input that stands in a cell of a row, and the failures in the cells behind it.
+/// Runs with these words, the input that stands in a cell of a row, and the failures in the cells after it.
 fn run_row<R: Threads + Wait + Sync>(
     rt: &R,
     row: &Row,

@@ -78,7 +78,7 @@ impl RowCases for Runs {
     ///
     /// `play | NAME | INPUT | BANK | BREAKS | BAD READS | STATUS | OUTPUT | WRITES | BANK` is a session over a bank in memory:
     /// what the bank holds before it, which of its writes break off and which of its reads fail, and then how it ends, with the
-    /// ranges of all writes and the bank behind it. With `crew` in the place of `play` it is played with a thread for each
+    /// ranges of all writes and the bank after it. With `crew` in the place of `play` it is played with a thread for each
     /// actor, and with `store` or `drill SEED ROUNDS` there is no input. `again | WORD | NAME | INPUT | INPUT | BREAKS | STATUS | OUTPUT
     /// | STATUS | OUTPUT` is a session with this word over a bank of zeros, a write of which breaks off at each of these places, and
     /// then a second one in order over the bank that the first gave back, with how each ends. `cut | WORD | NAME | INPUT | CUT | CUT |
@@ -88,14 +88,14 @@ impl RowCases for Runs {
     /// `free | NAME | INPUT | BANK | BREAKS | BAD READS | STATUS | OUTPUT | TOLD` is a session with a thread for each actor over such
     /// a bank, whose entries are those of each actor in the output, in their order, and in any order between actors. The last cell
     /// has what the gate was told, as `1/5/5/0` for each actor: how many records were about to be played, how many were played, and
-    /// how often it took the bytes of a pinned image. `/disorder` stands behind it where their numbers didn't come from 0 on, each
+    /// how often it took the bytes of a pinned image. `/disorder` stands after it where their numbers didn't come from 0 on, each
     /// first as about to be played and then as played. `ordered` has the cells of `free` but for the last one: the gate lets the
     /// threads have their turns in the order of the entries in the output, and that is what comes.
     ///
     /// `meet | INPUT | STATUS | OUTPUT | OUTPUT | PLAYED` is a session in threads, of which those of applications 1 and 2 wait
     /// for each other: the two outputs that may come, and how many records the threads play. `turns | WHAT CAME` are two turns
     /// of application 1 without a thread, of two applications that ask to start: what each comes to, how many entries stand
-    /// behind them, and whether the crew ends well.
+    /// after them, and whether the crew ends well.
     fn try_row<R: Threads + Wait + Sync>(&mut self, rt: &R, row: &Row) -> Result<u32, CaseFault> {
         match (row.text(0)?, row.len()) {
             ("run", 11) => try_run(rt, row),

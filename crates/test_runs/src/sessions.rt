@@ -71,7 +71,7 @@ impl Session {
         })
     }
 
-    /// Plays it over a bank. The gate is told of each turn of a thread. The status, and the bank behind it.
+    /// Plays it over a bank. The gate is told of each turn of a thread. The status, and the bank after it.
     pub(crate) fn play<R: Threads + Wait + Sync, G: Gate + Sync>(
         &mut self,
         rt: &R,
@@ -163,7 +163,7 @@ pub(crate) fn play<R: Threads + Wait + Sync>(
     session.play_row(rt, row, wanted, bank)
 }
 
-/// Compares a bank's writes and what it holds behind a session.
+/// Compares a bank's writes and what it holds after a session.
 fn compare_bank(row: &Row, bank: &MemBank) -> Result<u32, CaseFault> {
     same_writes(row, 8, bank.spans())?;
     same_bank(row, 9, bank.bytes())?;

@@ -19,7 +19,7 @@ struct Placeless<'t> {
     bytes: &'t [u8],
 }
 
-/// The entry that a transcript begins with, and what is behind it; None where it begins with none.
+/// The entry that a transcript begins with, and what is after it; None where it begins with none.
 fn first_entry(transcript: &[u8]) -> Option<(Placeless<'_>, &[u8])> {
     let head = read_entry(transcript)?;
     let length = HEAD_LENGTH + head.bytes_len as usize + head.packets_len as usize;
@@ -30,7 +30,7 @@ fn first_entry(transcript: &[u8]) -> Option<(Placeless<'_>, &[u8])> {
     Some((entry, transcript.get(length..)?))
 }
 
-/// The entries of a transcript, and what is behind them.
+/// The entries of a transcript, and what is after them.
 fn split(alloc: Global, transcript: &[u8]) -> Result<(Vec<Placeless<'_>>, &[u8]), AllocError> {
     let mut entries = Vec::new(alloc);
     let mut rest = transcript;

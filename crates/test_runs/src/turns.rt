@@ -66,7 +66,7 @@ fn two_starts(alloc: Global) -> Result<Scripts, Memory>
     Ok(scripts)
 }
 
-/// What two turns of application 1 come to, and how many entries stand behind them.
+/// What two turns of application 1 come to, and how many entries stand after them.
 fn two_turns<B: Bank, C: Validator>(crew: &mut Crew<B, C>) -> ([Turn; 2], usize) {
     let turns = [crew.turn(1), crew.turn(1)];
     (turns, crew.core().history().len())
@@ -81,7 +81,7 @@ fn ends_well<B: Bank, C: Validator>(crew: Crew<B, C>) -> bool {
     is_one && fault.is_none() && is_live
 }
 
-/// Two turns of application 1: what they come to, how many entries stand behind them, and whether the crew ends well.
+/// Two turns of application 1: what they come to, how many entries stand after them, and whether the crew ends well.
 fn play_turns<B: Bank, C: Validator>(core: Core<B, C>, scripts: Scripts) -> ([Turn; 2], usize, bool)
     requires live { core.state.ended ≡ false }
     requires empty { core.entries ≡ [] }

@@ -34,7 +34,7 @@ fn tell_image(told: &mut String, image: &Option<Bytes>) -> fmt::Result {
     Ok(())
 }
 
-/// Writes the check words of a torn block behind `t`, if there are any.
+/// Writes the check words of a torn block after `t`, if there are any.
 fn tell_torn(told: &mut String, torn: u32) -> fmt::Result {
     if torn != 0 {
         write!(told, "t{torn:08X}")?;
@@ -43,8 +43,8 @@ fn tell_torn(told: &mut String, torn: u32) -> fmt::Result {
 }
 
 /// Writes a note: how the calls went and how many were done, `g` for a gate, `o` for that of a doubtful block, `e` where a
-/// boot ended the service and `s` where that was stopped, the image that was restored behind `r`, the check words of a torn
-/// block behind `t`, and each slot that was found behind `f`.
+/// boot ended the service and `s` where that was stopped, the image that was restored after `r`, the check words of a torn
+/// block after `t`, and each slot that was found after `f`.
 fn tell_note(told: &mut String, note: &BankNote) -> fmt::Result {
     tell_calls(told, note.outcome, note.done)?;
     tell_mark(told, "g", note.gate)?;
@@ -59,7 +59,7 @@ fn tell_note(told: &mut String, note: &BankNote) -> fmt::Result {
     Ok(())
 }
 
-/// Writes the status of an entry and its note, and a blank behind them. One that takes no memory tells that nothing was done.
+/// Writes the status of an entry and its note, and a blank after them. One that takes no memory tells that nothing was done.
 fn tell_entry(told: &mut String, entry: &Entry) -> fmt::Result {
     let status = entry.reply.status.0;
     write!(told, "{status}:")?;
@@ -70,7 +70,7 @@ fn tell_entry(told: &mut String, entry: &Entry) -> fmt::Result {
     told.write_str(" ")
 }
 
-/// Writes the statuses and notes of entries, with blanks behind them.
+/// Writes the statuses and notes of entries, with blanks after them.
 fn tell_entries(told: &mut String, entries: &[Entry]) -> fmt::Result {
     for entry in entries {
         tell_entry(told, entry)?;
@@ -78,7 +78,7 @@ fn tell_entries(told: &mut String, entries: &[Entry]) -> fmt::Result {
     Ok(())
 }
 
-/// The statuses and notes of entries, with blanks behind them.
+/// The statuses and notes of entries, with blanks after them.
 fn notes_of(alloc: Global, entries: &[Entry]) -> Result<String, CaseFault> {
     let mut told = String::new(alloc);
     match tell_entries(&mut told, entries) {

@@ -82,7 +82,7 @@ fn step_front(alloc: Global, core: &mut Service, input: &[u8]) -> Result<usize, 
     }
 }
 
-/// Plays records that stand one behind the other, up to one behind which none may follow, and tells how many stand before that.
+/// Plays records that stand one after the other, up to one after which none may follow, and tells how many stand before that.
 pub(crate) fn step_all(
     alloc: Global,
     core: &mut Service,

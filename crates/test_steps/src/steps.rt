@@ -85,7 +85,7 @@ impl Steps {
         self.start(row, admit)
     }
 
-    /// Behind the last row.
+    /// After the last row.
     pub(crate) fn end(self) {
         let Steps { core } = self;
         close(core);

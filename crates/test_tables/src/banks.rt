@@ -126,7 +126,7 @@ fn broken_bank(row: &Row, bytes: Bytes) -> Result<MemBank, CaseFault>
 }
 
 /// The bank before a session: what it holds stands in cell 3, as [`bank_bytes`] reads it, which of its writes break off in the
-/// next one, as `3/0/stop 4/15/fail`, and the numbers of its reads that fail in the one behind it.
+/// next one, as `3/0/stop 4/15/fail`, and the numbers of its reads that fail in the one after it.
 pub fn bank_in(row: &Row) -> Result<MemBank, CaseFault>
     ensures { IfOk result (λ bank. length bank.bytes ≡ 131072) }
 {

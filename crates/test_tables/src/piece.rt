@@ -14,7 +14,7 @@ pub(crate) struct Piece {
     counted: Vec<Place>,
 }
 
-/// Adds one to a number that has the high byte first. Behind its highest value comes 0.
+/// Adds one to a number that has the high byte first. After its highest value comes 0.
 fn count_up(number: &mut [u8]) {
     for byte in number.iter_mut().rev() {
         *byte = byte.wrapping_add(1);
@@ -32,7 +32,7 @@ impl Piece {
         }
     }
 
-    /// Puts bytes so many times behind those that are there.
+    /// Puts bytes so many times after those that are there.
     pub(crate) fn append(&mut self, bytes: &[u8], count: u32) -> Result<(), AllocError> {
         for _ in 0..count {
             self.bytes.extend_from_slice(bytes)?;
@@ -56,7 +56,7 @@ impl Piece {
         }
     }
 
-    /// Puts the bytes so many times behind others.
+    /// Puts the bytes so many times after others.
     pub(crate) fn repeat(&mut self, count: u32, into: &mut Vec<u8>) -> Result<(), AllocError> {
         for _ in 0..count {
             into.extend_from_slice(&self.bytes)?;

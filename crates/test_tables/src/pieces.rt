@@ -11,7 +11,7 @@ pub struct Pieces {
     named: BTreeMap<String, Vec<u8>>,
 }
 
-/// Puts bytes in hexadecimal so many times behind a piece.
+/// Puts bytes in hexadecimal so many times after a piece.
 fn append_digits(
     alloc: Global,
     piece: &mut Piece,
@@ -22,7 +22,7 @@ fn append_digits(
     Ok(piece.append(&bytes, count)?)
 }
 
-/// Puts a number in hexadecimal behind a piece, one that counts up.
+/// Puts a number in hexadecimal after a piece, one that counts up.
 fn append_counted(alloc: Global, piece: &mut Piece, digits: &str) -> Result<(), CaseFault> {
     let number = hex::decode(alloc, digits)?;
     Ok(piece.append_counted(&number)?)
@@ -44,7 +44,7 @@ impl Pieces {
         }
     }
 
-    /// Puts the bytes of a name behind a piece.
+    /// Puts the bytes of a name after a piece.
     fn append_named(&self, piece: &mut Piece, name: &str) -> Result<(), CaseFault> {
         match self.named.get(name) {
             Some(bytes) => Ok(piece.append(bytes, 1)?),
@@ -52,7 +52,7 @@ impl Pieces {
         }
     }
 
-    /// Puts a word behind a piece: `$NAME` for the bytes of that name, `+HEX` for a number that counts up,
+    /// Puts a word after a piece: `$NAME` for the bytes of that name, `+HEX` for a number that counts up,
     /// `COUNT*HEX` for the same bytes so many times, or `HEX`.
     fn append_word(&self, piece: &mut Piece, word: &str) -> Result<(), CaseFault> {
         if let Some(name) = word.strip_prefix('$') {
@@ -66,7 +66,7 @@ impl Pieces {
         }
     }
 
-    /// Puts words with spaces between them behind a piece.
+    /// Puts words with spaces between them after a piece.
     fn append_words(&self, piece: &mut Piece, words: &str) -> Result<(), CaseFault> {
         for word in words.split_ascii_whitespace() {
             self.append_word(piece, word)?;

@@ -114,7 +114,7 @@ fn play_lines<R: Print + AllocGlobal, C: Cases>(
 
 /// Tries the table on standard input, and tells each line that fails and how many cases there were. The answer is whether
 /// none failed. A line with `|` is a row, whose cells have `|` between them. Each other one that isn't empty names a piece:
-/// `NAME = CELL`, as [`Pieces::bytes`] reads the cell. What stands behind `#` is a comment.
+/// `NAME = CELL`, as [`Pieces::bytes`] reads the cell. What stands after `#` is a comment.
 pub fn play_table<R: Input + Print + AllocGlobal, C: Cases>(
     rt: &R,
     cases: &mut C,

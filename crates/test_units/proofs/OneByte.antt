@@ -9,7 +9,7 @@ pub read_one : (bytes here into : List ℕ) (at : ℕ) → here ≡ bytes → at
 read_one bytes here [] at same inside some = absurd (omega (arith, some))
 read_one bytes here (x ∷ into) at same inside some = sym (ap (take 1) (drop_more here at 0 inside)) ∙ ap (piece at 1) same
 
--- bytes written over others, and bytes written behind the last
+-- bytes written over others, and bytes written after the last
 pub written_over : (bytes others : List ℕ) (at : ℕ) → at ≤ length bytes → 0 < length others → written bytes at others ≡ take at bytes ++ others ++ drop (at + length others) bytes
 written_over bytes [] at fits some = absurd (omega (arith, some))
 written_over bytes (o ∷ others) at fits some = ap (λ (l : List ℕ). l ++ (o ∷ others) ++ drop (at + length (o ∷ others)) bytes) (padded-whole bytes at fits)

@@ -17,7 +17,7 @@ struct OneByteFile {
     bad: u32,
 }
 
-/// Writes the first byte of a piece over the one at a place, or behind the last.
+/// Writes the first byte of a piece over the one at a place, or after the last.
 #[tactic(auto, using(crate::proofs::OneByte::written_over, crate::proofs::OneByte::written_last, crate::proofs::OneByte::spoiled_same))]
 fn put_first(kept: &mut Bytes, at: u64, piece: &[u8]) -> io::Result<usize>
     requires { 0 < length piece.now }
@@ -148,7 +148,7 @@ fn a_file_that_cant_be_made_longer(rt: HostRuntime) -> Result<(), Fail> {
     Ok(())
 }
 
-/// Writes into the store file, and says whether the bytes came back behind it.
+/// Writes into the store file, and says whether the bytes came back after it.
 fn is_kept(store: &mut StoreFile) -> bool {
     sent(store);
     let mut piece = [b'?'; 8];

@@ -7,7 +7,7 @@ use tbl_kinds::{
     u32_at,
 };
 
-/// Puts `abc` and then `de` behind no bytes, and copies the first three.
+/// Puts `abc` and then `de` after no bytes, and copies the first three.
 fn grow(bytes: &mut Bytes) -> Result<Bytes, Memory>
     requires empty { bytes.old.list ≡ [] }
     requires room { 3 ≤ bytes.old.spare }
@@ -35,7 +35,7 @@ fn bytes_grow_in_reserved_room(rt: HostRuntime) -> Result<(), Fail> {
 }
 
 #[test]
-fn many_bytes_stand_behind_few(rt: HostRuntime) -> Result<(), Fail> {
+fn many_bytes_follow_few(rt: HostRuntime) -> Result<(), Fail> {
     let mut bytes = Bytes::make(rt.alloc(), 2)?;
     bytes.append(b"ab");
     bytes.reserve(30)?;

@@ -28,10 +28,10 @@ const CASES: [Case; 11] = [
     (&[], (1, 4), [Some(8_208), Some(8_208)]),
     (&[], (122_856, 122_857), [Some(8_208), None]),
     (&[], (u32::MAX, u32::MAX), [None, None]),
-    // Behind heads.
+    // After heads.
     (&[(8_220, 4)], (4, 5), [Some(8_208), Some(8_232)]),
     (&[(8_224, 4)], (8, 9), [Some(8_208), Some(8_236)]),
-    // In a gap between two, or behind both.
+    // In a gap between two, or after both.
     (
         &[(8_208, 10), (8_254, 100)],
         (20, 21),

@@ -56,7 +56,7 @@ fn a_dump_is_finished(rt: HostRuntime) -> Result<(), Fail> {
     let mut tables = Tables::make(rt.alloc())?;
     register(rt.alloc(), &mut tables, Options::from_bits_retain(0x0002))?;
     if tables.row(0).is_some() {
-        let _asked = request_dump(&mut tables, 0, 1, &Name64::of(b"/f"));
+        let _answer = request_dump(&mut tables, 0, 1, &Name64::of(b"/f"));
         let _filled = fill(&mut tables, 0);
     }
     let (name, len) = finish_first(rt.alloc(), &mut tables)?;

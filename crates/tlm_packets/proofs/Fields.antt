@@ -1,4 +1,4 @@
--- Name fields in a body, and a body as the fields one behind the other.
+-- Name fields in a body, and a body as the fields one after the other.
 use Rattle.std.proofs.Common.{◌≡◌, ℕ, ◌+◌, ◌≤◌, true, List, [], ◌++◌, length, take, drop, sym, ap, ◌∙◌, arith}
 use Rattle.std.proofs.lemmas.List.{append-nil, drop-drop, take_at, drop_at, length-drop, length-take, nil_from_length}
 use Rattle.tbl_kinds.specs.Numbers.{piece}
@@ -13,7 +13,7 @@ use Rattle.tlm_packets.specs.Reading.{name_at}
 
 -- ---- a field that was written
 
--- the field at a place is the one of this name, and the rest stands behind it
+-- the field at a place is the one of this name, and the rest stands after it
 pub record Written (place width : ℕ) (name rest body : List ℕ) : Type 0 where
   pub right : has_name place width body ≡ true
   pub name_is : name_at place width body ≡ name
@@ -29,7 +29,7 @@ written place width name rest body fits e =
       behind = sym (drop-drop width place body) ∙ ap (drop width) e ∙ drop_at (name_field width name) rest width len;
     }
 
--- the last field, with nothing behind it
+-- the last field, with nothing after it
 pub written_last : (place width : ℕ) (name body : List ℕ) → FitsField width name → drop place body ≡ name_field width name → Written place width name [] body
 written_last place width name body fits e = written place width name [] body fits (e ∙ sym (append-nil (name_field width name)))
 

@@ -12,7 +12,7 @@ use Rattle.cfe_headers.proofs.Pieces.{two_below, four_below, split_two, split_fo
 use Rattle.tlm_packets.specs.Spellings.{IsHead, IsPacket}
 use Rattle.tlm_packets.specs.Reading.{has_head, body_in}
 
--- a packet has its headers, and its body stands behind them
+-- a packet has its headers, and its body stands after them
 pub record Read (id len : ℕ) (body bytes : List ℕ) : Type 0 where
   pub head : has_head id len bytes ≡ true
   pub body_is : body_in bytes ≡ body
@@ -33,7 +33,7 @@ read_written id len body head id-fits few long is =
 pub read : (id len : ℕ) (body bytes : List ℕ) → id < 2 ^ 16 → len ≤ 278 → length body ≡ len → IsPacket id body bytes → Read id len body bytes
 read id len body bytes id-fits few long p = rw p.packet (read_written id len body p.head id-fits few long p.is_head)
 
--- what stands behind headers is bytes too
+-- what stands after headers is bytes too
 pub bytes_behind : (place : ℕ) (bytes : List ℕ) → AreBytes bytes → AreBytes (drop place bytes)
 bytes_behind place bytes fits i = rw (get_or-drop place bytes i 0) (fits (place + i))
 

@@ -28,7 +28,7 @@ record Again (h : Housekeeping) : Type 0 where
   is : is_housekeeping (housekeeping_body h) ≡ true
   value : housekeeping_in (housekeeping_body h) ≡ h
 
--- five pieces, one behind the other
+-- five pieces, one after the other
 joined : (a b c d e : List ℕ) → a ++ b ++ c ++ d ++ e ≡ a ++ (b ++ (c ++ (d ++ e)))
 joined a b c d e = simp append_assoc
 

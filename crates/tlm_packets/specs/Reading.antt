@@ -12,7 +12,7 @@ use Rattle.tbl_kinds.specs.declared.telemetry.RegistryRow.{RegistryRow}
 abbrev pub head_len : ℕ
 head_len = 12
 
--- so many bytes behind the headers, this message id, sequence flags 3, and the length field of such a packet
+-- so many bytes after the headers, this message id, sequence flags 3, and the length field of such a packet
 abbrev pub has_head : ℕ → ℕ → List ℕ → Bool
 has_head id len bytes =
     length bytes == head_len + len && two_at 0 bytes == id && nat_le 0xC000 (two_at 2 bytes) && two_at 4 bytes + 7 == length bytes
@@ -27,7 +27,7 @@ name_at place width body = name_in (piece place width body)
 abbrev pub event_in : List ℕ → Event
 event_in body = record { number = two_at 0 body; status = record { 0 = four_at 2 body }; row = two_at 6 body; detail = four_at 8 body }
 
--- the reserved bytes are zero, and so is what stands behind names
+-- the reserved bytes are zero, and so is what stands after names
 abbrev pub is_housekeeping : List ℕ → Bool
 is_housekeeping body =
     byte_at 21 body == 0 && byte_at 22 body == 0 && byte_at 23 body == 0
@@ -56,7 +56,7 @@ housekeeping_in body = record {
   loaded = name_at 238 40 body;
 }
 
--- zeros alone stand behind names
+-- zeros alone stand after names
 abbrev pub is_row : List ℕ → Bool
 is_row body = has_name 20 40 body && has_name 60 20 body && has_name 80 64 body
 

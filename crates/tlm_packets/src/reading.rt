@@ -16,7 +16,7 @@ const HEAD_LEN: usize = 12;
 /// Sequence flags 3, and the count 0.
 const UNSEGMENTED: u16 = 0xC000;
 
-/// The body of a packet of this message id that has `len` bytes behind its headers.
+/// The body of a packet of this message id that has `len` bytes after its headers.
 fn body_of(bytes: &[u8], id: u16, len: usize) -> Option<&[u8]>
     requires { len ≤ 278 }
     ensures has_head { is_some result ≡ has_head id len bytes.now }
@@ -101,7 +101,7 @@ fn housekeeping_of(body: &[u8]) -> Option<Housekeeping>
 }
 
 /// Reads a housekeeping packet, all of the bytes. Its sequence count and its time are free. None where the bytes are no such
-/// packet, as where a reserved byte or one behind a name isn't zero.
+/// packet, as where a reserved byte or one after a name isn't zero.
 pub fn read_housekeeping(bytes: &[u8]) -> Option<Housekeeping>
     ensures spelled { IfSome result (λ state. SpellsHousekeeping bytes.now state) }
     ensures again { (state : Housekeeping) → SpellsHousekeeping bytes.now state → result ≡ Some state }
@@ -133,7 +133,7 @@ fn row_of(body: &[u8]) -> Option<RegistryRow>
 }
 
 /// Reads a registry packet, all of the bytes. Its sequence count and its time are free. None where the bytes are no such packet,
-/// as where a byte behind a name isn't zero.
+/// as where a byte after a name isn't zero.
 pub fn read_registry(bytes: &[u8]) -> Option<RegistryRow>
     ensures spelled { IfSome result (λ row. SpellsRow bytes.now row) }
     ensures again { (row : RegistryRow) → SpellsRow bytes.now row → result ≡ Some row }

@@ -77,7 +77,7 @@ module _ {T : Type 0} (moves : T → ℕ → T → Type 0) (actors : ℕ) (k : T
     halves_apart : Apart (lower n v) (upper n v)
     halves_apart a p q = absurd (omega (arith, p.1, q.0, length-take-le n v.seen le))
 
-    -- the upper part is apart from each view behind the cut
+    -- the upper part is apart from each view after the cut
     beside_up : (vs : List W) → Aparts vs → get_elem? vs id ≡ some v → (x : W) (a : ℕ) → get_elem? (set vs id (lower n v)) a ≡ some x → Apart x (upper n v)
     beside_up vs h here x a e actor hx hu = ⊎_elim
         (λ (p : (a ≡ id) × (lower n v ≡ x)). halves_apart actor (subst (λ (z : W). Has z actor) (sym p.1) hx) hu)
@@ -181,7 +181,7 @@ module _ {T : Type 0} (moves : T → ℕ → T → Type 0) (actors : ℕ) (k : T
         ))
         h.home
 
-    -- the holder puts y back behind a turn from x
+    -- the holder puts y back after a turn from x
     pub gives_back : (x y : T) → length v.seen ≡ 1 → v.taken ≡ Some x → moves x v.from y → Allows (Kept moves actors k) slots id (v, (0, Some y) ∷ []) 0 (λ _. 0) (λ _. Gives (step slots 0 0 0 none) (v, (0, Some y) ∷ []) 0)
     gives_back x y one out turn s h len here fits =
         let m = h.views id v here in

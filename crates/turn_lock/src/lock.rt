@@ -18,7 +18,7 @@ pub struct TurnLock<T: Turns> {
 }
 
 impl<T: Turns> TurnLock<T> {
-    /// A lock with this value in it, and the seat of all actors. An Err is want of memory, with the value.
+    /// A lock with this value in it, and the seat of all actors. An Err means out of memory, with the value.
     pub fn make(alloc: Global, value: T) -> Result<(TurnLock<T>, Place<T>), T>
         ensures first { IfOk result (λ made. made.0.table.shared.key.value ≡ value) }
         ensures seat { IfOk result (λ made. (made.1.table_id ≡ made.0.table.shared.table_id) × Idle made.1.me 0 (replicate T.actors value)) }

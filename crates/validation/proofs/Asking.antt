@@ -4,9 +4,9 @@ use Rattle.std.proofs.Common.{ℤ}
 use Rattle.std.specs.Prelude.{count_by, length}
 use Rattle.std.proofs.lemmas.List.Sums.{count_by-le-length}
 use Rattle.std.specs.Option.{ForSome}
-use Rattle.tbl_model.specs.Deeds.{Question}
+use Rattle.tbl_model.specs.Telemetry.{Question}
 use Rattle.tbl_outside.specs.declared.validator.KitEntry.{KitEntry}
-use Rattle.validation.specs.Kits.{entry_at, FewAsked}
+use Rattle.validation.specs.Kits.{entry_at, MayAskEach}
 use Rattle.validation.specs.Asked.{is_for, Stays, WasAsked}
 
 module _ {C : Type 0} (verdict : C → List ℕ → ℤ) (asked : C → ℕ) where
@@ -71,7 +71,7 @@ module _ {C : Type 0} (verdict : C → List ℕ → ℤ) (asked : C → ℕ) whe
 
   -- how often the functions can be asked still
   pub few_left : (old new : List (Option (KitEntry C))) (questions : List Question) (verdicts : List (Option ℤ)) (most more : ℕ) → WasAsked verdict asked old new questions verdicts → length questions + more ≤ most
-      → FewAsked asked most old → FewAsked asked more new
+      → MayAskEach asked most old → MayAskEach asked more new
   few_left old new questions verdicts most more was le few = λ number.
       left_of (count_by (is_for number) questions) most more (entry_at old number) (entry_at new number)
       (let within = count_by-le-length (is_for number) questions in omega (arith, within, le)) (was.each number) (few number)

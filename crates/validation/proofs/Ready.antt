@@ -9,7 +9,7 @@ use Rattle.std.proofs.lemmas.Option.{same_Some}
 use Rattle.tbl_model.specs.State.{Load, Table, Handle, Tables}
 use Rattle.tbl_model.specs.Tables.{table_at}
 use Rattle.tbl_model.specs.TableSteps.{with_table, with_handle, changed, changed_in, set_checked}
-use Rattle.tbl_model.specs.Deeds.{is_good}
+use Rattle.tbl_model.specs.Telemetry.{is_good}
 use Rattle.tbl_model.specs.Pending.{is_pair, is_pending, without_pair}
 use Rattle.tbl_model.specs.Validations.{marked, first_pending}
 use Rattle.tbl_outside.specs.declared.validator.KitEntry.{KitEntry}
@@ -115,8 +115,8 @@ pub judged_keeps : (tables : Tables) (row : ℕ) (active : Bool) (verdict : ℤ)
 judged_keeps tables row true verdict pending all = λ r a is. all r a (pending_dropped row r true a pending is)
 judged_keeps tables row false verdict pending all = λ r a is. mark_keeps tables row (is_good verdict) r a (all r a (pending_dropped row r false a pending is))
 
-pub asked_keeps : (tables : Tables) (row : ℕ) (active : Bool) (pending : List (ℕ × Bool)) → ArePending tables pending → CanBeJudged tables row active → ArePending tables (pending ++ (row, active) ∷ [])
-asked_keeps tables row active pending all can = λ r a is. elim (pending_added row r active a pending is) [ inl was ↦ all r a was | inr new ↦ rw (new.0, new.1) can ]
+pub request_keeps : (tables : Tables) (row : ℕ) (active : Bool) (pending : List (ℕ × Bool)) → ArePending tables pending → CanBeJudged tables row active → ArePending tables (pending ++ (row, active) ∷ [])
+request_keeps tables row active pending all can = λ r a is. elim (pending_added row r active a pending is) [ inl was ↦ all r a was | inr new ↦ rw (new.0, new.1) can ]
 
 -- ---- functions
 
@@ -136,25 +136,25 @@ change_keeps tables row change pending validator count gone all r false is = eli
   | inr other ↦ rw (changed_there tables row change r other) (all r false is)
 ]
 
--- where the activation of a load is asked, no validation of it is pending
+-- where the activation of a load is requested, no validation of it is pending
 pub none_pending : (tables : Tables) (row : ℕ) (t : Table) (pending : List (ℕ × Bool)) → table_at tables row ≡ Some t → t.activation ≡ true → ArePending tables pending → is_pending row false pending ≡ false
-none_pending tables row t pending there asked all = by (is_pending row false pending) refl
+none_pending tables row t pending there requested all = by (is_pending row false pending) refl
   where
     by : (b : Bool) → is_pending row false pending ≡ b → b ≡ false
     by false is = refl
-    by true is = let no_activation = ((all row false is).1 t there).1.1 in absurd (cc (rw asked at no_activation))
+    by true is = let no_activation = ((all row false is).1 t there).1.1 in absurd (cc (rw requested at no_activation))
 
 pub dropped_keeps : (tables : Tables) (row : ℕ) (active : Bool) (pending : List (ℕ × Bool)) → ArePending tables pending → ArePending tables (without_pair row active pending)
 dropped_keeps tables row active pending all = λ r a is. all r a (pending_dropped row r active a pending is)
 
--- ---- loads whose activation is asked
+-- ---- loads whose activation is requested
 
 pub loads_keep : (tables : Tables) (row : ℕ) (change : Table → Table) → ((t : Table) → table_at tables row ≡ Some t → HasItsLoad t → HasItsLoad (change t)) → HaveLoads tables → HaveLoads (changed row change tables)
 loads_keep tables row change keeps all = all_keep tables row change HasItsLoad keeps all
 
 pub mark_keeps_loads : (tables : Tables) (row : ℕ) (active : Bool) (verdict : ℤ) → HaveLoads tables → HaveLoads (marked row active verdict tables)
 mark_keeps_loads tables row true verdict all = all
-mark_keeps_loads tables row false verdict all = loads_keep tables row _ (λ t there has asked. same_load (is_good verdict) t.load (has asked)) all
+mark_keeps_loads tables row false verdict all = loads_keep tables row _ (λ t there has requested. same_load (is_good verdict) t.load (has requested)) all
 
 -- ---- functions that stay
 

@@ -2,7 +2,7 @@
 use Rattle.std.specs.Prelude.{◌≡◌, ℕ, ◌==◌, List, [], ◌∷◌, length, Bool, count_by, Option, Some, None, IsSome}
 use Rattle.std.specs.Option.{option_map_or, ForSome}
 use Rattle.std.proofs.Common.{ℤ}
-use Rattle.tbl_model.specs.Deeds.{Question}
+use Rattle.tbl_model.specs.Telemetry.{Question}
 use Rattle.tbl_outside.specs.declared.validator.KitEntry.{KitEntry}
 use Rattle.validation.specs.Kits.{entry_at, AskedMore}
 

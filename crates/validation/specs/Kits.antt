@@ -34,5 +34,5 @@ abbrev pub MayAsk : {C : Type 0} → (C → ℕ) → ℕ → List (Option (KitEn
 MayAsk asked times kit number = IsSome (entry_at kit number) × ForSome (entry_at kit number) (λ entry. asked entry.check + times ≤ 2 ^ 63)
 
 -- each function of the kit can be asked so many times
-abbrev pub FewAsked : {C : Type 0} → (C → ℕ) → ℕ → List (Option (KitEntry C)) → Type 0
-FewAsked asked times kit = (number : ℕ) → ForSome (entry_at kit number) (λ entry. asked entry.check + times ≤ 2 ^ 63)
+abbrev pub MayAskEach : {C : Type 0} → (C → ℕ) → ℕ → List (Option (KitEntry C)) → Type 0
+MayAskEach asked times kit = (number : ℕ) → ForSome (entry_at kit number) (λ entry. asked entry.check + times ≤ 2 ^ 63)

@@ -24,7 +24,7 @@ PendingStay old new = (pending : List (ℕ × Bool)) → ArePending old pending 
 abbrev pub HaveFunctions : {C : Type 0} → Tables → List (Option (KitEntry C)) → Type 0
 HaveFunctions tables kit = (row : ℕ) → ForSome (table_at tables row) (λ t. ForSome t.validator (λ number. IsSome (entry_at kit number)))
 
--- where the activation of a load is asked, that load is open
+-- where the activation of a load is requested, that load is open
 abbrev pub HasItsLoad : Table → Type 0
 HasItsLoad t = t.activation ≡ true → IsSome t.load
 

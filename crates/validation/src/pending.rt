@@ -7,7 +7,7 @@ use std::marker::Model;
 /// How many validations can be pending (`CFE_PLATFORM_TBL_MAX_NUM_VALIDATIONS`).
 const MOST: usize = 10;
 
-/// Why a validation isn't asked. Nothing was changed.
+/// Why a validation isn't requested. Nothing was changed.
 #[derive(Clone, Copy, Debug, PartialEq, Eq, Drop, thiserror::Error)]
 pub enum PendFault {
     /// This image's validation is pending already.

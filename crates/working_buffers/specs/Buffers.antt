@@ -2,7 +2,7 @@
 use Rattle.std.specs.Prelude.{ℕ, List, length, Option, None}
 use Rattle.std.specs.Option.{option_map}
 use Rattle.std.specs.List.{refill}
-use Rattle.working_buffers.specs.Places.{Held}
+use Rattle.working_buffers.specs.Places.{LentBuffer}
 
 -- the row that has it, and its bytes, free or not
 pub record BufferState : Type 0 where
@@ -10,7 +10,7 @@ pub record BufferState : Type 0 where
   pub bytes : List ℕ
 
 -- the place that it is
-abbrev pub place_of : BufferState → Option Held
+abbrev pub place_of : BufferState → Option LentBuffer
 place_of buffer = option_map (λ row. record { row = row; bytes = buffer.bytes }) buffer.row
 
 -- no row has it any more

@@ -19,9 +19,9 @@ pub struct Working {
 impl Model for Working {
     ghost use Rattle.std.specs.Prelude.{◌≡◌, List, Option, length, map};
     ghost use Rattle.working_buffers.specs.Buffers.{place_of};
-    ghost use Rattle.working_buffers.specs.Places.{Held};
+    ghost use Rattle.working_buffers.specs.Places.{LentBuffer};
 
-    ghost Value = { List (Option Held) };
+    ghost Value = { List (Option LentBuffer) };
 
     ghost view = { λ w. map place_of w.buffers.items };
 

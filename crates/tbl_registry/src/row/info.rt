@@ -53,7 +53,7 @@ fn bit_at(value: u8, set: bool) -> u8
 }
 
 impl Row {
-    /// Bit 0 loaded, 1 activation asked, 2 dump only, 3 double buffered, 4 critical, 5 load open.
+    /// Bit 0 loaded, 1 activation requested, 2 dump only, 3 double buffered, 4 critical, 5 load open.
     fn bits(&self) -> u8
         ensures { result ≡ bits_of self.now }
     {

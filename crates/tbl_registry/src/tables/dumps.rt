@@ -2,7 +2,7 @@
 
 ghost use Rattle.std.specs.Prelude.{◌≡◌, ◌<◌, true, Some, IsSome, is_some, count_by, length};
 ghost use Rattle.std.specs.Option.{ForSome};
-ghost use Rattle.tbl_model.specs.State.{quiet, asked};
+ghost use Rattle.tbl_model.specs.State.{quiet, requested};
 ghost use Rattle.tbl_model.specs.Tables.{table_at, in_use, is_dump_only, is_quiet, uses_buffer};
 ghost use Rattle.tbl_model.specs.TableSteps.{ask_dump, fill_dump, end_dump};
 ghost use Rattle.tbl_registry.specs.Lent.{HasItsBuffer, IsSettled};
@@ -13,12 +13,12 @@ use crate::row::Row;
 use tbl_kinds::Name64;
 use working_buffers::Working;
 
-/// A dump of the table is asked, which takes a buffer.
+/// A dump of the table is requested, which takes a buffer.
 fn take_dump(table: &mut Row, working: &mut Working, row: u8, file: &Name64)
     requires quiet { is_quiet table.old.dump ≡ true }
     requires out { HasItsBuffer working.old row table.old }
     requires room { count_by is_some working.old < 4 }
-    ensures table { table.new ≡ record table.old { dump = asked file.now } }
+    ensures table { table.new ≡ record table.old { dump = requested file.now } }
     ensures buffers { IsSettled working.old working.new row (uses_buffer (Some table.old)) (uses_buffer (Some table.new)) }
 {
     let had = table.uses_buffer();
@@ -38,7 +38,7 @@ fn give_dump(table: &mut Row, working: &mut Working, row: u8)
 }
 
 impl Tables {
-    /// A dump of the table of a row is asked, as a file of this name. It takes a shared buffer.
+    /// A dump of the table of a row is requested, as a file of this name. It takes a shared buffer.
     pub fn ask_dump(&mut self, row: u8, file: &Name64)
         requires table { IsSome (table_at self.old row) }
         requires dump_only { ForSome (table_at self.old row) (λ t. is_dump_only t ≡ true) }
@@ -52,7 +52,7 @@ impl Tables {
         take_dump(table, &mut self.working, row, file);
     }
 
-    /// The asked dump of the table of a row is filled with its last image. It takes no memory.
+    /// The requested dump of the table of a row is filled with its last image. It takes no memory.
     pub fn fill_dump(&mut self, row: u8)
         requires { IsSome (table_at self.old row) }
         ensures { self.new ≡ fill_dump row self.old }

@@ -136,7 +136,7 @@ impl Tables {
         table.write_load(offset, bytes)
     }
 
-    /// Closes the open load of the table of a row. Its activation isn't asked any more.
+    /// Closes the open load of the table of a row. Its activation isn't requested any more.
     pub fn close_load(&mut self, row: u8)
         requires table { IsSome (table_at self.old row) }
         requires load { ForSome (table_at self.old row) (λ t. IsSome t.load) }
@@ -163,7 +163,7 @@ impl Tables {
         load_goes_active(table, &mut self.handles, &mut self.working, row);
     }
 
-    /// The activation of the open load of the table of a row is asked.
+    /// The activation of the open load of the table of a row is requested.
     pub fn ask(&mut self, row: u8)
         requires table { IsSome (table_at self.old row) }
         requires load { ForSome (table_at self.old row) (λ t. IsSome t.load) }

@@ -8,7 +8,7 @@ use Rattle.tbl_outside.proofs.Moments.{goes_on, leaves_among}
 use Rattle.cds_layout.specs.Directory.{directory_len}
 use Rattle.cds_layout.specs.Order.{boot_writes}
 use Rattle.cds_store.specs.Boots.{BeginsAt}
-use Rattle.cds_store.specs.Standing.{StandsFor, kept}
+use Rattle.cds_store.specs.StoreBlocks.{StandsFor, kept}
 use Rattle.cds_store.proofs.Settled.{begins_again, read_leaves}
 use Rattle.cds_store.proofs.boot.boot.Goals as goal
 
@@ -43,10 +43,10 @@ returns-clause-moments g c told blocks begins =
     (c.boot_as.ensures.moments told blocks (begins_again b.tells b.now c.args.slots.now.items c.args.bank.now c.read_front.new.bank blocks c.read_front.ensures.kept begins))
     (λ image leaves. leaves)
 
-pub returns-clause-asked : goal.returns-clause-asked
-returns-clause-asked g c told =
+pub returns-clause-bank_calls : goal.returns-clause-bank_calls
+returns-clause-bank_calls g c told =
     let b = g.B.Bank in
     asks_then b.tells_calls b.calls c.args.bank.now c.read_front.new.bank c.boot_as.new.bank (is_ok c.boot_as.result) (read 0 directory_len ∷ []) (boot_writes c.args.kind (b.now c.args.bank.now))
-    c.in_ok-read_front.ensures.asked
+    c.in_ok-read_front.ensures.bank_calls
     (subst (λ (l : List ℕ). Asks b.tells_calls b.calls c.read_front.new.bank c.boot_as.new.bank (is_ok c.boot_as.result) (boot_writes c.args.kind l))
-    (c.read_front.ensures.kept told) (c.boot_as.ensures.asked (told)))
+    (c.read_front.ensures.kept told) (c.boot_as.ensures.bank_calls (told)))

@@ -1,17 +1,17 @@
 use Rattle.std.proofs.Common.{◌∙◌, subst, is_ok}
 use Rattle.tbl_outside.specs.BankCalls.{Asks}
-use Rattle.cds_store.proofs.Asked.{clear_asked}
+use Rattle.cds_store.proofs.BankCalls.{clear_calls_made}
 use Rattle.cds_store.proofs.Emptied.{first_read}
 use Rattle.cds_store.proofs.boot.clear_all.Goals as goal
 
 pub clear-requires-clause-read : goal.clear-requires-clause-read
 clear-requires-clause-read g c told = c.first_of-first.ensures ∙ first_read c.args.front.now (g.B.Bank.now c.args.bank.now) (c.requires.read told)
 
-pub returns-clause-asked : goal.returns-clause-asked
-returns-clause-asked g c told =
+pub returns-clause-bank_calls : goal.returns-clause-bank_calls
+returns-clause-bank_calls g c told =
     let b = g.B.Bank in
     subst (Asks b.tells_calls b.calls c.args.bank.now c.clear.new.bank (is_ok c.clear.result))
-    (clear_asked c.first_of-first.result c.entries_of.result.now (b.now c.args.bank.now)
+    (clear_calls_made c.first_of-first.result c.entries_of.result.now (b.now c.args.bank.now)
     (c.first_of-first.ensures ∙ first_read c.args.front.now (b.now c.args.bank.now) (c.requires.read told))
     c.entries_of.ensures.len (c.entries_of.ensures.zeros c.zero_all.ensures.zeros))
-    c.clear.ensures.asked
+    c.clear.ensures.bank_calls

@@ -2,7 +2,7 @@ use Rattle.std.proofs.Common.{sym, ◌∙◌, subst, is_ok}
 use Rattle.std.proofs.lemmas.Result.{on_ok_weaker}
 use Rattle.tbl_outside.specs.BankCalls.{Asks}
 use Rattle.tbl_outside.proofs.Moments.{leaves_among}
-use Rattle.cds_store.proofs.Asked.{live_writes, dead_writes}
+use Rattle.cds_store.proofs.BankCalls.{live_writes, dead_writes}
 use Rattle.cds_store.proofs.Emptied.{dead_clears, dead_tidy}
 use Rattle.cds_store.proofs.Strays.{live_front, tidied_is_tidy}
 use Rattle.cds_store.proofs.boot.tidy.Goals as goal
@@ -37,19 +37,19 @@ returns-else-is_live-clause-moments g c told =
     (sym (live_front c.args.front.now c.args.directory.now (g.B.Bank.now c.args.bank.now) (c.requires.read (g.met.B.Bank.tells_both told))) ∙ sym c.is_live.ensures ∙ c.if-is_live.false)
     clears)
 
-pub returns-then-is_live-clause-asked : goal.returns-then-is_live-clause-asked
-returns-then-is_live-clause-asked g c told =
+pub returns-then-is_live-clause-bank_calls : goal.returns-then-is_live-clause-bank_calls
+returns-then-is_live-clause-bank_calls g c told =
     let b = g.B.Bank in
     let old = b.now c.args.bank.now in
     subst (Asks b.tells_calls b.calls c.args.bank.now c.tidy_live.new.bank (is_ok c.tidy_live.result))
     (live_writes c.args.front.now old c.args.directory.now (c.requires.read told)
     (sym (live_front c.args.front.now c.args.directory.now old (c.requires.read told)) ∙ sym c.is_live.ensures ∙ c.if-is_live.true))
-    c.tidy_live.ensures.asked
+    c.tidy_live.ensures.bank_calls
 
-pub returns-else-is_live-clause-asked : goal.returns-else-is_live-clause-asked
-returns-else-is_live-clause-asked g c told =
+pub returns-else-is_live-clause-bank_calls : goal.returns-else-is_live-clause-bank_calls
+returns-else-is_live-clause-bank_calls g c told =
     let b = g.B.Bank in
     let old = b.now c.args.bank.now in
     subst (Asks b.tells_calls b.calls c.args.bank.now c.clear_all.new.bank (is_ok c.clear_all.result))
     (dead_writes old (sym (live_front c.args.front.now c.args.directory.now old (c.requires.read told)) ∙ sym c.is_live.ensures ∙ c.if-is_live.false))
-    (c.clear_all.ensures.asked told)
+    (c.clear_all.ensures.bank_calls told)

@@ -5,7 +5,7 @@ use Rattle.tbl_kinds.specs.StoreSteps.{delete_broken}
 use Rattle.tbl_outside.proofs.Moments.{leaves_among}
 use Rattle.cds_layout.specs.Entries.{gate_open}
 use Rattle.cds_store.specs.Sound.{slot_at, IsSound}
-use Rattle.cds_store.specs.Standing.{StandsFor, kept, doubted}
+use Rattle.cds_store.specs.StoreBlocks.{StandsFor, kept, doubted}
 use Rattle.cds_store.specs.declared.slot.Slot.{Slot}
 use Rattle.cds_store.proofs.Closing.{some_there, delete_leaves, doubted_for, doubted_sound, closed_for, closed_sound}
 use Rattle.cds_store.proofs.gates.close.Goals as goal

@@ -4,7 +4,7 @@ use Rattle.tbl_kinds.specs.Places.{bank_size}
 use Rattle.tbl_kinds.specs.Blocks.{Store as Blocks}
 use Rattle.tbl_outside.proofs.Moments.{goes_on, leaves_among}
 use Rattle.cds_store.specs.Calls.{HasFlags}
-use Rattle.cds_store.specs.Standing.{StandsFor, kept, with_new, made_or_not}
+use Rattle.cds_store.specs.StoreBlocks.{StandsFor, kept, with_new, made_or_not}
 use Rattle.cds_store.proofs.NewBlocks.{on_done, on_gate_fault, prepared_shows, prepared_sound, prepared_for}
 use Rattle.cds_store.proofs.making.make.Goals as goal
 

@@ -1,7 +1,7 @@
 use Rattle.std.proofs.Common.{◌≤◌, Bool, Some, slice_set, sym, ◌∙◌, subst, arith}
 use Rattle.tbl_kinds.specs.Places.{bank_size}
 use Rattle.tbl_outside.proofs.Moments.{leaves_among}
-use Rattle.cds_store.specs.Standing.{StandsFor, kept, with_new}
+use Rattle.cds_store.specs.StoreBlocks.{StandsFor, kept, with_new}
 use Rattle.cds_store.proofs.NewBlocks.{open_when_done, made_shows, made_for, made_sound}
 use Rattle.cds_store.proofs.making.open_gate.Goals as goal
 

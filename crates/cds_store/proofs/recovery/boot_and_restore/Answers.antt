@@ -3,7 +3,7 @@ use Rattle.std.specs.Option.{option_map}
 use Rattle.std.proofs.lemmas.Result.{IfOk-weaker}
 use Rattle.tbl_kinds.specs.Blocks.{Store as Blocks}
 use Rattle.cds_layout.specs.Images.{store_of}
-use Rattle.cds_store.specs.Standing.{StandsFor}
+use Rattle.cds_store.specs.StoreBlocks.{StandsFor}
 use Rattle.cds_store.proofs.Recovered.{booted_alike, shown_recovers}
 use Rattle.cds_store.proofs.recovery.boot_and_restore.Goals as goal
 

@@ -8,7 +8,7 @@ use Rattle.cds_store.specs.Calls.{is_gate, is_old}
 use Rattle.cds_store.specs.Moments.{LeavesIn, MakeLeaves}
 use Rattle.cds_store.specs.Slots.{doubtful_slot, room_in, without_slot}
 use Rattle.cds_store.specs.Sound.{IsNew}
-use Rattle.cds_store.specs.Standing.{StandsFor, kept, with_new, broken_at}
+use Rattle.cds_store.specs.StoreBlocks.{StandsFor, kept, with_new, broken_at}
 use Rattle.cds_store.specs.declared.slot.Slot.{Slot}
 use Rattle.cds_store.proofs.Reservations.{doubtful_same, no_room, room_there, has_that_room, reserved_is, broken_is, make_leaves, new_is, old_taken}
 use Rattle.cds_store.proofs.reserving.reserve.Goals as goal

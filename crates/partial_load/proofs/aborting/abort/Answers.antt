@@ -10,7 +10,7 @@ returns-clause-pending c =
     (dropped_keeps c.args.tables.now c.args.row false c.args.pending.now c.requires.pending))
 
 pub returns-clause-loads : goal.returns-clause-loads
-returns-clause-loads c = λ all. rw c.close_load.ensures (loads_keep c.args.tables.now c.args.row _ (λ t there has asked. absurd (cc asked)) all)
+returns-clause-loads c = λ all. rw c.close_load.ensures (loads_keep c.args.tables.now c.args.row _ (λ t there has requested. absurd (cc requested)) all)
 
 pub returns-clause-functions : goal.returns-clause-functions
 returns-clause-functions c = rw c.close_load.ensures (functions_stay c.args.tables.now c.args.row _ (λ t. refl))

@@ -16,8 +16,8 @@ use Rattle.store_requests.proofs.Moments.{uncalled_leaves}
 use Rattle.cds_store.specs.Slots.{open_slot}
 use Rattle.std.proofs.lemmas.Option.{same_Some}
 use Rattle.std.specs.Option.{ForSome}
-use Rattle.store_requests.specs.BankAsked.{AsksBy, register_at}
-use Rattle.store_requests.proofs.BankAsked.{asked_none}
+use Rattle.store_requests.specs.BankCalls.{AsksBy, register_at}
+use Rattle.store_requests.proofs.BankCalls.{bank_calls_none}
 use Rattle.store_requests.proofs.blocks.cds_register.Goals as goal
 
 pub returns-in_default-clause-effect : goal.returns-in_default-clause-effect
@@ -62,20 +62,20 @@ returns-clause-effect g c = one c.register_block.result _ _ c.register_block.ens
     (λ n. registered_is s c.args.app short c.args.size n ∙ ap (λ a. registered s (app_name a c.args.app) short c.args.size n) apps
     ∙ all_right s short c.args.size n o name c.in-Some.ensures.name good (size_good c.args.size c.if-size-eq0.false c.if-size-gt-BLOCK_LIMIT.false)) (is tells s stands))
 
-pub returns-in_default-clause-asked : goal.returns-in_default-clause-asked
-returns-in_default-clause-asked g c = λ name is blocks stands calls there.
-    asked_none g.B.Bank c.args.store.now.bank c.args.store.now.bank calls c.plain.result.note refl c.plain.ensures.note_is
+pub returns-in_default-clause-bank_calls : goal.returns-in_default-clause-bank_calls
+returns-in_default-clause-bank_calls g c = λ name is blocks stands calls there.
+    bank_calls_none g.B.Bank c.args.store.now.bank c.args.store.now.bank calls c.plain.result.note refl c.plain.ensures.note_is
 
-pub returns-then-not-is_name-clause-asked : goal.returns-then-not-is_name-clause-asked
-returns-then-not-is_name-clause-asked g c = λ name is blocks stands calls there.
-    asked_none g.B.Bank c.args.store.now.bank c.args.store.now.bank calls c.plain-then-not-is_name.result.note refl c.plain-then-not-is_name.ensures.note_is
+pub returns-then-not-is_name-clause-bank_calls : goal.returns-then-not-is_name-clause-bank_calls
+returns-then-not-is_name-clause-bank_calls g c = λ name is blocks stands calls there.
+    bank_calls_none g.B.Bank c.args.store.now.bank c.args.store.now.bank calls c.plain-then-not-is_name.result.note refl c.plain-then-not-is_name.ensures.note_is
 
-pub returns-then-size-eq0-clause-asked : goal.returns-then-size-eq0-clause-asked
-returns-then-size-eq0-clause-asked g c = λ name is blocks stands calls there.
-    asked_none g.B.Bank c.args.store.now.bank c.args.store.now.bank calls c.plain-then-size-eq0.result.note refl c.plain-then-size-eq0.ensures.note_is
+pub returns-then-size-eq0-clause-bank_calls : goal.returns-then-size-eq0-clause-bank_calls
+returns-then-size-eq0-clause-bank_calls g c = λ name is blocks stands calls there.
+    bank_calls_none g.B.Bank c.args.store.now.bank c.args.store.now.bank calls c.plain-then-size-eq0.result.note refl c.plain-then-size-eq0.ensures.note_is
 
-pub returns-clause-asked : goal.returns-clause-asked
-returns-clause-asked g c = one c.register_block.result _ _ c.register_block.ensures.asked (λ done asked name is blocks stands.
+pub returns-clause-bank_calls : goal.returns-clause-bank_calls
+returns-clause-bank_calls g c = one c.register_block.result _ _ c.register_block.ensures.bank_calls (λ done called name is blocks stands.
     let old = c.args.store.now in
     subst (λ (n : List ℕ). ForSome (register_at (open_slot App n old.slots) old.slots n c.args.size) (λ calls. AsksBy g.B.Bank old.bank c.register_block.new.store.bank done.note.outcome calls))
-    (same_Some c.in-Some.name name (c.in-Some.ensures.name ∙ is)) (asked blocks stands))
+    (same_Some c.in-Some.name name (c.in-Some.ensures.name ∙ is)) (called blocks stands))

@@ -2,7 +2,7 @@ use Rattle.std.proofs.Common.{ap, ◌∙◌}
 use Rattle.store_requests.specs.Called.{call_note}
 use Rattle.store_requests.proofs.Calls.{told_with, delete_called}
 use Rattle.cds_layout.specs.Order.{delete_calls}
-use Rattle.store_requests.proofs.BankAsked.{asked_once}
+use Rattle.store_requests.proofs.BankCalls.{bank_calls_once}
 use Rattle.store_requests.proofs.blocks.delete.Goals as goal
 
 pub returns-clause-effect : goal.returns-clause-effect
@@ -13,7 +13,7 @@ returns-clause-effect g c = λ tells s stands.
     (told_with c.requires.empty (ap (call_note c.delete_block-ended.result) c.in_ok-note.ensures) c.called.ensures)
     (λ m. call.moments m s.store stands) call.flags call.ok call.err
 
-pub returns-clause-asked : goal.returns-clause-asked
-returns-clause-asked g c =
+pub returns-clause-bank_calls : goal.returns-clause-bank_calls
+returns-clause-bank_calls g c =
     let old = c.args.store.now in
-    asked_once g.B.Bank old.bank c.delete_block-ended.new.self.bank (delete_calls c.args.slot) c.called.result.note c.delete_block-ended.result (c.called.ensures.note_is ∙ ap (call_note c.delete_block-ended.result) c.in_ok-note.ensures) c.delete_block-ended.ensures.asked
+    bank_calls_once g.B.Bank old.bank c.delete_block-ended.new.self.bank (delete_calls c.args.slot) c.called.result.note c.delete_block-ended.result (c.called.ensures.note_is ∙ ap (call_note c.delete_block-ended.result) c.in_ok-note.ensures) c.delete_block-ended.ensures.bank_calls

@@ -11,7 +11,7 @@ use Rattle.store_requests.proofs.Calls.{told_with, calls_none, calls_same}
 use Rattle.store_requests.proofs.OwnBlocks.{found_there}
 use Rattle.store_requests.proofs.Reserved.{any_is, block_means, no_room}
 use Rattle.store_requests.proofs.Moments.{uncalled_leaves}
-use Rattle.store_requests.proofs.BankAsked.{asked_none}
+use Rattle.store_requests.proofs.BankCalls.{bank_calls_none}
 use Rattle.store_requests.proofs.blocks.register_again.Goals as goal
 
 pub returns-then-not-room-clause-effect : goal.returns-then-not-room-clause-effect
@@ -41,10 +41,10 @@ returns-clause-effect g c = λ tells s stands.
     (λ n. block_means s name c.args.size n (Some slot) (Some slot) is other room)
     (c.renew.ensures.effect tells s stands)
 
-pub returns-then-has_size-clause-asked : goal.returns-then-has_size-clause-asked
-returns-then-has_size-clause-asked g c = λ blocks stands calls there.
-    asked_none g.B.Bank c.args.store.now.bank c.args.store.now.bank calls c.plain.result.note refl c.plain.ensures.note_is
+pub returns-then-has_size-clause-bank_calls : goal.returns-then-has_size-clause-bank_calls
+returns-then-has_size-clause-bank_calls g c = λ blocks stands calls there.
+    bank_calls_none g.B.Bank c.args.store.now.bank c.args.store.now.bank calls c.plain.result.note refl c.plain.ensures.note_is
 
-pub returns-then-not-room-clause-asked : goal.returns-then-not-room-clause-asked
-returns-then-not-room-clause-asked g c = λ blocks stands calls there.
-    asked_none g.B.Bank c.args.store.now.bank c.args.store.now.bank calls c.plain-then-not-room.result.note refl c.plain-then-not-room.ensures.note_is
+pub returns-then-not-room-clause-bank_calls : goal.returns-then-not-room-clause-bank_calls
+returns-then-not-room-clause-bank_calls g c = λ blocks stands calls there.
+    bank_calls_none g.B.Bank c.args.store.now.bank c.args.store.now.bank calls c.plain-then-not-room.result.note refl c.plain-then-not-room.ensures.note_is

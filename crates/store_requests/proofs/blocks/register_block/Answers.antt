@@ -4,10 +4,10 @@ use Rattle.tbl_kinds.specs.StoreSteps.{open_of}
 use Rattle.tbl_model.specs.AppBlocks.{block_effect}
 use Rattle.store_requests.proofs.Both.{one}
 use Rattle.store_requests.proofs.Calls.{calls_same}
-use Rattle.cds_store.specs.Standing.{StandsFor}
+use Rattle.cds_store.specs.StoreBlocks.{StandsFor}
 use Rattle.tbl_kinds.specs.Blocks.{Store as Blocks}
 use Rattle.std.specs.Option.{ForSome}
-use Rattle.store_requests.specs.BankAsked.{AsksBy, register_at}
+use Rattle.store_requests.specs.BankCalls.{AsksBy, register_at}
 use Rattle.store_requests.proofs.blocks.register_block.Goals as goal
 
 pub returns-in-Some-clause-effect : goal.returns-in-Some-clause-effect
@@ -22,14 +22,14 @@ returns-in-None-clause-effect g c = one c.register_new.result _ _ c.register_new
     calls_same b c.args.store.now c.register_new.new.store s done (λ n. block_effect s c.args.name.now c.args.size n None) (λ n. block_effect s c.args.name.now c.args.size n (open_of App c.args.name.now s.store))
     (λ n. ap (block_effect s c.args.name.now c.args.size n) (sym (c.find.ensures.block s.store stands) ∙ c.in-None.is)) (is tells s stands))
 
-pub returns-in-Some-clause-asked : goal.returns-in-Some-clause-asked
-returns-in-Some-clause-asked g c =
+pub returns-in-Some-clause-bank_calls : goal.returns-in-Some-clause-bank_calls
+returns-in-Some-clause-bank_calls g c =
     let old = c.args.store.now in
     subst (λ (o : Option ℕ). IfOk c.register_again.result (λ done. (blocks : Blocks) → StandsFor g.B.Bank.tells g.B.Bank.now old blocks → ForSome (register_at o old.slots c.args.name.now c.args.size) (λ calls. AsksBy g.B.Bank old.bank c.register_again.new.store.bank done.note.outcome calls)))
-    (sym c.in-Some.is ∙ c.find.ensures.slot) c.register_again.ensures.asked
+    (sym c.in-Some.is ∙ c.find.ensures.slot) c.register_again.ensures.bank_calls
 
-pub returns-in-None-clause-asked : goal.returns-in-None-clause-asked
-returns-in-None-clause-asked g c =
+pub returns-in-None-clause-bank_calls : goal.returns-in-None-clause-bank_calls
+returns-in-None-clause-bank_calls g c =
     let old = c.args.store.now in
     subst (λ (o : Option ℕ). IfOk c.register_new.result (λ done. (blocks : Blocks) → StandsFor g.B.Bank.tells g.B.Bank.now old blocks → ForSome (register_at o old.slots c.args.name.now c.args.size) (λ calls. AsksBy g.B.Bank old.bank c.register_new.new.store.bank done.note.outcome calls)))
-    (sym c.in-None.is ∙ c.find.ensures.slot) (one c.register_new.result _ _ c.register_new.ensures.asked (λ done is blocks stands. is))
+    (sym c.in-None.is ∙ c.find.ensures.slot) (one c.register_new.result _ _ c.register_new.ensures.bank_calls (λ done is blocks stands. is))

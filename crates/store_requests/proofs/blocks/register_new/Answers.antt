@@ -5,10 +5,10 @@ use Rattle.store_requests.specs.Called.{reserve_note}
 use Rattle.store_requests.proofs.Calls.{told_with}
 use Rattle.store_requests.proofs.Reserved.{new_called}
 use Rattle.store_requests.proofs.Moments.{uncalled_leaves}
-use Rattle.cds_store.specs.Standing.{StoreParts}
+use Rattle.cds_store.specs.StoreBlocks.{StoreParts}
 use Rattle.cds_store.specs.Slots.{doubtful_slot, without_slot, room_in}
 use Rattle.cds_layout.specs.Order.{reserve_calls}
-use Rattle.store_requests.proofs.BankAsked.{asked_make}
+use Rattle.store_requests.proofs.BankCalls.{bank_calls_make}
 use Rattle.store_requests.proofs.blocks.register_new.Goals as goal
 
 pub returns-clause-effect : goal.returns-clause-effect
@@ -21,11 +21,11 @@ returns-clause-effect g c = λ tells s stands.
     made.ok made.slot made.full made.untouched made.err made.breaks
     (told_with c.requires.empty (ap (reserve_note c.reserve_block-made.result) c.in_ok-note.ensures) c.reserved.ensures)
 
-pub returns-clause-asked : goal.returns-clause-asked
-returns-clause-asked g c =
+pub returns-clause-bank_calls : goal.returns-clause-bank_calls
+returns-clause-bank_calls g c =
     let old = c.args.store.now in
     let made = c.reserve_block-made.ensures in
     let name = c.args.name.now in
     let doubtful = doubtful_slot App name old.slots in
-    asked_make g.B.Bank old.bank c.reserve_block-made.new.self.bank c.reserved.result.note (room_in c.args.size (without_slot doubtful old.slots)) (λ (place : ℕ × ℕ). reserve_calls doubtful place.0 (record { kind = App; offset = place.1; size = c.args.size; name = name }))
-    c.reserve_block-made.result (c.reserved.ensures.note_is ∙ ap (reserve_note c.reserve_block-made.result) c.in_ok-note.ensures) (λ lacks. ap (λ (store : StoreParts g.row.B.Denot). store.bank) (made.untouched lacks)) made.asked
+    bank_calls_make g.B.Bank old.bank c.reserve_block-made.new.self.bank c.reserved.result.note (room_in c.args.size (without_slot doubtful old.slots)) (λ (place : ℕ × ℕ). reserve_calls doubtful place.0 (record { kind = App; offset = place.1; size = c.args.size; name = name }))
+    c.reserve_block-made.result (c.reserved.ensures.note_is ∙ ap (reserve_note c.reserve_block-made.result) c.in_ok-note.ensures) (λ lacks. ap (λ (store : StoreParts g.row.B.Denot). store.bank) (made.untouched lacks)) made.bank_calls

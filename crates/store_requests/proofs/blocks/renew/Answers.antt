@@ -20,8 +20,8 @@ use Rattle.cds_layout.specs.Order.{delete_calls, reserve_calls}
 use Rattle.tbl_outside.specs.BankCalls.{BankCall, Asks}
 use Rattle.std.specs.Option.{ForSome, option_map}
 use Rattle.std.specs.Prelude.{is_ok, ◌++◌, slice_set}
-use Rattle.store_requests.specs.BankAsked.{AsksBy, make_at}
-use Rattle.store_requests.proofs.BankAsked.{asked_renew, asked_first}
+use Rattle.store_requests.specs.BankCalls.{AsksBy, make_at}
+use Rattle.store_requests.proofs.BankCalls.{bank_calls_renew, bank_calls_first}
 use Rattle.store_requests.proofs.blocks.renew.Goals as goal
 
 pub reserve_block-made-requires-clause-none_open : goal.reserve_block-made-requires-clause-none_open
@@ -49,8 +49,8 @@ returns-in-Err-clause-effect g c = λ tells s stands.
     (one_leaves b c.args.store.now c.delete_block.new.self (delete c.args.old) (reserve App c.args.name.now c.args.size ∷ []) s.store (λ m. c.in-Err.ensures.moments m s.store stands)) refl SUCCESS slot c.in-Err.fault c.args.store.now _ _ refl (refl, refl) c.in-Err.ensures.flags stands c.in-Err.ensures.err told)
 
 -- a block of this name in doubt isn't there after the deletion, so there is room
-pub returns-in-Ok-clause-asked : goal.returns-in-Ok-clause-asked
-returns-in-Ok-clause-asked g c = λ blocks stands.
+pub returns-in-Ok-clause-bank_calls : goal.returns-in-Ok-clause-bank_calls
+returns-in-Ok-clause-bank_calls g c = λ blocks stands.
     let b = g.B.Bank in
     let old = c.args.store.now in
     let mid = c.delete_block.new.self in
@@ -64,15 +64,15 @@ returns-in-Ok-clause-asked g c = λ blocks stands.
     let none : doubtful_of App name left ≡ None = sym (doubtful_same App name mid.slots left there.slots) ∙ (c.in-Ok.ensures.alone App name c.requires.open_block).1 in
     let note : c.reserved.result.note ≡ reserve_note c.reserve_block-made.result (done_note untouched) = search rules in
     subst (λ (slots : List (Option Slot)). ForSome (option_map (λ (calls : List BankCall). delete_calls c.args.old ++ calls) (make_at slots name size)) (λ calls. AsksBy b old.bank new.bank c.reserved.result.note.outcome calls)) c.in-Ok.ensures.freed
-    (asked_renew b old.bank new.bank c.reserved.result.note (room_in size (without_slot doubtful mid.slots)) (λ (place : ℕ × ℕ). reserve_calls doubtful place.0 (record { kind = App; offset = place.1; size = size; name = name })) mid.bank c.args.old
-    (subst (λ (r : Result Unit BankFault). Asks b.tells_calls b.calls old.bank mid.bank (is_ok r) (delete_calls c.args.old)) c.in-Ok.is c.delete_block.ensures.asked)
-    c.reserve_block-made.result note (room_left blocks name size c.args.old _ (c.requires.room blocks stands) none (made.full left there)) made.asked)
+    (bank_calls_renew b old.bank new.bank c.reserved.result.note (room_in size (without_slot doubtful mid.slots)) (λ (place : ℕ × ℕ). reserve_calls doubtful place.0 (record { kind = App; offset = place.1; size = size; name = name })) mid.bank c.args.old
+    (subst (λ (r : Result Unit BankFault). Asks b.tells_calls b.calls old.bank mid.bank (is_ok r) (delete_calls c.args.old)) c.in-Ok.is c.delete_block.ensures.bank_calls)
+    c.reserve_block-made.result note (room_left blocks name size c.args.old _ (c.requires.room blocks stands) none (made.full left there)) made.bank_calls)
 
-pub returns-in-Err-clause-asked : goal.returns-in-Err-clause-asked
-returns-in-Err-clause-asked g c = λ blocks stands.
+pub returns-in-Err-clause-bank_calls : goal.returns-in-Err-clause-bank_calls
+returns-in-Err-clause-bank_calls g c = λ blocks stands.
     let b = g.B.Bank in
     let old = c.args.store.now in
     let new = c.delete_block.new.self in
-    asked_first b old.bank new.bank c.broken.result.note c.args.old c.in-Err.fault (make_at (slice_set old.slots c.args.old None) c.args.name.now c.args.size)
+    bank_calls_first b old.bank new.bank c.broken.result.note c.args.old c.in-Err.fault (make_at (slice_set old.slots c.args.old None) c.args.name.now c.args.size)
     (c.broken.ensures.note_is ∙ ap (broken_note c.in-Err.fault) c.requires.untouched)
-    (subst (λ (r : Result Unit BankFault). Asks b.tells_calls b.calls old.bank new.bank (is_ok r) (delete_calls c.args.old)) c.in-Err.is c.delete_block.ensures.asked)
+    (subst (λ (r : Result Unit BankFault). Asks b.tells_calls b.calls old.bank new.bank (is_ok r) (delete_calls c.args.old)) c.in-Err.is c.delete_block.ensures.bank_calls)

@@ -27,7 +27,7 @@ returns-clause-copies g c = λ tells e is same stands.
     let last : Some c.in-Some-last.image.now ≡ t.0.last = (search rules) ∙ ap (option_and_then (λ (t : Table). t.last)) t.1 in
     let critical : true ≡ is_critical t.0 = subst (λ (o : Option Table). IfSome o (λ t. true ≡ is_critical t)) t.1 (search rules) in
     same_copies b c.args.store.now c.copy_image.new.store e c.args.effect is c.copy_image.result (λ n. copied_to c.args.row n e (block_of t.0 e.next.store) (Some c.in-Some-last.image.now)) (λ n. then_copy c.args.row n e)
-    (λ n. one_there c.args.row n e c.args.tables.now same t.0 c.in-Some-last.image.now (went_as e c.args.effect.deeds.items true is.deeds (search rules)) t.1 critical last)
+    (λ n. one_there c.args.row n e c.args.tables.now same t.0 c.in-Some-last.image.now (went_as e c.args.effect.events.items true is.events (search rules)) t.1 critical last)
     (c.copy_image.ensures.copies tells e t.0 is t.2 (search rules) stands)
 
 -- the table isn't critical
@@ -40,4 +40,4 @@ returns-in_default-clause-copies g c = λ tells e is same stands.
 pub returns-then-not-went_active-clause-copies : goal.returns-then-not-went_active-clause-copies
 returns-then-not-went_active-clause-copies g c = λ tells e is same stands.
     let b = g.B.Bank in
-    stays b c.args.store.now c.args.store.now e c.args.effect is (unmoved b g.met.B.Bank.leaves_only_now g.met.B.Bank.only_now c.args.store.now c.args.store.now (λ left. (calls : List StoreCall) → DuringCalls calls e.next.store left) refl (λ calls. before_calls calls e.next.store _ (stands.shows tells))) (λ n. then_copy c.args.row n e) (λ n. none_active c.args.row n e c.args.tables.now same (went_as e c.args.effect.deeds.items false is.deeds (search rules))) c.requires.untouched stands
+    stays b c.args.store.now c.args.store.now e c.args.effect is (unmoved b g.met.B.Bank.leaves_only_now g.met.B.Bank.only_now c.args.store.now c.args.store.now (λ left. (calls : List StoreCall) → DuringCalls calls e.next.store left) refl (λ calls. before_calls calls e.next.store _ (stands.shows tells))) (λ n. then_copy c.args.row n e) (λ n. none_active c.args.row n e c.args.tables.now same (went_as e c.args.effect.events.items false is.events (search rules))) c.requires.untouched stands

@@ -10,8 +10,8 @@ use Rattle.store_requests.proofs.Calls.{told_with, calls_none, calls_same}
 use Rattle.store_requests.proofs.OwnBlocks.{copy_means, no_copy}
 use Rattle.store_requests.proofs.Moments.{uncalled_leaves}
 use Rattle.std.specs.Result.{IfOk}
-use Rattle.store_requests.specs.BankAsked.{AsksBy, copy_at}
-use Rattle.store_requests.proofs.BankAsked.{asked_none}
+use Rattle.store_requests.specs.BankCalls.{AsksBy, copy_at}
+use Rattle.store_requests.proofs.BankCalls.{bank_calls_none}
 use Rattle.store_requests.proofs.own_blocks.cds_copy.Goals as goal
 
 pub returns-in-Ok-clause-effect : goal.returns-in-Ok-clause-effect
@@ -30,12 +30,12 @@ returns-in-Err-clause-effect g c = λ tells s apps stands.
     (no_copy s c.args.app c.args.slot image c.in-Err.status (λ effect. c.in-Err.ensures.err s effect apps stands))
     (calls_none b c.args.store.now c.args.store.now s c.plain.result (uncalled_leaves b g.met.B.Bank.leaves_only_now g.met.B.Bank.only_now c.args.store.now c.args.store.now s.store refl (stands.shows tells)) c.in-Err.status 0 (told_with c.requires.empty refl c.plain.ensures) stands)
 
-pub returns-in-Ok-clause-asked : goal.returns-in-Ok-clause-asked
-returns-in-Ok-clause-asked g c =
+pub returns-in-Ok-clause-bank_calls : goal.returns-in-Ok-clause-bank_calls
+returns-in-Ok-clause-bank_calls g c =
     let old = c.args.store.now in
-    subst (λ (slot : ℕ). IfOk c.copy_into.result (λ done. AsksBy g.B.Bank old.bank c.copy_into.new.store.bank done.note.outcome (copy_at old.slots slot c.args.image.now))) c.in-Ok.ensures.slot c.copy_into.ensures.asked
+    subst (λ (slot : ℕ). IfOk c.copy_into.result (λ done. AsksBy g.B.Bank old.bank c.copy_into.new.store.bank done.note.outcome (copy_at old.slots slot c.args.image.now))) c.in-Ok.ensures.slot c.copy_into.ensures.bank_calls
 
-pub returns-in-Err-clause-asked : goal.returns-in-Err-clause-asked
-returns-in-Err-clause-asked g c =
+pub returns-in-Err-clause-bank_calls : goal.returns-in-Err-clause-bank_calls
+returns-in-Err-clause-bank_calls g c =
     let old = c.args.store.now in
-    asked_none g.B.Bank old.bank old.bank (copy_at old.slots c.args.slot c.args.image.now) c.plain.result.note refl c.plain.ensures.note_is
+    bank_calls_none g.B.Bank old.bank old.bank (copy_at old.slots c.args.slot c.args.image.now) c.plain.result.note refl c.plain.ensures.note_is

@@ -10,8 +10,8 @@ use Rattle.store_requests.proofs.OwnBlocks.{delete_means, no_delete}
 use Rattle.store_requests.proofs.Moments.{uncalled_leaves}
 use Rattle.std.specs.Result.{IfOk}
 use Rattle.cds_layout.specs.Order.{delete_calls}
-use Rattle.store_requests.specs.BankAsked.{AsksBy}
-use Rattle.store_requests.proofs.BankAsked.{asked_none}
+use Rattle.store_requests.specs.BankCalls.{AsksBy}
+use Rattle.store_requests.proofs.BankCalls.{bank_calls_none}
 use Rattle.store_requests.proofs.own_blocks.cds_delete.Goals as goal
 
 pub returns-in-Ok-clause-effect : goal.returns-in-Ok-clause-effect
@@ -28,12 +28,12 @@ returns-in-Err-clause-effect g c = λ tells s apps stands.
     (no_delete s c.args.app c.args.slot c.in-Err.status (λ effect. c.in-Err.ensures.err s effect apps stands))
     (calls_none b c.args.store.now c.args.store.now s c.plain.result (uncalled_leaves b g.met.B.Bank.leaves_only_now g.met.B.Bank.only_now c.args.store.now c.args.store.now s.store refl (stands.shows tells)) c.in-Err.status 0 (told_with c.requires.empty refl c.plain.ensures) stands)
 
-pub returns-in-Ok-clause-asked : goal.returns-in-Ok-clause-asked
-returns-in-Ok-clause-asked g c =
+pub returns-in-Ok-clause-bank_calls : goal.returns-in-Ok-clause-bank_calls
+returns-in-Ok-clause-bank_calls g c =
     let old = c.args.store.now in
-    subst (λ (slot : ℕ). IfOk c.delete.result (λ done. AsksBy g.B.Bank old.bank c.delete.new.store.bank done.note.outcome (delete_calls slot))) c.in-Ok.ensures.slot c.delete.ensures.asked
+    subst (λ (slot : ℕ). IfOk c.delete.result (λ done. AsksBy g.B.Bank old.bank c.delete.new.store.bank done.note.outcome (delete_calls slot))) c.in-Ok.ensures.slot c.delete.ensures.bank_calls
 
-pub returns-in-Err-clause-asked : goal.returns-in-Err-clause-asked
-returns-in-Err-clause-asked g c =
+pub returns-in-Err-clause-bank_calls : goal.returns-in-Err-clause-bank_calls
+returns-in-Err-clause-bank_calls g c =
     let old = c.args.store.now in
-    asked_none g.B.Bank old.bank old.bank (delete_calls c.args.slot) c.plain.result.note refl c.plain.ensures.note_is
+    bank_calls_none g.B.Bank old.bank old.bank (delete_calls c.args.slot) c.plain.result.note refl c.plain.ensures.note_is

@@ -11,11 +11,11 @@ use Rattle.std.specs.Option.{ForSome}
 use Rattle.tbl_kinds.specs.Blocks.{Store as Blocks}
 use Rattle.tbl_kinds.specs.StoreSteps.{stored_at}
 use Rattle.tbl_kinds.specs.declared.note.Outcome.TheVariants.{Done}
-use Rattle.cds_store.specs.Standing.{StandsFor}
+use Rattle.cds_store.specs.StoreBlocks.{StandsFor}
 use Rattle.tbl_session.specs.Restores.{GaveHeld}
 use Rattle.store_requests.proofs.Moments.{uncalled_leaves}
-use Rattle.store_requests.specs.BankAsked.{AsksBy, restore_at}
-use Rattle.store_requests.proofs.BankAsked.{asked_none}
+use Rattle.store_requests.specs.BankCalls.{AsksBy, restore_at}
+use Rattle.store_requests.proofs.BankCalls.{bank_calls_none}
 use Rattle.store_requests.proofs.own_blocks.cds_restore.Goals as goal
 
 pub returns-in-Ok-clause-effect : goal.returns-in-Ok-clause-effect
@@ -40,12 +40,12 @@ returns-in-Ok-clause-gave g c =
     → ForSome (stored_at blocks slot) (λ x. GaveHeld (b.now c.args.store.now.bank) x.block done.note)))
     c.in-Ok.ensures.slot c.restore_from.ensures.gave
 
-pub returns-in-Ok-clause-asked : goal.returns-in-Ok-clause-asked
-returns-in-Ok-clause-asked g c =
+pub returns-in-Ok-clause-bank_calls : goal.returns-in-Ok-clause-bank_calls
+returns-in-Ok-clause-bank_calls g c =
     let old = c.args.store.now in
-    subst (λ (slot : ℕ). IfOk c.restore_from.result (λ done. AsksBy g.B.Bank old.bank c.restore_from.new.store.bank done.note.outcome (restore_at old.slots slot))) c.in-Ok.ensures.slot c.restore_from.ensures.asked
+    subst (λ (slot : ℕ). IfOk c.restore_from.result (λ done. AsksBy g.B.Bank old.bank c.restore_from.new.store.bank done.note.outcome (restore_at old.slots slot))) c.in-Ok.ensures.slot c.restore_from.ensures.bank_calls
 
-pub returns-in-Err-clause-asked : goal.returns-in-Err-clause-asked
-returns-in-Err-clause-asked g c =
+pub returns-in-Err-clause-bank_calls : goal.returns-in-Err-clause-bank_calls
+returns-in-Err-clause-bank_calls g c =
     let old = c.args.store.now in
-    asked_none g.B.Bank old.bank old.bank (restore_at old.slots c.args.slot) c.plain.result.note refl c.plain.ensures.note_is
+    bank_calls_none g.B.Bank old.bank old.bank (restore_at old.slots c.args.slot) c.plain.result.note refl c.plain.ensures.note_is

@@ -5,13 +5,13 @@ use Rattle.cds_layout.specs.declared.blocks.RestoreFault.TheVariants.{Torn}
 use Rattle.cds_store.specs.declared.fault.BankFault.TheVariants.{Fault}
 use Rattle.tbl_kinds.specs.Notes.{restored_image}
 use Rattle.cds_layout.specs.Restores.{TellsTorn}
-use Rattle.cds_store.specs.Standing.{slot_of}
+use Rattle.cds_store.specs.StoreBlocks.{slot_of}
 use Rattle.cds_store.specs.Sound.{IsOpenOf}
 use Rattle.store_requests.specs.Called.{done_note, broken_note}
 use Rattle.store_requests.proofs.Calls.{block_there, held_image, told_with, given_called, gives_image, torn_called, torn_told, unread_called}
 use Rattle.std.specs.Prelude.{[], Err}
 use Rattle.store_requests.proofs.Moments.{read_leaves}
-use Rattle.store_requests.proofs.BankAsked.{asked_restore, read_outcome}
+use Rattle.store_requests.proofs.BankCalls.{bank_calls_restore, read_outcome}
 use Rattle.store_requests.proofs.own_blocks.restore_into.Goals as goal
 
 pub returns-in-Ok-clause-effect : goal.returns-in-Ok-clause-effect
@@ -60,22 +60,22 @@ returns-in-Err-Torn-clause-gave g c = λ tells blocks stands went b there.
 pub returns-clause-gave : goal.returns-clause-gave
 returns-clause-gave g c = λ tells blocks stands went. absurd (cc (went, ap (λ (n : BankNote). n.outcome) c.broken.ensures.note_is))
 
-pub returns-in-Ok-clause-asked : goal.returns-in-Ok-clause-asked
-returns-in-Ok-clause-asked g c =
+pub returns-in-Ok-clause-bank_calls : goal.returns-in-Ok-clause-bank_calls
+returns-in-Ok-clause-bank_calls g c =
     let old = c.args.store.now in
-    asked_restore g.B.Bank old.bank c.restore.new.self.bank old.slots c.args.slot (length c.args.image.now) c.given.result.note c.restore.result c.requires.own c.restore.ensures.asked
+    bank_calls_restore g.B.Bank old.bank c.restore.new.self.bank old.slots c.args.slot (length c.args.image.now) c.given.result.note c.restore.result c.requires.own c.restore.ensures.bank_calls
     (ap (λ (n : BankNote). n.outcome) c.given.ensures.told.note_is ∙ sym (ap read_outcome c.in-Ok.is))
 
-pub returns-in-Err-Torn-clause-asked : goal.returns-in-Err-Torn-clause-asked
-returns-in-Err-Torn-clause-asked g c =
+pub returns-in-Err-Torn-clause-bank_calls : goal.returns-in-Err-Torn-clause-bank_calls
+returns-in-Err-Torn-clause-bank_calls g c =
     let old = c.args.store.now in
     let arm = c.in-Err-Torn in
     let is : arm.field-0 ≡ Torn arm.field-0-0 arm.kept arm.found = search rules in
-    asked_restore g.B.Bank old.bank c.restore.new.self.bank old.slots c.args.slot (length c.args.image.now) c.torn.result.note c.restore.result c.requires.own c.restore.ensures.asked
+    bank_calls_restore g.B.Bank old.bank c.restore.new.self.bank old.slots c.args.slot (length c.args.image.now) c.torn.result.note c.restore.result c.requires.own c.restore.ensures.bank_calls
     (ap (λ (n : BankNote). n.outcome) c.torn.ensures.note_is ∙ sym (ap read_outcome arm.is ∙ ap (λ (f : RestoreFault). read_outcome (Err f)) is))
 
-pub returns-clause-asked : goal.returns-clause-asked
-returns-clause-asked g c =
+pub returns-clause-bank_calls : goal.returns-clause-bank_calls
+returns-clause-bank_calls g c =
     let old = c.args.store.now in
-    asked_restore g.B.Bank old.bank c.restore.new.self.bank old.slots c.args.slot (length c.args.image.now) c.broken.result.note c.restore.result c.requires.own c.restore.ensures.asked
+    bank_calls_restore g.B.Bank old.bank c.restore.new.self.bank old.slots c.args.slot (length c.args.image.now) c.broken.result.note c.restore.result c.requires.own c.restore.ensures.bank_calls
     (ap (λ (n : BankNote). n.outcome) c.broken.ensures.note_is ∙ sym (ap read_outcome c.in-Err-Fault.is ∙ ap (λ (f : RestoreFault). read_outcome (Err f)) c.in-Err-Fault.field-0-is))

@@ -8,9 +8,9 @@ use Rattle.table_update.specs.Answers.{updated}
 use Rattle.table_requests.proofs.activations.update.Goals as goal
 
 -- the tables have the time of the update, if it was made
-stamped : (s : State) (row : ℕ) (t : Table) (answer : Answer) (old new : Tables) (seconds sub : ℕ) → s.seconds ≡ seconds → s.sub ≡ sub
+timed : (s : State) (row : ℕ) (t : Table) (answer : Answer) (old new : Tables) (seconds sub : ℕ) → s.seconds ≡ seconds → s.sub ≡ sub
     → new ≡ cond (is_success answer.status) (set_time row seconds sub old) old → (updated s row t answer old).next ≡ record s { tables = new }
-stamped s row t answer old new seconds sub same_seconds same_sub = by (is_success answer.status) _ _ refl refl
+timed s row t answer old new seconds sub same_seconds same_sub = by (is_success answer.status) _ _ refl refl
   where
     by : (b : Bool) (made refused : model.Effect) → made.next ≡ record s { tables = set_time row s.seconds s.sub old } → refused.next ≡ record s { tables = old }
         → new ≡ cond b (set_time row seconds sub old) old → (cond b made refused).next ≡ record s { tables = new }
@@ -25,4 +25,4 @@ returns-clause-effect c = λ s same_tables same_seconds same_sub t there.
     let is = c.made.ensures.effect s c.args.row t old (c.named-table.ensures t there) (c.activated-active.ensures t there) in
     let time = c.set_update_time.ensures ∙ ap (λ b. cond b (set_time c.args.row c.args.clock.seconds c.args.clock.sub old) old) c.eq.ensures in
     rw (c.update-answer.ensures.effect s same_tables t there)
-    (rw (stamped s c.args.row t answer old new c.args.clock.seconds c.args.clock.sub same_seconds same_sub time) at is)
+    (rw (timed s c.args.row t answer old new c.args.clock.seconds c.args.clock.sub same_seconds same_sub time) at is)

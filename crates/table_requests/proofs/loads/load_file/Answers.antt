@@ -23,7 +23,7 @@ returns-in-Ok-clause-effect g c = IfOk-weaker c.load_part.result _ _ (λ done is
     let found : contents_of s.drawer name ≡ Some contents = ap (λ (drawer : List File). contents_of drawer name) same_drawer ∙ sym c.in-Some-get.ensures in
     let read : with_image parsed c.split_at.result.1.now ≡ table_file_in contents = ap (with_image parsed) c.split_at.ensures.back ∙ c.in-Ok.ensures.file in
     let whole = of_file s name contents (closed_refusal t) effect (sym (c.in_default.ensures t there)) found (ap (λ (admit : Admitted). file_flaw admit contents) same_lists ∙ c.in-Ok.ensures.ok) in
-    subst (λ (e : model.Effect). IsEffect done e.asked (record s { tables = c.load_part.new.tables }) e) (ap effect read ∙ sym whole) (is s same_tables same_seconds same_sub t there)) c.load_part.ensures.effect
+    subst (λ (e : model.Effect). IsEffect done e.questions (record s { tables = c.load_part.new.tables }) e) (ap effect read ∙ sym whole) (is s same_tables same_seconds same_sub t there)) c.load_part.ensures.effect
 
 pub returns-in-Ok-clause-asks : goal.returns-in-Ok-clause-asks
 returns-in-Ok-clause-asks g c = IfOk-weaker c.load_part.result _ _ (λ done is s same_tables same_drawer same_lists t there.
@@ -34,7 +34,7 @@ returns-in-Ok-clause-asks g c = IfOk-weaker c.load_part.result _ _ (λ done is s
     let found : contents_of s.drawer name ≡ Some contents = ap (λ (drawer : List File). contents_of drawer name) same_drawer ∙ sym c.in-Some-get.ensures in
     let read : with_image parsed c.split_at.result.1.now ≡ table_file_in contents = ap (with_image parsed) c.split_at.ensures.back ∙ c.in-Ok.ensures.file in
     let whole = of_file s name contents (closed_refusal t) effect (sym (c.in_default.ensures t there)) found (ap (λ (admit : Admitted). file_flaw admit contents) same_lists ∙ c.in-Ok.ensures.ok) in
-    subst (λ (e : model.Effect). WasAsked g.C.Validator.verdict g.C.Validator.asked c.args.kit.now c.load_part.new.kit e.asked done.verdicts) (ap effect read ∙ sym whole) (is s same_tables t there)) c.load_part.ensures.asks
+    subst (λ (e : model.Effect). WasAsked g.C.Validator.verdict g.C.Validator.asked c.args.kit.now c.load_part.new.kit e.questions done.verdicts) (ap effect read ∙ sym whole) (is s same_tables t there)) c.load_part.ensures.asks
 
 pub returns-in-Err-clause-asks : goal.returns-in-Err-clause-asks
 returns-in-Err-clause-asks g c = λ s same_tables same_drawer same_lists t there.

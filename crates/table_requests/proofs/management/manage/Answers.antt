@@ -3,11 +3,11 @@ use Rattle.tbl_model.specs.Tables.{table_at}
 use Rattle.tbl_model.specs.TableSteps.{set_time}
 use Rattle.tbl_model.specs.Effects as model
 use Rattle.tbl_model.specs.Management.{all_done}
-use Rattle.tbl_model.specs.declared.deeds.Named.{Named}
+use Rattle.tbl_model.specs.declared.telemetry.Named.{Named}
 use Rattle.table_update.specs.Answers.{asked_by, is_updated}
 use Rattle.request_effects.specs.Effects.{IsEffect, given_of}
-use Rattle.table_requests.specs.Managed.{managed_deeds}
-use Rattle.table_requests.proofs.Managing.{asked_when_managed, is_managed}
+use Rattle.table_requests.specs.Managed.{managed_events}
+use Rattle.table_requests.proofs.Managing.{questions_when_managed, is_managed}
 use Rattle.table_requests.proofs.Places.{some_is}
 use Rattle.table_requests.proofs.Kits.{same_owners}
 use Rattle.table_requests.proofs.management.manage.Goals as goal
@@ -18,19 +18,19 @@ returns-clause-effect g c = λ s same_tables same_pending same_seconds same_sub 
     let m = c.manage-done.result in
     let old = c.manage-done.new.tables in
     let name = ap (λ (n : Named). n.name) (c.named-name.ensures t there) in
-    let deeds = c.told.ensures.deeds ∙ ap (λ n. managed_deeds row n m c.activated-active.result) name ∙ ap (managed_deeds row t.name m) (c.activated-active.ensures t there) in
+    let events = c.told.ensures.events ∙ ap (λ n. managed_events row n m c.activated-active.result) name ∙ ap (managed_events row t.name m) (c.activated-active.ensures t there) in
     let made = c.set_update_time.ensures ∙ ap (λ b. cond b (set_time row c.args.clock.seconds c.args.clock.sub old) old) c.eq.ensures in
     let time = made ∙ ap (λ seconds. cond (is_updated m.answer) (set_time row seconds c.args.clock.sub old) old) (sym same_seconds) ∙ ap (λ sub. cond (is_updated m.answer) (set_time row s.seconds sub old) old) (sym same_sub) in
-    subst (λ (e : model.Effect). IsEffect c.told.result e.asked (record s { tables = c.set_update_time.new.tables; pending = c.manage-done.new.pending }) e)
+    subst (λ (e : model.Effect). IsEffect c.told.result e.questions (record s { tables = c.set_update_time.new.tables; pending = c.manage-done.new.pending }) e)
     (sym (c.manage-done.ensures.effect s (given_of c.told.result) same_tables same_pending c.told.ensures.verdicts t there))
-    (is_managed s row t m old c.set_update_time.new.tables c.manage-done.new.pending c.told.result c.told.ensures.answer c.told.ensures.bytes c.told.ensures.table deeds c.told.ensures.shown c.told.ensures.notice time)
+    (is_managed s row t m old c.set_update_time.new.tables c.manage-done.new.pending c.told.result c.told.ensures.answer c.told.ensures.bytes c.told.ensures.table events c.told.ensures.shown c.told.ensures.notice time)
 
 pub returns-clause-asks : goal.returns-clause-asks
 returns-clause-asks g c = λ s same_tables same_pending t there.
     let m = c.manage-done.result in
     let is = c.manage-done.ensures.effect s (given_of c.told.result) same_tables same_pending c.told.ensures.verdicts t there in
-    let same : (all_done s (given_of c.told.result) c.args.row).asked ≡ asked_by t m.first ++ asked_by t m.second =
-    ap (λ (e : model.Effect). e.asked) is ∙ asked_when_managed s c.args.row t m c.manage-done.new.tables c.manage-done.new.pending in
+    let same : (all_done s (given_of c.told.result) c.args.row).questions ≡ asked_by t m.first ++ asked_by t m.second =
+    ap (λ (e : model.Effect). e.questions) is ∙ questions_when_managed s c.args.row t m c.manage-done.new.tables c.manage-done.new.pending in
     rw (same, c.told.ensures.verdicts) (c.manage-done.ensures.asked t there)
 
 pub returns-clause-owners : goal.returns-clause-owners

@@ -2,7 +2,7 @@ use Rattle.std.proofs.Common.{rules}
 use Rattle.tbl_model.specs.Tables.{table_at}
 use Rattle.tbl_model.specs.Effects.{answered}
 use Rattle.tbl_model.specs.Sharing.{send_registry_effect}
-use Rattle.tbl_model.specs.declared.deeds.Shown.TheVariants.{Registry}
+use Rattle.tbl_model.specs.declared.telemetry.Shown.TheVariants.{Registry}
 use Rattle.tbl_kinds.specs.declared.status.TheConstants.Status.{SUCCESS}
 use Rattle.table_requests.proofs.Places.{some_is}
 use Rattle.table_requests.proofs.registry.send_registry.Goals as goal

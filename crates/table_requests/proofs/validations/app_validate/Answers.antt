@@ -1,5 +1,5 @@
 use Rattle.std.proofs.Common.{refl, sym, ap}
-use Rattle.tbl_model.specs.declared.deeds.Named.{Named}
+use Rattle.tbl_model.specs.declared.telemetry.Named.{Named}
 use Rattle.tbl_model.specs.Tables.{table_at}
 use Rattle.request_effects.specs.Effects.{seen_at, given_of}
 use Rattle.table_requests.proofs.Places.{some_is}

@@ -1,6 +1,6 @@
 use Rattle.std.proofs.Common.{◌≡◌, sym, ap, Some}
 use Rattle.tbl_model.specs.Validations.{selected}
-use Rattle.tbl_model.specs.declared.deeds.Named.{Named}
+use Rattle.tbl_model.specs.declared.telemetry.Named.{Named}
 use Rattle.table_requests.proofs.validations.validate_found.Goals as goal
 
 pub returns-clause-effect : goal.returns-clause-effect

@@ -2,7 +2,7 @@ use Rattle.std.proofs.Common.{◌≡◌, ◌∙◌, ◌-◌, ◌^◌, sym, ap, r
 use Rattle.tbl_model.specs.Tables.{table_at}
 use Rattle.validation.proofs.Asking.{few_left}
 use Rattle.validation.proofs.Ready.{some_is}
-use Rattle.tbl_model.specs.Management.{nothing_done, is_asked}
+use Rattle.tbl_model.specs.Management.{nothing_done, is_requested}
 use Rattle.tbl_model.specs.Refusals.{update_refusal}
 use Rattle.table_update.specs.Answers.{asked_by, verdicts_of, marked_by, then_judged, with_tables, bits_of}
 use Rattle.table_update.proofs.Managing.{first_verdict, second_verdict, function_there, none_told, marked_table, marked_there, same_refusal, managed_is, one_at_most, asked_in_turn, update_has_functions, fill_has_functions, update_leaves_dump, mark_leaves_dump, marked_few, first_stays}
@@ -36,7 +36,7 @@ returns-clause-effect g c = λ s given same_tables same_pending is t there.
     let there_two : table_at two row ≡ Some (marked_table second t) = rw tables_two (marked_there row t c.args.tables.now second there) in
     let same : update_refusal two row (marked_table second t) ≡ update_refusal s.tables row t = rw (tables_two, same_tables) (same_refusal row t c.args.tables.now second there) in
     let behind = update_leaves_dump row two c.take_update-refusal.new.tables (marked_table second t) c.take_update-refusal.result c.take_update-refusal.ensures.updated c.take_update-refusal.ensures.refused there_two in
-    let dump : is_asked t.dump ≡ c.fill_pending-filled.result = ap is_asked (sym (mark_leaves_dump second t) ∙ sym behind.2) ∙ sym (c.fill_pending-filled.ensures.filled behind.0 behind.1) in
+    let dump : is_requested t.dump ≡ c.fill_pending-filled.result = ap is_requested (sym (mark_leaves_dump second t) ∙ sym behind.2) ∙ sym (c.fill_pending-filled.ensures.filled behind.0 behind.1) in
     rw (step_one, step_two)
     (managed_is s given row t first second one two c.take_update-refusal.new.tables p q there_two c.fill_pending-filled.result dump c.take_update-refusal.result c.update_answer.result c.did.result c.fill_pending-filled.new.tables
     (c.take_update-refusal.ensures.refusal (marked_table second t) there_two) same c.take_update-refusal.ensures.updated c.take_update-refusal.ensures.refused c.fill_pending-filled.ensures.tables c.update_answer.ensures

@@ -12,7 +12,7 @@ returns-clause-pending c =
 
 pub returns-clause-loads : goal.returns-clause-loads
 returns-clause-loads c = λ all.
-    rw c.ask.ensures (loads_keep c.args.tables.now c.args.row _ (λ t there has asked. (may_ask c.args.pending.now c.args.row t (sym (c.in_default.ensures t there))).0) all)
+    rw c.ask.ensures (loads_keep c.args.tables.now c.args.row _ (λ t there has requested. (may_ask c.args.pending.now c.args.row t (sym (c.in_default.ensures t there))).0) all)
 
 pub returns-clause-functions : goal.returns-clause-functions
 returns-clause-functions c = rw c.ask.ensures (functions_stay c.args.tables.now c.args.row _ (λ t. refl))

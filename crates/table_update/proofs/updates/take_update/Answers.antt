@@ -13,12 +13,12 @@ activate-requires-clause-unlocked c = λ t there. (may_update c.args.tables.now 
 pub returns-clause-pending : goal.returns-clause-pending
 returns-clause-pending c = λ pending all.
     let t = some_is (table_at c.args.tables.now c.args.row) c.requires.table in
-    let asked = (may_update c.args.tables.now c.args.row t.0 (sym (c.in_default.ensures t.0 t.1))).0 in
+    let requested = (may_update c.args.tables.now c.args.row t.0 (sym (c.in_default.ensures t.0 t.1))).0 in
     rw c.activate.ensures.tables
-    (change_keeps c.args.tables.now c.args.row _ pending (λ u has. has) (λ u count. omega arith) (none_pending c.args.tables.now c.args.row t.0 pending t.1 asked all) all)
+    (change_keeps c.args.tables.now c.args.row _ pending (λ u has. has) (λ u count. omega arith) (none_pending c.args.tables.now c.args.row t.0 pending t.1 requested all) all)
 
 pub returns-clause-loads : goal.returns-clause-loads
-returns-clause-loads c = λ all. rw c.activate.ensures.tables (loads_keep c.args.tables.now c.args.row _ (λ t there has asked. absurd (cc asked)) all)
+returns-clause-loads c = λ all. rw c.activate.ensures.tables (loads_keep c.args.tables.now c.args.row _ (λ t there has requested. absurd (cc requested)) all)
 
 pub returns-clause-functions : goal.returns-clause-functions
 returns-clause-functions c = rw c.activate.ensures.tables (functions_stay c.args.tables.now c.args.row _ (λ t. refl))

@@ -1,5 +1,5 @@
 use Rattle.std.proofs.Common.{◌∙◌, sym, pos}
-use Rattle.validation.proofs.Ready.{judged_keeps, asked_keeps, is_there, mark_leaves_functions}
+use Rattle.validation.proofs.Ready.{judged_keeps, request_keeps, is_there, mark_leaves_functions}
 use Rattle.table_update.proofs.Missing.{nothing_missing}
 use Rattle.table_update.proofs.validations.request_validation.Goals as goal
 
@@ -12,7 +12,7 @@ returns-then-not-has_function-clause-pending c =
 
 pub returns-in-None-clause-pending : goal.returns-in-None-clause-pending
 returns-in-None-clause-pending c =
-    rw (c.in-None.ensures.asked) (asked_keeps c.args.tables.now c.args.row c.args.active c.args.pending.now c.requires.pending
+    rw (c.in-None.ensures.pending) (request_keeps c.args.tables.now c.args.row c.args.active c.args.pending.now c.requires.pending
     (c.requires.table, λ t there. (is_there t.validator (sym (c.has_function.ensures t there) ∙ c.if-not-has_function.false), nothing_missing t c.args.active (sym (c.in_default.ensures t there)))))
 
 pub returns-then-not-has_function-clause-functions : goal.returns-then-not-has_function-clause-functions

@@ -1,5 +1,5 @@
 use Rattle.std.proofs.Common.{Some, refl, sym, ◌∙◌, Ok}
-use Rattle.tbl_crew.specs.Holding.{Holding}
+use Rattle.tbl_crew.specs.CrewView.{CrewView}
 use Rattle.tbl_crew.specs.Turns.{Takes}
 use Rattle.tbl_crew.proofs.TurnLemmas.{may_fit, goes_on_with, goes_on_broken, was_none, goes_live, leads_on, leads_broken}
 use Rattle.tbl_history.proofs.Laws.{Laws}
@@ -7,15 +7,15 @@ use Rattle.tbl_crew.proofs.held.turn_fields.Goals as goal
 
 pub step-requires-clause-fits : goal.step-requires-clause-fits
 step-requires-clause-fits g c =
-    let old : Holding g.row.B.Denot g.row.C.Denot = record { core = c.args.core.now; fault = c.args.fault.now; left = c.args.left.now } in
-    let new : Holding g.row.B.Denot g.row.C.Denot = record { core = c.args.core.now; fault = c.args.fault.now; left = c.next.new.self } in
+    let old : CrewView g.row.B.Denot g.row.C.Denot = record { core = c.args.core.now; fault = c.args.fault.now; left = c.args.left.now } in
+    let new : CrewView g.row.B.Denot g.row.C.Denot = record { core = c.args.core.now; fault = c.args.fault.now; left = c.next.new.self } in
     rw c.actor_of.ensures (may_fit g.B.Bank old new c.args.actor c.in-Some.request c.requires.goes_on c.requires.actor (record { next = c.in-Some.ensures.0; others = c.in-Some.ensures.1 }))
 
 pub returns-in-Ok-clause-goes_on : goal.returns-in-Ok-clause-goes_on
 returns-in-Ok-clause-goes_on g c =
     let b = g.B.Bank in
-    let old : Holding g.row.B.Denot g.row.C.Denot = record { core = c.args.core.now; fault = c.args.fault.now; left = c.args.left.now } in
-    let new : Holding g.row.B.Denot g.row.C.Denot = record { core = c.step.new.self; fault = c.args.fault.now; left = c.next.new.self } in
+    let old : CrewView g.row.B.Denot g.row.C.Denot = record { core = c.args.core.now; fault = c.args.fault.now; left = c.args.left.now } in
+    let new : CrewView g.row.B.Denot g.row.C.Denot = record { core = c.step.new.self; fault = c.args.fault.now; left = c.next.new.self } in
     let takes : Takes old new c.args.actor c.in-Some.request = record { next = c.in-Some.ensures.0; others = c.in-Some.ensures.1 } in
     let went = was_none c.args.fault.now (sym c.is_some.ensures ∙ c.if-is_some.false) in
     goes_on_with b old new c.args.actor c.in-Some.request c.requires.goes_on c.requires.actor takes (Ok tt) (rw (← c.actor_of.ensures) c.in-Ok.ensures.adds)
@@ -24,8 +24,8 @@ returns-in-Ok-clause-goes_on g c =
 pub returns-in-Ok-clause-leads : goal.returns-in-Ok-clause-leads
 returns-in-Ok-clause-leads g c =
     let b = g.B.Bank in
-    let old : Holding g.row.B.Denot g.row.C.Denot = record { core = c.args.core.now; fault = c.args.fault.now; left = c.args.left.now } in
-    let new : Holding g.row.B.Denot g.row.C.Denot = record { core = c.step.new.self; fault = c.args.fault.now; left = c.next.new.self } in
+    let old : CrewView g.row.B.Denot g.row.C.Denot = record { core = c.args.core.now; fault = c.args.fault.now; left = c.args.left.now } in
+    let new : CrewView g.row.B.Denot g.row.C.Denot = record { core = c.step.new.self; fault = c.args.fault.now; left = c.next.new.self } in
     let takes : Takes old new c.args.actor c.in-Some.request = record { next = c.in-Some.ensures.0; others = c.in-Some.ensures.1 } in
     let went = was_none c.args.fault.now (sym c.is_some.ensures ∙ c.if-is_some.false) in
     let laws : Laws b = record { tells_both = g.met.B.Bank.tells_both; leaves_now = g.met.B.Bank.leaves_now; leaves_only_now = g.met.B.Bank.leaves_only_now; counts_now = g.met.B.Bank.counts_now } in
@@ -36,8 +36,8 @@ returns-in-Ok-clause-leads g c =
 pub returns-in-Err-clause-goes_on : goal.returns-in-Err-clause-goes_on
 returns-in-Err-clause-goes_on g c =
     let b = g.B.Bank in
-    let old : Holding g.row.B.Denot g.row.C.Denot = record { core = c.args.core.now; fault = c.args.fault.now; left = c.args.left.now } in
-    let new : Holding g.row.B.Denot g.row.C.Denot = record { core = c.step.new.self; fault = Some c.in-Err.cause; left = c.next.new.self } in
+    let old : CrewView g.row.B.Denot g.row.C.Denot = record { core = c.args.core.now; fault = c.args.fault.now; left = c.args.left.now } in
+    let new : CrewView g.row.B.Denot g.row.C.Denot = record { core = c.step.new.self; fault = Some c.in-Err.cause; left = c.next.new.self } in
     let takes : Takes old new c.args.actor c.in-Some.request = record { next = c.in-Some.ensures.0; others = c.in-Some.ensures.1 } in
     let went = was_none c.args.fault.now (sym c.is_some.ensures ∙ c.if-is_some.false) in
     goes_on_broken b old new c.args.actor c.in-Some.request c.requires.goes_on c.requires.actor takes c.in-Err.cause refl (goes_live old c.requires.goes_on went)
@@ -46,8 +46,8 @@ returns-in-Err-clause-goes_on g c =
 pub returns-in-Err-clause-leads : goal.returns-in-Err-clause-leads
 returns-in-Err-clause-leads g c =
     let b = g.B.Bank in
-    let old : Holding g.row.B.Denot g.row.C.Denot = record { core = c.args.core.now; fault = c.args.fault.now; left = c.args.left.now } in
-    let new : Holding g.row.B.Denot g.row.C.Denot = record { core = c.step.new.self; fault = Some c.in-Err.cause; left = c.next.new.self } in
+    let old : CrewView g.row.B.Denot g.row.C.Denot = record { core = c.args.core.now; fault = c.args.fault.now; left = c.args.left.now } in
+    let new : CrewView g.row.B.Denot g.row.C.Denot = record { core = c.step.new.self; fault = Some c.in-Err.cause; left = c.next.new.self } in
     let takes : Takes old new c.args.actor c.in-Some.request = record { next = c.in-Some.ensures.0; others = c.in-Some.ensures.1 } in
     let went = was_none c.args.fault.now (sym c.is_some.ensures ∙ c.if-is_some.false) in
     let laws : Laws b = record { tells_both = g.met.B.Bank.tells_both; leaves_now = g.met.B.Bank.leaves_now; leaves_only_now = g.met.B.Bank.leaves_only_now; counts_now = g.met.B.Bank.counts_now } in

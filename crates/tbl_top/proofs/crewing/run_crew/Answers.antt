@@ -2,7 +2,7 @@ use Rattle.std.proofs.Common.{refl}
 use Rattle.tbl_session.specs.Orders.{ByActor}
 use Rattle.tbl_session.specs.Session.{opening_of, ran}
 use Rattle.tbl_history.proofs.Laws.{Laws}
-use Rattle.tbl_top.proofs.CrewLemmas.{nothing_asked}
+use Rattle.tbl_top.proofs.CrewLemmas.{nothing_requested}
 use Rattle.tbl_top.proofs.SessionLemmas.{unbegun, first_opening}
 use Rattle.tbl_top.proofs.crewing.run_crew.Goals as goal
 
@@ -14,7 +14,7 @@ returns-in-Err-clause-session g c =
     let laws : Laws b = record { tells_both = met.tells_both; leaves_now = met.leaves_now; leaves_only_now = met.leaves_only_now; counts_now = met.counts_now } in
     unbegun ByActor b laws g.C.Validator.verdict (opening_of b c.args.bank kit c.args.admit) (first_opening (b.now c.args.bank) kit c.args.admit)
     (ran g.S.Source g.K.Sink (c.args.source.now, c.args.sink.now) (c.args.source.now, c.finish_unbegun.new.sink) (c.finish_unbegun.result, c.in-Err.field-0.bank))
-    refl c.in-Err.ensures.crash_err (nothing_asked c.finish_unbegun.result) c.in-Err.field-0.cause c.in-Err.ensures.cause c.finish_unbegun.ensures.finishes
+    refl c.in-Err.ensures.crash_err (nothing_requested c.finish_unbegun.result) c.in-Err.field-0.cause c.in-Err.ensures.cause c.finish_unbegun.ensures.finishes
 
 pub returns-in-Ok-clause-session : goal.returns-in-Ok-clause-session
 returns-in-Ok-clause-session g c =

@@ -1,4 +1,4 @@
-use Rattle.tbl_core.specs.Service.{StandsFor}
+use Rattle.tbl_core.specs.Service.{FollowsFrom}
 use Rattle.tbl_core.proofs.Functions.{seldom_asked}
 use Rattle.tbl_core.proofs.Vouching.{vouch_first}
 use Rattle.std.proofs.Common.{◌∙◌}
@@ -19,7 +19,7 @@ returns-clause-serves g c =
     let kit = c.args.kit.items in
     let started = c.in_ok-start.ensures in
     let laws : Laws b = record { tells_both = g.met.B.Bank.tells_both; leaves_now = g.met.B.Bank.leaves_now; leaves_only_now = g.met.B.Bank.leaves_only_now; counts_now = g.met.B.Bank.counts_now } in
-    let stands : StandsFor b (state_from (b.now c.args.bank) kit c.args.admit) c.in_ok-start.field-0 = rw (← c.in-Ok.ensures) started.stands in
+    let stands : FollowsFrom b (state_from (b.now c.args.bank) kit c.args.admit) c.in_ok-start.field-0 = rw (← c.in-Ok.ensures) started.stands in
     record {
       first = first_opening (b.now c.args.bank) kit c.args.admit;
       vouches = vouch_first g.C.Validator.verdict b (given_of kit) (state_from (b.now c.args.bank) kit c.args.admit) c.in_ok-start.field-0 started.empty (started.kit ∙ c.in-Ok.ensures) stands;

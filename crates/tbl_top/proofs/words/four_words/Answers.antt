@@ -3,9 +3,9 @@ use Rattle.tbl_top.proofs.WordsLemmas.{of_play, of_crew, of_no_lists}
 use Rattle.tbl_top.proofs.words.four_words.Goals as goal
 
 pub returns-in_err-admit : goal.returns-in_err-admit
-returns-in_err-admit c = λ asked admit. (
+returns-in_err-admit c = λ requested admit. (
   λ is. absurd (cc (c.from_residual.ensures, is)),
-  λ spells. c.from_residual.ensures ∙ of_no_lists _ _ _ _ c.read_admit.result c.in_err-admit.was c.read_admit.ensures asked admit spells,
+  λ spells. c.from_residual.ensures ∙ of_no_lists _ _ _ _ c.read_admit.result c.in_err-admit.was c.read_admit.ensures requested admit spells,
 )
 
 pub returns-then-eq : goal.returns-then-eq

@@ -2,7 +2,7 @@ use Rattle.std.proofs.Common.{sym, subst}
 use Rattle.tbl_outside.specs.Bank.{LeavesOnly}
 use Rattle.cds_store.specs.Boots.{BeginsAt}
 use Rattle.cds_store.specs.Moments.{BootLeaves}
-use Rattle.cds_store.specs.Standing.{StoreParts}
+use Rattle.cds_store.specs.StoreBlocks.{StoreParts}
 use Rattle.cds_store.proofs.Settled.{begins_kept}
 use Rattle.cds_store.proofs.store.Store.boot.Goals as goal
 

@@ -1,7 +1,7 @@
 use Rattle.std.proofs.Common.{◌≡◌, Some, None, List, Option, subst, sym}
 use Rattle.std.proofs.lemmas.Result.{on_ok_weaker}
 use Rattle.cds_store.specs.Slots.{open_slot, doubtful_slot}
-use Rattle.cds_store.specs.Standing.{StoreParts}
+use Rattle.cds_store.specs.StoreBlocks.{StoreParts}
 use Rattle.cds_store.specs.declared.slot.Slot.{Slot}
 use Rattle.cds_store.proofs.Alone.{alone}
 use Rattle.cds_store.proofs.store.Store.delete_block.Goals as goal

@@ -5,7 +5,7 @@ use Rattle.tbl_model.specs.AppBlocks.{cds_register_effect, cds_copy_effect, cds_
 use Rattle.store_requests.specs.Called.{with_boot, Calls}
 use Rattle.tbl_core.proofs.StoreRequests.{call_makes, call_meets, block_makes, block_meets}
 use Rattle.tbl_core.proofs.Restoring.{register_holds, copy_holds, restore_holds, delete_holds}
-use Rattle.tbl_core.specs.Service.{held_of, state_of}
+use Rattle.tbl_core.specs.Service.{parts_view, state_of}
 use Rattle.store_requests.proofs.Both.{both, three}
 use Rattle.tbl_core.proofs.parts.Parts.app_store_request.Goals as goal
 
@@ -66,7 +66,7 @@ pub returns-in-Register-clause-makes : goal.returns-in-Register-clause-makes
 returns-in-Register-clause-makes g c =
     let b = g.B.Bank in
     both c.register.result _ _ _ c.register.ensures.call c.register.ensures.fit (λ done call fit. call_makes b g.C.Validator _ _ c.args.request.now done refl c.requires.live call
-    (λ n was. fit (state_of (held_of c.args.self.now)) n refl refl was))
+    (λ n was. fit (state_of (parts_view c.args.self.now)) n refl refl was))
 
 pub returns-in-Register-clause-meets : goal.returns-in-Register-clause-meets
 returns-in-Register-clause-meets g c =

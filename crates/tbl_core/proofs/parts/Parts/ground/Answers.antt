@@ -12,7 +12,7 @@ returns-in-File-clause-does g c = both c.file.result _ _ _ c.file.ensures.effect
     (λ s stands. let e = is s stands.drawer in search rules) refl quiet)
 
 pub returns-in-Some-clause-does : goal.returns-in-Some-clause-does
-returns-in-Some-clause-does g c = three c.command.result _ _ _ _ c.command.ensures.effect c.command.ensures.within c.command.ensures.given (λ done is within given.
+returns-in-Some-clause-does g c = three c.ground_command.result _ _ _ _ c.ground_command.ensures.effect c.ground_command.ensures.within c.ground_command.ensures.given (λ done is within given.
     let none = none_judged g.C.Validator in
     plainly g.C.Validator _ _ _ _ done
     (λ s stands. let e = is s stands.tables stands.pending stands.drawer stands.admit stands.seconds stands.sub in search rules)

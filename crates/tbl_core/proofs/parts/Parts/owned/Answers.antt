@@ -54,7 +54,7 @@ returns-in-Update-clause-does g c =
       effect = λ s stands. rw (ap (λ (tables : Tables). table_at tables c.args.row) stands.tables ∙ t.1, c.in-Update.is)
           (leaves_of s.store c.update.result _ _ _ _ (c.update.ensures.effect s stands.tables stands.seconds stands.sub t.0 t.1) (record { tables = refl; pending = stands.pending; store = refl; drawer = stands.drawer; apps = stands.apps; kit = stands.kit; admit = stands.admit; seconds = stands.seconds; sub = stands.sub; ended = stands.ended }));
       judged = λ s stands. rw (ap (λ (tables : Tables). table_at tables c.args.row) stands.tables ∙ t.1, c.in-Update.is)
-          (none_judged g.C.Validator _ _ _ _ (c.update.ensures.effect s stands.tables stands.seconds stands.sub t.0 t.1).asked given);
+          (none_judged g.C.Validator _ _ _ _ (c.update.ensures.effect s stands.tables stands.seconds stands.sub t.0 t.1).questions given);
       store = refl;
       note = ap (λ (given : Given). given.note) given;
       two = ap (λ (given : Given). length given.verdicts) given;
@@ -67,7 +67,7 @@ returns-in-Edit-clause-does g c = both c.edit.result _ _ _ c.edit.ensures.effect
       effect = λ s stands. rw (ap (λ (tables : Tables). table_at tables c.args.row) stands.tables ∙ t.1, c.in-Edit.is, ← c.bytes.ensures)
           (leaves_of s.store done _ _ _ _ (effect s stands.tables t.0 t.1) (record { tables = refl; pending = stands.pending; store = refl; drawer = stands.drawer; apps = stands.apps; kit = stands.kit; admit = stands.admit; seconds = stands.seconds; sub = stands.sub; ended = stands.ended }));
       judged = λ s stands. rw (ap (λ (tables : Tables). table_at tables c.args.row) stands.tables ∙ t.1, c.in-Edit.is, ← c.bytes.ensures)
-          (none_judged g.C.Validator _ _ _ _ (effect s stands.tables t.0 t.1).asked quiet.given);
+          (none_judged g.C.Validator _ _ _ _ (effect s stands.tables t.0 t.1).questions quiet.given);
       store = refl;
       note = ap (λ (given : Given). given.note) quiet.given;
       two = ap (λ (given : Given). length given.verdicts) quiet.given;

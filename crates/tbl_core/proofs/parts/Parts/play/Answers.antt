@@ -1,7 +1,7 @@
 use Rattle.std.proofs.Common.{refl, sym, ap, subst, ◌∙◌}
 use Rattle.tbl_model.specs.Dispatch.{effect_of}
 use Rattle.tbl_core.specs.Log.{Logged}
-use Rattle.tbl_core.specs.Service.{Held, step_of, Finishes, IsMade, held_of}
+use Rattle.tbl_core.specs.Service.{PartsView, step_of, Finishes, IsMade, parts_view}
 use Rattle.request_effects.specs.declared.effect.Effect.{Effect}
 use Rattle.tbl_core.proofs.BootedAfter.{is_made}
 use Rattle.tbl_core.proofs.Steps.{did_play, played}
@@ -16,11 +16,11 @@ returns-clause-plays g c =
     let before = boot.new.self.log in
     let after = c.finish.new.self.log in
     let clock = c.args.self.now.clock in
-    let old = held_of c.args.self.now in
-    let left = is_made b v _ old (held_of c.effect.new.self) (held_of boot.new.self) c.args.request (λ s given. effect_of s c.args.actor c.args.request given) c.in-Ok-effect.effect done.note
+    let old = parts_view c.args.self.now in
+    let left = is_made b v _ old (parts_view c.effect.new.self) (parts_view boot.new.self) c.args.request (λ s given. effect_of s c.args.actor c.args.request given) c.in-Ok-effect.effect done.note
     c.in-Ok-effect.ensures.makes c.in-Ok-effect.ensures.meets boot.ensures.note boot.ensures.held boot.ensures.boots boot.ensures.found boot.ensures.moments boot.ensures.trouble boot.ensures.booted in
-    let told = subst (λ (e : Effect). IsMade b v (step_of old (held_of boot.new.self) c.args.request) (λ s given. effect_of s c.args.actor c.args.request given) e) (sym boot.ensures.effect) left in
-    let made = subst (λ (h : Held _ _). IsMade b v (step_of old h c.args.request) (λ s given. effect_of s c.args.actor c.args.request given) done) (sym c.finish.ensures.stays) told in
+    let told = subst (λ (e : Effect). IsMade b v (step_of old (parts_view boot.new.self) c.args.request) (λ s given. effect_of s c.args.actor c.args.request given) e) (sym boot.ensures.effect) left in
+    let made = subst (λ (h : PartsView _ _). IsMade b v (step_of old h c.args.request) (λ s given. effect_of s c.args.actor c.args.request given) done) (sym c.finish.ensures.stays) told in
     played c.session_end-end.result
     (did_play b v _ _ c.args.actor c.args.request clock done
     (record {
@@ -36,6 +36,6 @@ returns-clause-plays g c =
       counts = ap (λ (l : Logged). l.counts) boot.ensures.log ∙ ap (λ (l : Logged). l.counts) c.effect.ensures.log ∙ c.room_for_entry.ensures.counts;
       entered = refl;
       counted = refl;
-      finishes = subst (λ (h : Held _ _). Finishes before after clock h.tables c.args.actor c.args.request done) (sym c.finish.ensures.stays) c.finish.ensures.finishes;
+      finishes = subst (λ (h : PartsView _ _). Finishes before after clock h.tables c.args.actor c.args.request done) (sym c.finish.ensures.stays) c.finish.ensures.finishes;
     })
     c.session_end-end.result c.session_end-end.ensures)

@@ -1,16 +1,16 @@
 use Rattle.std.proofs.Common.{◌≡◌, Some, length, ap, refl, subst, inr, arith, rules}
 use Rattle.validation.specs.Kits.{entry_at}
 use Rattle.cds_layout.specs.Images.{store_of}
-use Rattle.cds_store.specs.Standing.{StandsFor as HasBlocks}
+use Rattle.cds_store.specs.StoreBlocks.{StandsFor as HasBlocks}
 use Rattle.cds_store.proofs.Recovered.{booted_alike}
-use Rattle.tbl_core.specs.Service.{held_of, state_of, StartCounted}
+use Rattle.tbl_core.specs.Service.{parts_view, state_of, StartCounted}
 use Rattle.tbl_laws.proofs.Ordinary.{fit_at_first}
 use Rattle.tbl_core.proofs.Starting.{stands_first, start_counted, start_leaves, stays_shown}
 use Rattle.tbl_core.proofs.service.Core.start.Goals as goal
 
 pub invariant_of-result : goal.invariant_of-result
 invariant_of-result g c = record {
-  fit = fit_at_first (length c.in-Ok.parts.log.entries) (state_of (held_of (record c.in-Ok.parts { store = c.boot.new.self }))) c.in-Ok.ensures.tables c.in-Ok.ensures.pending;
+  fit = fit_at_first (length c.in-Ok.parts.log.entries) (state_of (parts_view (record c.in-Ok.parts { store = c.boot.new.self }))) c.in-Ok.ensures.tables c.in-Ok.ensures.pending;
   booted = search rules;
   kit = λ number entry there.
       let low = c.requires.asked number entry (subst (λ kit. entry_at kit number ≡ Some entry) c.in-Ok.ensures.kit there) in

@@ -26,7 +26,7 @@ returns-clause-legal g c = rw (← c.self.view_is)
 
 pub returns-clause-whole : goal.returns-clause-whole
 returns-clause-whole g c = rw (← c.self.view_is)
-    (on_played c.play.result (λ p told opening none unasked stood. whole opening _ _ none unasked ((plays_on g.B.Bank g.C.Validator _ _ c.args.actor c.args.request c.play.result p opening stood).legal told)) c.play.ensures.plays)
+    (on_played c.play.result (λ p told opening none none_pending stood. whole opening _ _ none none_pending ((plays_on g.B.Bank g.C.Validator _ _ c.args.actor c.args.request c.play.result p opening stood).legal told)) c.play.ensures.plays)
 
 pub returns-clause-backed : goal.returns-clause-backed
 returns-clause-backed g c = rw (← c.self.view_is)
@@ -37,7 +37,7 @@ returns-clause-judged g c = rw (← c.self.view_is) (on_played c.play.result (λ
 
 pub returns-clause-vouched : goal.returns-clause-vouched
 returns-clause-vouched g c = rw (← c.self.view_is)
-    (on_played c.play.result (λ p told opening none unasked stood. vouched opening _ _ none unasked ((plays_on g.B.Bank g.C.Validator _ _ c.args.actor c.args.request c.play.result p opening stood).legal told)) c.play.ensures.plays)
+    (on_played c.play.result (λ p told opening none none_pending stood. vouched opening _ _ none none_pending ((plays_on g.B.Bank g.C.Validator _ _ c.args.actor c.args.request c.play.result p opening stood).legal told)) c.play.ensures.plays)
 
 pub returns-clause-verdicts : goal.returns-clause-verdicts
 returns-clause-verdicts g c = rw (← c.self.view_is)

@@ -1,6 +1,6 @@
 use Rattle.std.proofs.Common.{sym, ◌∙◌, rules}
 use Rattle.tbl_registry.proofs.Changes.{stands}
-use Rattle.tbl_registry.proofs.Steps.{its_table, not_given, freed_sound, let_go_sound, alone_seen, taken_back_seen}
+use Rattle.tbl_registry.proofs.Steps.{its_table, not_given, freed_sound, drop_before_sound, alone_seen, taken_back_seen}
 use Rattle.tbl_registry.proofs.tables.Tables.free_handle.Goals as goal
 
 pub unreachable-requires : goal.unreachable-requires
@@ -18,7 +18,7 @@ pub returns-in_default-row : goal.returns-in_default-row
 returns-in_default-row c = rw (← c.self.view_is, c.drop_handle.ensures) (alone_seen c.self.inside.rows.items c.self.inside.handles c.self.inside.working c.self.invariant c.args.handle c.in-Some.view (sym c.view.ensures.handle ∙ c.in-Some.is) c.in_default-row.is)
 
 pub invariant_of-self-2 : goal.invariant_of-self-2
-invariant_of-self-2 c = rw (c.drop_before.ensures, c.drop_handle.ensures) (let_go_sound (stands c.in-Some-row.row (freed_sound c.self.inside.rows.items c.self.inside.handles c.self.inside.working c.self.invariant c.args.handle) c.index_mut.ensures.value c.in-Some-index_mut.is (its_table c.self.inside.rows.items c.self.inside.handles c.self.inside.working c.self.invariant c.args.handle c.in-Some.view c.in-Some-row.row (sym c.view.ensures.handle ∙ c.in-Some.is) c.in-Some-row.is)))
+invariant_of-self-2 c = rw (c.drop_before.ensures, c.drop_handle.ensures) (drop_before_sound (stands c.in-Some-row.row (freed_sound c.self.inside.rows.items c.self.inside.handles c.self.inside.working c.self.invariant c.args.handle) c.index_mut.ensures.value c.in-Some-index_mut.is (its_table c.self.inside.rows.items c.self.inside.handles c.self.inside.working c.self.invariant c.args.handle c.in-Some.view c.in-Some-row.row (sym c.view.ensures.handle ∙ c.in-Some.is) c.in-Some-row.is)))
 
 pub returns : goal.returns
 returns c =

@@ -13,7 +13,7 @@ use Rattle.tbl_top.specs.declared.playback.Standing.TheVariants.{Open, Bad, Full
 use Rattle.tbl_top.proofs.WritingLemmas.{wrote}
 use Rattle.tbl_top.proofs.playback.Playback.tell_all.Goals as goal
 
--- the spellings of entries, and behind them those of further ones
+-- the spellings of entries, and after them those of further ones
 entries_bytes-append : (place : ℕ) (front rest : List Entry) → entries_bytes place (front ++ rest) ≡ entries_bytes place front ++ entries_bytes (place + length front) rest
 entries_bytes-append place [] rest = ap (λ n. entries_bytes n rest) (omega arith)
 entries_bytes-append place (e ∷ front) rest =
@@ -39,7 +39,7 @@ stopped_front (Some Bad) first before after piece taken front rest stopped writt
 stopped_front (Some Full) first before after piece taken front rest stopped written = absurd stopped
 stopped_front (Some Memory) first before after piece taken front rest stopped written = absurd stopped
 
--- what a write of the entry at a place left, behind those before it
+-- what a write of the entry at a place left, after those before it
 wrote_at : (stop : Option Standing) (first before after : Option (List ℕ)) (entries : List Entry) (place : ℕ) (e : Entry) → place < length entries → e ≡ get_or entries place e
     → MatchOption stop (after ≡ append_known before (entry_bytes place e)) (λ standing. TellsStop standing before after (entry_bytes place e))
     → IsWritten first (take place entries) before

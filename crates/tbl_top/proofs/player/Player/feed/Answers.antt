@@ -1,7 +1,7 @@
 use Rattle.std.proofs.Common.{List, ℕ, ◌+◌, ◌++◌, length, sym, subst, ◌∙◌, append_assoc}
 use Rattle.tbl_kinds.specs.Records.{joined, AreRecords}
 use Rattle.tbl_kinds.specs.Transcript.{pairs_of}
-use Rattle.tbl_core.specs.Service.{StandsFor}
+use Rattle.tbl_core.specs.Service.{FollowsFrom}
 use Rattle.tbl_laws.proofs.BackedLaws.{backed}
 use Rattle.tbl_laws.proofs.VouchedLaws.{vouched}
 use Rattle.tbl_laws.proofs.WholeLaws.{whole}
@@ -24,19 +24,19 @@ returns-clause-records g c =
     (records_of f.new.standing (played_before old.playback (old.kept.items ++ c.args.piece.now)) (length old.kept.items + length c.args.piece.now) f.new.playback f.new.kept.items f.ensures.session f.ensures.feeds all))
 
 pub returns-clause-vouched : goal.returns-clause-vouched
-returns-clause-vouched g c = λ told opening at_first unasked stood.
+returns-clause-vouched g c = λ told opening at_first none_pending stood.
     let f = c.feed_fields in
-    vouched opening f.new.playback.entries _ at_first unasked ((f.ensures.continues.stands opening (subst (λ (p : Playing g.row.B.Denot g.row.C.Denot). StandsFor g.B.Bank opening p.core) (sym c.self.view_is) stood)).legal told)
+    vouched opening f.new.playback.entries _ at_first none_pending ((f.ensures.continues.stands opening (subst (λ (p : Playing g.row.B.Denot g.row.C.Denot). FollowsFrom g.B.Bank opening p.core) (sym c.self.view_is) stood)).legal told)
 
 pub returns-clause-whole : goal.returns-clause-whole
-returns-clause-whole g c = λ told opening at_first unasked stood.
+returns-clause-whole g c = λ told opening at_first none_pending stood.
     let f = c.feed_fields in
-    whole opening f.new.playback.entries _ at_first unasked ((f.ensures.continues.stands opening (subst (λ (p : Playing g.row.B.Denot g.row.C.Denot). StandsFor g.B.Bank opening p.core) (sym c.self.view_is) stood)).legal told)
+    whole opening f.new.playback.entries _ at_first none_pending ((f.ensures.continues.stands opening (subst (λ (p : Playing g.row.B.Denot g.row.C.Denot). FollowsFrom g.B.Bank opening p.core) (sym c.self.view_is) stood)).legal told)
 
 pub returns-clause-backed : goal.returns-clause-backed
 returns-clause-backed g c = λ told opening at_first single stood.
     let f = c.feed_fields in
-    backed opening f.new.playback.entries _ at_first single ((f.ensures.continues.stands opening (subst (λ (p : Playing g.row.B.Denot g.row.C.Denot). StandsFor g.B.Bank opening p.core) (sym c.self.view_is) stood)).legal told)
+    backed opening f.new.playback.entries _ at_first single ((f.ensures.continues.stands opening (subst (λ (p : Playing g.row.B.Denot g.row.C.Denot). FollowsFrom g.B.Bank opening p.core) (sym c.self.view_is) stood)).legal told)
 
 pub returns-clause-continues : goal.returns-clause-continues
 returns-clause-continues g c = rw (← c.self.view_is) c.feed_fields.ensures.continues

@@ -2,7 +2,7 @@ use Rattle.std.proofs.Common.{◌≡◌, ◌∙◌, ap, sym, Some, map, length, 
 use Rattle.std.specs.Option.{option_map}
 use Rattle.std.specs.Prelude.{slice_set}
 use Rattle.std.proofs.lemmas.List.{length-map, map-set}
-use Rattle.working_buffers.specs.Places.{Held}
+use Rattle.working_buffers.specs.Places.{LentBuffer}
 use Rattle.working_buffers.specs.Buffers.{BufferState, place_of}
 use Rattle.tbl_kinds.proofs.FreeLaws.{none_at}
 use Rattle.working_buffers.proofs.Free.{first_free_place}
@@ -24,7 +24,7 @@ pub returns-clause-taken : goal.returns-clause-taken
 returns-clause-taken c =
     let buffer : BufferState = c.set_row.new.self in
     let given : place_of buffer ≡ Some (record { row = c.args.row; bytes = buffer.bytes }) =
-    ap (λ (kept : BufferState). option_map (λ row. let held : Held = record { row = row; bytes = buffer.bytes } in held) kept.row) c.set_row.ensures.row in (
+    ap (λ (kept : BufferState). option_map (λ row. let held : LentBuffer = record { row = row; bytes = buffer.bytes } in held) kept.row) c.set_row.ensures.row in (
       buffer.bytes,
       c.set_row.ensures.size,
       rw (← c.self.view_is)

@@ -1,4 +1,4 @@
--- What the lock holds: the core, why it plays no further request, and what each actor still has to ask.
+-- What the lock holds: the core, why it plays no further request, and what each actor still has to request.
 use Rattle.std.specs.Prelude.{◌≡◌, ◌+◌, ◌≤◌, List, length, Option, Some, None, true, false}
 use Rattle.tbl_kinds.specs.Records.{record_limit}
 use Rattle.tbl_core.specs.Service.{CoreView}
@@ -9,7 +9,7 @@ use Rattle.tbl_crew.specs.Scripts.{request_count, AllFit}
 use Rattle.tbl_session.specs.Trouble.{EndsInBoot}
 use Rattle.tbl_kinds.specs.declared.request.Request.{Request}
 
-pub record Holding (B C : Type 0) : Type 0 where
+pub record CrewView (B C : Type 0) : Type 0 where
   pub core : CoreView B C
   pub fault : Option StepFault
   pub left : List (List Request)
@@ -23,7 +23,7 @@ TellsFault (Some BootStopped) core = EndsInBoot true core.entries
 
 -- what is left may be played: each request may come from its actor, and with those that were played they are no more than a
 -- session may have
-pub record MayGoOn {B C : Type 0} (h : Holding B C) : Type 0 where
+pub record MayGoOn {B C : Type 0} (h : CrewView B C) : Type 0 where
   pub actors : length h.left ≡ actor_count
   pub fit : AllFit h.left
   pub few : length h.core.entries + request_count h.left ≤ record_limit

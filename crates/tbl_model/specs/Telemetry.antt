@@ -4,8 +4,8 @@ use Rattle.std.specs.Int.{w32, cast_unsigned}
 use Rattle.std.proofs.Common.{ℤ}
 use Rattle.tbl_kinds.specs.Check.{check16}
 use Rattle.tbl_model.specs.State.{Table}
-use Rattle.tbl_model.specs.declared.deeds.Deed.{Deed}
-use Rattle.tbl_model.specs.declared.deeds.Deed.TheVariants.{Activated, Finished}
+use Rattle.tbl_model.specs.declared.telemetry.TelemetryEvent.{TelemetryEvent}
+use Rattle.tbl_model.specs.declared.telemetry.TelemetryEvent.TheVariants.{Activated, Finished}
 
 -- ---- verdicts
 
@@ -21,12 +21,12 @@ pub record Question : Type 0 where
   pub number : ℕ
   pub image : List ℕ
 
--- ---- deeds
+-- ---- events
 
 -- an image goes active, as the next one of the table in this row
-abbrev pub activated : ℕ → Table → Deed
+abbrev pub activated : ℕ → Table → TelemetryEvent
 activated row t = Activated row (t.count + 1) t.name
 
 -- a validation of this image of the table in this row came to its end
-abbrev pub finished : ℕ → Bool → Table → List ℕ → ℤ → Deed
+abbrev pub finished : ℕ → Bool → Table → List ℕ → ℤ → TelemetryEvent
 finished row active t image verdict = Finished row active (check16 image) verdict t.name

@@ -61,20 +61,20 @@ strays_read front old directory is (suc k) le =
 -- ---- one slot after the other
 
 module _ {B : Type 0} (tells_calls : B → Type 0) (calls_of : B → List BankCall) (bytes : List ℕ) (directory : List (Option Block)) where
-  pub asked_none : (bank : B) → Asks tells_calls calls_of bank bank true (strays_to 0 bytes directory)
-  asked_none bank told = rw (strays_none bytes directory) (told, refl)
+  pub bank_calls_none : (bank : B) → Asks tells_calls calls_of bank bank true (strays_to 0 bytes directory)
+  bank_calls_none bank told = rw (strays_none bytes directory) (told, refl)
 
-  pub asked_more : (old mid new : B) (k : ℕ) → Asks tells_calls calls_of old mid true (strays_to k bytes directory)
+  pub bank_calls_more : (old mid new : B) (k : ℕ) → Asks tells_calls calls_of old mid true (strays_to k bytes directory)
       → Asks tells_calls calls_of mid new true (close_stray bytes directory k)
       → Asks tells_calls calls_of old new true (strays_to (k + 1) bytes directory)
-  asked_more old mid new k so_far call =
+  bank_calls_more old mid new k so_far call =
       subst (Asks tells_calls calls_of old new true) (sym (strays_more k bytes directory) ∙ ap (λ n. strays_to n bytes directory) (next k))
       (asks_then tells_calls calls_of old mid new true (strays_to k bytes directory) (close_stray bytes directory k) so_far call)
 
-  pub asked_broke : (old mid new : B) (k n : ℕ) → k < n → Asks tells_calls calls_of old mid true (strays_to k bytes directory)
+  pub bank_calls_broke : (old mid new : B) (k n : ℕ) → k < n → Asks tells_calls calls_of old mid true (strays_to k bytes directory)
       → Asks tells_calls calls_of mid new false (close_stray bytes directory k)
       → Asks tells_calls calls_of old new false (strays_to n bytes directory)
-  asked_broke old mid new k n lt so_far call =
+  bank_calls_broke old mid new k n lt so_far call =
       let split = strays_split bytes directory (suc k) n (omega (arith, lt)) in
       subst (Asks tells_calls calls_of old new false) (ap (λ (l : List BankCall). l ++ split.0) (sym (strays_more k bytes directory)) ∙ sym split.1)
       (asks_no_more tells_calls calls_of old new (strays_to k bytes directory ++ close_stray bytes directory k) split.0
@@ -91,8 +91,8 @@ zeros_are (suc n) (x ∷ xs) size all =
     ap (λ (y : ℕ). y ∷ xs) (all 0) ∙ ap (λ (l : List ℕ). 0 ∷ l) (zeros_are n xs (omega (arith, size)) (λ i. all (suc i)))
 
 -- a bank is cleared with zeros that were read over
-pub clear_asked : (first : ℕ) (empty bytes : List ℕ) → first ≡ byte_at 0 bytes → length empty ≡ 8192 → AreZeros empty → clear_by first empty ≡ clear_calls bytes
-clear_asked first empty bytes is size all = ap (λ n. clear_by n empty) is ∙ ap (clear_by (byte_at 0 bytes)) (zeros_are 8192 empty size all)
+pub clear_calls_made : (first : ℕ) (empty bytes : List ℕ) → first ≡ byte_at 0 bytes → length empty ≡ 8192 → AreZeros empty → clear_by first empty ≡ clear_calls bytes
+clear_calls_made first empty bytes is size all = ap (λ n. clear_by n empty) is ∙ ap (clear_by (byte_at 0 bytes)) (zeros_are 8192 empty size all)
 
 -- ---- by whether the bank is live
 

@@ -11,7 +11,7 @@ use Rattle.cds_store.specs.Slots.{open_slot, doubtful_slot, without_slot, room_i
 use Rattle.cds_store.specs.Sound.{slot_at}
 use Rattle.cds_store.specs.declared.slot.Slot.{Slot}
 
--- by how the calls of the store went: nothing was asked where none was made, all of this where they are done, and the first of it up
+-- by how the calls of the store went: no call where none was made, all of this where they are done, and the first of it up
 -- to what broke off
 abbrev pub AsksBy : {B : Type 0} → Ghosts B → B → B → Outcome → List BankCall → Type 0
 AsksBy g old new Untouched calls = Asks g.tells_calls g.calls old new true []

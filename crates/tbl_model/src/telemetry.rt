@@ -24,7 +24,7 @@ pub struct Notice {
 /// it changes. Code and definitions share it, so that the packets of a reply follow from what was done and from nothing else.
 /// Rows are those of the registry.
 #[derive(Drop)]
-pub enum Deed {
+pub enum TelemetryEvent {
     /// A pending validation came to its end, of the last image (`active`) or of the open load's: the check word of the
     /// image, and the verdict, 0 for a good one.
     Finished {

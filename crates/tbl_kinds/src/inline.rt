@@ -3,18 +3,18 @@ ghost use Rattle.std.specs.Prelude.{◌≡◌, ◌+◌, ◌≤◌, [], ◌++◌,
 use std::marker::Model;
 
 /// How many bytes stand in a value itself, at most: those of an event's packet.
-pub(crate) const FEW: usize = 24;
+pub(crate) const INLINE_LIMIT: usize = 24;
 
 /// Up to 24 bytes in the value itself, with reserved room after them.
 #[derive(Drop)]
-pub(crate) struct Few {
+pub(crate) struct InlineBytes {
     len: u8,
     /// How many bytes there is room for, with those that are there.
     room: u8,
-    bytes: [u8; FEW],
+    bytes: [u8; INLINE_LIMIT],
 }
 
-impl Model for Few {
+impl Model for InlineBytes {
     ghost use Rattle.tbl_kinds.specs.Buffers.{Buffer};
 
     ghost Value = { Buffer };
@@ -26,17 +26,17 @@ impl Model for Few {
     ghost invariant = { λ f. (f.len ≤ f.room) × (f.room ≤ 24) };
 }
 
-impl Few {
+impl InlineBytes {
     /// No bytes, with reserved room for this many.
-    pub(crate) fn make(room: usize) -> Few
+    pub(crate) fn make(room: usize) -> InlineBytes
         requires { room ≤ 24 }
         ensures empty { result.list ≡ [] }
         ensures room { result.spare ≡ room }
     {
-        Few {
+        InlineBytes {
             len: 0,
             room: room as u8,
-            bytes: [0; FEW],
+            bytes: [0; INLINE_LIMIT],
         }
     }
 
@@ -49,10 +49,10 @@ impl Few {
     }
 
     /// The same bytes, with the same room.
-    pub(crate) fn copy(&self) -> Few
+    pub(crate) fn copy(&self) -> InlineBytes
         ensures { result ≡ self.now }
     {
-        Few {
+        InlineBytes {
             len: self.len,
             room: self.room,
             bytes: self.bytes,
@@ -88,7 +88,7 @@ impl Few {
         ensures full { result ≡ false → self.new ≡ self.old }
     {
         let len = usize::from(self.len);
-        if more > FEW - len {
+        if more > INLINE_LIMIT - len {
             return false;
         }
         if usize::from(self.room) < len + more {

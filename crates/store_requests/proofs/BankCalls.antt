@@ -1,4 +1,4 @@
--- What the bank was asked in a request, from how its call of the store ended.
+-- Which calls a bank got in a request, from how its call of the store ended.
 use Rattle.std.proofs.Common.{◌≡◌, ℕ, List, [], ◌++◌, true, false, Option, Some, None, Result, Ok, Err, refl, ◌∙◌, ap, subst, inl, inr}
 use Rattle.std.proofs.lemmas.Option.{same_Some}
 use Rattle.std.specs.Prelude.{is_ok}
@@ -7,7 +7,7 @@ use Rattle.tbl_kinds.specs.Notes.{untouched}
 use Rattle.tbl_kinds.specs.declared.note.BankNote.{BankNote}
 use Rattle.tbl_kinds.specs.declared.note.Outcome.{Outcome}
 use Rattle.tbl_kinds.specs.declared.note.Outcome.TheVariants.{Done, Failed}
-use Rattle.tbl_outside.specs.BankCalls.{BankCall, Asks, BrokeOff, asked as all}
+use Rattle.tbl_outside.specs.BankCalls.{BankCall, Asks, BrokeOff, after_calls as all}
 use Rattle.tbl_outside.specs.declared.bank.Bank.{Ghosts}
 use Rattle.cds_layout.specs.Order.{restore_calls, delete_calls}
 use Rattle.cds_layout.specs.Restores.{was_read}
@@ -20,23 +20,23 @@ use Rattle.cds_store.specs.declared.fault.ReserveFault.{ReserveFault}
 use Rattle.cds_store.specs.declared.fault.ReserveFault.TheVariants.{NoRoom, Bank}
 use Rattle.cds_store.specs.declared.fault.BankFault.{BankFault}
 use Rattle.cds_store.specs.declared.fault.BankFault.TheVariants.{Fault, Stopped as Cut}
-use Rattle.store_requests.specs.BankAsked.{AsksBy, restore_at}
+use Rattle.store_requests.specs.BankCalls.{AsksBy, restore_at}
 use Rattle.store_requests.specs.Called.{call_note, done_note, broken_note, reserve_note}
 
 -- of a slot in which a block is open
-pub at_open : (o : Option Slot) (size : ℕ) (calls : Slot → List BankCall) (IsAsked : List BankCall → Type 0) → IsOpenOf size o → ForSome o (λ s. IsAsked (calls s)) → IsAsked (option_map_or calls o [])
-at_open None size calls IsAsked sized asked = absurd sized
-at_open (Some s) size calls IsAsked sized asked = asked s refl
+pub at_open : (o : Option Slot) (size : ℕ) (calls : Slot → List BankCall) (HasCalls : List BankCall → Type 0) → IsOpenOf size o → ForSome o (λ s. HasCalls (calls s)) → HasCalls (option_map_or calls o [])
+at_open None size calls HasCalls sized called = absurd sized
+at_open (Some s) size calls HasCalls sized called = called s refl
 
 module _ {B : Type 0} (g : Ghosts B) (old new : B) (calls : List BankCall) (note : BankNote) where
-  pub asked_none : new ≡ old → note ≡ untouched → AsksBy g old new note.outcome calls
-  asked_none same is = rw (is, same) (λ told. (told, refl))
+  pub bank_calls_none : new ≡ old → note ≡ untouched → AsksBy g old new note.outcome calls
+  bank_calls_none same is = rw (is, same) (λ told. (told, refl))
 
   -- of a single call
-  pub asked_once : (ended : Result Unit BankFault) → note ≡ call_note ended untouched → Asks g.tells_calls g.calls old new (is_ok ended) calls → AsksBy g old new note.outcome calls
-  asked_once (Ok x) is asked = rw is asked
-  asked_once (Err (Fault gate prior)) is asked = rw is asked
-  asked_once (Err (Cut gate prior)) is asked = rw is asked
+  pub bank_calls_once : (ended : Result Unit BankFault) → note ≡ call_note ended untouched → Asks g.tells_calls g.calls old new (is_ok ended) calls → AsksBy g old new note.outcome calls
+  bank_calls_once (Ok x) is called = rw is called
+  bank_calls_once (Err (Fault gate prior)) is called = rw is called
+  bank_calls_once (Err (Cut gate prior)) is called = rw is called
 
 -- how a restore is noted: a torn block was read too
 abbrev pub read_outcome : Result Unit RestoreFault → Outcome
@@ -44,13 +44,13 @@ read_outcome (Ok x) = Done
 read_outcome (Err (Torn length kept found)) = Done
 read_outcome (Err Unread) = Failed
 
-pub asked_restore : {B : Type 0} (g : Ghosts B) (old new : B) (slots : List (Option Slot)) (slot size : ℕ) (note : BankNote) (ended : Result Unit RestoreFault) → IsOpenOf size (slot_at slots slot)
+pub bank_calls_restore : {B : Type 0} (g : Ghosts B) (old new : B) (slots : List (Option Slot)) (slot size : ℕ) (note : BankNote) (ended : Result Unit RestoreFault) → IsOpenOf size (slot_at slots slot)
     → ForSome (slot_at slots slot) (λ s. Asks g.tells_calls g.calls old new (was_read ended) (restore_calls s.block)) → note.outcome ≡ read_outcome ended → AsksBy g old new note.outcome (restore_at slots slot)
-asked_restore g old new slots slot size note ended sized asked is = rw is (by ended (at_open (slot_at slots slot) size (λ (s : Slot). restore_calls s.block) (λ calls. Asks g.tells_calls g.calls old new (was_read ended) calls) sized asked)) where
+bank_calls_restore g old new slots slot size note ended sized called is = rw is (by ended (at_open (slot_at slots slot) size (λ (s : Slot). restore_calls s.block) (λ calls. Asks g.tells_calls g.calls old new (was_read ended) calls) sized called)) where
   by : (ended : Result Unit RestoreFault) → Asks g.tells_calls g.calls old new (was_read ended) (restore_at slots slot) → AsksBy g old new (read_outcome ended) (restore_at slots slot)
-  by (Ok x) asked = asked
-  by (Err (Torn length kept found)) asked = asked
-  by (Err Unread) asked = asked
+  by (Ok x) called = called
+  by (Err (Torn length kept found)) called = called
+  by (Err Unread) called = called
 
 -- ---- a block is made
 
@@ -58,49 +58,49 @@ module _ {B : Type 0} (g : Ghosts B) (old new : B) (note : BankNote) (room : Opt
   abbrev By : List BankCall → Type 0
   By list = AsksBy g old new note.outcome list
 
-  pub asked_make : (made : Result ℕ ReserveFault) → note ≡ reserve_note made untouched → (lacks_room made ≡ true → new ≡ old) → ForSome room (λ r. Asks g.tells_calls g.calls old new (is_ok made) (calls r)) → ForSome (option_map calls room) By
-  asked_make made is full asked list there = by room refl there where
+  pub bank_calls_make : (made : Result ℕ ReserveFault) → note ≡ reserve_note made untouched → (lacks_room made ≡ true → new ≡ old) → ForSome room (λ r. Asks g.tells_calls g.calls old new (is_ok made) (calls r)) → ForSome (option_map calls room) By
+  bank_calls_make made is full called list there = by room refl there where
     each : (made : Result ℕ ReserveFault) → note ≡ reserve_note made untouched → (lacks_room made ≡ true → new ≡ old) → (list : List BankCall) → Asks g.tells_calls g.calls old new (is_ok made) list → By list
-    each (Ok slot) is full list asked = rw is asked
-    each (Err NoRoom) is full list asked = asked_none g old new list note (full refl) is
-    each (Err (Bank (Fault gate prior))) is full list asked = rw is asked
-    each (Err (Bank (Cut gate prior))) is full list asked = rw is asked
+    each (Ok slot) is full list called = rw is called
+    each (Err NoRoom) is full list called = bank_calls_none g old new list note (full refl) is
+    each (Err (Bank (Fault gate prior))) is full list called = rw is called
+    each (Err (Bank (Cut gate prior))) is full list called = rw is called
 
     by : (found : Option (ℕ × ℕ)) → room ≡ found → option_map calls found ≡ Some list → By list
     by None at there = absurd (cc there)
-    by (Some r) at there = subst By (same_Some (calls r) list there) (each made is full (calls r) (asked r at))
+    by (Some r) at there = subst By (same_Some (calls r) list there) (each made is full (calls r) (called r at))
 
   -- after the deletion of the block in this slot
   module _ (mid : B) (slot : ℕ) (deleted : Asks g.tells_calls g.calls old mid true (delete_calls slot)) where
     all_on : (list : List BankCall) → Asks g.tells_calls g.calls mid new true list → Asks g.tells_calls g.calls old new true (delete_calls slot ++ list)
-    all_on list asked told =
-        let first = deleted (asked told).0 in
-        (first.0, (asked told).1 ∙ ap (λ past. all list past) first.1)
+    all_on list called told =
+        let first = deleted (called told).0 in
+        (first.0, (called told).1 ∙ ap (λ past. all list past) first.1)
 
     some_on : (list : List BankCall) → Asks g.tells_calls g.calls mid new false list → Asks g.tells_calls g.calls old new false (delete_calls slot ++ list)
-    some_on list asked told =
-        let first = deleted (asked told).0 in
-        (first.0, inr (subst (λ past. BrokeOff list past (g.calls new)) first.1 (asked told).1))
+    some_on list called told =
+        let first = deleted (called told).0 in
+        (first.0, inr (subst (λ past. BrokeOff list past (g.calls new)) first.1 (called told).1))
 
-    pub asked_renew : (made : Result ℕ ReserveFault) → note ≡ reserve_note made (done_note untouched) → (lacks_room made ≡ true → ⊥) → ForSome room (λ r. Asks g.tells_calls g.calls mid new (is_ok made) (calls r))
+    pub bank_calls_renew : (made : Result ℕ ReserveFault) → note ≡ reserve_note made (done_note untouched) → (lacks_room made ≡ true → ⊥) → ForSome room (λ r. Asks g.tells_calls g.calls mid new (is_ok made) (calls r))
         → ForSome (option_map (λ (list : List BankCall). delete_calls slot ++ list) (option_map calls room)) By
-    asked_renew made is full asked list there = by room refl there where
+    bank_calls_renew made is full called list there = by room refl there where
       each : (made : Result ℕ ReserveFault) → note ≡ reserve_note made (done_note untouched) → (lacks_room made ≡ true → ⊥) → (list : List BankCall) → Asks g.tells_calls g.calls mid new (is_ok made) list → By (delete_calls slot ++ list)
-      each (Ok slot) is full list asked = rw is (all_on list asked)
-      each (Err NoRoom) is full list asked = absurd (full refl)
-      each (Err (Bank (Fault gate prior))) is full list asked = rw is (some_on list asked)
-      each (Err (Bank (Cut gate prior))) is full list asked = rw is (some_on list asked)
+      each (Ok slot) is full list called = rw is (all_on list called)
+      each (Err NoRoom) is full list called = absurd (full refl)
+      each (Err (Bank (Fault gate prior))) is full list called = rw is (some_on list called)
+      each (Err (Bank (Cut gate prior))) is full list called = rw is (some_on list called)
 
       by : (found : Option (ℕ × ℕ)) → room ≡ found → option_map (λ (list : List BankCall). delete_calls slot ++ list) (option_map calls found) ≡ Some list → By list
       by None at there = absurd (cc there)
-      by (Some r) at there = subst By (same_Some (delete_calls slot ++ calls r) list there) (each made is full (calls r) (asked r at))
+      by (Some r) at there = subst By (same_Some (delete_calls slot ++ calls r) list there) (each made is full (calls r) (called r at))
 
 -- that deletion broke off
-pub asked_first : {B : Type 0} (g : Ghosts B) (old new : B) (note : BankNote) (slot : ℕ) (fault : BankFault) (more : Option (List BankCall)) → note ≡ broken_note fault untouched → Asks g.tells_calls g.calls old new false (delete_calls slot)
+pub bank_calls_first : {B : Type 0} (g : Ghosts B) (old new : B) (note : BankNote) (slot : ℕ) (fault : BankFault) (more : Option (List BankCall)) → note ≡ broken_note fault untouched → Asks g.tells_calls g.calls old new false (delete_calls slot)
     → ForSome (option_map (λ (list : List BankCall). delete_calls slot ++ list) more) (AsksBy g old new note.outcome)
-asked_first g old new note slot fault more is asked list there = by more there where
+bank_calls_first g old new note slot fault more is called list there = by more there where
   first : (rest : List BankCall) → Asks g.tells_calls g.calls old new false (delete_calls slot ++ rest)
-  first rest told = ((asked told).0, one (asked told).1) where
+  first rest told = ((called told).0, one (called told).1) where
     one : BrokeOff (delete_calls slot) (g.calls old) (g.calls new) → BrokeOff (delete_calls slot ++ rest) (g.calls old) (g.calls new)
     one (inl last) = inl last
     one (inr none) = absurd none

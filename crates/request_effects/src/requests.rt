@@ -3,10 +3,10 @@
 ghost use Rattle.std.specs.Prelude.{◌≡◌};
 ghost use Rattle.std.specs.Option.{option_copied};
 ghost use Rattle.tbl_kinds.specs.GroundCommands.{code_of, command_in};
-ghost use Rattle.tbl_model.specs.Commands.{asked_in, asks_housekeeping, asks_reset_counters, asks_validate, asked_file, asked_code};
+ghost use Rattle.tbl_model.specs.Commands.{read_command_in, asks_housekeeping, asks_reset_counters, asks_validate, file_of_load, command_code};
 ghost use Rattle.tbl_model.specs.Counts.{is_reset, asks_load, load_file_of};
 ghost use Rattle.cmd_packets.specs.Views.{command_of};
-ghost use Rattle.request_effects.specs.Asked.{read_of, asked_of, asks_notice, asks_delete, asks_store, activates, shown_room, owners_handle, command_deeds, most_deeds};
+ghost use Rattle.request_effects.specs.Requests.{read_of, command_view, asks_notice, asks_delete, asks_store, activates, shown_room, owners_handle, most_command_events, most_events};
 
 use cmd_packets::{CmdFault, Ground, read_command};
 use tbl_kinds::{Name64, Request};
@@ -18,7 +18,7 @@ const HOUSEKEEPING_LENGTH: usize = 290;
 const REGISTRY_LENGTH: usize = 156;
 
 /// What the packet of a command was read as; none of a request that is no command.
-pub type Asked = Option<Result<Ground, CmdFault>>;
+pub type ReadCommand = Option<Result<Ground, CmdFault>>;
 
 /// Reads the packet of a command.
 #[tactic(auto, using(crate::proofs::CommandReadings::gives_read))]
@@ -29,8 +29,8 @@ fn read(bytes: &[u8]) -> Result<Ground, CmdFault>
 }
 
 /// What a request asks.
-pub fn asked_in(request: &Request) -> Asked
-    ensures { asked_of result ≡ asked_in request.now }
+pub fn read_command_in(request: &Request) -> ReadCommand
+    ensures { command_view result ≡ read_command_in request.now }
 {
     match request {
         Request::Command { bytes } => Some(read(bytes.bytes())),
@@ -57,63 +57,63 @@ pub(crate) fn code_of(command: &Ground) -> u8
 }
 
 /// The function code that event 1 tells.
-pub fn asked_code(asked: &Asked) -> u8
-    ensures { result ≡ asked_code (asked_of asked.now) }
+pub fn command_code(command: &ReadCommand) -> u8
+    ensures { result ≡ command_code (command_view command.now) }
 {
-    match asked {
+    match command {
         Some(Ok(command)) => code_of(command),
         _ => 0,
     }
 }
 
 /// Whether it is a housekeeping request.
-pub fn asks_housekeeping(asked: &Asked) -> bool
-    ensures { result ≡ asks_housekeeping (asked_of asked.now) }
+pub fn asks_housekeeping(command: &ReadCommand) -> bool
+    ensures { result ≡ asks_housekeeping (command_view command.now) }
 {
-    matches!(asked, Some(Ok(Ground::Housekeeping)))
+    matches!(command, Some(Ok(Ground::Housekeeping)))
 }
 
 /// Whether it is the command that clears the counters.
-pub fn asks_reset_counters(asked: &Asked) -> bool
-    ensures { result ≡ asks_reset_counters (asked_of asked.now) }
+pub fn asks_reset_counters(command: &ReadCommand) -> bool
+    ensures { result ≡ asks_reset_counters (command_view command.now) }
 {
-    matches!(asked, Some(Ok(Ground::ResetCounters)))
+    matches!(command, Some(Ok(Ground::ResetCounters)))
 }
 
 /// Whether it is a VALIDATE.
-pub fn asks_validate(asked: &Asked) -> bool
-    ensures { result ≡ asks_validate (asked_of asked.now) }
+pub fn asks_validate(command: &ReadCommand) -> bool
+    ensures { result ≡ asks_validate (command_view command.now) }
 {
-    matches!(asked, Some(Ok(Ground::Validate { .. })))
+    matches!(command, Some(Ok(Ground::Validate { .. })))
 }
 
 /// The file that a LOAD names.
-fn asked_file(asked: &Asked) -> Option<&Name64>
-    ensures { option_copied result ≡ asked_file (asked_of asked.now) }
+fn file_of_load(command: &ReadCommand) -> Option<&Name64>
+    ensures { option_copied result ≡ file_of_load (command_view command.now) }
 {
-    match asked {
+    match command {
         Some(Ok(Ground::Load { file })) => Some(file),
         _ => None,
     }
 }
 
 /// Whether it is a LOAD, or the call of an application that loads an image.
-pub fn asks_load(request: &Request, asked: &Asked) -> bool
-    ensures { result ≡ asks_load request.now (asked_of asked.now) }
+pub fn asks_load(request: &Request, command: &ReadCommand) -> bool
+    ensures { result ≡ asks_load request.now (command_view command.now) }
 {
     match request {
         Request::LoadImage { .. } | Request::LoadFile { .. } => true,
-        _ => asked_file(asked).is_some(),
+        _ => file_of_load(command).is_some(),
     }
 }
 
 /// The file that a load names.
-pub fn load_file_of<'a>(request: &'a Request, asked: &'a Asked) -> Option<&'a Name64>
-    ensures { option_copied result ≡ load_file_of request.now (asked_of asked.now) }
+pub fn load_file_of<'a>(request: &'a Request, command: &'a ReadCommand) -> Option<&'a Name64>
+    ensures { option_copied result ≡ load_file_of request.now (command_view command.now) }
 {
     match request {
         Request::LoadFile { name, .. } => Some(name),
-        _ => asked_file(asked),
+        _ => file_of_load(command),
     }
 }
 
@@ -125,25 +125,25 @@ pub fn is_reset(request: &Request) -> bool
 }
 
 /// Whether it is a command of which the owner of a table is told.
-pub fn asks_notice(asked: &Asked) -> bool
-    ensures { result ≡ asks_notice (asked_of asked.now) }
+pub fn asks_notice(command: &ReadCommand) -> bool
+    ensures { result ≡ asks_notice (command_view command.now) }
 {
     matches!(
-        asked,
+        command,
         Some(Ok(Ground::Dump { .. } | Ground::Validate { .. } | Ground::Activate { .. }))
     )
 }
 
 /// Whether it is the command that deletes a block.
-fn asks_delete(asked: &Asked) -> bool
-    ensures { result ≡ asks_delete (asked_of asked.now) }
+fn asks_delete(command: &ReadCommand) -> bool
+    ensures { result ≡ asks_delete (command_view command.now) }
 {
-    matches!(asked, Some(Ok(Ground::DeleteCds { .. })))
+    matches!(command, Some(Ok(Ground::DeleteCds { .. })))
 }
 
 /// Whether it boots the Critical Data Store, or calls it.
-pub fn asks_store(request: &Request, asked: &Asked) -> bool
-    ensures { result ≡ asks_store request.now (asked_of asked.now) }
+pub fn asks_store(request: &Request, command: &ReadCommand) -> bool
+    ensures { result ≡ asks_store request.now (command_view command.now) }
 {
     match request {
         Request::Reset { .. }
@@ -152,7 +152,7 @@ pub fn asks_store(request: &Request, asked: &Asked) -> bool
         | Request::CdsCopy { .. }
         | Request::CdsRestore { .. }
         | Request::CdsDelete { .. } => true,
-        Request::Command { .. } => asks_delete(asked),
+        Request::Command { .. } => asks_delete(command),
         _ => false,
     }
 }
@@ -171,10 +171,10 @@ pub fn activates(request: &Request) -> bool
 }
 
 /// How long the packet is that a command shows after its events, if it is accepted.
-pub fn shown_room(asked: &Asked) -> usize
-    ensures { result ≡ shown_room (asked_of asked.now) }
+pub fn shown_room(command: &ReadCommand) -> usize
+    ensures { result ≡ shown_room (command_view command.now) }
 {
-    match asked {
+    match command {
         Some(Ok(Ground::Housekeeping)) => HOUSEKEEPING_LENGTH,
         Some(Ok(Ground::SendRegistry { .. })) => REGISTRY_LENGTH,
         _ => 0,
@@ -198,23 +198,23 @@ pub fn owners_handle(request: &Request) -> Option<u16>
     }
 }
 
-/// The most deeds of a command. A dump that comes to its end has one of the four shared buffers.
-fn command_deeds(asked: &Asked) -> usize
-    ensures { result ≡ command_deeds (asked_of asked.now) }
+/// The most events of a command, beside its own. A dump that comes to its end has one of the four shared buffers.
+fn most_command_events(command: &ReadCommand) -> usize
+    ensures { result ≡ most_command_events (command_view command.now) }
 {
-    match asked {
+    match command {
         Some(Ok(Ground::Housekeeping)) => 4,
         Some(Ok(Ground::Dump { .. } | Ground::Validate { .. } | Ground::DumpRegistry { .. })) => 1,
         _ => 0,
     }
 }
 
-/// The most deeds of a request.
-pub fn most_deeds(request: &Request, asked: &Asked) -> usize
-    ensures { result ≡ most_deeds request.now (asked_of asked.now) }
+/// The most events of a request, beside a command's own.
+pub fn most_events(request: &Request, command: &ReadCommand) -> usize
+    ensures { result ≡ most_events request.now (command_view command.now) }
 {
     match request {
-        Request::Command { .. } => command_deeds(asked),
+        Request::Command { .. } => most_command_events(command),
         Request::LoadImage { .. } => 3,
         Request::LoadFile { .. } => 3,
         Request::Update { .. } => 2,
