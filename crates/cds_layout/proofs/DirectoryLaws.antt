@@ -1,9 +1,9 @@
 -- Directories: they depend on the first bytes alone, and their blocks can be there together.
-use Rattle.std.proofs.Common.{◌≡◌, ◌≢◌, inl, inr, ℕ, zero, suc, ◌+◌, ◌-◌, ◌*◌, ◌<◌, ◌≤◌, ◌==◌, Bool, true, false, cond, not, ◌&&◌, List, [], ◌∷◌, ◌++◌, length, take, drop, replicate, get_or, slice_index_or, Option, Some, None, refl, sym, ap, subst, ◌∙◌, arith, length-append}
+use Rattle.std.proofs.Common.{◌≡◌, ◌≢◌, inl, inr, ℕ, zero, suc, ◌+◌, ◌*◌, ◌<◌, ◌≤◌, ◌==◌, Bool, true, false, cond, not, ◌&&◌, List, [], ◌∷◌, ◌++◌, length, replicate, get_or, slice_index_or, Option, Some, None, refl, sym, ap, subst, ◌∙◌, arith, length-append}
 use Rattle.std.specs.Prelude.{nat_le}
 use Rattle.std.specs.List.{list_all}
 use Rattle.std.specs.Str.{bytes_eq}
-use Rattle.std.proofs.lemmas.List.{get_or-take, take-take, drop-take, get_or_append_left, get_or_past, get_or-replicate, length-replicate}
+use Rattle.std.proofs.lemmas.List.{get_or-take, take-take, get_or_append_left, get_or_past, get_or-replicate, length-replicate}
 use Rattle.std.proofs.lemmas.Bool.{and_parts, cases_lt}
 use Rattle.std.proofs.lemmas.Bool.Decides.{same_from_decides}
 use Rattle.std.proofs.lemmas.Slice.Eq.{bytes_eq-Decides}
@@ -15,32 +15,29 @@ use Rattle.tbl_kinds.specs.StoreSteps.{same_kind}
 use Rattle.tbl_kinds.specs.declared.block.Block.{Block}
 use Rattle.tbl_kinds.specs.declared.block.BlockKind.{BlockKind}
 use Rattle.tbl_kinds.specs.declared.block.BlockKind.TheVariants.{Table, App}
-use Rattle.cds_layout.specs.Entries.{slot_count, gate_open, gate_at, tail_at, is_right, block_in}
-use Rattle.cds_layout.specs.Directory.{directory_len, is_live, agree, agrees_at, stated, counted, directory_to, directory_of}
+use Rattle.cds_layout.specs.Entries.{slot_count, gate_open, gate_at, told_at, is_right, block_in}
+use Rattle.cds_layout.specs.Directory.{directory_len, is_live, is_first_version, agree, agrees_at, stated, counted, directory_to, directory_of}
+use Rattle.cds_layout.specs.Images.{turn_in, shown_in}
+use Rattle.cds_layout.specs.Turns.{turn_of, shown_by}
+use Rattle.cds_layout.specs.declared.turns.Place.{Place}
+use Rattle.cds_layout.specs.declared.turns.Place.TheVariants.{First, Second}
 use Rattle.cds_layout.specs.Lines.{IsRightAt, AreRight}
-use Rattle.cds_layout.proofs.EntryLaws.{block_in-right}
+use Rattle.cds_layout.proofs.EntryLaws.{piece-front, block_in-right}
 use Rattle.cds_layout.proofs.Directories.{directory-is}
 
 -- ---- the first bytes alone
 
-piece-front : (bytes : List ℕ) (place len most : ℕ) → place + len ≤ most → piece place len (piece 0 most bytes) ≡ piece place len bytes
-piece-front bytes place len most le =
-    let split : most ≡ place + (most - place) = omega arith in
-    ap (λ (n : ℕ). take len (drop place (take n bytes))) split
-    ∙ ap (take len) (drop-take place (most - place) bytes)
-    ∙ take-take len (most - place) (drop place bytes) (omega arith)
-
 gate-front : (bytes : List ℕ) (slot : ℕ) → slot < slot_count → gate_at (piece 0 directory_len bytes) slot ≡ gate_at bytes slot
 gate-front bytes slot lt = get_or-take directory_len bytes (16 + 64 * slot) 0 (omega arith)
 
-tail-front : (bytes : List ℕ) (slot : ℕ) → slot < slot_count → tail_at (piece 0 directory_len bytes) slot ≡ tail_at bytes slot
-tail-front bytes slot lt = piece-front bytes (17 + 64 * slot) 63 directory_len (omega arith)
+told-front : (bytes : List ℕ) (slot : ℕ) → slot < slot_count → told_at (piece 0 directory_len bytes) slot ≡ told_at bytes slot
+told-front bytes slot lt = piece-front bytes (17 + 64 * slot) 51 directory_len (omega arith)
 
 stated-front : (bytes : List ℕ) (slot : ℕ) → slot < slot_count → stated (piece 0 directory_len bytes) slot ≡ stated bytes slot
 stated-front bytes slot lt =
     let gate = gate-front bytes slot lt in
-    let tail = tail-front bytes slot lt in
-    λ i. cond (gate i == gate_open) (block_in (tail i)) None
+    let told = told-front bytes slot lt in
+    λ i. cond (gate i == gate_open) (block_in (told i)) None
 
 directory_to-front : (bytes : List ℕ) (n : ℕ) → n ≤ slot_count → directory_to (piece 0 directory_len bytes) n ≡ directory_to bytes n
 directory_to-front bytes zero le = refl
@@ -50,7 +47,22 @@ directory_to-front bytes (suc n) le =
     λ i. earlier i ++ counted (earlier i) (here i) ∷ []
 
 is_live-front : (bytes : List ℕ) → is_live (piece 0 directory_len bytes) ≡ is_live bytes
-is_live-front bytes = ap (λ (mark : List ℕ). bytes_eq mark (0x43 ∷ 0x44 ∷ 0x53 ∷ 0x31 ∷ [])) (take-take 4 directory_len bytes (omega arith))
+is_live-front bytes = ap (λ (mark : List ℕ). bytes_eq mark (0x43 ∷ 0x44 ∷ 0x53 ∷ [])) (take-take 3 directory_len bytes (omega arith))
+
+pub version-front : (bytes : List ℕ) → is_first_version (piece 0 directory_len bytes) ≡ is_first_version bytes
+version-front bytes = ap (λ (byte : ℕ). byte == 0x31) (get_or-take directory_len bytes 3 0 (omega arith))
+
+turn-front : (bytes : List ℕ) (slot : ℕ) (place : Place) → slot < slot_count → turn_in (piece 0 directory_len bytes) slot place ≡ turn_in bytes slot place
+turn-front bytes slot First lt = ap turn_of (get_or-take directory_len bytes (68 + 64 * slot) 0 (omega arith))
+turn-front bytes slot Second lt = ap turn_of (get_or-take directory_len bytes (69 + 64 * slot) 0 (omega arith))
+
+-- which place shows is told there too
+pub shown-front : (bytes : List ℕ) (slot : ℕ) → slot < slot_count → shown_in (piece 0 directory_len bytes) slot ≡ shown_in bytes slot
+shown-front bytes slot lt =
+    let version = version-front bytes in
+    let first = turn-front bytes slot First lt in
+    let second = turn-front bytes slot Second lt in
+    λ i. cond (version i) (Some First) (shown_by (first i) (second i))
 
 directory-front_at : (bytes : List ℕ) (n : ℕ) → n ≡ slot_count → directory_of (piece 0 directory_len bytes) ≡ directory_of bytes
 directory-front_at bytes n e =
@@ -78,8 +90,8 @@ each_more P (x ∷ xs) y d each here past (suc k) = each_more P xs y d (λ j. ea
 stated-right : (bytes : List ℕ) (slot : ℕ) → IsRightAt (stated bytes slot)
 stated-right bytes slot = by (gate_at bytes slot == gate_open)
   where
-    by : (is_open : Bool) → IsRightAt (cond is_open (block_in (tail_at bytes slot)) None)
-    by true = block_in-right (tail_at bytes slot)
+    by : (is_open : Bool) → IsRightAt (cond is_open (block_in (told_at bytes slot)) None)
+    by true = block_in-right (told_at bytes slot)
     by false = tt
 
 counted-right : (earlier : List (Option Block)) (o : Option Block) → IsRightAt o → IsRightAt (counted earlier o)

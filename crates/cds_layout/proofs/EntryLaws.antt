@@ -1,11 +1,12 @@
 -- What is written of a block is read as it, and what is read is a block that can be there.
-use Rattle.std.proofs.Common.{◌≡◌, ℕ, ◌+◌, ◌^◌, ◌<◌, ◌≤◌, Bool, true, false, cond, ◌&&◌, List, length, replicate, Option, Some, None, option_and_then, refl, ap, ◌∙◌, arith, length-append}
-use Rattle.std.proofs.lemmas.List.{take_at}
+use Rattle.std.proofs.Common.{◌≡◌, ℕ, ◌+◌, ◌-◌, ◌^◌, ◌<◌, ◌≤◌, Bool, true, false, cond, ◌&&◌, List, ◌∷◌, ◌++◌, zero, suc, length, take, drop, replicate, get_or, Option, Some, None, option_and_then, refl, sym, ap, ◌∙◌, arith, length-append}
+use Rattle.std.proofs.lemmas.List.{take_at, take-take, drop-take, get_or-take, get_or-append-add}
+use Rattle.std.specs.Int.{w32, from_be_bytes}
 use Rattle.std.proofs.lemmas.Bool.{and_parts, leb-true, ltb-true}
 use Rattle.std.proofs.lemmas.Nat.{from_be_bytes-to_be_bytes_4}
-use Rattle.std.specs.Prelude.{nat_le, nat_lt}
+use Rattle.std.specs.Prelude.{nat_le, nat_lt, slice_index}
 use Rattle.tbl_kinds.specs.Limits.{table_limit}
-use Rattle.tbl_kinds.specs.Numbers.{piece, byte_at, four_at}
+use Rattle.tbl_kinds.specs.Numbers.{four, piece, byte_at, four_at}
 use Rattle.tbl_kinds.specs.Names.{is_name, name_in, name_field}
 use Rattle.tbl_kinds.specs.Heads.{is_name_field}
 use Rattle.tbl_kinds.specs.Places.{is_inside}
@@ -14,7 +15,7 @@ use Rattle.tbl_kinds.proofs.NameFields.{length-name_field, name_in-name_field, i
 use Rattle.tbl_kinds.specs.declared.block.Block.{Block}
 use Rattle.tbl_kinds.specs.declared.block.BlockKind.{BlockKind}
 use Rattle.tbl_kinds.specs.declared.block.BlockKind.TheVariants.{Table, App}
-use Rattle.cds_layout.specs.Entries.{kind_byte, entry_tail, is_right, kind_in, block_of_kind, if_right, block_in, tail_len}
+use Rattle.cds_layout.specs.Entries.{kind_byte, entry_tail, is_right, kind_in, block_of_kind, if_right, block_in, tail_len, told_len}
 use Rattle.cds_layout.specs.Images.{block_head, head_len}
 use Rattle.cds_layout.specs.Lines.{IsRightAt}
 
@@ -27,6 +28,15 @@ length-block_head size check = refl
 pub length-entry_tail : (b : Block) → FitsField 40 b.name → length (entry_tail b) ≡ tail_len
 unfolding entry_tail
 length-entry_tail b fits = omega (arith, length-append (name_field 40 b.name) (replicate 12 0), length-name_field 40 b.name fits)
+
+-- ---- the first bytes of a piece
+
+pub piece-front : (bytes : List ℕ) (place len most : ℕ) → place + len ≤ most → piece place len (piece 0 most bytes) ≡ piece place len bytes
+piece-front bytes place len most le =
+    let split : most ≡ place + (most - place) = omega arith in
+    ap (λ (n : ℕ). take len (drop place (take n bytes))) split
+    ∙ ap (take len) (drop-take place (most - place) bytes)
+    ∙ take-take len (most - place) (drop place bytes) (omega arith)
 
 -- ---- where a right block is
 
@@ -106,3 +116,39 @@ block_in-right tail = by (kind_in (byte_at 0 tail))
     by : (kind : Option BlockKind) → IsRightAt (option_and_then (λ k. if_right tail (block_of_kind tail k)) kind)
     by None = tt
     by (Some kind) = if_right-right tail (block_of_kind tail kind)
+
+-- ---- of the bytes after a gate, the first ones tell the block
+
+pub block_in-front : (tail : List ℕ) → block_in (piece 0 told_len tail) ≡ block_in tail
+unfolding block_in
+block_in-front tail =
+    let kind : byte_at 0 (piece 0 told_len tail) ≡ byte_at 0 tail = get_or-take told_len tail 0 0 (omega arith) in
+    let offset : four_at 3 (piece 0 told_len tail) ≡ four_at 3 tail = ap (from_be_bytes w32) (piece-front tail 3 4 told_len (omega arith)) in
+    let size : four_at 7 (piece 0 told_len tail) ≡ four_at 7 tail = ap (from_be_bytes w32) (piece-front tail 7 4 told_len (omega arith)) in
+    let field : piece 11 40 (piece 0 told_len tail) ≡ piece 11 40 tail = piece-front tail 11 40 told_len (omega arith) in
+    λ i.
+    option_and_then
+    (λ (k : BlockKind).
+    let b : Block = record { kind = k; offset = offset i; size = size i; name = name_in (field i) } in
+    cond (is_right b && is_name_field (field i)) (Some b) None)
+    (kind_in (kind i))
+
+pub block_in-written : (b : Block) → is_right b ≡ true → FitsField 40 b.name → block_in (piece 0 told_len (entry_tail b)) ≡ Some b
+block_in-written b right fits = block_in-front (entry_tail b) ∙ block_in-entry_tail b right fits
+
+-- the bytes after those are zeros
+length-told : (b : Block) → FitsField 40 b.name → length (kind_byte b.kind ∷ 0 ∷ 0 ∷ four b.offset ++ four b.size ++ name_field 40 b.name) ≡ told_len
+length-told b fits = omega (arith, length-name_field 40 b.name fits)
+
+zeros-at : (count k : ℕ) → slice_index (replicate count 0) k ≡ 0
+zeros-at zero k = refl
+zeros-at (suc count) zero = refl
+zeros-at (suc count) (suc k) = zeros-at count k
+
+pub entry_tail-zeros : (b : Block) → FitsField 40 b.name → (k : ℕ) → get_or (entry_tail b) (told_len + k) 0 ≡ 0
+unfolding entry_tail
+entry_tail-zeros b fits k =
+    let told : List ℕ = kind_byte b.kind ∷ 0 ∷ 0 ∷ four b.offset ++ four b.size ++ name_field 40 b.name in
+    ap (λ (n : ℕ). get_or (told ++ replicate 12 0) (n + k) 0) (sym (length-told b fits))
+    ∙ get_or-append-add told (replicate 12 0) k 0
+    ∙ zeros-at 12 k

@@ -1,55 +1,88 @@
 -- A head that was read beside bytes says what the block holds.
-use Rattle.std.proofs.Common.{◌≡◌, ℕ, Bool, true, false, cond, ◌&&◌, ◌==◌, List, take, drop, Some, None, Result, Ok, Err, OnOk, IfErr, sym, ap, subst, ◌∙◌, arith}
+use Rattle.std.proofs.Common.{◌≡◌, ℕ, ◌+◌, ◌*◌, Bool, true, false, cond, ◌&&◌, ◌==◌, List, take, drop, Option, Some, None, Result, Ok, Err, OnOk, IfErr, refl, sym, ap, subst, ◌∙◌, arith}
 use Rattle.std.proofs.lemmas.List.{take-take, drop-take, drop-drop}
 use Rattle.std.specs.Int.{w16, w32, from_be_bytes}
+use Rattle.std.proofs.lemmas.Option.{same_Some}
 use Rattle.tbl_kinds.specs.Numbers.{piece, two_at, four_at}
 use Rattle.tbl_kinds.specs.Check.{check16}
 use Rattle.tbl_kinds.specs.declared.block.Block.{Block}
-use Rattle.cds_layout.specs.Images.{data_in, kept_length, kept_word, held_in}
-use Rattle.cds_layout.specs.Restores.{TellsTorn, compared}
+use Rattle.cds_layout.specs.Images.{place_at, data_in, kept_length, kept_word, turned_in, shown_in, held_by, held_in, words_by, words_in}
+use Rattle.cds_layout.specs.Restores.{TellsAt, TellsTorn, words, compared}
+use Rattle.cds_layout.specs.Directory.{is_first_version}
+use Rattle.cds_layout.specs.declared.turns.Place.{Place}
+use Rattle.cds_layout.specs.declared.turns.Place.TheVariants.{First}
 use Rattle.cds_layout.specs.declared.blocks.RestoreFault.{RestoreFault}
-use Rattle.cds_layout.specs.declared.blocks.RestoreFault.TheVariants.{Torn}
+use Rattle.cds_layout.specs.declared.blocks.RestoreFault.TheVariants.{NoImage, Torn, Fault}
 
-length-read : (bytes head : List ℕ) (b : Block) → head ≡ piece b.offset 8 bytes → four_at 0 head ≡ kept_length bytes b
-length-read bytes head b e = ap (four_at 0) e ∙ ap (from_be_bytes w32) (take-take 4 8 (drop b.offset bytes) (omega arith))
+length-read : (bytes head : List ℕ) (b : Block) (place : Place) → head ≡ piece (place_at b place) 8 bytes → four_at 0 head ≡ kept_length bytes b place
+length-read bytes head b place e = ap (four_at 0) e ∙ ap (from_be_bytes w32) (take-take 4 8 (drop (place_at b place) bytes) (omega arith))
 
-word-read : (bytes head : List ℕ) (b : Block) → head ≡ piece b.offset 8 bytes → two_at 4 head ≡ kept_word bytes b
-word-read bytes head b e =
+word-read : (bytes head : List ℕ) (b : Block) (place : Place) → head ≡ piece (place_at b place) 8 bytes → two_at 4 head ≡ kept_word bytes b place
+word-read bytes head b place e =
     ap (two_at 4) e
-    ∙ ap (from_be_bytes w16) (ap (take 2) (drop-take 4 4 (drop b.offset bytes)) ∙ take-take 2 4 (drop 4 (drop b.offset bytes)) (omega arith) ∙ ap (take 2) (drop-drop 4 b.offset bytes))
+    ∙ ap (from_be_bytes w16) (ap (take 2) (drop-take 4 4 (drop (place_at b place) bytes)) ∙ take-take 2 4 (drop 4 (drop (place_at b place) bytes)) (omega arith) ∙ ap (take 2) (drop-drop 4 (place_at b place) bytes))
 
 -- the head and the bytes that were read, where the bank tells
-pub record WasRead (bytes : List ℕ) (b : Block) (head into : List ℕ) : Type 0 where
-  pub head_is : head ≡ piece b.offset 8 bytes
-  pub data_is : into ≡ data_in bytes b
+pub record WasRead (bytes : List ℕ) (b : Block) (place : Place) (head into : List ℕ) : Type 0 where
+  pub head_is : head ≡ piece (place_at b place) 8 bytes
+  pub data_is : into ≡ data_in bytes b place
 
-held-read : (bytes : List ℕ) (b : Block) (head into : List ℕ) → WasRead bytes b head into → held_in bytes b ≡ cond (four_at 0 head == b.size && two_at 4 head == check16 into) (Some into) None
-unfolding held_in
-held-read bytes b head into read =
-    let length-is : four_at 0 head ≡ kept_length bytes b = length-read bytes head b read.head_is in
-    let check-is : two_at 4 head ≡ kept_word bytes b = word-read bytes head b read.head_is in
+held-read : (bytes : List ℕ) (b : Block) (place : Place) (head into : List ℕ) → WasRead bytes b place head into → held_by bytes b (Some place) ≡ cond (four_at 0 head == b.size && two_at 4 head == check16 into) (Some into) None
+held-read bytes b place head into read =
+    let length-is : four_at 0 head ≡ kept_length bytes b place = length-read bytes head b place read.head_is in
+    let check-is : two_at 4 head ≡ kept_word bytes b place = word-read bytes head b place read.head_is in
     sym (λ i. cond (length-is i == b.size && check-is i == check16 (read.data_is i)) (Some (read.data_is i)) None)
 
-module _ {T : Type 0} (bytes : List ℕ) (b : Block) (head into : List ℕ) (told : T → WasRead bytes b head into) where
-  pub whole : (r : Result Unit RestoreFault) → r ≡ compared head b.size into → OnOk r (T → held_in bytes b ≡ Some into)
+module _ {T : Type 0} (bytes : List ℕ) (b : Block) (place : Place) (head into : List ℕ) (told : T → WasRead bytes b place head into) where
+  pub whole : (r : Result Unit RestoreFault) → r ≡ compared head b.size into → OnOk r (T → held_by bytes b (Some place) ≡ Some into)
   whole r e =
-      subst (λ (x : Result Unit RestoreFault). OnOk x (T → held_in bytes b ≡ Some into)) (sym e)
-      (by (four_at 0 head == b.size && two_at 4 head == check16 into) (λ t. held-read bytes b head into (told t)))
+      subst (λ (x : Result Unit RestoreFault). OnOk x (T → held_by bytes b (Some place) ≡ Some into)) (sym e)
+      (by (four_at 0 head == b.size && two_at 4 head == check16 into) (λ t. held-read bytes b place head into (told t)))
     where
-      by : (t : Bool) → (T → held_in bytes b ≡ cond t (Some into) None) → OnOk (cond t (Ok (tt {0})) (Err (Torn (four_at 0 head) (two_at 4 head) (check16 into)))) (T → held_in bytes b ≡ Some into)
+      by : (t : Bool) → (T → held_by bytes b (Some place) ≡ cond t (Some into) None) → OnOk (cond t (Ok (tt {0})) (Err (Torn (four_at 0 head) (two_at 4 head) (check16 into)))) (T → held_by bytes b (Some place) ≡ Some into)
       by true h = h
       by false h = tt
 
-  pub torn : (r : Result Unit RestoreFault) → r ≡ compared head b.size into → IfErr r (λ fault. T → TellsTorn bytes b fault)
+  pub torn : (r : Result Unit RestoreFault) → r ≡ compared head b.size into → IfErr r (λ fault. T → TellsAt bytes b (Some place) fault)
   torn r e =
-      subst (λ (x : Result Unit RestoreFault). IfErr x (λ fault. T → TellsTorn bytes b fault)) (sym e)
-      (by (four_at 0 head == b.size && two_at 4 head == check16 into) (λ t. held-read bytes b head into (told t)))
+      subst (λ (x : Result Unit RestoreFault). IfErr x (λ fault. T → TellsAt bytes b (Some place) fault)) (sym e)
+      (by (four_at 0 head == b.size && two_at 4 head == check16 into) (λ t. held-read bytes b place head into (told t)))
     where
-      by : (t : Bool) → (T → held_in bytes b ≡ cond t (Some into) None) → IfErr (cond t (Ok (tt {0})) (Err (Torn (four_at 0 head) (two_at 4 head) (check16 into)))) (λ fault. T → TellsTorn bytes b fault)
+      by : (t : Bool) → (T → held_by bytes b (Some place) ≡ cond t (Some into) None) → IfErr (cond t (Ok (tt {0})) (Err (Torn (four_at 0 head) (two_at 4 head) (check16 into)))) (λ fault. T → TellsAt bytes b (Some place) fault)
       by true h = tt
-      by false h = λ t. record {
-        no_image = h t;
-        stated = length-read bytes head b (told t).head_is;
-        kept_is = word-read bytes head b (told t).head_is;
-        computed = ap check16 (told t).data_is;
-      }
+      by false h = λ t. (
+        place,
+        refl,
+        record {
+          no_image = h t;
+          stated = length-read bytes head b place (told t).head_is;
+          kept_is = word-read bytes head b place (told t).head_is;
+          computed = ap check16 (told t).data_is;
+        },
+      )
+
+-- a block that was read and gave no image
+pub record IsUnheld (bytes : List ℕ) (slot : ℕ) (b : Block) (told : ℕ) : Type 0 where
+  pub no_image : held_in bytes slot b ≡ None
+  pub words_are : told ≡ words_in bytes slot b
+
+pub unheld : (bytes : List ℕ) (slot : ℕ) (b : Block) (fault : RestoreFault) (told : ℕ) → words fault ≡ Some told → TellsTorn bytes slot b fault → IsUnheld bytes slot b told
+unfolding held_in
+unheld bytes slot b NoImage told is none = record {
+  no_image = ap (held_by bytes b) none;
+  words_are = sym (same_Some 0 told is) ∙ sym (ap (words_by bytes b) none);
+}
+unheld bytes slot b (Torn length kept found) told is torn = record {
+  no_image = ap (held_by bytes b) torn.1 ∙ torn.2.no_image;
+  words_are = sym (same_Some (kept * 65536 + found) told is) ∙ (λ i. torn.2.kept_is i * 65536 + torn.2.computed i) ∙ sym (ap (words_by bytes b) torn.1);
+}
+unheld bytes slot b Fault told is torn = absurd (cc is)
+
+-- ---- the place that shows
+
+pub shown-turned : (bytes : List ℕ) (slot : ℕ) → is_first_version bytes ≡ false → shown_in bytes slot ≡ turned_in bytes slot
+shown-turned bytes slot second = ap (λ (first : Bool). cond first (Some First) (turned_in bytes slot)) second
+
+pub held-shown : (bytes : List ℕ) (slot : ℕ) (b : Block) (shown : Option Place) → shown ≡ shown_in bytes slot → held_by bytes b shown ≡ held_in bytes slot b
+unfolding held_in
+held-shown bytes slot b shown is = ap (held_by bytes b) is

@@ -4,7 +4,6 @@ use Rattle.std.specs.Prelude.{slice_index_or}
 use Rattle.std.specs.Option.{option_map}
 use Rattle.std.proofs.lemmas.Bool.{and_parts, cases_eq}
 use Rattle.std.proofs.lemmas.Option.{same_Some}
-use Rattle.std.proofs.Math.ListN.{get_or-map}
 use Rattle.tbl_kinds.specs.Blocks.{Stored}
 use Rattle.tbl_kinds.specs.Places.{are_apart}
 use Rattle.tbl_kinds.specs.StoreSteps.{same_block, stored_at}
@@ -12,6 +11,7 @@ use Rattle.tbl_kinds.specs.declared.block.Block.{Block}
 use Rattle.cds_layout.specs.Directory.{directory_of}
 use Rattle.cds_layout.specs.Images.{stored_in, store_of}
 use Rattle.cds_layout.proofs.DirectoryLaws.{directory-agree_both}
+use Rattle.cds_layout.proofs.Stored.{stored_there}
 
 -- of two entries that count
 pub directory-single : (bytes : List ℕ) (m n : ℕ) (a b : Block) → slice_index_or (directory_of bytes) m None ≡ Some a → slice_index_or (directory_of bytes) n None ≡ Some b → same_block a b ≡ true → m ≡ n
@@ -23,13 +23,12 @@ directory-single bytes m n a b at_m at_n same = elim (cases_eq m n) [
 ]
 
 -- the block of a slot is the one that its entry states
-stored_from : (bytes : List ℕ) (o : Option Block) (b : Stored) → option_map (stored_in bytes) o ≡ Some b → o ≡ Some b.block
-stored_from bytes None b is = absurd (cc is)
-stored_from bytes (Some block) b is = ap (λ (s : Stored). Some s.block) (same_Some (stored_in bytes block) b is)
+stated_by : (bytes : List ℕ) (n : ℕ) (o : Option Block) (b : Stored) → option_map (stored_in bytes n) o ≡ Some b → o ≡ Some b.block
+stated_by bytes n None b is = absurd (cc is)
+stated_by bytes n (Some block) b is = ap (λ (s : Stored). Some s.block) (same_Some (stored_in bytes n block) b is)
 
 stored_block : (bytes : List ℕ) (n : ℕ) (b : Stored) → stored_at (store_of bytes) n ≡ Some b → slice_index_or (directory_of bytes) n None ≡ Some b.block
-unfolding store_of
-stored_block bytes n b there = stored_from bytes (slice_index_or (directory_of bytes) n None) b (sym (get_or-map (option_map (stored_in bytes)) (directory_of bytes) n None) ∙ there)
+stored_block bytes n b there = stated_by bytes n (slice_index_or (directory_of bytes) n None) b (sym (stored_there bytes n) ∙ there)
 
 -- so it is of two blocks that the bank shows
 pub store-single : (bytes : List ℕ) (m n : ℕ) (a b : Stored) → stored_at (store_of bytes) m ≡ Some a → stored_at (store_of bytes) n ≡ Some b → same_block a.block b.block ≡ true → m ≡ n

@@ -8,6 +8,8 @@ use Rattle.tbl_kinds.specs.Limits.{table_limit}
 use Rattle.tbl_kinds.specs.declared.block.Block.{Block}
 use Rattle.tbl_kinds.specs.declared.block.BlockKind.{BlockKind}
 use Rattle.tbl_kinds.specs.declared.block.BlockKind.TheVariants.{Table, App}
+use Rattle.cds_layout.specs.declared.turns.Place.{Place}
+use Rattle.cds_layout.specs.declared.turns.Place.TheVariants.{First, Second}
 
 -- ---- places
 
@@ -31,8 +33,23 @@ gate_open = 0xA5
 abbrev pub gate_at : List ℕ → ℕ → ℕ
 gate_at bytes slot = byte_at (gate_place slot) bytes
 
-abbrev pub tail_at : List ℕ → ℕ → List ℕ
-tail_at bytes slot = piece (tail_place slot) tail_len bytes
+-- of the bytes after the gate, the first so many tell the block
+abbrev pub told_len : ℕ
+told_len = 51
+
+abbrev pub told_at : List ℕ → ℕ → List ℕ
+told_at bytes slot = piece (tail_place slot) told_len bytes
+
+-- then come the two turn bytes of the block's places, which a copy writes
+abbrev pub turns_place : ℕ → ℕ
+turns_place slot = 68 + 64 * slot
+
+abbrev pub turns_len : ℕ
+turns_len = 2
+
+abbrev pub turn_place : ℕ → Place → ℕ
+turn_place slot First = turns_place slot
+turn_place slot Second = 69 + 64 * slot
 
 -- ---- what is written
 
@@ -40,7 +57,7 @@ abbrev pub kind_byte : BlockKind → ℕ
 kind_byte Table = 1
 kind_byte App = 2
 
--- the kind, two zeros, offset, size, full name, twelve zeros
+-- the kind, two zeros, offset, size, full name; then twelve zeros, so that both places are closed
 unfoldable pub entry_tail : Block → List ℕ
 entry_tail b = kind_byte b.kind ∷ 0 ∷ 0 ∷ four b.offset ++ four b.size ++ name_field 40 b.name ++ replicate 12 0
 

@@ -1,5 +1,6 @@
 pub mod Entries
 pub mod Directory
+pub mod Turns
 pub mod Images
 pub mod Texts
 pub mod Restores

@@ -1,13 +1,12 @@
 -- The lines of a store's text, by what the directory and the blocks tell.
-use Rattle.std.specs.Prelude.{◌≡◌, ℕ, ◌+◌, ◌-◌, Bool, true, false, List, [], ◌++◌, map, codes, Option, Some, None, is_some, count_by, slice_index_or}
+use Rattle.std.specs.Prelude.{◌≡◌, ℕ, ◌+◌, ◌-◌, Bool, true, false, List, [], ◌++◌, codes, Option, Some, None, is_some, count_by, slice_index_or}
 use Rattle.std.specs.List.{sum_by}
-use Rattle.std.specs.Option.{option_map}
 use Rattle.std.specs.Fmt.{decimal}
 use Rattle.tbl_kinds.specs.Blocks.{Stored}
-use Rattle.tbl_kinds.specs.Places.{bank_size, blocks_begin}
+use Rattle.tbl_kinds.specs.Places.{blocks_begin, blocks_end}
 use Rattle.tbl_kinds.specs.declared.block.Block.{Block}
 use Rattle.cds_layout.specs.Entries.{is_right}
-use Rattle.cds_layout.specs.Images.{head_len, stored_in}
+use Rattle.cds_layout.specs.Images.{head_len, stored_from}
 use Rattle.cds_layout.specs.Texts.{kind_letter, block_line, lines_from}
 
 -- a slot's block is one that can be there
@@ -40,11 +39,11 @@ room_at (Some b) = head_len + b.size
 
 -- the line for all blocks
 abbrev pub last_line : ℕ → ℕ → List ℕ
-last_line count room = codes "blocks " ++ decimal count ++ codes " free " ++ decimal ((bank_size - blocks_begin) - room) ++ codes "\n"
+last_line count room = codes "blocks " ++ decimal count ++ codes " free " ++ decimal ((blocks_end - blocks_begin) - room) ++ codes "\n"
 
 abbrev pub last_line_of : List (Option Block) → List ℕ
 last_line_of blocks = last_line (count_by is_some blocks) (sum_by room_at blocks)
 
 -- the text, by the blocks of the directory and the bytes of the bank
 abbrev pub listing : List ℕ → List (Option Block) → List ℕ
-listing bytes blocks = lines_from 0 (map (option_map (stored_in bytes)) blocks) ++ last_line_of blocks
+listing bytes blocks = lines_from 0 (stored_from bytes 0 blocks) ++ last_line_of blocks

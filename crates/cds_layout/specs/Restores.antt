@@ -1,48 +1,69 @@
 -- What the answers of a restore tell.
-use Rattle.std.specs.Prelude.{◌≡◌, ◌≢◌, ◌⊎◌, ℕ, ◌==◌, ◌&&◌, Bool, true, false, if◌then◌else◌, List, None, Result, Ok, Err}
-use Rattle.tbl_kinds.specs.Numbers.{two_at, four_at}
+use Rattle.std.specs.Prelude.{◌≡◌, ◌≢◌, ◌⊎◌, ℕ, ◌+◌, ◌*◌, ◌==◌, ◌&&◌, Bool, true, if◌then◌else◌, List, Option, Some, None, is_some, Result, Ok, Err}
+use Rattle.tbl_kinds.specs.Numbers.{piece, two_at, four_at}
 use Rattle.tbl_kinds.specs.Check.{check16}
 use Rattle.tbl_kinds.specs.declared.block.Block.{Block}
 use Rattle.tbl_outside.specs.Counts.{Still, RoseAlone}
-use Rattle.cds_layout.specs.Images.{data_in, kept_length, kept_word, held_in}
+use Rattle.cds_layout.specs.Images.{data_in, kept_length, kept_word, held_by, shown_in}
+use Rattle.cds_layout.specs.declared.turns.Place.{Place}
 use Rattle.cds_layout.specs.declared.blocks.RestoreFault.{RestoreFault}
-use Rattle.cds_layout.specs.declared.blocks.RestoreFault.TheVariants.{Torn, Fault}
+use Rattle.cds_layout.specs.declared.blocks.RestoreFault.TheVariants.{NoImage, Torn, Fault}
 
--- the block holds no image: what its head states, and the check word of its bytes
-pub record IsTorn (bytes : List ℕ) (b : Block) (length kept found : ℕ) : Type 0 where
-  pub no_image : held_in bytes b ≡ None
-  pub stated : length ≡ kept_length bytes b
-  pub kept_is : kept ≡ kept_word bytes b
-  pub computed : found ≡ check16 (data_in bytes b)
+-- the place that shows holds no image: what its head states, and the check word of its bytes
+pub record IsTorn (bytes : List ℕ) (b : Block) (place : Place) (length kept found : ℕ) : Type 0 where
+  pub no_image : held_by bytes b (Some place) ≡ None
+  pub stated : length ≡ kept_length bytes b place
+  pub kept_is : kept ≡ kept_word bytes b place
+  pub computed : found ≡ check16 (data_in bytes b place)
 
-abbrev pub TellsTorn : List ℕ → Block → RestoreFault → Type 0
-TellsTorn bytes b (Torn length kept found) = IsTorn bytes b length kept found
-TellsTorn bytes b Fault = Unit {0}
+-- no place shows, or this one does and is torn
+abbrev pub TellsAt : List ℕ → Block → Option Place → RestoreFault → Type 0
+TellsAt bytes b shown NoImage = shown ≡ None
+TellsAt bytes b shown (Torn length kept found) = (place : Place) × (shown ≡ Some place) × IsTorn bytes b place length kept found
+TellsAt bytes b shown Fault = Unit {0}
 
--- a torn block has another length, or another check word
+abbrev pub TellsTorn : List ℕ → ℕ → Block → RestoreFault → Type 0
+TellsTorn bytes slot b fault = TellsAt bytes b (shown_in bytes slot) fault
+
+-- what is told of a block that was read and gave no image: 0 where no place shows, else the check word of its head times
+-- 65,536, plus that of its bytes
+abbrev pub words : RestoreFault → Option ℕ
+words NoImage = Some 0
+words (Torn length kept found) = Some (kept * 65536 + found)
+words Fault = None
+
+-- a torn place has another length, or another check word
 abbrev pub SaysWhy : ℕ → RestoreFault → Type 0
 SaysWhy size (Torn length kept found) = (length ≢ size) ⊎ (kept ≢ found)
+SaysWhy size NoImage = Unit {0}
 SaysWhy size Fault = Unit {0}
 
--- where the bytes were read, whole or torn
+-- where the bytes of a place were read, whole or torn
 abbrev pub IfRead : {A : Type 0} → Result A RestoreFault → Type 0 → Type 0
 IfRead (Ok x) P = P
 IfRead (Err (Torn length kept found)) P = P
+IfRead (Err NoImage) P = Unit {0}
 IfRead (Err Fault) P = Unit {0}
 
 -- whether the bytes were read, whole or torn
 abbrev pub was_read : {A : Type 0} → Result A RestoreFault → Bool
 was_read (Ok x) = true
-was_read (Err (Torn length kept found)) = true
-was_read (Err Fault) = false
+was_read (Err fault) = is_some (words fault)
 
 -- a fault moved the count of faults alone, and else neither count moved
+abbrev pub FaultCounted : {B : Type 0} → (B → ℕ) → (B → ℕ) → B → B → Option ℕ → Type 0
+FaultCounted faults stops old new (Some told) = Still faults stops old new
+FaultCounted faults stops old new None = RoseAlone faults stops old new
+
 abbrev pub RestoreCounted : {A B : Type 0} → (B → ℕ) → (B → ℕ) → B → B → Result A RestoreFault → Type 0
 RestoreCounted faults stops old new (Ok x) = Still faults stops old new
-RestoreCounted faults stops old new (Err (Torn length kept found)) = Still faults stops old new
-RestoreCounted faults stops old new (Err Fault) = RoseAlone faults stops old new
+RestoreCounted faults stops old new (Err fault) = FaultCounted faults stops old new (words fault)
 
--- a head beside bytes: whole, or torn
+-- a head beside bytes of a place: whole, or torn
 abbrev pub compared : List ℕ → ℕ → List ℕ → Result Unit RestoreFault
 compared head size bytes =
     if four_at 0 head == size && two_at 4 head == check16 bytes then Ok tt else Err (Torn (four_at 0 head) (two_at 4 head) (check16 bytes))
+
+-- the bytes of a place are those of an image of this size
+abbrev pub is_whole_place : ℕ → List ℕ → Bool
+is_whole_place size bytes = (four_at 0 bytes == size) && (two_at 4 bytes == check16 (piece 8 size bytes))

@@ -2,7 +2,7 @@
 use Rattle.std.specs.Prelude.{ℕ, ◌+◌, ◌-◌, List, [], ◌∷◌, ◌++◌, length, sum_by, codes, Option, Some, None}
 use Rattle.std.specs.Fmt.{decimal}
 use Rattle.tbl_kinds.specs.Blocks.{Stored, Store}
-use Rattle.tbl_kinds.specs.Places.{bank_size, blocks_begin}
+use Rattle.tbl_kinds.specs.Places.{blocks_begin, blocks_end}
 use Rattle.tbl_kinds.specs.StoreSteps.{taken}
 use Rattle.tbl_kinds.specs.declared.block.Block.{Block}
 use Rattle.tbl_kinds.specs.declared.block.BlockKind.{BlockKind}
@@ -35,4 +35,4 @@ room_taken store = sum_by (λ (b : Block). head_len + b.size) (taken store)
 unfoldable pub text_of : Store → List ℕ
 text_of store =
     lines_from 0 store
-    ++ codes "blocks " ++ decimal (length (taken store)) ++ codes " free " ++ decimal ((bank_size - blocks_begin) - room_taken store) ++ codes "\n"
+    ++ codes "blocks " ++ decimal (length (taken store)) ++ codes " free " ++ decimal ((blocks_end - blocks_begin) - room_taken store) ++ codes "\n"

@@ -1,23 +1,32 @@
-//! A block in the bank: a head of 8 bytes, and those of its image.
+//! A block in the bank: two places, each with a head of 8 bytes and those of an image, of which one shows at most.
 
-ghost use Rattle.std.specs.Prelude.{◌≡◌, ◌+◌, ◌≤◌, Some, length, OnOk, IfErr};
-ghost use Rattle.tbl_kinds.specs.Places.{end_of};
+ghost use Rattle.std.specs.Prelude.{◌≡◌, ◌+◌, ◌<◌, ◌≤◌, ◌^◌, [], ◌∷◌, Some, true, false, is_ok, length, take, OnOk, OnErr, IfOk, IfErr};
+ghost use Rattle.tbl_kinds.specs.Check.{check16};
+ghost use Rattle.tbl_kinds.specs.Places.{bank_size};
 ghost use Rattle.tbl_outside.specs.Bank.{LeavesOnly};
-ghost use Rattle.tbl_outside.specs.BankCalls.{Asks};
-ghost use Rattle.cds_layout.specs.Images.{block_head, data_place, data_in, held_in};
-ghost use Rattle.cds_layout.specs.Order.{restore_calls};
-ghost use Rattle.cds_layout.specs.Restores.{TellsTorn, SaysWhy, IfRead, RestoreCounted, was_read, compared};
+ghost use Rattle.tbl_outside.specs.BankCalls.{Asks, read};
+ghost use Rattle.tbl_outside.specs.Counts.{Still, RoseAlone};
+ghost use Rattle.cds_layout.specs.Directory.{is_first_version};
+ghost use Rattle.cds_layout.specs.Entries.{slot_count, is_right};
+ghost use Rattle.cds_layout.specs.Images.{block_head, head_len, spelled, turn_in, is_whole, held_by, held_in};
+ghost use Rattle.cds_layout.specs.Order.{turn_calls, place_calls, restore_calls};
+ghost use Rattle.cds_layout.specs.Restores.{TellsAt, TellsTorn, SaysWhy, RestoreCounted, was_read, words, compared, is_whole_place};
+ghost use Rattle.cds_layout.specs.declared.turns.Place.TheVariants as place;
 
-use crate::places::HEAD_LENGTH;
+use crate::places::{HEAD_LENGTH, place_offset, turns_place};
+use crate::turns::{Place, Turns};
 use check_word::check16;
 use tbl_kinds::{Block, u16_at, u32_at};
-use tbl_outside::Bank;
+use tbl_outside::{Bank, Failed};
 use thiserror::Error;
 
 /// Why a block gave no image.
 #[derive(Clone, Copy, Debug, PartialEq, Eq, Error)]
 pub enum RestoreFault {
-    /// The head and the bytes aren't of one image: a copy broke off inside, or there was none.
+    /// No place shows: no copy was completed since the block was made.
+    #[error("the block has no image")]
+    NoImage,
+    /// The head and the bytes of the place that shows aren't of one image.
     #[error("the block is torn")]
     Torn {
         /// The length that the head states.
@@ -32,7 +41,23 @@ pub enum RestoreFault {
     Fault,
 }
 
-/// The head of a block whose image has this length and this check word: both with the high byte first, and two zeros.
+impl RestoreFault {
+    /// What is told of a block that was read and gave no image: 0 where no place shows, else the check word of its head times
+    /// 65,536, plus that of its bytes. None where the bank failed.
+    pub fn words(&self) -> Option<u32>
+        ensures { result ≡ words self.now }
+    {
+        match self {
+            RestoreFault::NoImage => Some(0),
+            RestoreFault::Torn { kept, found, .. } => {
+                Some(u32::from(*kept) * 65_536 + u32::from(*found))
+            }
+            RestoreFault::Fault => None,
+        }
+    }
+}
+
+/// The head of a place whose image has this length and this check word: both with the high byte first, and two zeros.
 #[tactic(auto, unfolding(crate::specs::Images::block_head))]
 pub fn head_bytes(length: u32, word: u16) -> [u8; 8]
     ensures { result ≡ block_head length word }
@@ -42,14 +67,17 @@ pub fn head_bytes(length: u32, word: u16) -> [u8; 8]
     [a, b, c, d, e, f, 0, 0]
 }
 
-/// Where the bytes of a block's image begin, after its head.
-fn data_offset<B: Bank>(bank: &B, block: &Block) -> u32
-    requires { end_of block.now.offset block.now.size ≤ B.size bank.now }
-    ensures { result ≡ data_place block.now }
+/// Spells an image as it stands in a place: its head, and then its bytes.
+#[tactic(auto, unfolding(crate::specs::Images::spelled, crate::specs::Images::block_head))]
+pub fn spell(room: &mut [u8], image: &[u8])
+    requires room { length room.old ≡ 8 + length image.now }
+    requires small { length image.now ≤ 16384 }
+    ensures spelled { room.new ≡ spelled (length image.now) image.now }
+    ensures check { check16 image.now < 2 ^ 16 }
 {
-    // the bank's size is a u32, so each place in it is one
-    let _size = bank.size();
-    block.offset + HEAD_LENGTH
+    let head = head_bytes(image.len() as u32, check16(image));
+    room[..8].copy_from_slice(&head);
+    room[8..].copy_from_slice(image);
 }
 
 /// Whether a head and bytes that were read are of one image.
@@ -71,14 +99,42 @@ fn compare(head: &[u8], size: u32, bytes: &[u8]) -> Result<(), RestoreFault>
     }
 }
 
-/// Reads what a block holds: its head and then its bytes. After a fault `into` is left open.
-pub fn read_block<B: Bank>(bank: &mut B, block: &Block, into: &mut [u8]) -> Result<(), RestoreFault>
+/// Reads the two turn bytes of a slot's block.
+pub fn read_turns<B: Bank>(bank: &mut B, slot: u8) -> Result<Turns, Failed>
+    requires within { slot < slot_count }
+    requires bank { bank_size ≤ B.size bank.old }
+    ensures first { IfOk result (λ turns. B.tells → turns.first ≡ turn_in (B.now bank.old) slot place.First) }
+    ensures second { IfOk result (λ turns. B.tells → turns.second ≡ turn_in (B.now bank.old) slot place.Second) }
+
+    ensures kept { B.tells → B.now bank.new ≡ B.now bank.old }
+    ensures moments { B.tells_moments →
+        LeavesOnly B.clock B.left_since bank.old bank.new (λ image. image ≡ B.now bank.old) }
+    ensures size { B.size bank.new ≡ B.size bank.old }
+    ensures still { OnOk result (Still B.faults B.stops bank.old bank.new) }
+    ensures fault { OnErr result (RoseAlone B.faults B.stops bank.old bank.new) }
+    ensures fault_count { B.faults bank.old ≤ B.faults bank.new }
+    ensures stop_count { B.stops bank.old ≤ B.stops bank.new }
+    ensures bank_calls { Asks B.tells_calls B.calls bank.old bank.new (is_ok result) (turn_calls slot) }
+{
+    let mut bytes = [0; 2];
+    bank.read_at(turns_place(slot), &mut bytes)?;
+    let [first, second] = bytes;
+    Ok(Turns::of(first, second))
+}
+
+/// Reads what a place of a block holds: its head and then its bytes. After a fault `into` is left open.
+pub(crate) fn read_place<B: Bank>(
+    bank: &mut B,
+    block: &Block,
+    place: Place,
+    into: &mut [u8],
+) -> Result<(), RestoreFault>
     requires size { length into.old ≡ block.now.size }
-    requires inside { end_of block.now.offset block.now.size ≤ B.size bank.old }
-    ensures whole { OnOk result (B.tells → held_in (B.now bank.old) block.now ≡ Some into.new) }
-    ensures torn { IfErr result (λ fault. B.tells → TellsTorn (B.now bank.old) block.now fault) }
+    requires right { is_right block.now ≡ true }
+    requires bank { bank_size ≤ B.size bank.old }
+    ensures whole { OnOk result (B.tells → held_by (B.now bank.old) block.now (Some place) ≡ Some into.new) }
+    ensures torn { IfErr result (λ fault. B.tells → TellsAt (B.now bank.old) block.now (Some place) fault) }
     ensures why { IfErr result (λ fault. SaysWhy block.now.size fault) }
-    ensures data { B.tells → IfRead result (into.new ≡ data_in (B.now bank.old) block.now) }
 
     ensures kept { B.tells → B.now bank.new ≡ B.now bank.old }
     ensures moments { B.tells_moments →
@@ -87,15 +143,110 @@ pub fn read_block<B: Bank>(bank: &mut B, block: &Block, into: &mut [u8]) -> Resu
     ensures counted { RestoreCounted B.faults B.stops bank.old bank.new result }
     ensures fault_count { B.faults bank.old ≤ B.faults bank.new }
     ensures stop_count { B.stops bank.old ≤ B.stops bank.new }
-    ensures bank_calls { Asks B.tells_calls B.calls bank.old bank.new (was_read result) (restore_calls block.now) }
+    ensures bank_calls { Asks B.tells_calls B.calls bank.old bank.new (was_read result) (place_calls block.now (Some place)) }
 {
+    let at = place_offset(block, place);
     let mut head = [0; 8];
-    if bank.read_at(block.offset, &mut head).is_err() {
+    if bank.read_at(at, &mut head).is_err() {
         return Err(RestoreFault::Fault);
     }
-    let place = data_offset(bank, block);
-    if bank.read_at(place, into).is_err() {
+    if bank.read_at(at + HEAD_LENGTH, into).is_err() {
         return Err(RestoreFault::Fault);
     }
     compare(&head, block.size, into)
+}
+
+/// Reads what the place of a block that shows holds.
+pub(crate) fn read_shown<B: Bank>(
+    bank: &mut B,
+    block: &Block,
+    shown: Option<Place>,
+    into: &mut [u8],
+) -> Result<(), RestoreFault>
+    requires size { length into.old ≡ block.now.size }
+    requires right { is_right block.now ≡ true }
+    requires bank { bank_size ≤ B.size bank.old }
+    ensures whole { OnOk result (B.tells → held_by (B.now bank.old) block.now shown ≡ Some into.new) }
+    ensures torn { IfErr result (λ fault. B.tells → TellsAt (B.now bank.old) block.now shown fault) }
+    ensures why { IfErr result (λ fault. SaysWhy block.now.size fault) }
+
+    ensures kept { B.tells → B.now bank.new ≡ B.now bank.old }
+    ensures moments { B.tells_moments →
+        LeavesOnly B.clock B.left_since bank.old bank.new (λ image. image ≡ B.now bank.old) }
+    ensures size { B.size bank.new ≡ B.size bank.old }
+    ensures counted { RestoreCounted B.faults B.stops bank.old bank.new result }
+    ensures fault_count { B.faults bank.old ≤ B.faults bank.new }
+    ensures stop_count { B.stops bank.old ≤ B.stops bank.new }
+    ensures bank_calls { Asks B.tells_calls B.calls bank.old bank.new (was_read result) (place_calls block.now shown) }
+{
+    match shown {
+        Some(place) => read_place(bank, block, place, into),
+        None => Err(RestoreFault::NoImage),
+    }
+}
+
+/// Reads what the block of a slot holds, in a store of two places a block: its two turn bytes, and then the head and the bytes
+/// of the place that shows. After a fault `into` is left open.
+pub fn read_block<B: Bank>(
+    bank: &mut B,
+    slot: u8,
+    block: &Block,
+    into: &mut [u8],
+) -> Result<(), RestoreFault>
+    requires size { length into.old ≡ block.now.size }
+    requires within { slot < slot_count }
+    requires right { is_right block.now ≡ true }
+    requires bank { bank_size ≤ B.size bank.old }
+    requires version { B.tells → is_first_version (B.now bank.old) ≡ false }
+    ensures whole { OnOk result (B.tells → held_in (B.now bank.old) slot block.now ≡ Some into.new) }
+    ensures torn { IfErr result (λ fault. B.tells → TellsTorn (B.now bank.old) slot block.now fault) }
+    ensures why { IfErr result (λ fault. SaysWhy block.now.size fault) }
+
+    ensures kept { B.tells → B.now bank.new ≡ B.now bank.old }
+    ensures moments { B.tells_moments →
+        LeavesOnly B.clock B.left_since bank.old bank.new (λ image. image ≡ B.now bank.old) }
+    ensures size { B.size bank.new ≡ B.size bank.old }
+    ensures counted { RestoreCounted B.faults B.stops bank.old bank.new result }
+    ensures fault_count { B.faults bank.old ≤ B.faults bank.new }
+    ensures stop_count { B.stops bank.old ≤ B.stops bank.new }
+    ensures bank_calls { B.tells →
+        Asks B.tells_calls B.calls bank.old bank.new (was_read result) (restore_calls (B.now bank.old) slot block.now) }
+{
+    match read_turns(bank, slot) {
+        Ok(turns) => read_shown(bank, block, turns.shown(), into),
+        Err(Failed) => Err(RestoreFault::Fault),
+    }
+}
+
+/// Whether the bytes of a place, of which there are so many, are whole.
+fn is_whole(bytes: &[u8], size: u32, end: usize) -> bool
+    requires end { end ≡ 8 + size }
+    requires within { end ≤ length bytes.now }
+    ensures { result ≡ is_whole_place size (take end bytes.now) }
+{
+    compare(&bytes[..8], size, &bytes[8..end]).is_ok()
+}
+
+/// Whether the first place of a block is whole. Head and image are read at once, into the front of `room`.
+pub fn read_first<B: Bank>(bank: &mut B, block: &Block, room: &mut [u8]) -> Result<bool, Failed>
+    requires room { length room.old ≡ 16392 }
+    requires right { is_right block.now ≡ true }
+    requires bank { bank_size ≤ B.size bank.old }
+    ensures whole { IfOk result (λ whole. B.tells → whole ≡ is_whole (B.now bank.old) block.now place.First) }
+    ensures room { length room.new ≡ 16392 }
+
+    ensures kept { B.tells → B.now bank.new ≡ B.now bank.old }
+    ensures moments { B.tells_moments →
+        LeavesOnly B.clock B.left_since bank.old bank.new (λ image. image ≡ B.now bank.old) }
+    ensures size { B.size bank.new ≡ B.size bank.old }
+    ensures still { OnOk result (Still B.faults B.stops bank.old bank.new) }
+    ensures fault { OnErr result (RoseAlone B.faults B.stops bank.old bank.new) }
+    ensures fault_count { B.faults bank.old ≤ B.faults bank.new }
+    ensures stop_count { B.stops bank.old ≤ B.stops bank.new }
+    ensures bank_calls { Asks B.tells_calls B.calls bank.old bank.new (is_ok result)
+        (read block.now.offset (head_len + block.now.size) ∷ []) }
+{
+    let end = 8 + block.size as usize;
+    bank.read_at(block.offset, &mut room[..end])?;
+    Ok(is_whole(room, block.size, end))
 }

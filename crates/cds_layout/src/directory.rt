@@ -6,10 +6,14 @@ ghost use Rattle.std.specs.Option.{option_copied};
 ghost use Rattle.tbl_kinds.specs.Places.{are_apart};
 ghost use Rattle.tbl_kinds.specs.StoreSteps.{same_kind, same_block};
 ghost use Rattle.cds_layout.specs.Entries.{slot_count, gate_at};
-ghost use Rattle.cds_layout.specs.Directory.{directory_len, is_live, agree, agrees_at, stated, counted, directory_to, directory_of};
+ghost use Rattle.cds_layout.specs.Images.{shown_in};
+ghost use Rattle.cds_layout.specs.Directory.{directory_len, is_live, is_first_version, agree, agrees_at, stated, counted, directory_to, directory_of};
 
-use crate::entry::{TAIL_LENGTH, block_in};
-use crate::places::{GATE_OPEN, LIVE_MARK, SLOTS, end_of, gate_place};
+use crate::entry::{TOLD_LENGTH, block_in};
+use crate::places::{
+    FIRST_VERSION, GATE_OPEN, LIVE_MARK, SLOTS, VERSION_PLACE, end_of, gate_place, turns_place,
+};
+use crate::turns::{Place, Turns};
 use std::alloc::{AllocError, Global};
 use std::marker::Model;
 use tbl_kinds::{Block, BlockKind, Memory};
@@ -127,7 +131,7 @@ fn stated(bytes: &[u8], slot: u8) -> Option<Block>
 {
     let place = gate_place(slot) as usize;
     if bytes[place] == GATE_OPEN {
-        block_in(&bytes[place + 1..place + 1 + TAIL_LENGTH])
+        block_in(&bytes[place + 1..place + 1 + TOLD_LENGTH])
     } else {
         None
     }
@@ -150,7 +154,28 @@ pub fn is_live(bytes: &[u8]) -> bool
     requires { length bytes.now ≡ directory_len }
     ensures { result ≡ is_live bytes.now }
 {
-    &bytes[..4] == LIVE_MARK.as_slice()
+    &bytes[..3] == LIVE_MARK.as_slice()
+}
+
+/// Whether a live bank is of the first version, in which each block has one place.
+pub fn is_first_version(bytes: &[u8]) -> bool
+    requires { length bytes.now ≡ directory_len }
+    ensures { result ≡ is_first_version bytes.now }
+{
+    bytes[VERSION_PLACE as usize] == FIRST_VERSION
+}
+
+/// The place that shows of a slot's block, by the first bytes of the bank.
+pub(crate) fn shown_place(bytes: &[u8], slot: u8) -> Option<Place>
+    requires len { length bytes.now ≡ directory_len }
+    requires slot { slot < slot_count }
+    ensures { result ≡ shown_in bytes.now slot }
+{
+    if is_first_version(bytes) {
+        return Some(Place::First);
+    }
+    let place = turns_place(slot) as usize;
+    Turns::of(bytes[place], bytes[place + 1]).shown()
 }
 
 /// Takes all blocks out.
@@ -187,7 +212,7 @@ fn read_blocks(bytes: &[u8], blocks: &mut Vec<Option<Block>>)
     }
 }
 
-/// Reads the directory from the first bytes of the bank: the live mark `CDS1`, twelve bytes that aren't looked at, and
+/// Reads the directory from the first bytes of the bank: the live mark `CDS`, the version, twelve bytes that aren't looked at, and
 /// 128 entries of 64 bytes. An entry counts where its gate is open, it tells a block that lies after the directory and
 /// inside the bank, and no earlier one that counts has a byte in common with it, or its kind and name. In a bank that
 /// isn't live none counts. It takes no memory.

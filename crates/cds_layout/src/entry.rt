@@ -5,13 +5,16 @@ ghost use Rattle.std.specs.List.{list_all};
 ghost use Rattle.tbl_kinds.specs.Names.{is_zero, name_in, name_field};
 ghost use Rattle.tbl_kinds.specs.Heads.{is_name_field};
 ghost use Rattle.tbl_kinds.specs.Places.{is_inside};
-ghost use Rattle.cds_layout.specs.Entries.{tail_len, kind_byte, entry_tail, is_right, kind_in, block_in};
+ghost use Rattle.cds_layout.specs.Entries.{told_len, kind_byte, entry_tail, is_right, kind_in, block_in};
 
-use crate::places::{BANK_SIZE, BLOCKS_BEGIN, MOST_IMAGE, end_of};
+use crate::places::{BLOCKS_BEGIN, BLOCKS_END, MOST_IMAGE, end_of};
 use tbl_kinds::{Block, BlockKind, Name, Name40, u32_at};
 
 /// How many bytes an entry has after its gate.
-pub(crate) const TAIL_LENGTH: usize = 63;
+const TAIL_LENGTH: usize = 63;
+
+/// How many of them tell its block.
+pub(crate) const TOLD_LENGTH: usize = NAME_END;
 
 /// The name field, after the kind, two zeros, the offset and the size.
 const NAME_PLACE: usize = 11;
@@ -19,7 +22,7 @@ const NAME_PLACE: usize = 11;
 /// How many bytes the name field has.
 const NAME_WIDTH: usize = 40;
 
-/// Where the name field ends, and twelve zeros begin.
+/// Where the name field ends.
 const NAME_END: usize = 51;
 
 fn kind_byte(kind: BlockKind) -> u8
@@ -51,8 +54,8 @@ fn name_field(name: &Name40) -> [u8; 40]
     field
 }
 
-/// The bytes of a block's entry after the gate: the kind, two zeros, the offset and the size with the high byte first,
-/// the full name, and zeros.
+/// The bytes of a new block's entry after the gate: the kind, two zeros, the offset and the size with the high byte first,
+/// the full name, and zeros, by which both places are closed.
 #[tactic(auto, unfolding(crate::specs::Entries::entry_tail))]
 pub fn entry_bytes(block: &Block) -> [u8; 63]
     ensures { result ≡ entry_tail block.now }
@@ -85,11 +88,11 @@ fn is_name_field(field: &[u8], name: &Name40) -> bool
     }
 }
 
-/// Whether a block with an image of this size can begin at this offset: after the directory and inside the bank.
+/// Whether a block with an image of this size can begin at this offset: after the directory and before the end of the blocks.
 fn is_inside(offset: u32, size: u32) -> bool
     ensures { result ≡ is_inside offset size }
 {
-    BLOCKS_BEGIN <= offset && end_of(offset, size) <= u64::from(BANK_SIZE)
+    BLOCKS_BEGIN <= offset && end_of(offset, size) <= u64::from(BLOCKS_END)
 }
 
 /// Whether it is a block that can be there.
@@ -103,7 +106,7 @@ fn is_right(block: &Block) -> bool
 /// The block that the bytes after a gate tell. The zeros aren't looked at, but for those after the name.
 #[tactic(auto, unfolding(crate::specs::Entries::block_in))]
 pub(crate) fn block_in(tail: &[u8]) -> Option<Block>
-    requires { length tail.now ≡ tail_len }
+    requires { length tail.now ≡ told_len }
     ensures { result ≡ block_in tail.now }
 {
     let field = &tail[NAME_PLACE..NAME_END];

@@ -1,5 +1,6 @@
 //! The layout of the Critical Data Store in preserved memory: the layers above may rely on it that hostile bytes are
-//! read as a directory of blocks that can be there together, and that a block is whole exactly where its head says so.
+//! read as a directory of blocks that can be there together, that at most one of a block's two places shows, and that it is
+//! whole exactly where its head says so.
 #![tactic(auto)]
 
 mod blocks;
@@ -9,9 +10,10 @@ mod laws;
 mod listing;
 mod places;
 mod text;
+mod turns;
 
-pub use blocks::{RestoreFault, head_bytes, read_block};
-pub use directory::{Directory, is_live, read_directory};
+pub use blocks::{RestoreFault, head_bytes, read_block, read_first, read_turns, spell};
+pub use directory::{Directory, is_first_version, is_live, read_directory};
 pub use entry::entry_bytes;
 pub use laws::{
     a_boot_without_strays_only_reads, a_call_asks_at_most_four_times, blocks_can_be_there_together,
@@ -19,6 +21,8 @@ pub use laws::{
 };
 pub use listing::{TextFault, store_text};
 pub use places::{
-    BANK_SIZE, BLOCKS_BEGIN, ENTRIES_PLACE, GATE_CLOSED, GATE_OPEN, HEAD_LENGTH, LIVE_MARK,
-    MOST_IMAGE, SLOTS, end_of, gate_place, room_for,
+    BANK_SIZE, BLOCKS_BEGIN, BLOCKS_END, ENTRIES_PLACE, FIRST_VERSION, GATE_CLOSED, GATE_OPEN,
+    HEAD_LENGTH, LIVE_MARK, MOST_IMAGE, MOST_PLACE, SLOTS, VERSION, VERSION_PLACE, end_of,
+    gate_place, place_offset, room_for, turn_place, turns_place,
 };
+pub use turns::{Place, Turn, Turns, shown, turn_byte};

@@ -3,17 +3,17 @@
 ghost use Rattle.std.specs.Prelude.{◌≡◌, ◌+◌, ◌-◌, ◌<◌, ◌^◌, ◌++◌, is_some, count_by, length, codes, OnOk};
 ghost use Rattle.std.specs.List.{sum_by};
 ghost use Rattle.std.specs.Fmt.{decimal};
-ghost use Rattle.tbl_kinds.specs.Places.{bank_size, blocks_begin};
+ghost use Rattle.tbl_kinds.specs.Places.{blocks_begin, blocks_end};
 ghost use Rattle.cds_layout.specs.Entries.{slot_count};
 ghost use Rattle.cds_layout.specs.Texts.{kind_letter};
 ghost use Rattle.cds_layout.specs.Lines.{word_of, told_line, last_line, room_at};
 
-use crate::places::{BANK_SIZE, BLOCKS_BEGIN, room_for};
+use crate::places::{BLOCKS_BEGIN, BLOCKS_END, room_for};
 use plain_text::{append_decimal, append_text};
 use tbl_kinds::{Block, BlockKind, Bytes, Memory};
 
 /// How many bytes there are for blocks, after the directory.
-const ROOM: u64 = (BANK_SIZE - BLOCKS_BEGIN) as u64;
+const ROOM: u64 = (BLOCKS_END - BLOCKS_BEGIN) as u64;
 
 fn kind_letter(kind: BlockKind) -> &'static [u8]
     ensures { result.now ≡ kind_letter kind }

@@ -2,7 +2,7 @@
 use Rattle.std.proofs.Common.{◌≡◌, ℕ, zero, suc, ◌+◌, ◌-◌, ◌<◌, ◌≤◌, Bool, true, false, cond, List, [], ◌∷◌, Option, Some, None, refl, sym, ap, subst, ◌∙◌, inl, inr, arith}
 use Rattle.std.specs.List.{find, range_with_len}
 use Rattle.std.proofs.lemmas.Bool.{cases_lt}
-use Rattle.tbl_kinds.specs.Places.{fits, place, bank_size, blocks_begin}
+use Rattle.tbl_kinds.specs.Places.{fits, place, blocks_end, blocks_begin}
 use Rattle.tbl_kinds.specs.declared.block.Block.{Block}
 use Rattle.cds_pool.proofs.Least.{IsLeast, fits_parts}
 
@@ -26,16 +26,16 @@ module _ (test : ℕ → Bool) (from count : ℕ) (within : (at : ℕ) → test 
   least_found (Some at) least = sym (first_found test count from at (within at least.found).0 (within at least.found).1 least.found least.least)
 
 -- the range stays a variable: so none of its offsets is computed
-place-is : (taken : List Block) (size from count : ℕ) → from ≡ blocks_begin → count ≡ bank_size - blocks_begin → place taken size ≡ find (fits taken size) (range_with_len from count)
+place-is : (taken : List Block) (size from count : ℕ) → from ≡ blocks_begin → count ≡ blocks_end - blocks_begin → place taken size ≡ find (fits taken size) (range_with_len from count)
 unfolding place
 place-is taken size from count e f = λ i. find (fits taken size) (range_with_len (sym e i) (sym f i))
 
-inside_range : (taken : List Block) (size from count at : ℕ) → from ≡ blocks_begin → count ≡ bank_size - blocks_begin → fits taken size at ≡ true → (from ≤ at) × (at < from + count)
+inside_range : (taken : List Block) (size from count at : ℕ) → from ≡ blocks_begin → count ≡ blocks_end - blocks_begin → fits taken size at ≡ true → (from ≤ at) × (at < from + count)
 inside_range taken size from count at e f fit = let parts = fits_parts taken size at fit in (omega (arith, e, parts.0), omega (arith, e, f, parts.1))
 
-least-place_at : (taken : List Block) (size from count : ℕ) → from ≡ blocks_begin → count ≡ bank_size - blocks_begin → (r : Option ℕ) → IsLeast (fits taken size) r → r ≡ place taken size
+least-place_at : (taken : List Block) (size from count : ℕ) → from ≡ blocks_begin → count ≡ blocks_end - blocks_begin → (r : Option ℕ) → IsLeast (fits taken size) r → r ≡ place taken size
 least-place_at taken size from count e f r least =
     least_found (fits taken size) from count (λ at fit. inside_range taken size from count at e f fit) r least ∙ sym (place-is taken size from count e f)
 
 pub least-place : (taken : List Block) (size : ℕ) (r : Option ℕ) → IsLeast (fits taken size) r → r ≡ place taken size
-least-place taken size r least = least-place_at taken size blocks_begin (bank_size - blocks_begin) refl refl r least
+least-place taken size r least = least-place_at taken size blocks_begin (blocks_end - blocks_begin) refl refl r least

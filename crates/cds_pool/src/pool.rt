@@ -9,8 +9,8 @@ use tbl_kinds::Block;
 /// Where the blocks begin, after the directory.
 const BLOCKS_BEGIN: u64 = cds_layout::BLOCKS_BEGIN as u64;
 
-/// How many bytes the bank has.
-const BANK_SIZE: u64 = cds_layout::BANK_SIZE as u64;
+/// Where the blocks end.
+const BLOCKS_END: u64 = cds_layout::BLOCKS_END as u64;
 
 /// Whether a block of this size at this offset would have no byte in common with that block.
 fn is_apart(size: u32, at: u64, block: &Block) -> bool
@@ -33,7 +33,7 @@ fn fits(taken: &[Block], size: u32, at: u64) -> bool
     requires { at < 2 ^ 34 }
     ensures { result ≡ fits taken.now size at }
 {
-    BLOCKS_BEGIN <= at && at + room_for(size) <= BANK_SIZE && all_apart(taken, size, at)
+    BLOCKS_BEGIN <= at && at + room_for(size) <= BLOCKS_END && all_apart(taken, size, at)
 }
 
 /// The lesser of the least offset so far and this one, where this one fits.

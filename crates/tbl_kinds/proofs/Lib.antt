@@ -4,3 +4,4 @@ pub mod PositionLaws
 pub mod FreeLaws
 pub mod RecordLaws
 pub mod TranscriptLaws
+pub mod Tries

@@ -6,7 +6,7 @@ use Rattle.tbl_kinds.specs.StoreSteps.{Shows, doubtful_of, reserved, reserve_bro
 use Rattle.tbl_kinds.specs.declared.block.BlockKind.{BlockKind}
 
 -- a block of a kind, a name and a size is reserved; an image is copied into the block of a slot; a block is restored, and
--- gave this image, or none where it is torn; a block is deleted
+-- gave this image, or none where it has none; a block is deleted
 pub data StoreCall : Type 0 where
   reserve : BlockKind → List ℕ → ℕ → StoreCall
   copy : ℕ → List ℕ → StoreCall
@@ -24,17 +24,18 @@ after (delete slot) store = deleted slot store
 abbrev pub after_first : ℕ → List StoreCall → Store → Store
 after_first count calls store = fold (λ blocks call. after call blocks) store (take count calls)
 
--- the blocks where it broke off: whether in the write of a gate byte, and whether of that of a doubtful block
+-- the blocks where it broke off: whether in the write of a gate byte or a turn byte, and whether of the gate byte of a
+-- doubtful block
 abbrev pub broken : Bool → Bool → StoreCall → Store → Store
 broken gate old (reserve kind name size) store = reserve_broken gate old kind name size store
-broken gate old (copy slot image) store = copy_broken slot image store
+broken gate old (copy slot image) store = copy_broken gate slot image store
 broken gate old (restore slot given) store = store
 broken gate old (delete slot) store = delete_broken slot store
 
 -- where it can break off: a reservation in the gate of a doubtful block only where there is one of its kind and name
 abbrev pub CanBreak : Bool → Bool → StoreCall → Store → Type 0
 CanBreak gate old (reserve kind name size) store = old ≡ true → (gate ≡ true) × IsSome (doubtful_of kind name store)
-CanBreak gate old (copy slot image) store = (gate ≡ false) × (old ≡ false)
+CanBreak gate old (copy slot image) store = old ≡ false
 CanBreak gate old (restore slot given) store = (gate ≡ false) × (old ≡ false)
 CanBreak gate old (delete slot) store = (gate ≡ true) × (old ≡ false)
 

@@ -1,5 +1,5 @@
 -- What is asked of the store's blocks, what each call does to them, and what a reset leaves of them.
-use Rattle.std.specs.Prelude.{◌≡◌, ℕ, ◌+◌, ◌==◌, List, [], ◌∷◌, ◌++◌, length, Bool, true, false, not, ◌&&◌, if◌then◌else◌, position, Option, Some, None, is_some, IfSome, slice_index_or, slice_set}
+use Rattle.std.specs.Prelude.{◌≡◌, ◌⊎◌, ℕ, ◌+◌, ◌==◌, List, [], ◌∷◌, ◌++◌, length, Bool, true, false, not, ◌&&◌, if◌then◌else◌, position, Option, Some, None, is_some, slice_index_or, slice_set}
 use Rattle.std.specs.List.{filter_map, list_any}
 use Rattle.std.specs.Option.{option_map}
 use Rattle.std.specs.Str.{bytes_eq}
@@ -95,13 +95,13 @@ copied slot image store = changed (with_held (Some image)) slot store
 abbrev pub deleted : ℕ → Store → Store
 deleted slot store = slice_set store slot None
 
--- what a restore may give: what the block holds; or where copies broke off, any image of its size, or none
-abbrev pub MayGiveAfter : List (List ℕ) → Stored → Option (List ℕ) → Type 0
-MayGiveAfter [] b given = given ≡ b.held
-MayGiveAfter (image ∷ images) b given = IfSome given (λ image. length image ≡ b.block.size)
+-- what a restore may give: what the block holds, or one of the images whose copies broke off since
+abbrev pub IsHeldOrTried : List (List ℕ) → Option (List ℕ) → Option (List ℕ) → Type 0
+IsHeldOrTried [] held given = given ≡ held
+IsHeldOrTried (image ∷ images) held given = (given ≡ Some image) ⊎ IsHeldOrTried images held given
 
 abbrev pub MayGive : Stored → Option (List ℕ) → Type 0
-MayGive b given = MayGiveAfter b.trying b given
+MayGive b given = IsHeldOrTried b.trying b.held given
 
 -- a restore settles what the block holds
 abbrev pub restored : ℕ → Option (List ℕ) → Store → Store
@@ -115,9 +115,15 @@ in_doubt b = record b { doubtful = true }
 abbrev pub with_try : List ℕ → Stored → Stored
 with_try image b = record b { trying = b.trying ++ image ∷ [] }
 
--- broken off in the copy of an image: whether it is there isn't known
-abbrev pub copy_broken : ℕ → List ℕ → Store → Store
-copy_broken slot image store = changed (with_try image) slot store
+-- what is known of a block where a copy of an image broke off: in the turn byte that makes it show, it may be there; before
+-- that the block is as it was
+abbrev pub tried : Bool → List ℕ → Stored → Stored
+tried true image b = with_try image b
+tried false image b = b
+
+-- broken off in the copy of an image
+abbrev pub copy_broken : Bool → ℕ → List ℕ → Store → Store
+copy_broken gate slot image store = changed (tried gate image) slot store
 
 -- broken off in the write that closes the gate
 abbrev pub delete_broken : ℕ → Store → Store

@@ -7,7 +7,8 @@ use Rattle.std.specs.Str.{bytes_eq}
 use Rattle.std.proofs.lemmas.List.{take_all}
 use Rattle.std.proofs.lemmas.Option.{slice_get_past}
 use Rattle.tbl_kinds.specs.Blocks.{Stored, Store}
-use Rattle.tbl_kinds.specs.StoreSteps.{same_kind, is_of, is_open_of, open_of, doubtful_of, stored_at, closed, has_room}
+use Rattle.tbl_kinds.proofs.Tries.{tried_block, tried_doubtful}
+use Rattle.tbl_kinds.specs.StoreSteps.{same_kind, is_of, is_open_of, open_of, doubtful_of, stored_at, closed, has_room, tried}
 use Rattle.tbl_kinds.specs.StoreCalls.{StoreCall, reserve, copy, restore, delete, after, after_first, broken}
 use Rattle.tbl_model.specs.State.{Table, Tables}
 use Rattle.tbl_model.specs.Tables.{table_at}
@@ -61,7 +62,7 @@ module _ (tables : Tables) where
     breaks_keep false old (reserve kind other len) store suits has = closed_keeps t.name t.size kind other store has
     breaks_keep true false (reserve kind other len) store suits has = made_keeps t.name t.size true kind other len (closed kind other store) (closed_keeps t.name t.size kind other store has)
     breaks_keep true true (reserve kind other len) store suits has = has
-    breaks_keep gate old (copy slot image) store suits has = change_keeps store slot _ t.name t.size (λ b. refl) (λ b. refl) has
+    breaks_keep gate old (copy slot image) store suits has = change_keeps store slot (tried gate image) t.name t.size (tried_block gate image) (tried_doubtful gate image) has
     breaks_keep gate old (restore slot given) store suits has = has
     breaks_keep gate old (delete slot) store suits has = set_keeps store slot _ t.name t.size (suits row t registered) has
 
@@ -81,7 +82,7 @@ module _ (tables : Tables) where
   breaks_single true false (reserve kind name size) store suits single =
       made_single true kind name size (closed kind name store) (closed_none kind name store single suits) (remain_single store _ (freed_remain store (doubtful_of kind name store)) single)
   breaks_single true true (reserve kind name size) store suits single = single
-  breaks_single gate old (copy slot image) store suits single = remain_single store _ (change_remain store slot _ (λ b. refl)) single
+  breaks_single gate old (copy slot image) store suits single = remain_single store _ (change_remain store slot (tried gate image) (tried_block gate image)) single
   breaks_single gate old (restore slot given) store suits single = single
   breaks_single gate old (delete slot) store suits single = remain_single store _ (change_remain store slot _ (λ b. refl)) single
 

@@ -1,15 +1,16 @@
 -- Recovery: after a reset at any moment a critical table begins with the image of its last completed copy, or with one whose copy broke off.
-use Rattle.std.proofs.Common.{◌≡◌, ◌≢◌, ℕ, eqb, List, [], ◌∷◌, length, take, true, false, cond, replicate, Option, Some, None, is_some, refl, sym, ap, ◌∙◌, inl, inr, subst, arith}
-use Rattle.std.specs.Prelude.{◌-◌, ◌≤◌, ◌<◌, slice_get, slice_set, IsSome, IfSome, nat_le, option_and_then}
+use Rattle.std.proofs.Common.{◌≡◌, ◌≢◌, ℕ, eqb, List, [], ◌∷◌, suc, length, take, true, false, cond, replicate, Option, Some, None, is_some, refl, sym, ap, ◌∙◌, inl, inr, subst, arith}
+use Rattle.std.specs.Prelude.{◌-◌, ◌≤◌, ◌<◌, slice_get, slice_set, IsSome, Contains, ◌⊎◌, nat_le, option_and_then}
 use Rattle.std.proofs.lemmas.Bool.{eq-eqb}
 use Rattle.std.proofs.lemmas.Bool.Decides.{nat_tests}
 use Rattle.std.proofs.lemmas.List.{get_or-set_same, set-get_or, length-set}
-use Rattle.std.proofs.lemmas.Option.{slice_get_read}
+use Rattle.std.proofs.lemmas.Option.{slice_get_read, same_Some}
 use Rattle.tbl_kinds.specs.Admitted.{Admitted}
 use Rattle.tbl_kinds.specs.Blocks.{Stored, Store}
 use Rattle.tbl_kinds.specs.Free.{least_free}
 use Rattle.tbl_kinds.specs.Notes.{restored_image}
-use Rattle.tbl_kinds.specs.StoreSteps.{is_open_of, open_of, stored_at, with_held, MayGiveAfter, Shows}
+use Rattle.tbl_kinds.specs.StoreSteps.{is_open_of, open_of, stored_at, with_held, IsHeldOrTried, MayGive, Shows}
+use Rattle.tbl_kinds.proofs.Tries.{sure_gives}
 use Rattle.tbl_kinds.specs.StoreCalls.{StoreCall, restore}
 use Rattle.tbl_kinds.proofs.FreeLaws.{least_free-within}
 use Rattle.tbl_model.specs.State.{State, Table, no_tables}
@@ -34,7 +35,7 @@ use Rattle.tbl_kinds.specs.declared.note.Outcome.TheVariants.{Done as AllDone}
 use Rattle.tbl_kinds.specs.declared.status.TheConstants.Status.{SUCCESS, INFO_RECOVERED_TBL}
 use Rattle.tbl_session.specs.Backed.{AreSingle}
 use Rattle.tbl_session.specs.Completed.{completed, HasCompleted}
-use Rattle.tbl_session.specs.Recovery.{IsHistory, blocks_at, IsBlockOf, IsShown, WasCopied, NotByChance, Registration, registering, Registers, Begins, Recovers, BeginsEmpty, ComesBack, request_of, started}
+use Rattle.tbl_session.specs.Recovery.{IsHistory, blocks_at, IsBlockOf, IsShown, WasCopied, Registration, registering, Registers, Begins, Recovers, BeginsEmpty, ComesBack, request_of, started}
 use Rattle.tbl_laws.proofs.Blocks.{is_of_parts}
 use Rattle.tbl_laws.proofs.Calls.{all_done}
 use Rattle.tbl_laws.proofs.CrashedBlocks.{crash_shows, crash_single, left_single, IsLeft, is_left, open_shown, open_found}
@@ -116,6 +117,25 @@ module _ (left : Store) (s : State) (name : List ℕ) (r : Registration) (over :
   told : (registering s r).status ≡ cond (is_some b.held) INFO_RECOVERED_TBL SUCCESS
   told = ap (λ (e : Effect). e.status) restores ∙ ap (λ (image : Option (List ℕ)). cond (is_some image) INFO_RECOVERED_TBL SUCCESS) gives
 
+-- ---- what a restore may give was copied
+
+among : (images : List (List ℕ)) (held : Option (List ℕ)) (image : List ℕ) → IsHeldOrTried images held (Some image) → (held ≡ Some image) ⊎ Contains images image
+among [] held image gives = inl (sym gives)
+among (first ∷ images) held image (inl is) = inr (0, omega arith, sym (same_Some image first is))
+among (first ∷ images) held image (inr gives) = elim (among images held image gives) [ inl is ↦ inl is | inr later ↦ inr (suc later.0, (let within = later.1 in omega (arith, within)), later.2) ]
+
+was_copied : (b : Stored) (image : List ℕ) → MayGive b (Some image) → WasCopied b image
+was_copied b image gives = among b.trying b.held image gives
+
+never : (images : List (List ℕ)) (held : Option (List ℕ)) → IsSome held → IsHeldOrTried images held None → ⊥
+never [] None some gives = cc some
+never [] (Some image) some gives = cc gives
+never (first ∷ images) held some (inl is) = cc is
+never (first ∷ images) held some (inr gives) = never images held some gives
+
+never_none : (b : Stored) → IsSome b.held → MayGive b None → ⊥
+never_none b some gives = never b.trying b.held some gives
+
 -- ---- what a reset left of a block of a table is found
 
 -- the table begins with this image, or with none
@@ -152,24 +172,21 @@ module _ (left : Store) (s : State) (name : List ℕ) (r : Registration) (over :
 
   -- a block that isn't in doubt comes back with what it holds
   sure_comes_back : b.trying ≡ [] → StartsWith left (registering s r) name b.held
-  sure_comes_back none = starts b.held (subst (λ (trying : List (List ℕ)). MayGiveAfter trying b stays.found.held) none stays.may)
+  sure_comes_back none = starts b.held (sure_gives b stays.found.held none stays.may)
 
-  -- and one that is in doubt with an image of its size, or with none
-  sized_held : (trying : List (List ℕ)) (held : Option (List ℕ)) → trying ≢ [] → MayGiveAfter trying b held → IfSome held (λ image. length image ≡ b.block.size)
-  sized_held [] held tried may = absurd (tried refl)
-  sized_held (first ∷ more) held tried may = may
+  -- and one that is in doubt with that, or with an image whose copy broke off since
+  copied_comes_back : ComesBack (WasCopied b) left (registering s r) name
+  copied_comes_back = by stays.found.held refl where
+    by : (held : Option (List ℕ)) → stays.found.held ≡ held → ComesBack (WasCopied b) left (registering s r) name
+    by None at = inr (starts None at)
+    by (Some image) at = inl (image, was_copied b image (subst (MayGive b) at stays.may), starts (Some image) at)
 
-  doubtful_comes_back : b.trying ≢ [] → ComesBack (λ image. length image ≡ r.size) left (registering s r) name
-  doubtful_comes_back tried = by stays.found.held refl (sized_held b.trying stays.found.held tried stays.may) where
-    by : (held : Option (List ℕ)) → stays.found.held ≡ held → IfSome held (λ image. length image ≡ b.block.size) → ComesBack (λ image. length image ≡ r.size) left (registering s r) name
-    by None at sized = inr (starts None at)
-    by (Some image) at sized = inl (image, sized ∙ is.sized, starts (Some image) at)
-
-  copied_comes_back : NotByChance b (stored_at left slot) → ComesBack (WasCopied b) left (registering s r) name
-  copied_comes_back not_by_chance = by stays.found.held refl (rw stays.there at not_by_chance) where
-    by : (held : Option (List ℕ)) → stays.found.held ≡ held → IfSome held (WasCopied b) → ComesBack (WasCopied b) left (registering s r) name
-    by None at was = inr (starts None at)
-    by (Some image) at was = inl (image, was, starts (Some image) at)
+  -- with none only where the block holds none
+  never_comes_empty : IsSome b.held → (image : List ℕ) × WasCopied b image × Recovers left (registering s r) name image
+  never_comes_empty some = by stays.found.held refl where
+    by : (held : Option (List ℕ)) → stays.found.held ≡ held → (image : List ℕ) × WasCopied b image × Recovers left (registering s r) name image
+    by None at = absurd (never_none b some (subst (MayGive b) at stays.may))
+    by (Some image) at = (image, was_copied b image (subst (MayGive b) at stays.may), starts (Some image) at)
 
 -- ---- after a reset at any moment of a history
 
@@ -191,13 +208,13 @@ module _ (opening : State) (entries : List Entry) (place : ℕ) (left : Store) (
   pub gives_what_it_holds : (slot : ℕ) (b : Stored) → IsBlockOf name r.size b.block → IsShown Blocks left slot b → b.trying ≡ [] → StartsWith left (registering s r) name b.held
   gives_what_it_holds slot b is shown none = sure_comes_back left s name r over Blocks shows single slot b is shown.there shown.shown none
 
-  -- one whose copies broke off begins with an image of its size, or with none
-  pub recovers_or_begins : (slot : ℕ) (b : Stored) → IsBlockOf name r.size b.block → IsShown Blocks left slot b → b.trying ≢ [] → ComesBack (λ image. length image ≡ r.size) left (registering s r) name
-  recovers_or_begins slot b is shown tried = doubtful_comes_back left s name r over Blocks shows single slot b is shown.there shown.shown tried
+  -- any that the reset left begins with an image that was copied, completed last or broken off since, or with none
+  pub recovers_copied : (slot : ℕ) (b : Stored) → IsBlockOf name r.size b.block → IsShown Blocks left slot b → ComesBack (WasCopied b) left (registering s r) name
+  recovers_copied slot b is shown = copied_comes_back left s name r over Blocks shows single slot b is shown.there shown.shown
 
-  -- and where nothing matches by chance, with one that was copied: completed last, or broken off since then
-  pub recovers_copied : (slot : ℕ) (b : Stored) → IsBlockOf name r.size b.block → IsShown Blocks left slot b → NotByChance b (stored_at left slot) → ComesBack (WasCopied b) left (registering s r) name
-  recovers_copied slot b is shown not_by_chance = copied_comes_back left s name r over Blocks shows single slot b is shown.there shown.shown not_by_chance
+  -- with none only where the block holds none
+  pub loses_none : (slot : ℕ) (b : Stored) → IsBlockOf name r.size b.block → IsShown Blocks left slot b → IsSome b.held → (image : List ℕ) × WasCopied b image × Recovers left (registering s r) name image
+  loses_none slot b is shown some = never_comes_empty left s name r over Blocks shows single slot b is shown.there shown.shown some
 
 -- ---- a start over the image that a reset left
 

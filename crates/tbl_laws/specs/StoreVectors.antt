@@ -79,13 +79,22 @@ then_it_is_gone = refl
 
 -- ---- a copy fails, or is stopped
 
+abbrev pub failed_before : BankNote
+failed_before = record untouched { outcome = Failed }
+
+-- in the turn byte
 abbrev pub failed : BankNote
-failed = record untouched { outcome = Failed }
+failed = record untouched { outcome = Failed; gate = true }
 
 abbrev pub was_stopped : BankNote
-was_stopped = record untouched { outcome = Stopped }
+was_stopped = record untouched { outcome = Stopped; gate = true }
 
--- the block may hold the image after it, or what it held before
+-- before its turn byte, the block holds what it held
+pub it_stays : (cds_copy_effect copied.next 1 0 (3 ∷ 4 ∷ []) failed_before).next.store ≡ copied.next.store
+unfolding cds_register_effect cds_copy_effect place
+it_stays = refl
+
+-- in it, the block may hold the image, or what it held before
 pub copy_fails : answer_of (cds_copy_effect copied.next 1 0 (3 ∷ 4 ∷ []) failed) ≡ plain ERR_CDS_FAULT
 unfolding cds_register_effect cds_copy_effect place
 copy_fails = refl

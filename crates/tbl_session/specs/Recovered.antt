@@ -1,5 +1,5 @@
 -- Recovery over two sessions: what the second, over an image that a reset in the first one left, has of the first one's tables.
-use Rattle.std.specs.Prelude.{◌≡◌, ◌≢◌, ◌⊎◌, ℕ, ◌≤◌, List, [], ◌∷◌, length, true, Option, Some, None, slice_get}
+use Rattle.std.specs.Prelude.{◌≡◌, ◌≢◌, ◌⊎◌, ℕ, ◌≤◌, List, [], ◌∷◌, length, true, Option, Some, None, slice_get, IsSome}
 use Rattle.tbl_kinds.specs.Admitted.{Admitted}
 use Rattle.tbl_kinds.specs.Blocks.{Stored, Store}
 use Rattle.tbl_kinds.specs.StoreSteps.{stored_at}
@@ -10,7 +10,7 @@ use Rattle.tbl_model.specs.Refusals.{plan_refusal}
 use Rattle.tbl_model.specs.History.{Run, onward}
 use Rattle.tbl_session.specs.Crashes.{AfterCrash}
 use Rattle.tbl_session.specs.Completed.{HasCompleted}
-use Rattle.tbl_session.specs.Recovery.{blocks_at, IsBlockOf, IsShown, WasCopied, NotByChance, Registration, request_of, Registers}
+use Rattle.tbl_session.specs.Recovery.{blocks_at, IsBlockOf, IsShown, WasCopied, Registration, request_of, Registers}
 use Rattle.cds_layout.specs.Images.{store_of}
 use Rattle.tbl_kinds.specs.declared.block.Block.{Block}
 use Rattle.tbl_kinds.specs.declared.entry.Entry.{Entry}
@@ -84,18 +84,18 @@ IsGivenBack (Some image) r e name = IsRecovered r e name image
 
 -- The reset came at a place of the first history. A table whose last copy was completed there, in a block whose gate is sure, always
 -- comes back with its image. Of each block that the reset left: where no copy broke off since the last completed one, the table comes
--- back with what the block holds; else with an image of its size or with none, and where no other image matches its check word by
--- chance, with one that was copied: completed last, or broken off since.
+-- back with what the block holds; else with that, or with an image whose copy broke off since. It begins with none only where the
+-- block holds none.
 pub record RecoversFrom (opening : State) (entries : List Entry) (image : List ℕ) (r : Run) (e : Entry) (name : List ℕ) (size : ℕ) : Type 0 where
   pub place : ℕ
   pub within : place ≤ length entries
   pub crash : AfterCrash opening entries place (store_of image)
   pub completed : (slot : ℕ) (block : Block) (copied : List ℕ) → IsBlockOf name size block → HasCompleted (blocks_at opening entries place (store_of image) crash) slot block copied → IsRecovered r e name copied
   pub sure : (slot : ℕ) (b : Stored) → IsBlockOf name size b.block → IsShown (blocks_at opening entries place (store_of image) crash) (store_of image) slot b → b.trying ≡ [] → IsGivenBack b.held r e name
-  pub broken : (slot : ℕ) (b : Stored) → IsBlockOf name size b.block → IsShown (blocks_at opening entries place (store_of image) crash) (store_of image) slot b → b.trying ≢ []
-      → IsRecoveredOrEmpty (λ copied. length copied ≡ size) r e name
-  pub copied : (slot : ℕ) (b : Stored) → IsBlockOf name size b.block → IsShown (blocks_at opening entries place (store_of image) crash) (store_of image) slot b → NotByChance b (stored_at (store_of image) slot)
+  pub copied : (slot : ℕ) (b : Stored) → IsBlockOf name size b.block → IsShown (blocks_at opening entries place (store_of image) crash) (store_of image) slot b
       → IsRecoveredOrEmpty (WasCopied b) r e name
+  pub never_lost : (slot : ℕ) (b : Stored) → IsBlockOf name size b.block → IsShown (blocks_at opening entries place (store_of image) crash) (store_of image) slot b → IsSome b.held
+      → (copied : List ℕ) × WasCopied b copied × IsRecovered r e name copied
 
 -- ---- two sessions
 

@@ -1,5 +1,5 @@
 -- Recovery: what the registration of a critical table has of the blocks that a reset left.
-use Rattle.std.specs.Prelude.{◌≡◌, ◌⊎◌, ℕ, ◌-◌, ◌<◌, List, take, replicate, Contains, true, Option, Some, None, IsSome, IfSome, slice_set}
+use Rattle.std.specs.Prelude.{◌≡◌, ◌⊎◌, ℕ, ◌-◌, ◌<◌, List, [], take, replicate, Contains, true, Option, Some, None, IsSome, IfSome, slice_set}
 use Rattle.std.proofs.Common.{inl, inr}
 use Rattle.tbl_kinds.specs.Admitted.{Admitted}
 use Rattle.tbl_kinds.specs.Blocks.{Stored, Store, empty_store}
@@ -68,10 +68,6 @@ pub record IsShown (store left : Store) (slot : ℕ) (b : Stored) : Type 0 where
 -- an image of which a copy was completed last, or broke off since then
 abbrev pub WasCopied : Stored → List ℕ → Type 0
 WasCopied b image = (b.held ≡ Some image) ⊎ Contains b.trying image
-
--- what a reset left of the block is no other image, whose bytes match the check word by chance
-abbrev pub NotByChance : Stored → Option Stored → Type 0
-NotByChance b left = IfSome left (λ found. IfSome found.held (WasCopied b))
 
 -- ---- a registration
 

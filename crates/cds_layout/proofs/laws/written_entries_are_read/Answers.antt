@@ -1,5 +1,5 @@
-use Rattle.cds_layout.proofs.EntryLaws.{block_in-entry_tail}
+use Rattle.cds_layout.proofs.EntryLaws.{block_in-written}
 use Rattle.cds_layout.proofs.laws.written_entries_are_read.Goals as goal
 
 pub returns : goal.returns
-returns c = block_in-entry_tail
+returns c = block_in-written

@@ -13,3 +13,8 @@ returns-clause-read g c =
 
 pub returns-clause-right : goal.returns-clause-right
 returns-clause-right g c = subst AreRight (sym c.read_directory.ensures) (directory-all_right c.read_at.new.into)
+
+pub returns-clause-front : goal.returns-clause-front
+returns-clause-front g c told =
+    let bytes = g.B.Bank.now c.args.bank.now in
+    c.in_ok-read_at.ensures.read told ∙ ap (λ (n : ℕ). piece 0 n bytes) c.requires.buffer

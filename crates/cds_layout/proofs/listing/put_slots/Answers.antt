@@ -1,6 +1,6 @@
 use Rattle.std.proofs.Common.{◌∙◌, arith}
 use Rattle.tbl_outside.proofs.Moments.{goes_on}
-use Rattle.cds_layout.proofs.Texts.{one_more}
+use Rattle.cds_layout.proofs.Texts.{one_more, all_put}
 use Rattle.cds_layout.proofs.listing.put_slots.Goals as goal
 
 pub loop-slot-preserved : goal.loop-slot-preserved
@@ -18,3 +18,6 @@ loop-slot-preserved g c =
       fault_count = omega (arith, call.fault_count);
       stop_count = omega (arith, call.stop_count);
     }
+
+pub returns-clause-text : goal.returns-clause-text
+returns-clause-text g c told = all_put (g.B.Bank.now c.args.bank.now) c.args.places.now c.loop-slot.slot c.loop-slot.out.list _ (omega arith) (c.loop-slot.invariant.text told)

@@ -1,7 +1,6 @@
-use Rattle.std.proofs.Common.{◌≡◌, ◌≤◌, ◌++◌, map, drop}
-use Rattle.std.specs.Option.{option_map}
+use Rattle.std.proofs.Common.{◌≡◌, ◌≤◌, ◌++◌, drop}
 use Rattle.tbl_outside.specs.Bank.{LeavesOnly}
-use Rattle.cds_layout.specs.Images.{stored_in}
+use Rattle.cds_layout.specs.Images.{stored_from}
 use Rattle.cds_layout.specs.Texts.{lines_from}
 use Rattle.cds_layout.proofs.listing.put_slots.Given as goal
 
@@ -9,7 +8,7 @@ use Rattle.cds_layout.proofs.listing.put_slots.Given as goal
 abbrev pub invariant-loop-slot : goal.invariant-loop-slot
 invariant-loop-slot g l =
     let bank = g.B.Bank in
-    let store = map (option_map (stored_in (bank.now l.fn.bank))) l.places in
+    let store = stored_from (bank.now l.fn.bank) 0 l.places in
     record {
       text : bank.tells → l.out.list ++ lines_from l.slot (drop l.slot store) ≡ l.fn.out.list ++ lines_from 0 store;
       kept : bank.tells → bank.now l.bank ≡ bank.now l.fn.bank;

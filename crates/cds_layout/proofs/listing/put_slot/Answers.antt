@@ -1,0 +1,16 @@
+use Rattle.std.proofs.Common.{◌≡◌, List, ℕ, Option, ◌++◌, sym, ap, subst, ◌∙◌}
+use Rattle.std.specs.Option.{option_map}
+use Rattle.tbl_kinds.specs.declared.block.Block.{Block}
+use Rattle.cds_layout.specs.Images.{shown_in, stored_in}
+use Rattle.cds_layout.specs.Lines.{line_at}
+use Rattle.cds_layout.proofs.DirectoryLaws.{shown-front}
+use Rattle.cds_layout.proofs.Turned.{line-told}
+use Rattle.cds_layout.proofs.listing.put_slot.Goals as goal
+
+pub returns-in_ok-put_line-in-Some-clause-text : goal.returns-in_ok-put_line-in-Some-clause-text
+returns-in_ok-put_line-in-Some-clause-text g c told =
+    let bytes = g.B.Bank.now c.args.bank.now in
+    let slot = c.args.slot in
+    let shown : c.shown_place.result ≡ shown_in bytes slot = c.shown_place.ensures ∙ ap (λ (l : List ℕ). shown_in l slot) (c.requires.front told) ∙ shown-front bytes slot c.requires.within in
+    subst (λ (o : Option Block). c.put_line.new.out.list ≡ c.args.out.now.list ++ line_at slot (option_map (stored_in bytes slot) o)) (sym c.in-Some.is)
+    (c.in_ok-put_line-in-Some.ensures ∙ ap (λ (l : List ℕ). c.args.out.now.list ++ l) (line-told bytes slot c.in-Some.block c.shown_place.result c.in_ok-whole-in-Some.whole shown (c.in_ok-whole-in-Some.ensures.whole told)))
