@@ -9,7 +9,7 @@ use Rattle.tbl_outside.specs.BankCalls.{BankCall, Asks}
 use Rattle.tbl_outside.proofs.BankCalls.{asks_then, asks_no_more}
 use Rattle.cds_layout.specs.Directory.{directory_of, is_live}
 use Rattle.cds_layout.specs.Entries.{slot_count}
-use Rattle.cds_layout.specs.Order.{is_stray, strays_to, delete_calls, zeros, clear_by, clear_calls, boot_writes}
+use Rattle.cds_layout.specs.Order.{is_stray, strays_to, delete_calls, zeros, clear_by, clear_calls, carry_calls, boot_writes}
 use Rattle.cds_store.specs.Boots.{IsFront, AreZeros}
 use Rattle.cds_store.proofs.Strays.{stray_is}
 
@@ -96,11 +96,8 @@ clear_calls_made first empty bytes is size all = ap (λ n. clear_by n empty) is 
 
 -- ---- by whether the bank is live
 
-pub live_writes : (front old : List ℕ) (directory : List (Option Block)) → IsFront front directory old → is_live old ≡ true
-    → strays_to slot_count front directory ≡ boot_writes Processor old
-live_writes front old directory is live =
-    strays_read front old directory is slot_count (omega arith)
-    ∙ ap (λ (b : Bool). cond b (strays_to slot_count old (directory_of old)) (clear_calls old)) (sym live)
+pub live_writes : (old : List ℕ) → is_live old ≡ true → strays_to slot_count old (directory_of old) ++ carry_calls old ≡ boot_writes Processor old
+live_writes old live = ap (λ (b : Bool). cond b (strays_to slot_count old (directory_of old) ++ carry_calls old) (clear_calls old)) (sym live)
 
 pub dead_writes : (old : List ℕ) → is_live old ≡ false → clear_calls old ≡ boot_writes Processor old
-dead_writes old dead = ap (λ (b : Bool). cond b (strays_to slot_count old (directory_of old)) (clear_calls old)) (sym dead)
+dead_writes old dead = ap (λ (b : Bool). cond b (strays_to slot_count old (directory_of old) ++ carry_calls old) (clear_calls old)) (sym dead)

@@ -1,16 +1,16 @@
 -- What is read of bytes that were written over.
-use Rattle.std.proofs.Common.{◌≡◌, ℕ, ◌+◌, ◌^◌, ◌<◌, ◌≤◌, ◌==◌, List, [], ◌∷◌, length, take, drop, false, Some, None, refl, sym, ◌∙◌, ap, subst, arith}
+use Rattle.std.proofs.Common.{◌≡◌, ℕ, ◌+◌, ◌^◌, ◌<◌, ◌≤◌, List, [], ◌∷◌, length, take, drop, slice_index_or, Some, refl, sym, ◌∙◌, ap, arith, length-append}
 use Rattle.std.specs.Int.{w16, w32, from_be_bytes}
 use Rattle.std.proofs.lemmas.Bool.{eq-eqb}
-use Rattle.std.proofs.lemmas.Bool.Decides.{nat_tests}
-use Rattle.std.proofs.lemmas.List.{take-take, drop-take, drop-drop}
+use Rattle.std.proofs.lemmas.List.{take-take, drop-take, drop-drop, get_or-drop}
+use Rattle.std.proofs.Math.Seq.{take-length}
 use Rattle.std.proofs.lemmas.Nat.{from_be_bytes-to_be_bytes_2, from_be_bytes-to_be_bytes_4}
 use Rattle.tbl_kinds.specs.Check.{check16}
 use Rattle.tbl_kinds.specs.declared.block.Block.{Block}
-use Rattle.tbl_kinds.specs.Numbers.{piece, patched}
-use Rattle.tbl_outside.specs.Bank.{Torn}
-use Rattle.tbl_outside.proofs.Pieces.{piece-patched, torn_done, piece_behind}
-use Rattle.cds_layout.specs.Images.{block_head, held_in, data_in, data_place, kept_length, kept_word}
+use Rattle.tbl_kinds.specs.Numbers.{piece, patched, byte_at}
+use Rattle.tbl_outside.proofs.Pieces.{piece-patched}
+use Rattle.cds_layout.specs.Images.{place_at, block_head, head_len, spelled, held_by}
+use Rattle.cds_layout.specs.declared.turns.Place.{Place}
 
 -- a piece of a piece
 pub inner : (bytes inside : List ℕ) (at count from size : ℕ) → piece at count bytes ≡ inside → from + size ≤ count → piece (at + from) size bytes ≡ piece from size inside
@@ -28,34 +28,30 @@ front bytes inside at count size is fits = sym (take-take size count (drop at by
 pub read_again : (old new : List ℕ) (at count : ℕ) (others : List ℕ) → length others ≡ count → at + count ≤ length old → new ≡ patched old at others → piece at count new ≡ others
 read_again old new at count others size fits is = rw (is, ← size) (piece-patched old at others (rw size fits))
 
-zero_is_none : (size : ℕ) → 0 < size → (0 == size) ≡ false
-zero_is_none size some = grind (arith, nat_tests)
+-- a single byte that was written
+pub byte_written : (old new : List ℕ) (at x : ℕ) → at + 1 ≤ length old → new ≡ patched old at (x ∷ []) → byte_at at new ≡ x
+byte_written old new at x fits is = by (drop at new) refl (read_again old new at 1 (x ∷ []) refl fits is)
+  where
+    by : (rest : List ℕ) → drop at new ≡ rest → take 1 rest ≡ x ∷ [] → byte_at at new ≡ x
+    by rest there one =
+        let same : at ≡ at + 0 = omega arith in
+        ap (λ n. slice_index_or new n 0) same ∙ sym (get_or-drop at new 0 0) ∙ ap (λ (l : List ℕ). slice_index_or l 0 0) there ∙ first rest one
+      where
+        first : (l : List ℕ) → take 1 l ≡ x ∷ [] → slice_index_or l 0 0 ≡ x
+        first [] is = absurd (cc is)
+        first (y ∷ ys) is = cc is
 
-zero_length : (bytes : List ℕ) (b : Block) → 0 < b.size → kept_length bytes b ≡ 0 → held_in bytes b ≡ None
-unfolding held_in
-zero_length bytes b some none = rw (none, zero_is_none b.size some) refl
+-- ---- an image that is written into a place is read again
 
-abbrev zeros : List ℕ
-zeros = 0 ∷ 0 ∷ 0 ∷ 0 ∷ 0 ∷ 0 ∷ 0 ∷ 0 ∷ []
+pub length-spelled : (copy : List ℕ) (size : ℕ) → length copy ≡ size → length (spelled size copy) ≡ head_len + size
+unfolding spelled block_head
+length-spelled copy size is = omega (arith, length-append (block_head size (check16 copy)) copy, is, let eight : length (block_head size (check16 copy)) ≡ 8 = refl in eight)
 
--- a block whose head is wiped holds no image
-pub wiped : (b : Block) (old new : List ℕ) → 0 < b.size → b.offset + 8 ≤ length old → new ≡ patched old b.offset zeros → held_in new b ≡ None
-wiped b old new some fits is =
-    zero_length new b some (ap (from_be_bytes w32) (front new zeros b.offset 8 4 (read_again old new b.offset 8 zeros refl fits is) (omega arith)))
-
-whole : (bytes image : List ℕ) (b : Block) → kept_length bytes b ≡ b.size → kept_word bytes b ≡ check16 image → data_in bytes b ≡ image → held_in bytes b ≡ Some image
-unfolding held_in
-whole bytes image b stated check data_is = rw (stated, check, data_is, eq-eqb b.size b.size refl, eq-eqb (check16 image) (check16 image) refl) refl
-
--- a block whose bytes and head were written holds them
-pub written : (b : Block) (old mid new image : List ℕ) → length image ≡ b.size → b.size < 2 ^ 32 → check16 image < 2 ^ 16 → b.offset + (8 + b.size) ≤ length old
-    → mid ≡ patched old (data_place b) image → new ≡ patched mid b.offset (block_head b.size (check16 image)) → length mid ≡ length old → held_in new b ≡ Some image
-unfolding block_head
-written b old mid new image size small check fits data_is head_is as_long =
-    let head : List ℕ = block_head b.size (check16 image) in
-    let there : piece b.offset 8 new ≡ head = read_again mid new b.offset 8 head refl (omega (arith, fits, as_long)) head_is in
-    let torn : Torn b.offset 8 mid new = subst (Torn b.offset 8 mid) (sym head_is) (torn_done mid b.offset head (omega (arith, fits, as_long))) in
-    whole new image b
-    (ap (from_be_bytes w32) (front new head b.offset 8 4 there (omega arith)) ∙ from_be_bytes-to_be_bytes_4 b.size small)
-    (ap (from_be_bytes w16) (inner new head b.offset 8 4 2 there (omega arith)) ∙ from_be_bytes-to_be_bytes_2 (check16 image) check)
-    (piece_behind b.offset 8 mid new (data_place b) b.size torn (omega arith) ∙ read_again old mid (data_place b) b.size image size (omega (arith, fits)) data_is)
+pub spelled_is_whole : (bytes copy : List ℕ) (b : Block) (place : Place) → length copy ≡ b.size → b.size < 2 ^ 32 → check16 copy < 2 ^ 16 → piece (place_at b place) (head_len + b.size) bytes ≡ spelled b.size copy → held_by bytes b (Some place) ≡ Some copy
+unfolding spelled block_head
+spelled_is_whole bytes copy b place is small check there =
+    let at = place_at b place in
+    let length_is = ap (from_be_bytes w32) (front bytes (spelled b.size copy) at (head_len + b.size) 4 there (omega arith)) ∙ from_be_bytes-to_be_bytes_4 b.size small in
+    let word_is = ap (from_be_bytes w16) (inner bytes (spelled b.size copy) at (head_len + b.size) 4 2 there (omega arith)) ∙ from_be_bytes-to_be_bytes_2 (check16 copy) check in
+    let data_is = inner bytes (spelled b.size copy) at (head_len + b.size) 8 b.size there (omega arith) ∙ ap (λ n. take n copy) (sym is) ∙ take-length copy in
+    rw (length_is, word_is, data_is, eq-eqb b.size b.size refl, eq-eqb (check16 copy) (check16 copy) refl) refl

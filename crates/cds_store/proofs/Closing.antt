@@ -1,9 +1,8 @@
 -- The gate of a taken slot is written.
-use Rattle.std.proofs.Common.{◌≡◌, ◌⊎◌, inl, inr, ℕ, ◌<◌, ◌≤◌, ◌==◌, List, [], ◌∷◌, map, slice_set, true, false, Option, Some, None, IsSome, refl, sym, ◌∙◌, ap, subst}
+use Rattle.std.proofs.Common.{◌≡◌, ◌⊎◌, inl, inr, ℕ, zero, suc, ◌+◌, ◌<◌, ◌≤◌, ◌==◌, List, [], ◌∷◌, map, slice_set, true, false, Option, Some, None, IsSome, refl, sym, ◌∙◌, ap, subst, arith}
 use Rattle.std.specs.Option.{option_map}
 use Rattle.std.proofs.lemmas.List.{map-set}
 use Rattle.std.proofs.lemmas.Option.{same_Some}
-use Rattle.std.proofs.Math.ListN.{get_or-map}
 use Rattle.tbl_kinds.specs.Places.{bank_size}
 use Rattle.tbl_kinds.specs.Blocks.{Stored, Store as Blocks}
 use Rattle.tbl_kinds.specs.StoreCalls.{delete}
@@ -22,20 +21,42 @@ use Rattle.cds_store.proofs.Together.{together_without, together_same}
 
 -- ---- the blocks as the bytes have them
 
-abbrev pub as_held : List ℕ → Slot → Stored
-as_held bytes s = record { block = s.block; held = held_in bytes s.block; trying = []; doubtful = s.doubtful }
+abbrev pub as_held : List ℕ → ℕ → Slot → Stored
+as_held bytes n s = record { block = s.block; held = held_in bytes n s.block; trying = []; doubtful = s.doubtful }
 
-abbrev pub blocks_in : List ℕ → List (Option Slot) → Blocks
-blocks_in bytes slots = map (option_map (as_held bytes)) slots
+blocks_from : List ℕ → ℕ → List (Option Slot) → Blocks
+blocks_from bytes n [] = []
+blocks_from bytes n (slot ∷ slots) = option_map (as_held bytes n) slot ∷ blocks_from bytes (n + 1) slots
+
+pub blocks_in : List ℕ → List (Option Slot) → Blocks
+blocks_in bytes slots = blocks_from bytes 0 slots
+
+slots_from : (bytes : List ℕ) (n : ℕ) (slots : List (Option Slot)) → slots ≡ map (option_map slot_of) (blocks_from bytes n slots)
+unfolding blocks_from
+slots_from bytes n [] = refl
+slots_from bytes n (None ∷ slots) = ap (λ (l : List (Option Slot)). None ∷ l) (slots_from bytes (n + 1) slots)
+slots_from bytes n (Some s ∷ slots) = ap (λ (l : List (Option Slot)). Some s ∷ l) (slots_from bytes (n + 1) slots)
+
+at_from : (bytes : List ℕ) (n : ℕ) (slots : List (Option Slot)) (k : ℕ) → stored_at (blocks_from bytes n slots) k ≡ option_map (as_held bytes (n + k)) (slot_at slots k)
+unfolding blocks_from
+at_from bytes n [] zero = refl
+at_from bytes n [] (suc k) = refl
+at_from bytes n (o ∷ slots) zero = let same : n ≡ n + 0 = omega arith in ap (λ i. option_map (as_held bytes i) o) same
+at_from bytes n (o ∷ slots) (suc k) =
+    let same : n + 1 + k ≡ n + suc k = omega arith in
+    at_from bytes (n + 1) slots k ∙ ap (λ i. option_map (as_held bytes i) (slot_at slots k)) same
 
 slots_again : (bytes : List ℕ) (slots : List (Option Slot)) → slots ≡ map (option_map slot_of) (blocks_in bytes slots)
-slots_again bytes [] = refl
-slots_again bytes (None ∷ slots) = ap (λ (l : List (Option Slot)). None ∷ l) (slots_again bytes slots)
-slots_again bytes (Some s ∷ slots) = ap (λ (l : List (Option Slot)). Some s ∷ l) (slots_again bytes slots)
+unfolding blocks_in
+slots_again bytes slots = slots_from bytes 0 slots
 
-held_as : (bytes : List ℕ) (o : Option Slot) (b : Stored) → option_map (as_held bytes) o ≡ Some b → (b.held ≡ held_in bytes b.block) × (b.trying ≡ [])
-held_as bytes None b is = absurd (cc is)
-held_as bytes (Some s) b is = rw (← same_Some (as_held bytes s) b is) (refl, refl)
+held_there : (bytes : List ℕ) (slots : List (Option Slot)) (k : ℕ) → stored_at (blocks_in bytes slots) k ≡ option_map (as_held bytes k) (slot_at slots k)
+unfolding blocks_in
+held_there bytes slots k = let same : 0 + k ≡ k = omega arith in at_from bytes 0 slots k ∙ ap (λ i. option_map (as_held bytes i) (slot_at slots k)) same
+
+held_as : (bytes : List ℕ) (n : ℕ) (o : Option Slot) (b : Stored) → option_map (as_held bytes n) o ≡ Some b → (b.held ≡ held_in bytes n b.block) × (b.trying ≡ [])
+held_as bytes n None b is = absurd (cc is)
+held_as bytes n (Some s) b is = rw (← same_Some (as_held bytes n s) b is) (refl, refl)
 
 pub stands_as_held : (bytes : List ℕ) (slots : List (Option Slot)) → AreTogether slots → Matches bytes slots → MatchesBlocks bytes slots (blocks_in bytes slots)
 stands_as_held bytes slots together matches = record {
@@ -43,7 +64,7 @@ stands_as_held bytes slots together matches = record {
   together = together;
   matches = matches;
   held = λ n b there.
-      let is = held_as bytes (slot_at slots n) b (sym (get_or-map (option_map (as_held bytes)) slots n None) ∙ there) in
+      let is = held_as bytes n (slot_at slots n) b (sym (held_there bytes slots n) ∙ there) in
       rw is.1 (sym is.0);
 }
 

@@ -21,6 +21,7 @@ pub dead_tidy : (old now : List ℕ) → is_live old ≡ false → IsCleared now
 dead_tidy old now dead cleared = record {
   same = emptied_alike old now (dead_is_emptied old dead) (cleared_is_emptied now cleared);
   live = cleared.live;
+  version = cleared.version;
   entries = λ n lt.
       subst (λ (o : Option Block). EntryIs now n (option_map opened_slot o)) (sym (ap (λ (l : List (Option Block)). slice_index_or l n None) (dead_is_emptied old dead) ∙ no_blocks_at slot_count n))
       (cleared.shut n lt);

@@ -2,12 +2,13 @@
 use Rattle.std.proofs.Common.{◌≡◌, inl, inr, ℕ, ◌*◌, ◌<◌, ◌≤◌, ◌==◌, List, [], ◌∷◌, length, take, drop, slice_index_or, true, false, not, refl, sym, ◌∙◌, ap, arith}
 use Rattle.std.specs.Str.{bytes_eq}
 use Rattle.std.proofs.lemmas.Bool.{cases_Bool, eqb-true}
-use Rattle.std.proofs.lemmas.List.{get_or-take, get_or-drop}
+use Rattle.std.proofs.lemmas.List.{get_or-take, get_or-drop, take-take}
 use Rattle.tbl_kinds.specs.Numbers.{byte_at, piece, patched}
+use Rattle.tbl_kinds.specs.Places.{bank_size}
 use Rattle.tbl_outside.specs.Bank.{Torn}
 use Rattle.tbl_outside.proofs.Pieces.{byte_before, piece_before, piece_behind}
 use Rattle.cds_layout.specs.Entries.{gate_open, gate_at}
-use Rattle.cds_layout.specs.Directory.{is_live, live_mark}
+use Rattle.cds_layout.specs.Directory.{is_live, live_mark, is_first_version}
 use Rattle.cds_store.specs.Boots.{is_dead, HasMark, AllShut, AreZeros, IsCleared, IsEmptied, Clears}
 use Rattle.cds_store.proofs.Bytes.{read_again, front}
 use Rattle.cds_store.proofs.Frames.{gate_stays}
@@ -44,8 +45,8 @@ first_torn old image there torn = elim (cases_Bool (byte_at 0 image == 0x43)) [
 pub still_dead : (at count : ℕ) (old image : List ℕ) → 0 < at → Torn at count old image → is_dead old ≡ true → is_dead image ≡ true
 still_dead at count old image behind torn dead = ap (λ b. not (b == 0x43)) (byte_before at count old image 0 torn behind) ∙ dead
 
-pub mark_there : (old new : List ℕ) → 131072 ≤ length old → new ≡ patched old 1 (0x44 ∷ 0x53 ∷ 0x31 ∷ 0 ∷ 0 ∷ 0 ∷ 0 ∷ 0 ∷ 0 ∷ 0 ∷ 0 ∷ 0 ∷ 0 ∷ 0 ∷ 0 ∷ []) → HasMark new
-mark_there old new fits is = front new (0x44 ∷ 0x53 ∷ 0x31 ∷ 0 ∷ 0 ∷ 0 ∷ 0 ∷ 0 ∷ 0 ∷ 0 ∷ 0 ∷ 0 ∷ 0 ∷ 0 ∷ 0 ∷ []) 1 15 3 (read_again old new 1 15 _ refl (omega (arith, fits)) is) (omega arith)
+pub mark_there : (old new : List ℕ) → bank_size ≤ length old → new ≡ patched old 1 (0x44 ∷ 0x53 ∷ 0x32 ∷ 0 ∷ 0 ∷ 0 ∷ 0 ∷ 0 ∷ 0 ∷ 0 ∷ 0 ∷ 0 ∷ 0 ∷ 0 ∷ 0 ∷ []) → HasMark new
+mark_there old new fits is = front new (0x44 ∷ 0x53 ∷ 0x32 ∷ 0 ∷ 0 ∷ 0 ∷ 0 ∷ 0 ∷ 0 ∷ 0 ∷ 0 ∷ 0 ∷ 0 ∷ 0 ∷ 0 ∷ []) 1 15 3 (read_again old new 1 15 _ refl (omega (arith, fits)) is) (omega arith)
 
 pub mark_stays : (old image : List ℕ) (count : ℕ) → Torn 16 count old image → HasMark old → HasMark image
 mark_stays old image count torn mark = piece_before 16 count old image 1 3 torn (omega arith) ∙ mark
@@ -54,7 +55,7 @@ pub mark_behind : (old image : List ℕ) → Torn 0 1 old image → HasMark old 
 mark_behind old image torn mark = piece_behind 0 1 old image 1 3 torn (omega arith) ∙ mark
 
 -- gates under zeros are closed
-pub zeros_shut : (old new zeros : List ℕ) → 131072 ≤ length old → length zeros ≡ 8192 → AreZeros zeros → new ≡ patched old 16 zeros → AllShut new
+pub zeros_shut : (old new zeros : List ℕ) → bank_size ≤ length old → length zeros ≡ 8192 → AreZeros zeros → new ≡ patched old 16 zeros → AllShut new
 zeros_shut old new zeros fits size all is n lt =
     let there : piece 16 8192 new ≡ zeros = read_again old new 16 8192 zeros size (omega (arith, fits)) is in
     let gate : gate_at new n ≡ 0 =
@@ -69,11 +70,17 @@ shut_stays old image torn shut n lt = ap (λ g. g == gate_open) (gate_stays 0 1 
 
 mark_and_first : (bytes : List ℕ) → byte_at 0 bytes ≡ 0x43 → HasMark bytes → is_live bytes ≡ true
 mark_and_first [] first mark = absurd (cc mark)
-mark_and_first (x ∷ xs) first mark = ap (λ (l : List ℕ). bytes_eq l live_mark) (ap (λ (l : List ℕ). x ∷ l) mark ∙ ap (λ y. y ∷ 0x44 ∷ 0x53 ∷ 0x31 ∷ []) first)
+mark_and_first (x ∷ xs) first mark =
+    let letters : take 2 xs ≡ 0x44 ∷ 0x53 ∷ [] = sym (take-take 2 3 xs (omega arith)) ∙ ap (take 2) mark in
+    ap (λ (l : List ℕ). bytes_eq l live_mark) (ap (λ (l : List ℕ). x ∷ l) letters ∙ ap (λ y. y ∷ 0x44 ∷ 0x53 ∷ []) first)
 
-pub cleared : (old new : List ℕ) → 131072 ≤ length old → new ≡ patched old 0 (0x43 ∷ []) → Torn 0 1 old new → HasMark old → AllShut old → IsCleared new
+second_version : (bytes : List ℕ) → HasMark bytes → is_first_version bytes ≡ false
+second_version bytes mark = ap (λ (byte : ℕ). byte == 0x31) (sym (get_or-drop 1 bytes 2 0) ∙ sym (get_or-take 3 (drop 1 bytes) 2 0 (omega arith)) ∙ ap (λ (l : List ℕ). slice_index_or l 2 0) mark)
+
+pub cleared : (old new : List ℕ) → bank_size ≤ length old → new ≡ patched old 0 (0x43 ∷ []) → Torn 0 1 old new → HasMark old → AllShut old → IsCleared new
 cleared old new fits is torn mark shut = record {
   live = mark_and_first new (first_is new (read_again old new 0 1 (0x43 ∷ []) refl (omega (arith, fits)) is)) (mark_behind old new torn mark);
+  version = second_version new (mark_behind old new torn mark);
   shut = shut_stays old new torn shut;
 }
   where
@@ -81,7 +88,7 @@ cleared old new fits is torn mark shut = record {
     first_is [] one = absurd (cc one)
     first_is (x ∷ xs) one = cc one
 
-pub closed_first : (old new : List ℕ) → 131072 ≤ length old → new ≡ patched old 0 (0 ∷ []) → is_dead new ≡ true
+pub closed_first : (old new : List ℕ) → bank_size ≤ length old → new ≡ patched old 0 (0 ∷ []) → is_dead new ≡ true
 closed_first old new fits is = ap (λ b. not (b == 0x43)) (first_is new (read_again old new 0 1 (0 ∷ []) refl (omega (arith, fits)) is))
   where
     first_is : (bytes : List ℕ) → take 1 bytes ≡ 0 ∷ [] → byte_at 0 bytes ≡ 0

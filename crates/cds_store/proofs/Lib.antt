@@ -19,3 +19,6 @@ pub mod Emptying
 pub mod Found
 pub mod Emptied
 pub mod Settled
+pub mod TurnLaws
+pub mod Copying
+pub mod CarriedOver

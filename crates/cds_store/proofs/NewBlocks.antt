@@ -6,13 +6,12 @@ use Rattle.tbl_kinds.specs.Blocks.{Store as Blocks}
 use Rattle.tbl_kinds.specs.StoreSteps.{new_block}
 use Rattle.tbl_kinds.specs.declared.block.Block.{Block}
 use Rattle.tbl_outside.specs.Bank.{Torn}
-use Rattle.cds_layout.specs.Entries.{gate_open, gate_at, gate_place, tail_at, block_in}
-use Rattle.cds_layout.specs.Images.{held_in}
+use Rattle.cds_layout.specs.Entries.{gate_open, gate_at, gate_place, told_at, tail_place, tail_len, block_in}
+use Rattle.cds_layout.specs.Images.{turned_in}
 use Rattle.cds_store.specs.Calls.{HasFlags, is_gate}
 use Rattle.cds_store.specs.Moments.{ShowsIn}
 use Rattle.cds_store.specs.Sound.{IsSound, IsNew}
 use Rattle.cds_store.specs.StoreBlocks.{StandsFor, kept, with_new}
-use Rattle.cds_store.specs.Writes.{Prepares}
 use Rattle.cds_store.specs.declared.fault.BankFault.{BankFault}
 use Rattle.cds_store.specs.declared.slot.Slot.{Slot}
 use Rattle.cds_store.proofs.Changes.{stands_show}
@@ -38,11 +37,11 @@ on_gate_fault (Err fault) old P Q is then flags = subst Q (sym flags.gate_is) (t
 module _ {B : Type 0} (tells : Type 0) (size : B → ℕ) (now : B → List ℕ) (slots : List (Option Slot)) (bank : B) (sound : IsSound tells size now (kept slots bank)) (n : ℕ) (block : Block) (is_new : IsNew n slots block) where
   -- ---- it is prepared
 
-  pub prepared_shows : tells → (blocks : Blocks) → StandsFor tells now (kept slots bank) blocks → (image : List ℕ) → Prepares n block (now bank) image → ShowsIn blocks image
+  pub prepared_shows : tells → (blocks : Blocks) → StandsFor tells now (kept slots bank) blocks → (image : List ℕ) → Torn (tail_place n) tail_len (now bank) image → ShowsIn blocks image
   prepared_shows told blocks stands image prepares =
       stands_show image slots blocks (prepared n slots blocks (now bank) image block (stands_told tells size now slots bank sound blocks stands told) is_new prepares)
 
-  module _ (new : B) (room : bank_size ≤ size new) (prepares : tells → Prepares n block (now bank) (now new)) where
+  module _ (new : B) (room : bank_size ≤ size new) (prepares : tells → Torn (tail_place n) tail_len (now bank) (now new)) where
     pub prepared_sound : IsSound tells size now (kept slots new)
     prepared_sound = record {
       together = sound.together;
@@ -57,11 +56,11 @@ module _ {B : Type 0} (tells : Type 0) (size : B → ℕ) (now : B → List ℕ)
 
   -- ---- its gate is opened
 
-  module _ (entry : tells → block_in (tail_at (now bank) n) ≡ Some block) (wiped : tells → held_in (now bank) block ≡ None) where
+  module _ (entry : tells → block_in (told_at (now bank) n) ≡ Some block) (none : tells → turned_in (now bank) n ≡ None) where
     pub made_shows : tells → (blocks : Blocks) → StandsFor tells now (kept slots bank) blocks → (image : List ℕ) → Torn (gate_place n) 1 (now bank) image → ShowsIn (with_new true n block blocks) image
     made_shows told blocks stands image torn =
         stands_show image (slice_set slots n (Some (record { block = block; doubtful = true }))) (with_new true n block blocks)
-        (made_torn n slots blocks (now bank) image block (stands_told tells size now slots bank sound blocks stands told) is_new true torn (entry told) (wiped told) (λ sure. absurd (cc sure)))
+        (made_torn n slots blocks (now bank) image block (stands_told tells size now slots bank sound blocks stands told) is_new true torn (entry told) (none told) (λ sure. absurd (cc sure)))
 
     module _ (new : B) (doubtful : Bool) (room : bank_size ≤ size new) (torn : tells → Torn (gate_place n) 1 (now bank) (now new)) (sure : tells → doubtful ≡ false → (gate_at (now new) n == gate_open) ≡ true) where
       made : Slot
@@ -71,7 +70,7 @@ module _ {B : Type 0} (tells : Type 0) (size : B → ℕ) (now : B → List ℕ)
       made_for blocks stands =
           stands_for tells now (slice_set slots n (Some (record { block = block; doubtful = doubtful }))) new (with_new doubtful n block blocks)
           (set_alike slots blocks n (Some (new_block doubtful block.kind block.name block.size block.offset)) stands.slots)
-          (λ told. made_torn n slots blocks (now bank) (now new) block (stands_told tells size now slots bank sound blocks stands told) is_new doubtful (torn told) (entry told) (wiped told) (sure told))
+          (λ told. made_torn n slots blocks (now bank) (now new) block (stands_told tells size now slots bank sound blocks stands told) is_new doubtful (torn told) (entry told) (none told) (sure told))
 
       pub made_sound : IsSound tells size now (kept (slice_set slots n (Some (record { block = block; doubtful = doubtful }))) new)
       made_sound = record {
@@ -80,5 +79,5 @@ module _ {B : Type 0} (tells : Type 0) (size : B → ℕ) (now : B → List ℕ)
             (λ k s t other there is. rw (← same_Some (record { block = block; doubtful = doubtful }) t is) (is_new.agrees k s there));
         room = room;
         matches = λ booted told.
-            (made_torn n slots (blocks_in (now bank) slots) (now bank) (now new) block (held_told tells size now slots bank sound told) is_new doubtful (torn told) (entry told) (wiped told) (sure told)).matches;
+            (made_torn n slots (blocks_in (now bank) slots) (now bank) (now new) block (held_told tells size now slots bank sound told) is_new doubtful (torn told) (entry told) (none told) (sure told)).matches;
       }

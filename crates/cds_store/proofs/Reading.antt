@@ -4,12 +4,12 @@ use Rattle.std.specs.List.{list_all}
 use Rattle.std.specs.Option.{option_map}
 use Rattle.std.proofs.lemmas.Bool.{cases_lt, cases_Bool}
 use Rattle.std.proofs.lemmas.List.{get_or_past, get_or_push, get_or_append_left}
-use Rattle.std.proofs.Math.ListN.{get_or-map}
 use Rattle.tbl_kinds.specs.StoreSteps.{stored_at}
 use Rattle.tbl_kinds.specs.declared.block.Block.{Block}
-use Rattle.cds_layout.specs.Entries.{slot_count, gate_open, gate_at, tail_at, block_in}
+use Rattle.cds_layout.specs.Entries.{slot_count, gate_open, gate_at, told_at, block_in}
 use Rattle.cds_layout.specs.Directory.{agree, agrees_at, stated, counted, directory_to, directory_of}
 use Rattle.cds_layout.specs.Images.{stored_in, store_of}
+use Rattle.cds_layout.proofs.Stored.{stored_there}
 use Rattle.cds_store.specs.Sound.{slot_at, AreTogether, EntryIs, Matches}
 use Rattle.cds_store.specs.declared.slot.Slot.{Slot}
 
@@ -24,7 +24,7 @@ is_open bytes n = gate_at bytes n == gate_open
 closed_states_none : (bytes : List ℕ) (n : ℕ) → is_open bytes n ≡ false → stated bytes n ≡ None
 closed_states_none bytes n shut = rw shut refl
 
-open_states : (bytes : List ℕ) (n : ℕ) (b : Block) → is_open bytes n ≡ true → block_in (tail_at bytes n) ≡ Some b → stated bytes n ≡ Some b
+open_states : (bytes : List ℕ) (n : ℕ) (b : Block) → is_open bytes n ≡ true → block_in (told_at bytes n) ≡ Some b → stated bytes n ≡ Some b
 open_states bytes n b open_is told = rw open_is told
 
 pub stated_is : (bytes : List ℕ) (n : ℕ) (o : Option Slot) → EntryIs bytes n o → stated bytes n ≡ opened (is_open bytes n) o
@@ -100,6 +100,5 @@ module _ (bytes : List ℕ) (slots : List (Option Slot)) (together : AreTogether
             ∙ sym (ap (opened (is_open bytes n)) (get_or_past slots n None (omega (arith, together.all_slots, past))))
       ]
 
-  pub store_at : (n : ℕ) → stored_at (store_of bytes) n ≡ option_map (stored_in bytes) (opened (is_open bytes n) (slot_at slots n))
-  unfolding store_of
-  store_at n = get_or-map (option_map (stored_in bytes)) (directory_of bytes) n None ∙ ap (option_map (stored_in bytes)) (directory_at n)
+  pub store_at : (n : ℕ) → stored_at (store_of bytes) n ≡ option_map (stored_in bytes n) (opened (is_open bytes n) (slot_at slots n))
+  store_at n = stored_there bytes n ∙ ap (option_map (stored_in bytes n)) (directory_at n)

@@ -1,6 +1,6 @@
 -- What the open blocks of a bank hold comes back.
 use Rattle.std.proofs.Common.{◌≡◌, inl, inr, ℕ, ◌+◌, List, [], ◌∷◌, map, slice_index_or, Bool, true, false, not, Option, Some, None, refl, sym, ◌∙◌, ap, subst}
-use Rattle.std.specs.Option.{option_map}
+use Rattle.std.specs.Option.{option_map, ForSome}
 use Rattle.std.proofs.lemmas.Bool.{cases_eq, and_parts, and_from}
 use Rattle.std.proofs.lemmas.List.Quantifiers.{position-Some}
 use Rattle.tbl_kinds.proofs.PositionLaws.{position-None}
@@ -11,14 +11,19 @@ use Rattle.tbl_kinds.specs.declared.block.Block.{Block}
 use Rattle.tbl_kinds.specs.declared.block.BlockKind.{BlockKind}
 use Rattle.tbl_kinds.specs.declared.request.ResetKind.TheVariants.{Processor}
 use Rattle.cds_layout.specs.Directory.{directory_of}
-use Rattle.cds_layout.specs.Images.{stored_in, store_of}
+use Rattle.cds_layout.specs.Images.{stored_in, stored_from, store_of}
 use Rattle.cds_layout.proofs.DirectoryLaws.{directory-agree_both}
 use Rattle.cds_store.specs.Recovery.{Recovers}
 use Rattle.cds_store.specs.Slots.{is_open_slot, open_slot, block_of}
 use Rattle.cds_store.specs.Sound.{slot_at}
 use Rattle.cds_store.specs.declared.slot.Slot.{Slot}
 use Rattle.cds_store.proofs.Reservations.{both_of, same_not}
-use Rattle.cds_store.proofs.Strays.{stored_there}
+use Rattle.cds_layout.proofs.Stored.{stored_there}
+use Rattle.cds_layout.proofs.Restored.{unheld}
+use Rattle.cds_layout.specs.Restores.{TellsTorn, words}
+use Rattle.cds_layout.specs.declared.blocks.RestoreFault.{RestoreFault}
+use Rattle.cds_store.specs.StoreBlocks.{AreHeld, slot_of}
+use Rattle.cds_store.proofs.Showing.{slot_is}
 
 -- ---- a block that is found stands in its slot
 
@@ -32,10 +37,10 @@ found_there kind name slots n found none = none_there kind name (slot_at slots n
 -- ---- the blocks that a bank shows are all open, so a boot settles none
 
 settled_all : (bytes : List ℕ) (found : List ℕ) (k : ℕ) (blocks : List (Option Block))
-    → settled_from found k (map (option_map (stored_in bytes)) blocks) ≡ map (option_map (stored_in bytes)) blocks
+    → settled_from found k (stored_from bytes k blocks) ≡ stored_from bytes k blocks
 settled_all bytes found k [] = refl
 settled_all bytes found k (None ∷ blocks) = ap (λ (l : Blocks). None ∷ l) (settled_all bytes found (k + 1) blocks)
-settled_all bytes found k (Some b ∷ blocks) = ap (λ (l : Blocks). Some (stored_in bytes b) ∷ l) (settled_all bytes found (k + 1) blocks)
+settled_all bytes found k (Some b ∷ blocks) = ap (λ (l : Blocks). Some (stored_in bytes k b) ∷ l) (settled_all bytes found (k + 1) blocks)
 
 pub booted_alike : (bytes : List ℕ) (found : List ℕ) → booted Processor found (store_of bytes) ≡ store_of bytes
 unfolding store_of
@@ -43,15 +48,15 @@ booted_alike bytes found = settled_all bytes found 0 (directory_of bytes)
 
 -- ---- a bank shows one block of a kind and a name
 
-of_stored : (bytes : List ℕ) (kind : BlockKind) (name : List ℕ) (o : Option Block) → is_open_of kind name (option_map (stored_in bytes) o) ≡ true
+of_stored : (bytes : List ℕ) (n : ℕ) (kind : BlockKind) (name : List ℕ) (o : Option Block) → is_open_of kind name (option_map (stored_in bytes n) o) ≡ true
     → (b : Block) × (o ≡ Some b) × (is_of kind name b ≡ true)
-of_stored bytes kind name None opens = absurd (cc opens)
-of_stored bytes kind name (Some b) opens = (b, refl, (and_parts (is_of kind name b) true opens).0)
+of_stored bytes n kind name None opens = absurd (cc opens)
+of_stored bytes n kind name (Some b) opens = (b, refl, (and_parts (is_of kind name b) true opens).0)
 
 in_directory : (bytes : List ℕ) (kind : BlockKind) (name : List ℕ) (n : ℕ) → is_open_of kind name (stored_at (store_of bytes) n) ≡ true
     → (b : Block) × (slice_index_or (directory_of bytes) n None ≡ Some b) × (is_of kind name b ≡ true)
 in_directory bytes kind name n opens =
-    of_stored bytes kind name (slice_index_or (directory_of bytes) n None) (subst (λ o. is_open_of kind name o ≡ true) (stored_there bytes n) opens)
+    of_stored bytes n kind name (slice_index_or (directory_of bytes) n None) (subst (λ o. is_open_of kind name o ≡ true) (stored_there bytes n) opens)
 
 one_of_a_name : (bytes : List ℕ) (kind : BlockKind) (name : List ℕ) (n m : ℕ) → is_open_of kind name (stored_at (store_of bytes) n) ≡ true → is_open_of kind name (stored_at (store_of bytes) m) ≡ true → n ≡ m
 one_of_a_name bytes kind name n m opens opens' =
@@ -95,3 +100,9 @@ shown_recovers bytes blocks kind name image shows recovers slot found b there =
     let opens : is_open_of kind name (Some b) ≡ true = subst (λ o. is_open_of kind name o ≡ true) there (position-Some (is_open_of kind name) blocks slot None found).1 in
     let left = open_shown kind name b (stored_at (store_of bytes) slot) image opens (subst (λ o. MayShow o (stored_at (store_of bytes) slot)) there (shows.each slot)) in
     left.1 (recovers slot (shown_at bytes kind name slot (open_of kind name (store_of bytes)) refl left.0))
+
+-- a block that was read and holds none gives none
+pub gives_none : (bytes : List ℕ) (slots : List (Option Slot)) (blocks : Blocks) (slot : ℕ) (fault : RestoreFault) (told : ℕ) → words fault ≡ Some told → slots ≡ map (option_map slot_of) blocks
+    → AreHeld bytes blocks → ForSome (slot_at slots slot) (λ s. TellsTorn bytes slot s.block fault) → ForSome (stored_at blocks slot) (λ b. MayGive b None)
+gives_none bytes slots blocks slot fault told is same held torn b there =
+    subst (MayGive b) (unheld bytes slot b.block fault told is (torn (slot_of b) (slot_is bytes slots blocks same slot ∙ ap (option_map slot_of) there))).no_image (held slot b there)

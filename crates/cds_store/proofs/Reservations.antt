@@ -11,7 +11,7 @@ use Rattle.std.proofs.lemmas.Slice.Eq.{bytes_eq-Decides}
 use Rattle.tbl_kinds.proofs.PositionLaws.{position-map, position-None}
 use Rattle.tbl_kinds.specs.Limits.{table_limit}
 use Rattle.tbl_kinds.specs.Names.{is_name}
-use Rattle.tbl_kinds.specs.Places.{blocks_begin, bank_size, is_inside, are_apart, fits, place}
+use Rattle.tbl_kinds.specs.Places.{blocks_begin, blocks_end, is_inside, are_apart, fits, place}
 use Rattle.tbl_kinds.specs.Blocks.{Stored, Store as Blocks}
 use Rattle.tbl_kinds.specs.StoreCalls.{reserve, CanBreak}
 use Rattle.tbl_kinds.specs.StoreSteps.{same_kind, same_block, is_of, is_doubtful_of, is_open_of, stored_at, doubtful_of, open_of, taken, freed, has_room, closed, made, reserved, reserve_broken, in_doubt}
@@ -241,7 +241,7 @@ find_passes p (y ∷ ys) x found =
 
 place_fits : (taken_blocks : List Block) (size at : ℕ) → place taken_blocks size ≡ Some at → fits taken_blocks size at ≡ true
 unfolding place
-place_fits taken_blocks size at found = find_passes (fits taken_blocks size) (range_with_len blocks_begin (bank_size - blocks_begin)) at found
+place_fits taken_blocks size at found = find_passes (fits taken_blocks size) (range_with_len blocks_begin (blocks_end - blocks_begin)) at found
 
 no_same_block : (kind : BlockKind) (name : List ℕ) (size at : ℕ) (s : Block) → is_of kind name s ≡ false → not (same_block (record { kind = kind; offset = at; size = size; name = name }) s) ≡ true
 no_same_block kind name size at s other = rw (same_kind-sym kind s.kind, bytes_eq-sym name s.name, other) refl

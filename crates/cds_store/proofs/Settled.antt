@@ -25,8 +25,8 @@ use Rattle.cds_store.specs.declared.slot.Slot.{Slot}
 use Rattle.cds_store.proofs.Changes.{MatchesBlocks}
 use Rattle.cds_store.proofs.Closing.{stands_for}
 use Rattle.cds_store.proofs.Found.{found_has}
-use Rattle.cds_store.proofs.Steps.{may_give_alike}
-use Rattle.cds_store.proofs.Strays.{stored_there, length-store, shows_alike, emptied_shows}
+use Rattle.cds_layout.proofs.Stored.{stored_there, length-store}
+use Rattle.cds_store.proofs.Strays.{shows_alike, emptied_shows}
 
 -- ---- the slots of a directory
 
@@ -50,6 +50,7 @@ directory_together bytes = record {
 pub tidy_matches : (old now : List ℕ) → IsTidy old now → Matches now (map (option_map opened_slot) (directory_of old))
 tidy_matches old now tidy = record {
   live = tidy.live;
+  version = tidy.version;
   entries = λ n lt. subst (EntryIs now n) (sym (slots_at (directory_of old) n)) (tidy.entries n lt);
 }
 
@@ -69,9 +70,9 @@ length-settled found k (b ∷ bs) = ap (λ n. suc n) (length-settled found (k + 
 -- what is known of one slot after a boot
 record Settles (found : List ℕ) (old : List ℕ) (n : ℕ) (o : Option Stored) (left : Option Block) : Type 0 where
   slot : option_map slot_of (settled found n o) ≡ option_map opened_slot left
-  holds : ForSome (settled found n o) (λ b. MayGive b (held_in old b.block) × (left ≡ Some b.block))
+  holds : ForSome (settled found n o) (λ b. MayGive b (held_in old n b.block) × (left ≡ Some b.block))
 
-sure_settles : (found : List ℕ) (old : List ℕ) (n : ℕ) (b : Stored) (d : Block) → b.doubtful ≡ false → stored_in old d ≡ shown b (held_in old d) → MayGive b (held_in old d) → Settles found old n (Some b) (Some d)
+sure_settles : (found : List ℕ) (old : List ℕ) (n : ℕ) (b : Stored) (d : Block) → b.doubtful ≡ false → stored_in old n d ≡ shown b (held_in old n d) → MayGive b (held_in old n d) → Settles found old n (Some b) (Some d)
 sure_settles found old n b d sure is gives =
     let same : d ≡ b.block = ap (λ (s : Stored). s.block) is in
     let stays : settled found n (Some b) ≡ Some b = rw sure refl in
@@ -79,10 +80,10 @@ sure_settles found old n b d sure is gives =
       slot = rw (stays, same, sure) refl;
       holds = λ c there.
           let c_is : b ≡ c = same_Some b c (sym stays ∙ there) in
-          (subst (λ (e : Stored). MayGive e (held_in old e.block)) c_is (subst (λ (e : Block). MayGive b (held_in old e)) same gives), ap (λ (e : Block). Some e) (same ∙ ap (λ (e : Stored). e.block) c_is));
+          (subst (λ (e : Stored). MayGive e (held_in old n e.block)) c_is (subst (λ (e : Block). MayGive b (held_in old n e)) same gives), ap (λ (e : Block). Some e) (same ∙ ap (λ (e : Stored). e.block) c_is));
     }
 
-found_settles : (found : List ℕ) (old : List ℕ) (n : ℕ) (b : Stored) (d : Block) → b.doubtful ≡ true → list_any (λ m. m == n) found ≡ true → stored_in old d ≡ shown b (held_in old d) → MayGive b (held_in old d) → Settles found old n (Some b) (Some d)
+found_settles : (found : List ℕ) (old : List ℕ) (n : ℕ) (b : Stored) (d : Block) → b.doubtful ≡ true → list_any (λ m. m == n) found ≡ true → stored_in old n d ≡ shown b (held_in old n d) → MayGive b (held_in old n d) → Settles found old n (Some b) (Some d)
 found_settles found old n b d doubt among is gives =
     let same : d ≡ b.block = ap (λ (s : Stored). s.block) is in
     let then_sure : Stored = record b { doubtful = false } in
@@ -91,8 +92,8 @@ found_settles found old n b d doubt among is gives =
       slot = rw (stays, same) refl;
       holds = λ c there.
           let c_is : (record b { doubtful = false }) ≡ c = same_Some (record b { doubtful = false }) c (sym stays ∙ there) in (
-            subst (λ (e : Stored). MayGive e (held_in old e.block)) c_is
-                (may_give_alike b.trying b (record b { doubtful = false }) (held_in old b.block) refl refl (subst (λ (e : Block). MayGive b (held_in old e)) same gives)),
+            subst (λ (e : Stored). MayGive e (held_in old n e.block)) c_is
+                (subst (λ (e : Block). MayGive b (held_in old n e)) same gives),
             ap (λ (e : Block). Some e) (same ∙ ap (λ (e : Stored). e.block) c_is),
           );
     }
@@ -109,7 +110,7 @@ gone_settles found old n b doubt not_among =
 abbrev Finds : List ℕ → ℕ → Option Stored → Option Block → Type 0
 Finds found n o left = (b : Stored) → o ≡ Some b → b.doubtful ≡ true → list_any (λ m. m == n) found ≡ is_some left
 
-settles : (found : List ℕ) (old : List ℕ) (n : ℕ) (o : Option Stored) (left : Option Block) → MayShow o (option_map (stored_in old) left) → Finds found n o left → Settles found old n o left
+settles : (found : List ℕ) (old : List ℕ) (n : ℕ) (o : Option Stored) (left : Option Block) → MayShow o (option_map (stored_in old n) left) → Finds found n o left → Settles found old n o left
 settles found old n None None shows finds = record { slot = refl; holds = λ b is. absurd (cc is) }
 settles found old n None (Some d) shows finds = absurd (cc shows)
 settles found old n (Some b) None shows finds = gone_settles found old n b shows (finds b refl shows)
@@ -163,31 +164,31 @@ pub doubt_known : (slots : List (Option Slot)) (blocks : Blocks) → slots ≡ m
 doubt_known slots blocks same n b there doubt =
     ap is_doubtful_slot (ap (λ (l : List (Option Slot)). slot_at l n) same ∙ get_or-map (option_map slot_of) blocks n None ∙ ap (option_map slot_of) there) ∙ doubt
 
-shown_sure : (bytes : List ℕ) (o : Option Block) (b : Stored) → option_map (stored_in bytes) o ≡ Some b → b.doubtful ≡ false
-shown_sure bytes None b is = absurd (cc is)
-shown_sure bytes (Some d) b is = rw (← same_Some (stored_in bytes d) b is) refl
+shown_sure : (bytes : List ℕ) (n : ℕ) (o : Option Block) (b : Stored) → option_map (stored_in bytes n) o ≡ Some b → b.doubtful ≡ false
+shown_sure bytes n None b is = absurd (cc is)
+shown_sure bytes n (Some d) b is = rw (← same_Some (stored_in bytes n d) b is) refl
 
 pub shown_known : (slots : List (Option Slot)) (bytes : List ℕ) → DoubtKnown slots (store_of bytes)
-shown_known slots bytes n b there doubt = absurd (cc (sym (shown_sure bytes (slice_index_or (directory_of bytes) n None) b (sym (stored_there bytes n) ∙ there)) ∙ doubt))
+shown_known slots bytes n b there doubt = absurd (cc (sym (shown_sure bytes n (slice_index_or (directory_of bytes) n None) b (sym (stored_there bytes n) ∙ there)) ∙ doubt))
 
 pub finds_open : (slots : List (Option Slot)) (directory : List (Option Block)) (blocks : Blocks) → DoubtKnown slots blocks → (n : ℕ) → n < slot_count → Finds (found_open slots directory) n (stored_at blocks n) (slice_index_or directory n None)
 finds_open slots directory blocks known n lt b there doubt =
     found_has (is_found slots directory) slot_count n lt ∙ ap (λ d. d && is_some (slice_index_or directory n None)) (known n b there doubt)
 
 -- a store shows itself
-shows_own : (bytes : List ℕ) (o : Option Block) → MayShow (option_map (stored_in bytes) o) (option_map (stored_in bytes) o)
-shows_own bytes None = refl
-shows_own bytes (Some d) = (refl, refl)
+shows_own : (bytes : List ℕ) (n : ℕ) (o : Option Block) → MayShow (option_map (stored_in bytes n) o) (option_map (stored_in bytes n) o)
+shows_own bytes n None = refl
+shows_own bytes n (Some d) = (refl, refl)
 
 pub shows_itself : (bytes : List ℕ) → ShowsIn (store_of bytes) bytes
 shows_itself bytes = record {
   as_long = refl;
-  each = λ n. subst (λ o. MayShow o o) (sym (stored_there bytes n)) (shows_own bytes (slice_index_or (directory_of bytes) n None));
+  each = λ n. subst (λ o. MayShow o o) (sym (stored_there bytes n)) (shows_own bytes n (slice_index_or (directory_of bytes) n None));
 }
 
-stored_is_some : (bytes : List ℕ) (o : Option Block) → is_some (option_map (stored_in bytes) o) ≡ is_some o
-stored_is_some bytes None = refl
-stored_is_some bytes (Some b) = refl
+stored_is_some : (bytes : List ℕ) (n : ℕ) (o : Option Block) → is_some (option_map (stored_in bytes n) o) ≡ is_some o
+stored_is_some bytes n None = refl
+stored_is_some bytes n (Some b) = refl
 
 found_alike : (p q : ℕ → Bool) → ((n : ℕ) → p n ≡ q n) → (count : ℕ) → found_to count p ≡ found_to count q
 unfolding found_to
@@ -200,7 +201,7 @@ found_alike p q same count = by (range_with_len 0 count)
 pub found_shown : (slots : List (Option Slot)) (bytes : List ℕ) → found_open slots (directory_of bytes) ≡ found_in slots (store_of bytes)
 found_shown slots bytes =
     found_alike (is_found slots (directory_of bytes)) (λ n. is_doubtful_at slots n && is_some (stored_at (store_of bytes) n))
-    (λ n. ap (λ s. is_doubtful_at slots n && s) (sym (stored_is_some bytes (slice_index_or (directory_of bytes) n None)) ∙ sym (ap is_some (stored_there bytes n))))
+    (λ n. ap (λ s. is_doubtful_at slots n && s) (sym (stored_is_some bytes n (slice_index_or (directory_of bytes) n None)) ∙ sym (ap is_some (stored_there bytes n))))
     slot_count
 
 -- ---- after a power-on
@@ -235,6 +236,7 @@ cleared_stands now cleared = record {
   together = no_slots_together;
   matches = record {
     live = cleared.live;
+    version = cleared.version;
     entries = λ n lt. subst (EntryIs now n) (sym (none_at slot_count n)) (cleared.shut n lt);
   };
   held = λ n b there. absurd (none_stored slot_count n b there);
@@ -321,13 +323,14 @@ begins_kept tells now k blocks (inl stands) = inl (record { slots = stands.slots
 begins_kept tells now k blocks (inr own) = inr own
 
 -- a store that was just made
-pub made_kept : {B : Type 0} (tells : Type 0) (size : B → ℕ) (now : B → List ℕ) (slots : List (Option Slot)) (bank : B) (front : List ℕ) → slots ≡ replicate slot_count None → bank_size ≤ size bank → length front ≡ directory_len
-    → IsKept tells size now (record { slots = slots; bank = bank; booted = false }) front
-made_kept tells size now slots bank front free room len = record {
+pub made_kept : {B : Type 0} (tells : Type 0) (size : B → ℕ) (now : B → List ℕ) (slots : List (Option Slot)) (bank : B) (front place : List ℕ) → slots ≡ replicate slot_count None → bank_size ≤ size bank → length front ≡ directory_len → length place ≡ 16392
+    → IsKept tells size now (record { slots = slots; bank = bank; booted = false }) front place
+made_kept tells size now slots bank front place free room len place_len = record {
   sound = record {
     together = subst AreTogether (sym free) no_slots_together;
     room = room;
     matches = λ booted_is told. absurd (cc booted_is);
   };
   len = len;
+  room_len = place_len;
 }

@@ -4,21 +4,21 @@ use Rattle.std.specs.List.{list_all}
 use Rattle.std.specs.Option.{option_map}
 use Rattle.std.specs.Str.{bytes_eq}
 use Rattle.std.proofs.lemmas.Bool.{cases_Bool, cases_eq, cases_lt, and_parts, and_cases}
-use Rattle.std.proofs.lemmas.List.{length-map, take-take, get_or_past, get_or_push, get_or_append_left, get_or-replicate, get_or-take, length-replicate, ext_get_or}
-use Rattle.std.proofs.Math.ListN.{get_or-map}
+use Rattle.std.proofs.lemmas.List.{take-take, get_or_past, get_or_push, get_or_append_left, get_or-replicate, get_or-take, length-replicate, ext_get_or}
 use Rattle.tbl_kinds.specs.Blocks.{Stored, Store as Blocks, empty_store}
 use Rattle.tbl_kinds.specs.StoreSteps.{stored_at, MayShow}
 use Rattle.tbl_kinds.specs.declared.block.Block.{Block}
 use Rattle.tbl_outside.specs.Bank.{Torn}
-use Rattle.cds_layout.specs.Entries.{slot_count, gate_open, gate_at, gate_place, tail_at, block_in}
-use Rattle.cds_layout.specs.Directory.{directory_len, is_live, live_mark, agrees_at, stated, counted, directory_to, directory_of}
+use Rattle.cds_layout.specs.Entries.{slot_count, gate_open, gate_at, gate_place, told_at, block_in}
+use Rattle.cds_layout.specs.Directory.{directory_len, is_live, is_first_version, live_mark, agrees_at, stated, counted, directory_to, directory_of}
 use Rattle.cds_layout.specs.Images.{held_in, stored_in, store_of}
 use Rattle.cds_layout.proofs.Directories.{directory-is, length-directory_of}
-use Rattle.cds_layout.proofs.DirectoryLaws.{directory-right}
+use Rattle.cds_layout.proofs.DirectoryLaws.{directory-right, version-front}
+use Rattle.cds_layout.proofs.Stored.{stored_there, length-store}
 use Rattle.cds_store.specs.Boots.{IsFront, SameStore, Tidied, IsTidy, IsEmptied, opened_slot}
 use Rattle.cds_store.specs.Moments.{ShowsIn}
 use Rattle.cds_store.specs.Sound.{EntryIs}
-use Rattle.cds_store.proofs.Frames.{IsApart, gate_stays, tail_stays, live_stays, held_stays}
+use Rattle.cds_store.proofs.Frames.{IsApart, gate_stays, told_stays, live_stays, version_stays, held_stays, gate_clear}
 use Rattle.cds_store.proofs.Reading.{is_open}
 use Rattle.cds_layout.proofs.EntryLaws.{right-parts}
 
@@ -50,10 +50,10 @@ counted_some earlier (Some c) b is = by (list_all (agrees_at c) earlier) is
     by true found = found
     by false found = absurd (cc found)
 
-stated_parts : (bytes : List ℕ) (n : ℕ) (b : Block) → stated bytes n ≡ Some b → (is_open bytes n ≡ true) × (block_in (tail_at bytes n) ≡ Some b)
+stated_parts : (bytes : List ℕ) (n : ℕ) (b : Block) → stated bytes n ≡ Some b → (is_open bytes n ≡ true) × (block_in (told_at bytes n) ≡ Some b)
 stated_parts bytes n b is = by (is_open bytes n) refl is
   where
-    by : (gate : Bool) → is_open bytes n ≡ gate → cond gate (block_in (tail_at bytes n)) None ≡ Some b → (is_open bytes n ≡ true) × (block_in (tail_at bytes n) ≡ Some b)
+    by : (gate : Bool) → is_open bytes n ≡ gate → cond gate (block_in (told_at bytes n)) None ≡ Some b → (is_open bytes n ≡ true) × (block_in (told_at bytes n) ≡ Some b)
     by true open_is found = (open_is, found)
     by false shut found = absurd (cc found)
 
@@ -64,6 +64,13 @@ pub no_blocks_at : (k n : ℕ) → slice_index_or (replicate k no_block) n None 
 no_blocks_at k n = elim (cases_lt n k) [
   | inl lt ↦ get_or-replicate k n None None lt
   | inr past ↦ get_or_past (replicate k None) n None (omega (arith, past, length-replicate k no_block))
+]
+
+-- a block of the directory stands in a slot
+pub directory_within : (bytes : List ℕ) (n : ℕ) (b : Block) → slice_index_or (directory_of bytes) n None ≡ Some b → n < slot_count
+directory_within bytes n b there = elim (cases_lt n slot_count) [
+  | inl lt ↦ lt
+  | inr past ↦ absurd (cc (sym (get_or_past (directory_of bytes) n None (omega (arith, past, length-directory_of bytes))) ∙ there))
 ]
 
 -- by a number of slots that stays a variable
@@ -83,8 +90,30 @@ dead_is_emptied bytes dead = dead_by bytes slot_count refl dead
 
 -- the entry of a block in the directory is open, and tells it
 pub directory_states : (bytes : List ℕ) (n : ℕ) (b : Block) → n < slot_count → is_live bytes ≡ true → slice_index_or (directory_of bytes) n None ≡ Some b
-    → (is_open bytes n ≡ true) × (block_in (tail_at bytes n) ≡ Some b)
+    → (is_open bytes n ≡ true) × (block_in (told_at bytes n) ≡ Some b)
 directory_states bytes n b lt live there = stated_parts bytes n b (counted_some (directory_to bytes n) (stated bytes n) b (sym (entry_counts bytes n lt live) ∙ there))
+
+stated_alike : (old image : List ℕ) (k : ℕ) → gate_at image k ≡ gate_at old k → told_at image k ≡ told_at old k → stated image k ≡ stated old k
+stated_alike old image k gate told = rw (gate, told) refl
+
+-- bytes with the same gates, which tell the same blocks
+module _ (old image : List ℕ) (live : is_live image ≡ is_live old) (gates : (k : ℕ) → k < slot_count → gate_at image k ≡ gate_at old k) (told : (k : ℕ) → k < slot_count → told_at image k ≡ told_at old k) where
+  alike_to : (k : ℕ) → k ≤ slot_count → directory_to image k ≡ directory_to old k
+  alike_to zero le = refl
+  alike_to (suc k) le =
+      let before = alike_to k (omega (arith, le)) in
+      let here = stated_alike old image k (gates k (omega (arith, le))) (told k (omega (arith, le))) in
+      λ i. before i ++ counted (before i) (here i) ∷ []
+
+  alike_by : (k : ℕ) → k ≡ slot_count → directory_of image ≡ directory_of old
+  alike_by k is =
+      directory-is image k is
+      ∙ ap (λ is_live_now. cond is_live_now (directory_to image k) (replicate k None)) live
+      ∙ ap (λ (l : List (Option Block)). cond (is_live old) l (replicate k None)) (alike_to k (omega (arith, is)))
+      ∙ sym (directory-is old k is)
+
+  pub directory_alike : directory_of image ≡ directory_of old
+  directory_alike = alike_by slot_count refl
 
 -- ---- a gate that tells no block is written
 
@@ -98,19 +127,16 @@ module _ (n : ℕ) (old image : List ℕ) (torn : Torn (gate_place n) 1 old imag
   pub other_gate : (k : ℕ) → k ≢ n → gate_at image k ≡ gate_at old k
   other_gate k other = gate_stays (gate_place n) 1 old image torn k (apart k (gate_place k) 1 other (omega arith) (omega arith))
 
-  other_tail : (k : ℕ) → k ≢ n → tail_at image k ≡ tail_at old k
-  other_tail k other = tail_stays (gate_place n) 1 old image torn k (apart k (17 + 64 * k) 63 other (omega arith) (omega arith))
+  other_told : (k : ℕ) → k ≢ n → told_at image k ≡ told_at old k
+  other_told k other = told_stays (gate_place n) 1 old image torn k (apart k (17 + 64 * k) 51 other (omega arith) (omega arith))
 
-  own_tail : tail_at image n ≡ tail_at old n
-  own_tail = tail_stays (gate_place n) 1 old image torn n (inr (omega arith))
-
-  stated_alike : (k : ℕ) → gate_at image k ≡ gate_at old k → tail_at image k ≡ tail_at old k → stated image k ≡ stated old k
-  stated_alike k gate tail = rw (gate, tail) refl
+  own_told : told_at image n ≡ told_at old n
+  own_told = told_stays (gate_place n) 1 old image torn n (inr (omega arith))
 
   module _ (open_is : is_open old n ≡ true) (none : counts_at old n ≡ None) where
     own_counts : counted (directory_to old n) (stated image n) ≡ counted (directory_to old n) (stated old n)
     own_counts = elim (cases_Bool (is_open image n)) [
-      | inl still ↦ ap (counted (directory_to old n)) (rw (still, open_is, own_tail) refl)
+      | inl still ↦ ap (counted (directory_to old n)) (rw (still, open_is, own_told) refl)
       | inr shut ↦ ap (counted (directory_to old n)) (shut_states shut) ∙ sym none
     ]
       where
@@ -124,7 +150,7 @@ module _ (n : ℕ) (old image : List ℕ) (torn : Torn (gate_place n) 1 old imag
         ∙ ap (λ (o : Option Block). directory_to old k ++ o ∷ [])
         (elim (cases_eq k n) [
           | inl here ↦ subst (λ i. counted (directory_to old i) (stated image i) ≡ counted (directory_to old i) (stated old i)) (sym here) own_counts
-          | inr other ↦ ap (counted (directory_to old k)) (stated_alike k (other_gate k other) (other_tail k other))
+          | inr other ↦ ap (counted (directory_to old k)) (stated_alike old image k (other_gate k other) (other_told k other))
         ])
 
     live_kept : is_live image ≡ is_live old
@@ -142,7 +168,7 @@ module _ (n : ℕ) (old image : List ℕ) (torn : Torn (gate_place n) 1 old imag
       directory = directory_by_count slot_count refl;
       held = λ k b there.
           let right = right-parts b (directory-right old k b there) in
-          held_stays (gate_place n) 1 old image torn b right.some (inr (omega (arith, lt, right.behind)));
+          held_stays (gate_place n) 1 old image torn k b (gate_clear n k b lt (directory_within old k b there) right.behind old image torn);
     }
 
 pub same_store : (bytes : List ℕ) → SameStore bytes bytes
@@ -160,6 +186,7 @@ pub tidied_start : (old : List ℕ) → is_live old ≡ true → Tidied old old 
 tidied_start old live = record {
   same = same_store old;
   live = live;
+  version = refl;
   shut = λ n lt within none. absurd (omega (arith, lt));
   rest = λ n le within. refl;
 }
@@ -169,6 +196,7 @@ pub tidied_skip : (old now : List ℕ) (k : ℕ) → k < slot_count → (is_open
 tidied_skip old now k within fine so_far = record {
   same = so_far.same;
   live = so_far.live;
+  version = so_far.version;
   shut = λ n lt n_within none.
       elim (cases_lt n k) [
         | inl before ↦ so_far.shut n before n_within none
@@ -204,6 +232,7 @@ module _ (old now image : List ℕ) (k : ℕ) (within : k < slot_count) (stray :
   tidied_step closed = record {
     same = tidied_torn;
     live = live_stays (gate_place k) 1 now image torn (omega arith) ∙ so_far.live;
+    version = version_stays (gate_place k) 1 now image torn (inl (omega arith)) ∙ so_far.version;
     shut = λ n lt n_within none.
         elim (cases_eq n k) [
           | inl here ↦ subst (λ i. is_open image i ≡ false) (sym here) (ap (λ g. g == gate_open) closed)
@@ -213,39 +242,32 @@ module _ (old now image : List ℕ) (k : ℕ) (within : k < slot_count) (stray :
   }
 
 -- then the bytes match the directory
-tidy_entry : (old now : List ℕ) (n : ℕ) (o : Option Block) → n < slot_count → slice_index_or (directory_of old) n None ≡ o → Tidied old now slot_count → EntryIs now n (option_map opened_slot o)
+pub tidy_entry : (old now : List ℕ) (n : ℕ) (o : Option Block) → n < slot_count → slice_index_or (directory_of old) n None ≡ o → Tidied old now slot_count → EntryIs now n (option_map opened_slot o)
 tidy_entry old now n None lt there tidied = tidied.shut n lt lt there
 tidy_entry old now n (Some b) lt there tidied =
     let told = directory_states now n b lt tidied.live (ap (λ (l : List (Option Block)). slice_index_or l n None) tidied.same.directory ∙ there) in
     (told.1, λ sure. told.0)
 
-pub tidied_is_tidy : (old now : List ℕ) → Tidied old now slot_count → IsTidy old now
-tidied_is_tidy old now tidied = record {
+pub tidied_is_tidy : (old now : List ℕ) → is_first_version old ≡ false → Tidied old now slot_count → IsTidy old now
+tidied_is_tidy old now second tidied = record {
   same = tidied.same;
   live = tidied.live;
+  version = tidied.version ∙ second;
   entries = λ n lt. tidy_entry old now n (slice_index_or (directory_of old) n None) lt refl tidied;
 }
 
 -- ---- what a store shows, again
 
-shown_alike : (old image : List ℕ) (o : Option Block) → ((b : Block) → o ≡ Some b → held_in image b ≡ held_in old b) → option_map (stored_in image) o ≡ option_map (stored_in old) o
-shown_alike old image None same = refl
-shown_alike old image (Some b) same = ap (λ (h : Option (List ℕ)). Some (record { block = b; held = h; trying = []; doubtful = false })) (same b refl)
-
-pub stored_there : (bytes : List ℕ) (n : ℕ) → stored_at (store_of bytes) n ≡ option_map (stored_in bytes) (slice_index_or (directory_of bytes) n None)
-unfolding store_of
-stored_there bytes n = get_or-map (option_map (stored_in bytes)) (directory_of bytes) n None
+shown_alike : (old image : List ℕ) (n : ℕ) (o : Option Block) → ((b : Block) → o ≡ Some b → held_in image n b ≡ held_in old n b) → option_map (stored_in image n) o ≡ option_map (stored_in old n) o
+shown_alike old image n None same = refl
+shown_alike old image n (Some b) same = ap (λ (h : Option (List ℕ)). Some (record { block = b; held = h; trying = []; doubtful = false })) (same b refl)
 
 pub stored_alike : (old image : List ℕ) → SameStore old image → (n : ℕ) → stored_at (store_of image) n ≡ stored_at (store_of old) n
 stored_alike old image same n =
     stored_there image n
-    ∙ ap (λ (l : List (Option Block)). option_map (stored_in image) (slice_index_or l n None)) same.directory
-    ∙ shown_alike old image (slice_index_or (directory_of old) n None) (same.held n)
+    ∙ ap (λ (l : List (Option Block)). option_map (stored_in image n) (slice_index_or l n None)) same.directory
+    ∙ shown_alike old image n (slice_index_or (directory_of old) n None) (same.held n)
     ∙ sym (stored_there old n)
-
-pub length-store : (bytes : List ℕ) → length (store_of bytes) ≡ slot_count
-unfolding store_of
-length-store bytes = length-map (directory_of bytes) (option_map (stored_in bytes)) ∙ length-directory_of bytes
 
 pub shows_alike : (old image : List ℕ) (blocks : Blocks) → SameStore old image → ShowsIn blocks old → ShowsIn blocks image
 shows_alike old image blocks same shows = record {
@@ -266,7 +288,7 @@ emptied_alike old image first second = record {
 pub emptied_shows : (image : List ℕ) → IsEmptied image → ShowsIn empty_store image
 emptied_shows image emptied = record {
   as_long = length-store image;
-  each = λ n. subst (MayShow (stored_at empty_store n)) (sym (stored_there image n ∙ ap (option_map (stored_in image)) (ap (λ (l : List (Option Block)). slice_index_or l n None) emptied ∙ no_blocks_at slot_count n))) (none_at n);
+  each = λ n. subst (MayShow (stored_at empty_store n)) (sym (stored_there image n ∙ ap (option_map (stored_in image n)) (ap (λ (l : List (Option Block)). slice_index_or l n None) emptied ∙ no_blocks_at slot_count n))) (none_at n);
 }
   where
     nothing : Option Stored
@@ -306,4 +328,7 @@ pub stray_is : (front : List ℕ) (directory : List (Option Block)) (old : List 
 stray_is front directory old k is within = rw (front_gate front directory old k is within, is.told) refl
 
 pub live_front : (front : List ℕ) (directory : List (Option Block)) (old : List ℕ) → IsFront front directory old → is_live front ≡ is_live old
-live_front front directory old is = ap (λ (l : List ℕ). bytes_eq l live_mark) (ap (take 4) is.read ∙ take-take 4 directory_len old (omega arith))
+live_front front directory old is = ap (λ (l : List ℕ). bytes_eq l live_mark) (ap (take 3) is.read ∙ take-take 3 directory_len old (omega arith))
+
+pub version_read : (front : List ℕ) (directory : List (Option Block)) (old : List ℕ) → IsFront front directory old → is_first_version front ≡ is_first_version old
+version_read front directory old is = ap is_first_version is.read ∙ version-front old

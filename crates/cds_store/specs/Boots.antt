@@ -9,8 +9,9 @@ use Rattle.tbl_kinds.specs.declared.block.Block.{Block}
 use Rattle.tbl_kinds.specs.declared.request.ResetKind.{ResetKind}
 use Rattle.tbl_kinds.specs.declared.request.ResetKind.TheVariants.{Processor, PowerOn}
 use Rattle.cds_layout.specs.Entries.{slot_count, gate_open, gate_at}
-use Rattle.cds_layout.specs.Directory.{is_live, directory_len, directory_of}
-use Rattle.cds_layout.specs.Images.{held_in, store_of}
+use Rattle.cds_layout.specs.Directory.{is_live, is_first_version, directory_len, directory_of}
+use Rattle.cds_layout.specs.Images.{held_by, held_in, turned_in, store_of}
+use Rattle.cds_layout.specs.declared.turns.Place.TheVariants.{First}
 use Rattle.cds_store.specs.Sound.{slot_at, EntryIs}
 use Rattle.cds_store.specs.StoreBlocks.{StoreParts, StandsFor}
 use Rattle.cds_store.specs.declared.slot.Slot.{Slot}
@@ -23,12 +24,13 @@ pub record IsFront (front : List ℕ) (directory : List (Option Block)) (bytes :
 -- the same blocks stand open, with the same images
 pub record SameStore (old image : List ℕ) : Type 0 where
   pub directory : directory_of image ≡ directory_of old
-  pub held : (n : ℕ) (b : Block) → slice_index_or (directory_of old) n None ≡ Some b → held_in image b ≡ held_in old b
+  pub held : (n : ℕ) (b : Block) → slice_index_or (directory_of old) n None ≡ Some b → held_in image n b ≡ held_in old n b
 
 -- of the first slots, the gates that tell no block of the directory are closed
 pub record Tidied (old now : List ℕ) (count : ℕ) : Type 0 where
   pub same : SameStore old now
   pub live : is_live now ≡ true
+  pub version : is_first_version now ≡ is_first_version old
   pub shut : (n : ℕ) → n < count → n < slot_count → slice_index_or (directory_of old) n None ≡ None → (gate_at now n == gate_open) ≡ false
   pub rest : (n : ℕ) → count ≤ n → n < slot_count → gate_at now n ≡ gate_at old n
 
@@ -40,10 +42,21 @@ IsEmptied image = directory_of image ≡ replicate slot_count None
 abbrev pub opened_slot : Block → Slot
 opened_slot b = record { block = b; doubtful = false }
 
--- the bytes match the directory of the old ones
+-- in a store of the first version, the turn bytes of the blocks of the first slots tell what their first places hold. Until
+-- another version stands there, no turn bytes are looked at
+pub record Carried (old now : List ℕ) (count : ℕ) : Type 0 where
+  pub same : SameStore old now
+  pub live : is_live now ≡ true
+  pub first : is_first_version old ≡ true
+  pub version : is_first_version now ≡ true
+  pub entries : (n : ℕ) → n < slot_count → EntryIs now n (option_map opened_slot (slice_index_or (directory_of old) n None))
+  pub turned : (n : ℕ) (b : Block) → n < count → slice_index_or (directory_of old) n None ≡ Some b → held_by now b (turned_in now n) ≡ held_by now b (Some First)
+
+-- the bytes match the directory of the old ones, with two places a block
 pub record IsTidy (old now : List ℕ) : Type 0 where
   pub same : SameStore old now
   pub live : is_live now ≡ true
+  pub version : is_first_version now ≡ false
   pub entries : (n : ℕ) → n < slot_count → EntryIs now n (option_map opened_slot (slice_index_or (directory_of old) n None))
 
 abbrev pub is_doubtful_slot : Option Slot → Bool
@@ -75,17 +88,18 @@ BeginsAt tells now kept blocks = StandsFor tells now kept blocks ⊎ (tells × (
 abbrev pub is_dead : List ℕ → Bool
 is_dead bytes = not (byte_at 0 bytes == 0x43)
 
--- after the first byte, the rest of the live mark
+-- after the first byte, the rest of the live mark, and the version
 abbrev pub HasMark : List ℕ → Type 0
-HasMark bytes = piece 1 3 bytes ≡ 0x44 ∷ 0x53 ∷ 0x31 ∷ []
+HasMark bytes = piece 1 3 bytes ≡ 0x44 ∷ 0x53 ∷ 0x32 ∷ []
 
 -- all gates are closed
 abbrev pub AllShut : List ℕ → Type 0
 AllShut bytes = (n : ℕ) → n < slot_count → (gate_at bytes n == gate_open) ≡ false
 
--- a live bank whose gates are closed
+-- a live bank with two places a block, whose gates are closed
 pub record IsCleared (bytes : List ℕ) : Type 0 where
   pub live : is_live bytes ≡ true
+  pub version : is_first_version bytes ≡ false
   pub shut : AllShut bytes
 
 abbrev pub AreZeros : List ℕ → Type 0

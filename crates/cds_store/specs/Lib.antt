@@ -5,4 +5,3 @@ pub mod Recovery
 pub mod Slots
 pub mod Sound
 pub mod StoreBlocks
-pub mod Writes

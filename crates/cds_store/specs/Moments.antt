@@ -1,5 +1,5 @@
 -- What a reset inside a call of the store may leave.
-use Rattle.std.specs.Prelude.{◌≡◌, ◌⊎◌, ℕ, List, true, Option}
+use Rattle.std.specs.Prelude.{◌≡◌, ◌⊎◌, ℕ, ◌+◌, List, [], ◌∷◌, Bool, true, false, Option}
 use Rattle.tbl_kinds.specs.Blocks.{Store as Blocks, empty_store}
 use Rattle.tbl_kinds.specs.StoreCalls.{StoreCall, Leaves}
 use Rattle.tbl_kinds.specs.StoreSteps.{Shows, freed}
@@ -9,7 +9,9 @@ use Rattle.tbl_kinds.specs.declared.request.ResetKind.TheVariants.{PowerOn}
 use Rattle.tbl_kinds.specs.Numbers.{patched}
 use Rattle.tbl_outside.specs.Bank.{Torn}
 use Rattle.cds_store.specs.StoreBlocks.{closing, with_new}
-use Rattle.cds_layout.specs.Images.{store_of, head_len, data_place}
+use Rattle.cds_layout.specs.Images.{store_of, place_at, head_len, hidden_in, opened_in}
+use Rattle.cds_layout.specs.Entries.{turn_place}
+use Rattle.cds_layout.specs.Turns.{byte_of}
 
 -- the image shows these blocks
 abbrev pub ShowsIn : Blocks → List ℕ → Type 0
@@ -28,8 +30,27 @@ abbrev pub MakeLeaves : Option ℕ → ℕ → Block → Blocks → List ℕ →
 MakeLeaves old slot block blocks image =
     ShowsIn blocks image ⊎ ShowsIn (freed old blocks) image ⊎ ShowsIn (closing old blocks) image ⊎ ShowsIn (with_new true slot block (freed old blocks)) image
 
--- bytewise: a copy leaves the bytes as they were; with any bytes in the block's own data; or with the image there and
--- any bytes as its head
-abbrev pub CopyTears : Block → List ℕ → List ℕ → List ℕ → Type 0
-CopyTears b copy bytes image =
-    (image ≡ bytes) ⊎ Torn (data_place b) b.size bytes image ⊎ Torn b.offset head_len (patched bytes (data_place b) copy) image
+-- the bytes with head and image, as they are spelled, in the place that doesn't show
+abbrev pub with_place : ℕ → Block → List ℕ → List ℕ → List ℕ
+with_place slot b written bytes = patched bytes (place_at b (hidden_in bytes slot)) written
+
+-- a copy that broke off before its turn byte: the bytes as they were, or with any bytes in the place that doesn't show
+abbrev pub TearsPlace : ℕ → Block → List ℕ → List ℕ → Type 0
+TearsPlace slot b bytes image = (image ≡ bytes) ⊎ Torn (place_at b (hidden_in bytes slot)) (head_len + b.size) bytes image
+
+-- in its turn byte: the bytes with head and image in that place, and any one byte as its turn byte
+abbrev pub TearsTurn : ℕ → Block → List ℕ → List ℕ → List ℕ → Type 0
+TearsTurn slot b written bytes image = Torn (turn_place slot (hidden_in bytes slot)) 1 (with_place slot b written bytes) image
+
+-- bytewise, what a copy leaves at any moment
+abbrev pub CopyTears : ℕ → Block → List ℕ → List ℕ → List ℕ → Type 0
+CopyTears slot b written bytes image = TearsPlace slot b bytes image ⊎ TearsTurn slot b written bytes image
+
+-- and where it broke off, by whether that was in its turn byte
+abbrev pub TearsBy : Bool → ℕ → Block → List ℕ → List ℕ → List ℕ → Type 0
+TearsBy true slot b written bytes image = TearsTurn slot b written bytes image
+TearsBy false slot b written bytes image = TearsPlace slot b bytes image
+
+-- the bytes once it is done
+abbrev pub copied_bytes : ℕ → Block → List ℕ → List ℕ → List ℕ
+copied_bytes slot b written bytes = patched (with_place slot b written bytes) (turn_place slot (hidden_in bytes slot)) (byte_of (opened_in bytes slot) ∷ [])

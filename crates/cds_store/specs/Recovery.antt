@@ -9,7 +9,7 @@ use Rattle.cds_store.specs.declared.recovery.RecoverFault.TheVariants.{Fault, St
 use Rattle.tbl_kinds.specs.declared.block.BlockKind.{BlockKind}
 
 -- where a block of this kind and name is open, this is what it holds: its last completed image, or none where it has had
--- none; and where copies of it broke off since, any image of its size, or none
+-- none; and where copies of it broke off at their turn byte since, that or the image of one of these
 abbrev pub Recovers : BlockKind → List ℕ → Blocks → Option (List ℕ) → Type 0
 Recovers kind name blocks image = (slot : ℕ) → open_of kind name blocks ≡ Some slot → ForSome (stored_at blocks slot) (λ b. MayGive b image)
 

@@ -3,8 +3,8 @@ use Rattle.std.specs.Prelude.{◌≡◌, ◌≢◌, ℕ, ◌≤◌, ◌<◌, ◌
 use Rattle.std.specs.Option.{ForSome}
 use Rattle.tbl_kinds.specs.Places.{bank_size}
 use Rattle.tbl_kinds.specs.declared.block.Block.{Block}
-use Rattle.cds_layout.specs.Entries.{slot_count, gate_open, gate_at, tail_at, block_in, is_right}
-use Rattle.cds_layout.specs.Directory.{directory_len, is_live, agree}
+use Rattle.cds_layout.specs.Entries.{slot_count, gate_open, gate_at, told_at, block_in, is_right}
+use Rattle.cds_layout.specs.Directory.{directory_len, is_live, is_first_version, agree}
 use Rattle.cds_store.specs.StoreBlocks.{StoreParts}
 use Rattle.cds_store.specs.declared.slot.Slot.{Slot}
 
@@ -20,11 +20,12 @@ pub record AreTogether (slots : List (Option Slot)) : Type 0 where
 -- the entry of a free slot has a closed gate; that of a taken one tells its block, and its gate is open or in doubt
 abbrev pub EntryIs : List ℕ → ℕ → Option Slot → Type 0
 EntryIs bytes n None = (gate_at bytes n == gate_open) ≡ false
-EntryIs bytes n (Some s) = (block_in (tail_at bytes n) ≡ Some s.block) × (s.doubtful ≡ false → (gate_at bytes n == gate_open) ≡ true)
+EntryIs bytes n (Some s) = (block_in (told_at bytes n) ≡ Some s.block) × (s.doubtful ≡ false → (gate_at bytes n == gate_open) ≡ true)
 
--- the bytes are those of a live bank whose entries are those of the slots
+-- the bytes are those of a live bank with two places a block, whose entries are those of the slots
 pub record Matches (bytes : List ℕ) (slots : List (Option Slot)) : Type 0 where
   pub live : is_live bytes ≡ true
+  pub version : is_first_version bytes ≡ false
   pub entries : (n : ℕ) → n < slot_count → EntryIs bytes n (slot_at slots n)
 
 -- what holds of a store: once it was booted, its bank matches its slots
@@ -45,7 +46,9 @@ abbrev pub IsOpenOf : ℕ → Option Slot → Type 0
 IsOpenOf size None = ⊥
 IsOpenOf size (Some s) = (s.doubtful ≡ false) × (s.block.size ≡ size)
 
--- what holds of a store and of the bytes into which it reads the first ones of its bank
-pub record IsKept {B : Type 0} (tells : Type 0) (size : B → ℕ) (now : B → List ℕ) (kept : StoreParts B) (front : List ℕ) : Type 0 where
+-- what holds of a store, of the bytes into which it reads the first ones of its bank, and of those in which it spells an image
+-- as it stands in a place
+pub record IsKept {B : Type 0} (tells : Type 0) (size : B → ℕ) (now : B → List ℕ) (kept : StoreParts B) (front room : List ℕ) : Type 0 where
   pub sound : IsSound tells size now kept
   pub len : length front ≡ directory_len
+  pub room_len : length room ≡ 16392

@@ -6,7 +6,7 @@ use Rattle.tbl_kinds.specs.StoreCalls.{restore, after, broken}
 use Rattle.tbl_kinds.specs.StoreSteps.{Shows, stored_at, MayGive, new_block, freed, delete_broken}
 use Rattle.tbl_kinds.specs.declared.block.Block.{Block}
 use Rattle.cds_layout.specs.declared.blocks.RestoreFault.{RestoreFault}
-use Rattle.cds_layout.specs.declared.blocks.RestoreFault.TheVariants.{Torn, Fault}
+use Rattle.cds_layout.specs.Restores.{words}
 use Rattle.cds_layout.specs.Images.{held_in, store_of}
 use Rattle.cds_store.specs.declared.slot.Slot.{Slot}
 
@@ -22,7 +22,7 @@ slot_of b = record { block = b.block; doubtful = b.doubtful }
 -- each block holds what a restore of it may give: also one in doubt whose gate is closed, since a write that breaks off
 -- may open that gate again
 abbrev pub AreHeld : List ℕ → Blocks → Type 0
-AreHeld bytes blocks = (slot : ℕ) → ForSome (stored_at blocks slot) (λ b. MayGive b (held_in bytes b.block))
+AreHeld bytes blocks = (slot : ℕ) → ForSome (stored_at blocks slot) (λ b. MayGive b (held_in bytes slot b.block))
 
 -- the open and the doubtful blocks are these, and what the bank holds, where it tells, shows them
 pub record StandsFor {B : Type 0} (tells : Type 0) (now : B → List ℕ) (kept : StoreParts B) (blocks : Blocks) : Type 0 where
@@ -57,17 +57,23 @@ abbrev pub broken_at : Bool → Bool → Option ℕ → ℕ → Block → Blocks
 broken_at gate true old slot block blocks = closing old blocks
 broken_at gate false old slot block blocks = made_or_not gate slot block (freed old blocks)
 
--- a restore that gave no image: a torn block gave none, and a fault broke the restore off
+-- a restore that gave no image: either the block was read and gave none, or the restore broke off
+abbrev pub after_words : Option ℕ → ℕ → Blocks → Blocks
+after_words (Some told) slot blocks = after (restore slot None) blocks
+after_words None slot blocks = broken false false (restore slot None) blocks
+
 abbrev pub after_fault : RestoreFault → ℕ → Blocks → Blocks
-after_fault (Torn length stated found) slot blocks = after (restore slot None) blocks
-after_fault Fault slot blocks = broken false false (restore slot None) blocks
+after_fault fault slot blocks = after_words (words fault) slot blocks
 
 -- what the block in a slot holds
 abbrev pub held_at : ℕ → Blocks → Option (List ℕ)
 held_at slot blocks = option_and_then (λ (b : Stored). b.held) (stored_at blocks slot)
 
--- what a restore says of a block that holds this: its image, or that it is torn; after a fault nothing
+-- what a restore says of a block that holds this: its image, or that there is none; after a fault nothing
+abbrev pub HasNone : Option ℕ → Option (List ℕ) → Type 0
+HasNone (Some told) held = held ≡ None
+HasNone None held = Unit {0}
+
 abbrev pub ComesBack : Result Unit RestoreFault → Option (List ℕ) → List ℕ → Type 0
 ComesBack (Ok x) held image = held ≡ Some image
-ComesBack (Err (Torn length stated found)) held image = held ≡ None
-ComesBack (Err Fault) held image = Unit {0}
+ComesBack (Err fault) held image = HasNone (words fault) held

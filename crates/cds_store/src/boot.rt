@@ -1,6 +1,6 @@
 //! A boot reads the directory and makes it match the slots.
 
-ghost use Rattle.std.specs.Prelude.{◌≡◌, ◌⊎◌, ◌≤◌, true, List, ℕ, [], ◌∷◌, false, length, is_ok, map, replicate, None, IfOk, OnOk, OnErr, IfErr};
+ghost use Rattle.std.specs.Prelude.{◌≡◌, ◌⊎◌, ◌≤◌, true, List, ℕ, [], ◌∷◌, ◌++◌, false, length, is_ok, map, replicate, None, IfOk, OnOk, OnErr, IfErr};
 ghost use Rattle.std.specs.Option.{option_map};
 ghost use Rattle.tbl_kinds.specs.Numbers.{piece, byte_at};
 ghost use Rattle.tbl_kinds.specs.Places.{bank_size};
@@ -13,12 +13,14 @@ ghost use Rattle.cds_layout.specs.Directory.{directory_len, directory_of, is_liv
 ghost use Rattle.cds_layout.specs.Entries.{slot_count};
 ghost use Rattle.cds_store.specs.Boots.{IsFront, SameStore, IsTidy, IsCleared, Clears, AreZeros, BeginsAt, opened_slot, found_open, found_by};
 ghost use Rattle.cds_layout.specs.Images.{store_of};
-ghost use Rattle.cds_layout.specs.Order.{clear_calls, boot_writes, boot_calls};
+ghost use Rattle.cds_layout.specs.Order.{clear_calls, strays_to, carry_calls, boot_writes, boot_calls};
+ghost use Rattle.cds_layout.specs.Lines.{AreRight};
 ghost use Rattle.cds_store.specs.Calls.{Steady, CallCounted, is_old};
 ghost use Rattle.cds_store.specs.Moments.{BootLeaves};
 ghost use Rattle.cds_store.specs.Sound.{IsSound};
 ghost use Rattle.cds_store.specs.StoreBlocks.{StandsFor, kept};
 
+use crate::carrying::carry;
 use crate::clearing::clear;
 use crate::fault::BankFault;
 use crate::settling::{find_found, forget_all, open_all};
@@ -104,12 +106,48 @@ pub(crate) fn clear_all<B: Bank>(bank: &mut B, front: &mut [u8]) -> Result<(), B
     clear(bank, first, entries_of(front))
 }
 
-/// Closes the gates of a live bank that tell no block, and clears a bank that isn't live.
-fn tidy<B: Bank>(bank: &mut B, front: &mut [u8], directory: &Directory) -> Result<(), BankFault>
+/// Closes the gates of a live bank that tell no block, and carries a store of the first version over.
+fn renew<B: Bank>(
+    bank: &mut B,
+    front: &[u8],
+    room: &mut [u8],
+    directory: &Directory,
+) -> Result<(), BankFault>
+    requires len { length front.now ≡ directory_len }
+    requires buffer { length room.old ≡ 16392 }
+    requires right { AreRight directory.now }
+    requires room { bank_size ≤ B.size bank.old }
+    requires read { B.tells → IsFront front.now directory.now (B.now bank.old) }
+    requires live { B.tells → is_live (B.now bank.old) ≡ true }
+    ensures buffer { length room.new ≡ 16392 }
+    ensures tidy { OnOk result (B.tells → IsTidy (B.now bank.old) (B.now bank.new)) }
+    ensures same { B.tells → SameStore (B.now bank.old) (B.now bank.new) }
+    ensures moments { B.tells_moments →
+        LeavesOnly B.clock B.left_since bank.old bank.new (SameStore (B.now bank.old)) }
+    ensures steady { Steady B.size B.faults B.stops bank.old bank.new }
+    ensures counted { CallCounted B.faults B.stops bank.old bank.new result }
+    ensures bank_calls { B.tells →
+        Asks B.tells_calls B.calls bank.old bank.new (is_ok result) (strays_to slot_count (B.now bank.old) (directory_of (B.now bank.old)) ++ carry_calls (B.now bank.old)) }
+    ensures not_old { IfErr result (λ fault. is_old fault ≡ false) }
+{
+    tidy_live(bank, front, directory)?;
+    carry(bank, front, room, directory)
+}
+
+/// Renews a live bank, and clears one that isn't live.
+fn tidy<B: Bank>(
+    bank: &mut B,
+    front: &mut [u8],
+    room: &mut [u8],
+    directory: &Directory,
+) -> Result<(), BankFault>
     requires len { length front.old ≡ directory_len }
+    requires buffer { length room.old ≡ 16392 }
+    requires right { AreRight directory.now }
     requires room { bank_size ≤ B.size bank.old }
     requires read { B.tells → IsFront front.old directory.now (B.now bank.old) }
     ensures len { length front.new ≡ directory_len }
+    ensures buffer { length room.new ≡ 16392 }
     ensures tidy { OnOk result (B.tells → IsTidy (B.now bank.old) (B.now bank.new)) }
     ensures same { B.tells → SameStore (B.now bank.old) (B.now bank.new) }
     ensures moments { B.tells_moments →
@@ -121,7 +159,7 @@ fn tidy<B: Bank>(bank: &mut B, front: &mut [u8], directory: &Directory) -> Resul
     ensures not_old { IfErr result (λ fault. is_old fault ≡ false) }
 {
     if is_live(front) {
-        tidy_live(bank, front, directory)
+        renew(bank, front, room, directory)
     } else {
         clear_all(bank, front)
     }
@@ -132,14 +170,18 @@ pub(crate) fn boot_processor<B: Bank>(
     bank: &mut B,
     slots: &mut Vec<Option<Slot>>,
     front: &mut [u8],
+    room: &mut [u8],
     directory: &Directory,
 ) -> Result<Slots, BankFault>
     requires slots { length slots.old.items ≡ slot_count }
     requires directory { length directory.now ≡ slot_count }
+    requires right { AreRight directory.now }
+    requires buffer { length room.old ≡ 16392 }
     requires len { length front.old ≡ directory_len }
     requires room { bank_size ≤ B.size bank.old }
     requires read { B.tells → IsFront front.old directory.now (B.now bank.old) }
     ensures len { length front.new ≡ directory_len }
+    ensures buffer { length room.new ≡ 16392 }
     ensures found { IfOk result (λ found. found ≡ found_open slots.old.items directory.now) }
     ensures slots { OnOk result (slots.new.items ≡ map (option_map opened_slot) directory.now) }
     ensures tidy { OnOk result (B.tells → IsTidy (B.now bank.old) (B.now bank.new)) }
@@ -153,7 +195,7 @@ pub(crate) fn boot_processor<B: Bank>(
         Asks B.tells_calls B.calls bank.old bank.new (is_ok result) (boot_writes Processor (B.now bank.old)) }
     ensures not_old { IfErr result (λ fault. is_old fault ≡ false) }
 {
-    tidy(bank, front, directory)?;
+    tidy(bank, front, room, directory)?;
     let found = find_found(slots, directory);
     open_all(slots, directory);
     Ok(found)
@@ -192,15 +234,18 @@ fn boot_as<B: Bank>(
     bank: &mut B,
     slots: &mut Vec<Option<Slot>>,
     front: &mut [u8],
+    room: &mut [u8],
     directory: &Directory,
     kind: ResetKind,
 ) -> Result<Slots, BankFault>
     requires slots { length slots.old.items ≡ slot_count }
     requires len { length front.old ≡ directory_len }
+    requires buffer { length room.old ≡ 16392 }
     requires directory { directory.now ≡ directory_of front.old }
     requires room { bank_size ≤ B.size bank.old }
     requires read { B.tells → IsFront front.old directory.now (B.now bank.old) }
     ensures len { length front.new ≡ directory_len }
+    ensures buffer { length room.new ≡ 16392 }
     ensures sound { OnOk result (IsSound B.tells B.size B.now (kept slots.new.items bank.new)) }
     ensures ok { IfOk result (λ found. B.tells → (blocks : Blocks) →
         BeginsAt B.tells B.now (kept slots.old.items bank.old) blocks →
@@ -219,7 +264,7 @@ fn boot_as<B: Bank>(
     ensures not_old { IfErr result (λ fault. is_old fault ≡ false) }
 {
     match kind {
-        ResetKind::Processor => boot_processor(bank, slots, front, directory),
+        ResetKind::Processor => boot_processor(bank, slots, front, room, directory),
         ResetKind::PowerOn => boot_power_on(bank, slots, front),
     }
 }
@@ -229,13 +274,16 @@ pub(crate) fn boot<B: Bank>(
     bank: &mut B,
     slots: &mut Vec<Option<Slot>>,
     front: &mut [u8],
+    room: &mut [u8],
     directory: &mut Directory,
     kind: ResetKind,
 ) -> Result<Slots, BankFault>
     requires slots { length slots.old.items ≡ slot_count }
     requires len { length front.old ≡ directory_len }
+    requires buffer { length room.old ≡ 16392 }
     requires room { bank_size ≤ B.size bank.old }
     ensures len { length front.new ≡ directory_len }
+    ensures buffer { length room.new ≡ 16392 }
     ensures sound { OnOk result (IsSound B.tells B.size B.now (kept slots.new.items bank.new)) }
     ensures ok { IfOk result (λ found. B.tells → (blocks : Blocks) →
         BeginsAt B.tells B.now (kept slots.old.items bank.old) blocks →
@@ -254,5 +302,5 @@ pub(crate) fn boot<B: Bank>(
     ensures not_old { IfErr result (λ fault. is_old fault ≡ false) }
 {
     read_front(bank, front, directory)?;
-    boot_as(bank, slots, front, directory, kind)
+    boot_as(bank, slots, front, room, directory, kind)
 }

@@ -17,7 +17,7 @@ use tbl_outside::Bank;
 /// The first byte of the live mark.
 const LIVE: u8 = LIVE_MARK[0];
 
-/// Where the rest of the mark begins, and twelve zeros.
+/// Where the rest of the mark begins, with the version and twelve zeros.
 const MARK_PLACE: u32 = 1;
 
 /// Takes the first byte of the live mark away, where it is there: from then on the bank shows no block.
@@ -39,7 +39,7 @@ fn close_live<B: Bank>(bank: &mut B, first: u8) -> Result<(), BankFault>
     }
 }
 
-/// Writes the rest of the live mark, while the bank isn't live.
+/// Writes the rest of the live mark, and the version, while the bank isn't live.
 fn write_mark<B: Bank>(bank: &mut B) -> Result<(), BankFault>
     requires room { bank_size ≤ B.size bank.old }
     requires dead { B.tells → is_dead (B.now bank.old) ≡ true }
@@ -49,13 +49,13 @@ fn write_mark<B: Bank>(bank: &mut B) -> Result<(), BankFault>
     ensures moments { B.tells_moments → LeavesOnly B.clock B.left_since bank.old bank.new IsEmptied }
     ensures steady { Steady B.size B.faults B.stops bank.old bank.new }
     ensures counted { CallCounted B.faults B.stops bank.old bank.new result }
-    ensures bank_calls { Asks B.tells_calls B.calls bank.old bank.new (is_ok result) (write 1 (0x44 ∷ 0x53 ∷ 0x31 ∷ replicate 12 0) ∷ []) }
+    ensures bank_calls { Asks B.tells_calls B.calls bank.old bank.new (is_ok result) (write 1 (0x44 ∷ 0x53 ∷ 0x32 ∷ replicate 12 0) ∷ []) }
     ensures not_old { IfErr result (λ fault. is_old fault ≡ false) }
 {
     write(
         bank,
         MARK_PLACE,
-        b"DS1\0\0\0\0\0\0\0\0\0\0\0\0",
+        b"DS2\0\0\0\0\0\0\0\0\0\0\0\0",
         false,
         false,
     )

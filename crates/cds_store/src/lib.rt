@@ -1,10 +1,11 @@
 //! The Critical Data Store: the layer above may rely on it that after a reset at any moment, also inside a write, each block
-//! comes back as its last completed image, or one whose copy broke off since, or none, and that each call is the
-//! definition's step on the blocks.
+//! comes back as its last completed image or one whose copy broke off since, and that each call is the definition's step on
+//! the blocks.
 #![tactic(auto)]
 
 mod block_list;
 mod boot;
+mod carrying;
 mod clearing;
 mod fault;
 mod gates;

@@ -4,8 +4,8 @@ ghost use Rattle.std.specs.Prelude.{◌≡◌, ◌⊎◌, ◌<◌, ◌≤◌, No
 ghost use Rattle.tbl_kinds.specs.Blocks.{Store as Blocks};
 ghost use Rattle.tbl_outside.specs.Bank.{LeavesOnly};
 ghost use Rattle.tbl_outside.specs.BankCalls.{Asks, write};
-ghost use Rattle.cds_layout.specs.Entries.{gate_place, gate_open, tail_at, block_in};
-ghost use Rattle.cds_layout.specs.Images.{held_in};
+ghost use Rattle.cds_layout.specs.Entries.{gate_place, gate_open, told_at, block_in};
+ghost use Rattle.cds_layout.specs.Images.{turned_in};
 ghost use Rattle.cds_layout.specs.Order.{make_calls};
 ghost use Rattle.cds_store.specs.Calls.{Steady, CallCounted, HasFlags, is_gate, is_old};
 ghost use Rattle.cds_store.specs.Moments.{ShowsIn};
@@ -14,7 +14,7 @@ ghost use Rattle.cds_store.specs.StoreBlocks.{StandsFor, kept, with_new, made_or
 
 use crate::fault::BankFault;
 use crate::slot::Slot;
-use crate::writes::{prepare, set_gate};
+use crate::writes::{set_gate, write_entry};
 use cds_layout::GATE_OPEN;
 use tbl_kinds::Block;
 use tbl_outside::Bank;
@@ -29,8 +29,8 @@ fn open_gate<B: Bank>(
 ) -> Result<(), BankFault>
     requires sound { IsSound B.tells B.size B.now (kept slots.old.items bank.old) }
     requires new { IsNew slot slots.old.items block }
-    requires entry { B.tells → block_in (tail_at (B.now bank.old) slot) ≡ Some block }
-    requires wiped { B.tells → held_in (B.now bank.old) block ≡ None }
+    requires entry { B.tells → block_in (told_at (B.now bank.old) slot) ≡ Some block }
+    requires none { B.tells → turned_in (B.now bank.old) slot ≡ None }
     ensures sound { IsSound B.tells B.size B.now (kept slots.new.items bank.new) }
     ensures made { (blocks : Blocks) → StandsFor B.tells B.now (kept slots.old.items bank.old) blocks →
         StandsFor B.tells B.now (kept slots.new.items bank.new) (with_new (is_err result) slot block blocks) }
@@ -50,8 +50,8 @@ fn open_gate<B: Bank>(
     written
 }
 
-/// Makes a block in a free slot: its head is wiped, the entry is written, and then the gate is opened. Where a write
-/// breaks off before, the slot stays free; where that of the gate does, it is in doubt.
+/// Makes a block in a free slot: the entry is written, by which no place of it shows, and then the gate is opened. Where the
+/// first write breaks off, the slot stays free; where that of the gate does, it is in doubt.
 pub(crate) fn make<B: Bank>(
     bank: &mut B,
     slots: &mut Vec<Option<Slot>>,
@@ -75,6 +75,6 @@ pub(crate) fn make<B: Bank>(
     ensures bank_calls { Asks B.tells_calls B.calls bank.old bank.new (is_ok result) (make_calls slot block) }
     ensures flags { IfErr result (λ fault. is_old fault ≡ false) }
 {
-    prepare(bank, slot, &block)?;
+    write_entry(bank, slot, &block)?;
     open_gate(bank, slots, slot, block)
 }

@@ -76,6 +76,7 @@ fn restore_open<B: Bank>(
     let mut image = vec![in alloc; 0; size as usize]?;
     match store.restore(slot, &mut image) {
         Ok(()) => Ok(Some(image)),
+        Err(RestoreFault::NoImage) => Ok(None),
         Err(RestoreFault::Torn { .. }) => Ok(None),
         Err(RestoreFault::Fault) => Err(RecoverFault::Fault),
     }

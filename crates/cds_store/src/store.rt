@@ -10,7 +10,7 @@ ghost use Rattle.tbl_kinds.specs.Free.{least_free};
 ghost use Rattle.tbl_outside.specs.Bank.{LeavesOnly};
 ghost use Rattle.cds_layout.specs.Directory.{directory_len};
 ghost use Rattle.tbl_outside.specs.BankCalls.{Asks};
-ghost use Rattle.cds_layout.specs.Images.{store_of};
+ghost use Rattle.cds_layout.specs.Images.{spelled, store_of};
 ghost use Rattle.cds_layout.specs.Order.{boot_calls, reserve_calls, copy_calls, restore_calls, delete_calls};
 ghost use Rattle.cds_layout.specs.Restores.{TellsTorn, SaysWhy, RestoreCounted, was_read};
 ghost use Rattle.cds_store.specs.Boots.{BeginsAt, found_by};
@@ -26,8 +26,9 @@ use crate::gates::close;
 use crate::images::{copy, restore};
 use crate::lookups::{block_in, find_doubtful, find_open, open_in, room_for};
 use crate::reserving::reserve;
+use crate::settling::forget_all;
 use crate::slot::Slot;
-use cds_layout::{BLOCKS_BEGIN, Directory, RestoreFault, SLOTS};
+use cds_layout::{BLOCKS_BEGIN, Directory, MOST_PLACE, RestoreFault, SLOTS};
 use std::alloc::{AllocError, Global};
 use std::marker::Model;
 use tbl_kinds::{Block, BlockKind, Memory, Name40, ResetKind, Slots};
@@ -43,6 +44,8 @@ pub struct Store<B: Bank> {
     directory: Directory,
     /// Into which a boot reads the first bytes of the bank.
     front: Vec<u8>,
+    /// In which an image is spelled as it stands in a place.
+    room: Vec<u8>,
 }
 
 impl<B: Bank> Model for Store<B> {
@@ -53,7 +56,7 @@ impl<B: Bank> Model for Store<B> {
 
     ghost view = { λ s. record { slots = s.slots.items; bank = s.bank; booted = s.booted } };
 
-    ghost invariant = { λ s. IsKept B.tells B.size B.now (record { slots = s.slots.items; bank = s.bank; booted = s.booted }) s.front.items };
+    ghost invariant = { λ s. IsKept B.tells B.size B.now (record { slots = s.slots.items; bank = s.bank; booted = s.booted }) s.front.items s.room.items };
 }
 
 /// 128 free slots.
@@ -78,23 +81,33 @@ fn front_bytes(alloc: Global) -> Result<Vec<u8>, AllocError>
     Ok(front)
 }
 
+/// As many zeros as the largest place has bytes.
+fn place_bytes(alloc: Global) -> Result<Vec<u8>, AllocError>
+    ensures { IfOk result (λ room. length room.items ≡ 16392) }
+{
+    vec![in alloc; 0; MOST_PLACE as usize]
+}
+
 /// What a store takes from memory.
 #[derive(Drop)]
 struct Room {
     slots: Vec<Option<Slot>>,
     directory: Directory,
     front: Vec<u8>,
+    place: Vec<u8>,
 }
 
 impl Room {
     fn make(alloc: Global) -> Result<Room, Memory>
         ensures slots { IfOk result (λ room. room.slots.items ≡ replicate 128 None) }
         ensures front { IfOk result (λ room. length room.front.items ≡ directory_len) }
+        ensures place { IfOk result (λ room. length room.place.items ≡ 16392) }
     {
         Ok(Room {
             slots: free_slots(alloc)?,
             directory: Directory::make(alloc)?,
             front: front_bytes(alloc)?,
+            place: place_bytes(alloc)?,
         })
     }
 }
@@ -115,6 +128,7 @@ impl<B: Bank> Store<B> {
                 booted: false,
                 directory: room.directory,
                 front: room.front,
+                room: room.place,
             }),
             Err(cause) => Err(Back { cause, bank }),
         }
@@ -130,14 +144,14 @@ impl<B: Bank> Store<B> {
 
     /// Reads the directory, and answers which slots in doubt it found open. After a reset of the processor each block
     /// that stands open is there, and gates that tell none are closed; after a power-on, and over a bank that isn't live,
-    /// the directory is cleared. After an `Err` boot again.
+    /// the directory is cleared. An `Err` leaves the store as right after `make`, without slots: boot again.
     pub fn boot(&mut self, kind: ResetKind) -> Result<Slots, BankFault>
         ensures booted { self.new.booted ≡ is_ok result }
         ensures ok { IfOk result (λ found. B.tells → (blocks : Blocks) → BeginsAt B.tells B.now self.old blocks →
             StandsFor B.tells B.now self.new (booted kind found blocks)) }
         ensures found { IfOk result (λ found. B.tells →
             found ≡ found_by kind self.old.slots (store_of (B.now self.old.bank))) }
-        ensures err { OnErr result (self.new.slots ≡ self.old.slots) }
+        ensures err { OnErr result (self.new.slots ≡ replicate 128 None) }
 
         // The bank is left as a reset inside the call may leave it.
         ensures left { B.tells → (blocks : Blocks) → BeginsAt B.tells B.now self.old blocks →
@@ -151,15 +165,24 @@ impl<B: Bank> Store<B> {
         ensures not_old { IfErr result (λ fault. is_old fault ≡ false) }
     {
         self.booted = false;
-        let found = boot(
+        let ended = boot(
             &mut self.bank,
             &mut self.slots,
             &mut self.front,
+            &mut self.room,
             &mut self.directory,
             kind,
-        )?;
-        self.booted = true;
-        Ok(found)
+        );
+        match ended {
+            Ok(found) => {
+                self.booted = true;
+                Ok(found)
+            }
+            Err(fault) => {
+                forget_all(&mut self.slots);
+                Err(fault)
+            }
+        }
     }
 
     /// The slot of the open block of this kind and name.
@@ -251,7 +274,9 @@ impl<B: Bank> Store<B> {
         reserve(&mut self.bank, &mut self.slots, kind, name, size)
     }
 
-    /// Copies an image into an open block of its size: the bytes, and then the head with their check word.
+    /// Copies an image into an open block of its size: head and bytes in one write into the place that doesn't show, and then
+    /// its turn byte, by which it shows. Broken off before that byte it leaves what the block held; broken off in it, that or
+    /// the image.
     pub fn copy(&mut self, slot: u8, image: &[u8]) -> Result<(), BankFault>
         requires booted { self.old.booted ≡ true }
         requires can { IsOpenOf (length image.now) (slot_at self.old.slots slot) }
@@ -265,14 +290,16 @@ impl<B: Bank> Store<B> {
             LeavesOnly B.clock B.left_since self.old.bank self.new.bank (LeavesIn (copy slot image.now) blocks) }
         ensures bytewise { B.tells_moments → ForSome (slot_at self.old.slots slot) (λ s.
             LeavesOnly B.clock B.left_since self.old.bank self.new.bank
-            (CopyTears s.block image.now (B.now self.old.bank))) }
+            (CopyTears slot s.block (spelled s.block.size image.now) (B.now self.old.bank))) }
         ensures steady { Steady B.size B.faults B.stops self.old.bank self.new.bank }
         ensures counted { CallCounted B.faults B.stops self.old.bank self.new.bank result }
-        ensures bank_calls { ForSome (slot_at self.old.slots slot) (λ s.
-            Asks B.tells_calls B.calls self.old.bank self.new.bank (is_ok result) (copy_calls s.block image.now)) }
-        ensures flags { IfErr result (HasFlags false false) }
+        ensures bank_calls { B.tells → ForSome (slot_at self.old.slots slot) (λ s.
+            Asks B.tells_calls B.calls self.old.bank self.new.bank (is_ok result)
+            (copy_calls (B.now self.old.bank) slot s.block (spelled s.block.size image.now))) }
+        ensures breaks { IfErr result (λ fault. (blocks : Blocks) →
+            CanBreak (is_gate fault) (is_old fault) (copy slot image.now) blocks) }
     {
-        copy(&mut self.bank, &self.slots, slot, image)
+        copy(&mut self.bank, &self.slots, slot, image, &mut self.room)
     }
 
     /// Reads the image of an open block. After a fault `into` is left open.
@@ -289,7 +316,7 @@ impl<B: Bank> Store<B> {
         ensures comes_back { B.tells → (blocks : Blocks) → StandsFor B.tells B.now self.old blocks →
             ForSome (stored_at blocks slot) (λ b. b.trying ≡ [] → ComesBack result b.held into.new) }
         ensures torn { IfErr result (λ fault. B.tells → ForSome (slot_at self.old.slots slot) (λ s.
-            TellsTorn (B.now self.old.bank) s.block fault)) }
+            TellsTorn (B.now self.old.bank) slot s.block fault)) }
         ensures why { IfErr result (SaysWhy (length into.old)) }
         ensures err { IfErr result (λ fault. (blocks : Blocks) → StandsFor B.tells B.now self.old blocks →
             StandsFor B.tells B.now self.new (after_fault fault slot blocks)) }
@@ -298,8 +325,9 @@ impl<B: Bank> Store<B> {
             LeavesOnly B.clock B.left_since self.old.bank self.new.bank (λ image. image ≡ B.now self.old.bank) }
         ensures steady { Steady B.size B.faults B.stops self.old.bank self.new.bank }
         ensures counted { RestoreCounted B.faults B.stops self.old.bank self.new.bank result }
-        ensures bank_calls { ForSome (slot_at self.old.slots slot) (λ s.
-            Asks B.tells_calls B.calls self.old.bank self.new.bank (was_read result) (restore_calls s.block)) }
+        ensures bank_calls { B.tells → ForSome (slot_at self.old.slots slot) (λ s.
+            Asks B.tells_calls B.calls self.old.bank self.new.bank (was_read result)
+            (restore_calls (B.now self.old.bank) slot s.block)) }
     {
         restore(&mut self.bank, &self.slots, slot, into)
     }

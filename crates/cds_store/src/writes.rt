@@ -1,23 +1,26 @@
 //! The writes of a call to the bank, with what each leaves of its bytes, whole or broken off.
 
-ghost use Rattle.std.specs.Prelude.{◌≡◌, ◌+◌, ◌^◌, ◌<◌, ◌≤◌, None, Some, true, false, [], ◌∷◌, length, replicate, is_ok, OnOk, IfErr};
+ghost use Rattle.std.specs.Prelude.{◌≡◌, ◌+◌, ◌^◌, ◌<◌, ◌≤◌, None, Some, true, false, [], ◌∷◌, length, is_ok, IfOk, OnOk, IfErr};
 ghost use Rattle.tbl_kinds.specs.Check.{check16};
 ghost use Rattle.tbl_kinds.specs.Places.{bank_size};
 ghost use Rattle.tbl_kinds.specs.Numbers.{patched};
 ghost use Rattle.tbl_outside.specs.Bank.{Torn, LeavesOnly};
 ghost use Rattle.tbl_outside.specs.BankCalls.{Asks, write};
-ghost use Rattle.cds_layout.specs.Entries.{slot_count, gate_place, gate_at, tail_place, tail_at, entry_tail, block_in, is_right};
-ghost use Rattle.cds_layout.specs.Images.{head_len, held_in, data_place, block_head};
-ghost use Rattle.cds_layout.specs.Order.{copy_calls};
-ghost use Rattle.cds_store.specs.Calls.{Steady, CallCounted, HasFlags};
-ghost use Rattle.cds_store.specs.Moments.{CopyTears};
-ghost use Rattle.cds_store.specs.Writes.{Prepares};
+ghost use Rattle.cds_layout.specs.Entries.{slot_count, gate_place, gate_at, tail_place, told_at, turn_place, entry_tail, block_in, is_right};
+ghost use Rattle.cds_layout.specs.Images.{head_len, place_at, spelled, turn_in, turned_in};
+ghost use Rattle.cds_layout.specs.Order.{turn_calls, copy_calls};
+ghost use Rattle.cds_layout.specs.Turns.{byte_of};
+ghost use Rattle.cds_layout.specs.declared.turns.Place.TheVariants as place;
+ghost use Rattle.cds_store.specs.Calls.{Steady, CallCounted, HasFlags, is_gate, is_old};
+ghost use Rattle.cds_store.specs.Moments.{TearsBy, CopyTears, copied_bytes};
 
 use crate::fault::BankFault;
-use cds_layout::{HEAD_LENGTH, entry_bytes, gate_place, head_bytes};
-use check_word::check16;
+use cds_layout::{
+    HEAD_LENGTH, Place, Turn, Turns, entry_bytes, gate_place, place_offset, read_turns, spell,
+    turn_byte, turn_place,
+};
 use tbl_kinds::Block;
-use tbl_outside::{Bank, Written};
+use tbl_outside::{Bank, Failed, Written};
 
 /// Writes over a piece, which may be a gate byte, also that of a doubtful block.
 pub(crate) fn write<B: Bank>(
@@ -65,28 +68,14 @@ pub(crate) fn set_gate<B: Bank>(
     write(bank, gate_place(slot), &[gate], true, old)
 }
 
-/// Wipes the head of a block, so that it holds no image: what an earlier block left at its place never comes back.
-fn wipe_head<B: Bank>(bank: &mut B, block: &Block) -> Result<(), BankFault>
-    requires right { is_right block.now ≡ true }
-    requires room { bank_size ≤ B.size bank.old }
-    ensures done { OnOk result (B.tells → held_in (B.now bank.new) block.now ≡ None) }
-    ensures torn { B.tells → Torn block.now.offset 8 (B.now bank.old) (B.now bank.new) }
-    ensures moments { B.tells_moments →
-        LeavesOnly B.clock B.left_since bank.old bank.new (Torn block.now.offset 8 (B.now bank.old)) }
-    ensures steady { Steady B.size B.faults B.stops bank.old bank.new }
-    ensures counted { CallCounted B.faults B.stops bank.old bank.new result }
-    ensures bank_calls { Asks B.tells_calls B.calls bank.old bank.new (is_ok result) (write block.now.offset (replicate head_len 0) ∷ []) }
-    ensures flags { IfErr result (HasFlags false false) }
-{
-    write(bank, block.offset, &[0; 8], false, false)
-}
-
-/// Writes what the entry of a slot has after its gate.
-fn write_entry<B: Bank>(bank: &mut B, slot: u8, block: &Block) -> Result<(), BankFault>
+/// Writes what the entry of a slot has after its gate, while that is closed. Both places of its block are closed by it: what
+/// an earlier block left there never comes back.
+pub(crate) fn write_entry<B: Bank>(bank: &mut B, slot: u8, block: &Block) -> Result<(), BankFault>
     requires within { slot < slot_count }
     requires right { is_right block.now ≡ true }
     requires room { bank_size ≤ B.size bank.old }
-    ensures done { OnOk result (B.tells → block_in (tail_at (B.now bank.new) slot) ≡ Some block.now) }
+    ensures done { OnOk result (B.tells → block_in (told_at (B.now bank.new) slot) ≡ Some block.now) }
+    ensures none { OnOk result (B.tells → turned_in (B.now bank.new) slot ≡ None) }
     ensures torn { B.tells → Torn (tail_place slot) 63 (B.now bank.old) (B.now bank.new) }
     ensures moments { B.tells_moments →
         LeavesOnly B.clock B.left_since bank.old bank.new (Torn (tail_place slot) 63 (B.now bank.old)) }
@@ -104,81 +93,129 @@ fn write_entry<B: Bank>(bank: &mut B, slot: u8, block: &Block) -> Result<(), Ban
     )
 }
 
-/// Prepares a block for a slot whose gate is closed: wipes its head, and then writes the entry after the gate.
-pub(crate) fn prepare<B: Bank>(bank: &mut B, slot: u8, block: &Block) -> Result<(), BankFault>
+/// Reads the turns of a slot's block.
+fn turns_of<B: Bank>(bank: &mut B, slot: u8) -> Result<Turns, BankFault>
     requires within { slot < slot_count }
-    requires right { is_right block.now ≡ true }
     requires room { bank_size ≤ B.size bank.old }
-    ensures entry { OnOk result (B.tells → block_in (tail_at (B.now bank.new) slot) ≡ Some block.now) }
-    ensures wiped { OnOk result (B.tells → held_in (B.now bank.new) block.now ≡ None) }
-    ensures torn { B.tells → Prepares slot block.now (B.now bank.old) (B.now bank.new) }
+    ensures first { IfOk result (λ turns. B.tells → turns.first ≡ turn_in (B.now bank.old) slot place.First) }
+    ensures second { IfOk result (λ turns. B.tells → turns.second ≡ turn_in (B.now bank.old) slot place.Second) }
+    ensures kept { B.tells → B.now bank.new ≡ B.now bank.old }
     ensures moments { B.tells_moments →
-        LeavesOnly B.clock B.left_since bank.old bank.new (Prepares slot block.now (B.now bank.old)) }
+        LeavesOnly B.clock B.left_since bank.old bank.new (λ image. image ≡ B.now bank.old) }
     ensures steady { Steady B.size B.faults B.stops bank.old bank.new }
     ensures counted { CallCounted B.faults B.stops bank.old bank.new result }
-    ensures bank_calls { Asks B.tells_calls B.calls bank.old bank.new (is_ok result)
-        (write block.now.offset (replicate head_len 0) ∷ write (tail_place slot) (entry_tail block.now) ∷ []) }
+    ensures bank_calls { Asks B.tells_calls B.calls bank.old bank.new (is_ok result) (turn_calls slot) }
     ensures flags { IfErr result (HasFlags false false) }
 {
-    wipe_head(bank, block)?;
-    write_entry(bank, slot, block)
+    match read_turns(bank, slot) {
+        Ok(turns) => Ok(turns),
+        Err(Failed) => Err(BankFault::Fault {
+            gate: false,
+            old: false,
+        }),
+    }
 }
 
-/// Writes the bytes of an image into its block.
-fn write_data<B: Bank>(bank: &mut B, block: &Block, image: &[u8]) -> Result<(), BankFault>
-    requires right { is_right block.now ≡ true }
-    requires size { length image.now ≡ block.now.size }
+/// Writes the turn byte of a place, by which that place shows.
+fn write_turn<B: Bank>(bank: &mut B, slot: u8, place: Place, turn: Turn) -> Result<(), BankFault>
+    requires within { slot < slot_count }
     requires room { bank_size ≤ B.size bank.old }
-    ensures done { OnOk result (B.tells → B.now bank.new ≡ patched (B.now bank.old) (data_place block.now) image.now) }
-    ensures torn { B.tells → Torn (data_place block.now) block.now.size (B.now bank.old) (B.now bank.new) }
+    ensures done { OnOk result (B.tells → B.now bank.new ≡ patched (B.now bank.old) (turn_place slot place) (byte_of turn ∷ [])) }
+    ensures torn { B.tells → Torn (turn_place slot place) 1 (B.now bank.old) (B.now bank.new) }
     ensures moments { B.tells_moments →
-        LeavesOnly B.clock B.left_since bank.old bank.new (Torn (data_place block.now) block.now.size (B.now bank.old)) }
+        LeavesOnly B.clock B.left_since bank.old bank.new (Torn (turn_place slot place) 1 (B.now bank.old)) }
     ensures steady { Steady B.size B.faults B.stops bank.old bank.new }
     ensures counted { CallCounted B.faults B.stops bank.old bank.new result }
-    ensures bank_calls { Asks B.tells_calls B.calls bank.old bank.new (is_ok result) (write (data_place block.now) image.now ∷ []) }
-    ensures flags { IfErr result (HasFlags false false) }
+    ensures bank_calls { Asks B.tells_calls B.calls bank.old bank.new (is_ok result) (write (turn_place slot place) (byte_of turn ∷ []) ∷ []) }
+    ensures flags { IfErr result (HasFlags true false) }
 {
-    write(bank, block.offset + HEAD_LENGTH, image, false, false)
+    write(
+        bank,
+        turn_place(slot, place),
+        &[turn_byte(turn)],
+        true,
+        false,
+    )
 }
 
-/// Writes the head of a block for an image of its size.
-fn write_head<B: Bank>(bank: &mut B, block: &Block, image: &[u8]) -> Result<(), BankFault>
-    requires right { is_right block.now ≡ true }
-    requires size { length image.now ≡ block.now.size }
-    requires room { bank_size ≤ B.size bank.old }
-    ensures done { OnOk result (B.tells → B.now bank.new ≡
-        patched (B.now bank.old) block.now.offset (block_head block.now.size (check16 image.now))) }
-    ensures check { check16 image.now < 2 ^ 16 }
-    ensures torn { B.tells → Torn block.now.offset 8 (B.now bank.old) (B.now bank.new) }
-    ensures moments { B.tells_moments →
-        LeavesOnly B.clock B.left_since bank.old bank.new (Torn block.now.offset 8 (B.now bank.old)) }
-    ensures steady { Steady B.size B.faults B.stops bank.old bank.new }
-    ensures counted { CallCounted B.faults B.stops bank.old bank.new result }
-    ensures bank_calls { Asks B.tells_calls B.calls bank.old bank.new (is_ok result) (write block.now.offset (block_head block.now.size (check16 image.now)) ∷ []) }
-    ensures flags { IfErr result (HasFlags false false) }
-{
-    let head = head_bytes(block.size, check16(image));
-    write(bank, block.offset, &head, false, false)
-}
-
-/// Copies an image into its block: its bytes, and then its head.
-pub(crate) fn write_image<B: Bank>(
+/// Writes head and image, as they stand in a place, into a place of a block.
+fn write_place<B: Bank>(
     bank: &mut B,
     block: &Block,
-    image: &[u8],
+    place: Place,
+    place_bytes: &[u8],
 ) -> Result<(), BankFault>
     requires right { is_right block.now ≡ true }
-    requires size { length image.now ≡ block.now.size }
+    requires size { length place_bytes.now ≡ head_len + block.now.size }
     requires room { bank_size ≤ B.size bank.old }
-    ensures done { OnOk result (B.tells → held_in (B.now bank.new) block.now ≡ Some image.now) }
-    ensures torn { B.tells → CopyTears block.now image.now (B.now bank.old) (B.now bank.new) }
+    ensures done { OnOk result (B.tells → B.now bank.new ≡ patched (B.now bank.old) (place_at block.now place) place_bytes.now) }
+    ensures torn { B.tells → Torn (place_at block.now place) (head_len + block.now.size) (B.now bank.old) (B.now bank.new) }
     ensures moments { B.tells_moments →
-        LeavesOnly B.clock B.left_since bank.old bank.new (CopyTears block.now image.now (B.now bank.old)) }
+        LeavesOnly B.clock B.left_since bank.old bank.new (Torn (place_at block.now place) (head_len + block.now.size) (B.now bank.old)) }
     ensures steady { Steady B.size B.faults B.stops bank.old bank.new }
     ensures counted { CallCounted B.faults B.stops bank.old bank.new result }
-    ensures bank_calls { Asks B.tells_calls B.calls bank.old bank.new (is_ok result) (copy_calls block.now image.now) }
+    ensures bank_calls { Asks B.tells_calls B.calls bank.old bank.new (is_ok result) (write (place_at block.now place) place_bytes.now ∷ []) }
     ensures flags { IfErr result (HasFlags false false) }
 {
-    write_data(bank, block, image)?;
-    write_head(bank, block, image)
+    write(bank, place_offset(block, place), place_bytes, false, false)
+}
+
+/// Copies an image that was spelled into its block: into the place that doesn't show, and then that place's turn byte, by
+/// which it shows.
+fn write_spelled<B: Bank>(
+    bank: &mut B,
+    slot: u8,
+    block: &Block,
+    place_bytes: &[u8],
+) -> Result<(), BankFault>
+    requires within { slot < slot_count }
+    requires right { is_right block.now ≡ true }
+    requires size { length place_bytes.now ≡ head_len + block.now.size }
+    requires room { bank_size ≤ B.size bank.old }
+    ensures done { OnOk result (B.tells → B.now bank.new ≡ copied_bytes slot block.now place_bytes.now (B.now bank.old)) }
+    ensures err { IfErr result (λ fault. B.tells → TearsBy (is_gate fault) slot block.now place_bytes.now (B.now bank.old) (B.now bank.new)) }
+    ensures moments { B.tells_moments →
+        LeavesOnly B.clock B.left_since bank.old bank.new (CopyTears slot block.now place_bytes.now (B.now bank.old)) }
+    ensures steady { Steady B.size B.faults B.stops bank.old bank.new }
+    ensures counted { CallCounted B.faults B.stops bank.old bank.new result }
+    ensures bank_calls { B.tells →
+        Asks B.tells_calls B.calls bank.old bank.new (is_ok result) (copy_calls (B.now bank.old) slot block.now place_bytes.now) }
+    ensures flags { IfErr result (λ fault. is_old fault ≡ false) }
+{
+    let turns = turns_of(bank, slot)?;
+    let place = turns.hidden();
+    match write_place(bank, block, place, place_bytes) {
+        Ok(()) => write_turn(bank, slot, place, turns.opened()),
+        Err(fault) => Err(fault),
+    }
+}
+
+/// Copies an image into its block: head and image in one write into the place that doesn't show, and then its turn byte.
+/// They are spelled in `room`.
+pub(crate) fn write_image<B: Bank>(
+    bank: &mut B,
+    slot: u8,
+    block: &Block,
+    image: &[u8],
+    room: &mut [u8],
+) -> Result<(), BankFault>
+    requires within { slot < slot_count }
+    requires right { is_right block.now ≡ true }
+    requires size { length image.now ≡ block.now.size }
+    requires bank { bank_size ≤ B.size bank.old }
+    requires room { length room.old ≡ 16392 }
+    ensures check { check16 image.now < 2 ^ 16 }
+    ensures done { OnOk result (B.tells → B.now bank.new ≡ copied_bytes slot block.now (spelled block.now.size image.now) (B.now bank.old)) }
+    ensures err { IfErr result (λ fault. B.tells → TearsBy (is_gate fault) slot block.now (spelled block.now.size image.now) (B.now bank.old) (B.now bank.new)) }
+    ensures moments { B.tells_moments →
+        LeavesOnly B.clock B.left_since bank.old bank.new (CopyTears slot block.now (spelled block.now.size image.now) (B.now bank.old)) }
+    ensures steady { Steady B.size B.faults B.stops bank.old bank.new }
+    ensures counted { CallCounted B.faults B.stops bank.old bank.new result }
+    ensures bank_calls { B.tells →
+        Asks B.tells_calls B.calls bank.old bank.new (is_ok result) (copy_calls (B.now bank.old) slot block.now (spelled block.now.size image.now)) }
+    ensures flags { IfErr result (λ fault. is_old fault ≡ false) }
+{
+    let place_bytes = &mut room[..HEAD_LENGTH as usize + image.len()];
+    spell(place_bytes, image);
+    write_spelled(bank, slot, block, place_bytes)
 }

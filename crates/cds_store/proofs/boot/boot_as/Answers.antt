@@ -1,15 +1,20 @@
-use Rattle.std.proofs.Common.{◌≡◌, ◌≤◌, List, [], length, Option, ◌∙◌, ap, arith}
+use Rattle.std.proofs.Common.{◌≡◌, ◌≤◌, List, [], length, Option, sym, subst, ◌∙◌, ap, arith}
 use Rattle.std.proofs.lemmas.Result.{IfOk-weaker}
 use Rattle.tbl_kinds.specs.Places.{bank_size}
 use Rattle.tbl_kinds.specs.declared.block.Block.{Block}
 use Rattle.tbl_outside.proofs.Moments.{leaves_among}
 use Rattle.cds_layout.proofs.Directories.{length-directory_of}
+use Rattle.cds_layout.proofs.DirectoryLaws.{directory-all_right}
+use Rattle.cds_layout.specs.Lines.{AreRight}
 use Rattle.cds_store.specs.Boots.{found_open}
 use Rattle.cds_store.proofs.Settled.{on_ok_two, if_ok_two, processor_sound, processor_stands, processor_leaves, power_on_sound, power_on_stands, power_on_leaves, found_shown}
 use Rattle.cds_store.proofs.boot.boot_as.Goals as goal
 
 pub boot_processor-requires-clause-directory : goal.boot_processor-requires-clause-directory
 boot_processor-requires-clause-directory g c = ap (λ (l : List (Option Block)). length l) c.requires.directory ∙ length-directory_of c.args.front.now
+
+pub boot_processor-requires-clause-right : goal.boot_processor-requires-clause-right
+boot_processor-requires-clause-right g c = subst AreRight (sym c.requires.directory) (directory-all_right c.args.front.now)
 
 pub returns-in-Processor-clause-sound : goal.returns-in-Processor-clause-sound
 returns-in-Processor-clause-sound g c =

@@ -1,18 +1,29 @@
-use Rattle.std.proofs.Common.{◌≤◌, Some, length, ◌∙◌, arith}
+use Rattle.std.proofs.Common.{◌≤◌, Some, length, refl, sym, subst, ◌∙◌, arith}
 use Rattle.std.proofs.lemmas.Result.{on_ok_weaker, IfErr-weaker}
 use Rattle.tbl_kinds.specs.Places.{bank_size}
-use Rattle.cds_layout.specs.Restores.{TellsTorn}
+use Rattle.cds_layout.specs.Restores.{TellsTorn, was_read}
 use Rattle.cds_store.proofs.Contents.{read_there, open_parts, shown_held, restored_for, fault_for, comes_back}
-use Rattle.cds_layout.proofs.EntryLaws.{right-parts}
+use Rattle.cds_store.proofs.Steps.{within_slots}
+use Rattle.cds_layout.specs.Order.{restore_calls}
+use Rattle.tbl_outside.specs.BankCalls.{Asks}
+use Rattle.cds_store.specs.declared.slot.Slot.{Slot}
+use Rattle.std.proofs.lemmas.Option.{same_Some}
 use Rattle.cds_store.proofs.images.restore.Goals as goal
 
-pub read_block-requires-clause-inside : goal.read_block-requires-clause-inside
-read_block-requires-clause-inside g c =
-    let b = g.B.Bank in
+pub read_block-requires-clause-within : goal.read_block-requires-clause-within
+read_block-requires-clause-within g c =
     let slots = c.args.slots.now in
     let taken = read_there (length c.args.into.now) slots c.args.slot c.index-slots-slot.result c.in-Some.taken c.requires.can c.index-slots-slot.is c.in-Some.is in
-    let parts = open_parts (length c.args.into.now) slots c.args.slot c.in-Some.taken c.requires.can taken in
-    omega (arith, (right-parts c.in-Some.taken.block (c.requires.sound.together.right c.args.slot c.in-Some.taken taken)).inside, c.requires.sound.room)
+    within_slots slots c.args.slot c.in-Some.taken c.requires.sound.together taken
+
+pub read_block-requires-clause-right : goal.read_block-requires-clause-right
+read_block-requires-clause-right g c =
+    let slots = c.args.slots.now in
+    let taken = read_there (length c.args.into.now) slots c.args.slot c.index-slots-slot.result c.in-Some.taken c.requires.can c.index-slots-slot.is c.in-Some.is in
+    c.requires.sound.together.right c.args.slot c.in-Some.taken taken
+
+pub read_block-requires-clause-version : goal.read_block-requires-clause-version
+read_block-requires-clause-version g c told = (c.requires.sound.matches refl told).version
 
 pub returns-clause-image : goal.returns-clause-image
 returns-clause-image g c =
@@ -38,7 +49,7 @@ returns-clause-err g c =
     let taken = read_there (length c.args.into.now) slots c.args.slot c.index-slots-slot.result c.in-Some.taken c.requires.can c.index-slots-slot.is c.in-Some.is in
     let parts = open_parts (length c.args.into.now) slots c.args.slot c.in-Some.taken c.requires.can taken in
     let room : bank_size ≤ b.size c.read_block.new.bank = omega (arith, c.requires.sound.room, c.read_block.ensures.size) in
-    IfErr-weaker c.read_block.result (λ fault. b.tells → TellsTorn (b.now c.args.bank.now) c.in-Some.taken.block fault) _
+    IfErr-weaker c.read_block.result (λ fault. b.tells → TellsTorn (b.now c.args.bank.now) c.args.slot c.in-Some.taken.block fault) _
     (λ fault torn. fault_for b.tells b.size b.now g.met.B.Bank.whole slots c.args.bank.now c.requires.sound c.args.slot c.in-Some.taken taken c.read_block.new.bank room c.read_block.ensures.kept fault torn) c.read_block.ensures.torn
 
 pub returns-clause-comes_back : goal.returns-clause-comes_back
@@ -47,3 +58,11 @@ returns-clause-comes_back g c =
     let slots = c.args.slots.now in
     let taken = read_there (length c.args.into.now) slots c.args.slot c.index-slots-slot.result c.in-Some.taken c.requires.can c.index-slots-slot.is c.in-Some.is in
     comes_back b.tells b.now slots c.args.bank.now c.args.slot c.in-Some.taken taken c.read_block.new.into c.read_block.result c.read_block.ensures.whole c.read_block.ensures.torn
+
+pub returns-clause-bank_calls : goal.returns-clause-bank_calls
+returns-clause-bank_calls g c told s there =
+    let b = g.B.Bank in
+    let slots = c.args.slots.now in
+    let taken = read_there (length c.args.into.now) slots c.args.slot c.index-slots-slot.result c.in-Some.taken c.requires.can c.index-slots-slot.is c.in-Some.is in
+    subst (λ (t : Slot). Asks b.tells_calls b.calls c.args.bank.now c.read_block.new.bank (was_read c.read_block.result) (restore_calls (b.now c.args.bank.now) c.args.slot t.block))
+    (same_Some c.in-Some.taken s (sym taken ∙ there)) (c.read_block.ensures.bank_calls told)

@@ -1,0 +1,219 @@
+//! A store of the first version, in which a block had one place, is carried over: the turn bytes of each block tell its first
+//! place, and at last the version says that they count.
+
+ghost use Rattle.std.specs.Prelude.{◌≡◌, ◌≤◌, ◌<◌, ◌+◌, ◌++◌, List, ℕ, None, Some, [], ◌∷◌, true, false, length, is_ok, OnOk, IfOk, IfErr, slice_index_or};
+ghost use Rattle.tbl_kinds.specs.Places.{bank_size};
+ghost use Rattle.tbl_kinds.specs.declared.block.Block.{Block};
+ghost use Rattle.tbl_outside.specs.Bank.{LeavesOnly};
+ghost use Rattle.tbl_outside.specs.BankCalls.{Asks, read, write};
+ghost use Rattle.cds_layout.specs.Directory.{directory_len, directory_of, version_place};
+ghost use Rattle.cds_layout.specs.Entries.{slot_count, is_right};
+ghost use Rattle.cds_layout.specs.Lines.{AreRight};
+ghost use Rattle.cds_layout.specs.Images.{head_len, is_whole};
+ghost use Rattle.cds_layout.specs.Order.{carried_turns, carry_at, carried_to, carry_calls};
+ghost use Rattle.cds_layout.specs.declared.turns.Place.TheVariants as place;
+ghost use Rattle.cds_store.specs.Boots.{IsFront, SameStore, Tidied, Carried, IsTidy};
+ghost use Rattle.cds_store.specs.Calls.{Steady, CallCounted, is_old};
+
+use crate::fault::BankFault;
+use crate::writes::write;
+use cds_layout::{
+    Directory, SLOTS, Turn, VERSION, VERSION_PLACE, is_first_version, read_first, turn_byte,
+    turns_place,
+};
+use tbl_kinds::Block;
+use tbl_outside::{Bank, Failed};
+
+/// The turn bytes by which the first place shows, if it is whole.
+fn carried_turns(whole: bool) -> [u8; 2]
+    ensures { result ≡ carried_turns whole }
+{
+    if whole {
+        [turn_byte(Turn::Zero), 0]
+    } else {
+        [0, 0]
+    }
+}
+
+/// Whether the first place of a block is whole.
+fn first_shows<B: Bank>(bank: &mut B, block: &Block, room: &mut [u8]) -> Result<bool, BankFault>
+    requires right { is_right block.now ≡ true }
+    requires buffer { length room.old ≡ 16392 }
+    requires room { bank_size ≤ B.size bank.old }
+    ensures buffer { length room.new ≡ 16392 }
+    ensures whole { IfOk result (λ whole. B.tells → whole ≡ is_whole (B.now bank.old) block.now place.First) }
+    ensures kept { B.tells → B.now bank.new ≡ B.now bank.old }
+    ensures moments { B.tells_moments →
+        LeavesOnly B.clock B.left_since bank.old bank.new (λ image. image ≡ B.now bank.old) }
+    ensures steady { Steady B.size B.faults B.stops bank.old bank.new }
+    ensures counted { CallCounted B.faults B.stops bank.old bank.new result }
+    ensures bank_calls { Asks B.tells_calls B.calls bank.old bank.new (is_ok result) (read block.now.offset (head_len + block.now.size) ∷ []) }
+    ensures not_old { IfErr result (λ fault. is_old fault ≡ false) }
+{
+    match read_first(bank, block, room) {
+        Ok(whole) => Ok(whole),
+        Err(Failed) => Err(BankFault::Fault {
+            gate: false,
+            old: false,
+        }),
+    }
+}
+
+/// Reads the first place of a block, and writes the turn bytes by which it shows, if it is whole.
+fn carry_block<B: Bank>(
+    bank: &mut B,
+    slot: u8,
+    block: &Block,
+    room: &mut [u8],
+) -> Result<(), BankFault>
+    requires within { slot < slot_count }
+    requires right { is_right block.now ≡ true }
+    requires buffer { length room.old ≡ 16392 }
+    requires room { bank_size ≤ B.size bank.old }
+    ensures buffer { length room.new ≡ 16392 }
+    ensures done { OnOk result (B.tells → (old : List ℕ) → slice_index_or (directory_of old) slot None ≡ Some block.now →
+        Carried old (B.now bank.old) slot → Carried old (B.now bank.new) (slot + 1)) }
+    ensures same { B.tells → (old : List ℕ) → Carried old (B.now bank.old) slot → SameStore old (B.now bank.new) }
+    ensures moments { B.tells_moments → (old : List ℕ) → Carried old (B.now bank.old) slot →
+        LeavesOnly B.clock B.left_since bank.old bank.new (SameStore old) }
+    ensures steady { Steady B.size B.faults B.stops bank.old bank.new }
+    ensures counted { CallCounted B.faults B.stops bank.old bank.new result }
+    ensures bank_calls { B.tells →
+        Asks B.tells_calls B.calls bank.old bank.new (is_ok result) (carry_at (B.now bank.old) slot (Some block.now)) }
+    ensures not_old { IfErr result (λ fault. is_old fault ≡ false) }
+{
+    let whole = first_shows(bank, block, room)?;
+    write(bank, turns_place(slot), &carried_turns(whole), false, false)
+}
+
+/// The same for a slot, which may have no block.
+fn carry_slot<B: Bank>(
+    bank: &mut B,
+    directory: &Directory,
+    slot: u8,
+    room: &mut [u8],
+) -> Result<(), BankFault>
+    requires within { slot < slot_count }
+    requires right { AreRight directory.now }
+    requires buffer { length room.old ≡ 16392 }
+    requires room { bank_size ≤ B.size bank.old }
+    ensures buffer { length room.new ≡ 16392 }
+    ensures done { OnOk result (B.tells → (old : List ℕ) → directory.now ≡ directory_of old →
+        Carried old (B.now bank.old) slot → Carried old (B.now bank.new) (slot + 1)) }
+    ensures same { B.tells → (old : List ℕ) → Carried old (B.now bank.old) slot → SameStore old (B.now bank.new) }
+    ensures moments { B.tells_moments → (old : List ℕ) → Carried old (B.now bank.old) slot →
+        LeavesOnly B.clock B.left_since bank.old bank.new (SameStore old) }
+    ensures steady { Steady B.size B.faults B.stops bank.old bank.new }
+    ensures counted { CallCounted B.faults B.stops bank.old bank.new result }
+    ensures bank_calls { B.tells → Asks B.tells_calls B.calls bank.old bank.new (is_ok result)
+        (carry_at (B.now bank.old) slot (slice_index_or directory.now slot None)) }
+    ensures not_old { IfErr result (λ fault. is_old fault ≡ false) }
+{
+    match directory.slot(slot) {
+        Some(block) => carry_block(bank, slot, block, room),
+        None => Ok(()),
+    }
+}
+
+/// The same for all slots, from the first to the last.
+fn carry_blocks<B: Bank>(
+    bank: &mut B,
+    directory: &Directory,
+    room: &mut [u8],
+) -> Result<(), BankFault>
+    requires right { AreRight directory.now }
+    requires buffer { length room.old ≡ 16392 }
+    requires room { bank_size ≤ B.size bank.old }
+    ensures buffer { length room.new ≡ 16392 }
+    ensures done { OnOk result (B.tells → (old : List ℕ) → directory.now ≡ directory_of old →
+        Carried old (B.now bank.old) 0 → Carried old (B.now bank.new) slot_count) }
+    ensures same { B.tells → (old : List ℕ) → directory.now ≡ directory_of old →
+        Carried old (B.now bank.old) 0 → SameStore old (B.now bank.new) }
+    ensures moments { B.tells_moments → (old : List ℕ) → directory.now ≡ directory_of old →
+        Carried old (B.now bank.old) 0 → LeavesOnly B.clock B.left_since bank.old bank.new (SameStore old) }
+    ensures steady { Steady B.size B.faults B.stops bank.old bank.new }
+    ensures counted { CallCounted B.faults B.stops bank.old bank.new result }
+    ensures bank_calls { B.tells → (old : List ℕ) → directory.now ≡ directory_of old → Carried old (B.now bank.old) 0 →
+        Asks B.tells_calls B.calls bank.old bank.new (is_ok result) (carried_to slot_count old (directory_of old)) }
+    ensures not_old { IfErr result (λ fault. is_old fault ≡ false) }
+{
+    for slot in 0..SLOTS {
+        carry_slot(bank, directory, slot, room)?;
+    }
+    Ok(())
+}
+
+/// Writes the version, by which the turn bytes count from now on.
+fn write_version<B: Bank>(bank: &mut B) -> Result<(), BankFault>
+    requires room { bank_size ≤ B.size bank.old }
+    ensures done { OnOk result (B.tells → (old : List ℕ) → Carried old (B.now bank.old) slot_count → IsTidy old (B.now bank.new)) }
+    ensures same { B.tells → (old : List ℕ) → Carried old (B.now bank.old) slot_count → SameStore old (B.now bank.new) }
+    ensures moments { B.tells_moments → (old : List ℕ) → Carried old (B.now bank.old) slot_count →
+        LeavesOnly B.clock B.left_since bank.old bank.new (SameStore old) }
+    ensures steady { Steady B.size B.faults B.stops bank.old bank.new }
+    ensures counted { CallCounted B.faults B.stops bank.old bank.new result }
+    ensures bank_calls { Asks B.tells_calls B.calls bank.old bank.new (is_ok result) (write version_place (0x32 ∷ []) ∷ []) }
+    ensures not_old { IfErr result (λ fault. is_old fault ≡ false) }
+{
+    write(bank, VERSION_PLACE, &[VERSION], false, false)
+}
+
+/// Carries a store of the first version over.
+fn carry_over<B: Bank>(
+    bank: &mut B,
+    room: &mut [u8],
+    directory: &Directory,
+) -> Result<(), BankFault>
+    requires right { AreRight directory.now }
+    requires buffer { length room.old ≡ 16392 }
+    requires room { bank_size ≤ B.size bank.old }
+    ensures buffer { length room.new ≡ 16392 }
+    ensures done { OnOk result (B.tells → (old : List ℕ) → directory.now ≡ directory_of old →
+        Carried old (B.now bank.old) 0 → IsTidy old (B.now bank.new)) }
+    ensures same { B.tells → (old : List ℕ) → directory.now ≡ directory_of old →
+        Carried old (B.now bank.old) 0 → SameStore old (B.now bank.new) }
+    ensures moments { B.tells_moments → (old : List ℕ) → directory.now ≡ directory_of old →
+        Carried old (B.now bank.old) 0 → LeavesOnly B.clock B.left_since bank.old bank.new (SameStore old) }
+    ensures steady { Steady B.size B.faults B.stops bank.old bank.new }
+    ensures counted { CallCounted B.faults B.stops bank.old bank.new result }
+    ensures bank_calls { B.tells → (old : List ℕ) → directory.now ≡ directory_of old → Carried old (B.now bank.old) 0 →
+        Asks B.tells_calls B.calls bank.old bank.new (is_ok result)
+        (carried_to slot_count old (directory_of old) ++ write version_place (0x32 ∷ []) ∷ []) }
+    ensures not_old { IfErr result (λ fault. is_old fault ≡ false) }
+{
+    carry_blocks(bank, directory, room)?;
+    write_version(bank)
+}
+
+/// Carries a store of the first version over; one of another is as it is to be. The first bytes and the directory are those
+/// with which the boot began.
+pub(crate) fn carry<B: Bank>(
+    bank: &mut B,
+    front: &[u8],
+    room: &mut [u8],
+    directory: &Directory,
+) -> Result<(), BankFault>
+    requires len { length front.now ≡ directory_len }
+    requires right { AreRight directory.now }
+    requires buffer { length room.old ≡ 16392 }
+    requires room { bank_size ≤ B.size bank.old }
+    ensures buffer { length room.new ≡ 16392 }
+    ensures done { OnOk result (B.tells → (old : List ℕ) → IsFront front.now directory.now old →
+        Tidied old (B.now bank.old) slot_count → IsTidy old (B.now bank.new)) }
+    ensures same { B.tells → (old : List ℕ) → IsFront front.now directory.now old →
+        Tidied old (B.now bank.old) slot_count → SameStore old (B.now bank.new) }
+    ensures moments { B.tells_moments → (old : List ℕ) → IsFront front.now directory.now old →
+        Tidied old (B.now bank.old) slot_count → LeavesOnly B.clock B.left_since bank.old bank.new (SameStore old) }
+    ensures steady { Steady B.size B.faults B.stops bank.old bank.new }
+    ensures counted { CallCounted B.faults B.stops bank.old bank.new result }
+    ensures bank_calls { B.tells → (old : List ℕ) → IsFront front.now directory.now old →
+        Tidied old (B.now bank.old) slot_count →
+        Asks B.tells_calls B.calls bank.old bank.new (is_ok result) (carry_calls old) }
+    ensures not_old { IfErr result (λ fault. is_old fault ≡ false) }
+{
+    if is_first_version(front) {
+        carry_over(bank, room, directory)
+    } else {
+        Ok(())
+    }
+}
