@@ -1,7 +1,7 @@
 -- Which calls a bank got in a request, from how its call of the store ended.
 use Rattle.std.proofs.Common.{◌≡◌, ℕ, List, [], ◌++◌, true, false, Option, Some, None, Result, Ok, Err, refl, ◌∙◌, ap, subst, inl, inr}
 use Rattle.std.proofs.lemmas.Option.{same_Some}
-use Rattle.std.specs.Prelude.{is_ok}
+use Rattle.std.specs.Prelude.{is_ok, is_some}
 use Rattle.std.specs.Option.{ForSome, option_map, option_map_or}
 use Rattle.tbl_kinds.specs.Notes.{untouched}
 use Rattle.tbl_kinds.specs.declared.note.BankNote.{BankNote}
@@ -10,9 +10,8 @@ use Rattle.tbl_kinds.specs.declared.note.Outcome.TheVariants.{Done, Failed}
 use Rattle.tbl_outside.specs.BankCalls.{BankCall, Asks, BrokeOff, after_calls as all}
 use Rattle.tbl_outside.specs.declared.bank.Bank.{Ghosts}
 use Rattle.cds_layout.specs.Order.{restore_calls, delete_calls}
-use Rattle.cds_layout.specs.Restores.{was_read}
+use Rattle.cds_layout.specs.Restores.{was_read, words}
 use Rattle.cds_layout.specs.declared.blocks.RestoreFault.{RestoreFault}
-use Rattle.cds_layout.specs.declared.blocks.RestoreFault.TheVariants.{Torn, Fault as Unread}
 use Rattle.cds_store.specs.Sound.{slot_at, IsOpenOf}
 use Rattle.cds_store.specs.declared.slot.Slot.{Slot}
 use Rattle.cds_store.specs.Calls.{lacks_room}
@@ -21,7 +20,8 @@ use Rattle.cds_store.specs.declared.fault.ReserveFault.TheVariants.{NoRoom, Bank
 use Rattle.cds_store.specs.declared.fault.BankFault.{BankFault}
 use Rattle.cds_store.specs.declared.fault.BankFault.TheVariants.{Fault, Stopped as Cut}
 use Rattle.store_requests.specs.BankCalls.{AsksBy, restore_at}
-use Rattle.store_requests.specs.Called.{call_note, done_note, broken_note, reserve_note}
+use Rattle.store_requests.specs.Called.{call_note, done_note, broken_note, reserve_note, IsUngiven}
+use Rattle.request_effects.specs.declared.effect.Effect.{Effect}
 
 -- of a slot in which a block is open
 pub at_open : (o : Option Slot) (size : ℕ) (calls : Slot → List BankCall) (HasCalls : List BankCall → Type 0) → IsOpenOf size o → ForSome o (λ s. HasCalls (calls s)) → HasCalls (option_map_or calls o [])
@@ -38,19 +38,28 @@ module _ {B : Type 0} (g : Ghosts B) (old new : B) (calls : List BankCall) (note
   bank_calls_once (Err (Fault gate prior)) is called = rw is called
   bank_calls_once (Err (Cut gate prior)) is called = rw is called
 
--- how a restore is noted: a torn block was read too
+-- how a restore is noted: it is done also where the block was read and gave no image
+abbrev pub words_outcome : Option ℕ → Outcome
+words_outcome (Some told) = Done
+words_outcome None = Failed
+
 abbrev pub read_outcome : Result Unit RestoreFault → Outcome
 read_outcome (Ok x) = Done
-read_outcome (Err (Torn length kept found)) = Done
-read_outcome (Err Unread) = Failed
+read_outcome (Err fault) = words_outcome (words fault)
+
+pub ungiven_outcome : (done : Effect) (w : Option ℕ) (bytes : List ℕ) → IsUngiven done w bytes untouched → done.note.outcome ≡ words_outcome w
+ungiven_outcome done (Some told) bytes is = ap (λ (n : BankNote). n.outcome) is.note_is
+ungiven_outcome done None bytes is = ap (λ (n : BankNote). n.outcome) is.note_is
 
 pub bank_calls_restore : {B : Type 0} (g : Ghosts B) (old new : B) (slots : List (Option Slot)) (slot size : ℕ) (note : BankNote) (ended : Result Unit RestoreFault) → IsOpenOf size (slot_at slots slot)
-    → ForSome (slot_at slots slot) (λ s. Asks g.tells_calls g.calls old new (was_read ended) (restore_calls s.block)) → note.outcome ≡ read_outcome ended → AsksBy g old new note.outcome (restore_at slots slot)
-bank_calls_restore g old new slots slot size note ended sized called is = rw is (by ended (at_open (slot_at slots slot) size (λ (s : Slot). restore_calls s.block) (λ calls. Asks g.tells_calls g.calls old new (was_read ended) calls) sized called)) where
-  by : (ended : Result Unit RestoreFault) → Asks g.tells_calls g.calls old new (was_read ended) (restore_at slots slot) → AsksBy g old new (read_outcome ended) (restore_at slots slot)
+    → ForSome (slot_at slots slot) (λ s. Asks g.tells_calls g.calls old new (was_read ended) (restore_calls (g.now old) slot s.block)) → note.outcome ≡ read_outcome ended → AsksBy g old new note.outcome (restore_at (g.now old) slots slot)
+bank_calls_restore g old new slots slot size note ended sized called is = rw is (by ended (at_open (slot_at slots slot) size (λ (s : Slot). restore_calls (g.now old) slot s.block) (λ calls. Asks g.tells_calls g.calls old new (was_read ended) calls) sized called)) where
+  by : (ended : Result Unit RestoreFault) → Asks g.tells_calls g.calls old new (was_read ended) (restore_at (g.now old) slots slot) → AsksBy g old new (read_outcome ended) (restore_at (g.now old) slots slot)
   by (Ok x) called = called
-  by (Err (Torn length kept found)) called = called
-  by (Err Unread) called = called
+  by (Err fault) called = each (words fault) called where
+    each : (w : Option ℕ) → Asks g.tells_calls g.calls old new (is_some w) (restore_at (g.now old) slots slot) → AsksBy g old new (words_outcome w) (restore_at (g.now old) slots slot)
+    each (Some told) called = called
+    each None called = called
 
 -- ---- a block is made
 

@@ -4,13 +4,14 @@ use Rattle.std.specs.Prelude.{OnOk, IfErr, slice_get, slice_index_or, ◌==◌, 
 use Rattle.std.specs.Option.{ForSome, option_map}
 use Rattle.std.proofs.lemmas.Option.{same_Some}
 use Rattle.std.proofs.lemmas.Bool.{eq-eqb}
+use Rattle.std.proofs.lemmas.Result.{IfErr-weaker}
 use Rattle.tbl_kinds.specs.Blocks.{Stored, Store as Blocks}
 use Rattle.tbl_kinds.specs.StoreCalls.{StoreCall, copy, restore, delete, after, after_first, broken, CanBreak}
 use Rattle.tbl_kinds.specs.StoreSteps.{stored_at, Shows, MayShow, MayGive}
 use Rattle.tbl_kinds.specs.Buffers.{Buffer}
 use Rattle.tbl_kinds.specs.Notes.{untouched, restored_image}
 use Rattle.tbl_kinds.specs.declared.note.BankNote.{BankNote}
-use Rattle.tbl_kinds.specs.declared.note.Outcome.TheVariants.{Stopped}
+use Rattle.tbl_kinds.specs.declared.note.Outcome.TheVariants.{Done, Stopped}
 use Rattle.tbl_kinds.specs.declared.request.ResetKind.TheVariants.{Processor}
 use Rattle.tbl_kinds.specs.declared.status.Status.{Status}
 use Rattle.tbl_kinds.specs.declared.status.TheConstants.Status.{SUCCESS, INFO_STOPPED, ERR_CDS_FAULT, ERR_IMAGE_SIZE, ERR_CDS_TORN}
@@ -22,10 +23,11 @@ use Rattle.tbl_model.specs.StoreUse.{left_by, then_broken, then_call}
 use Rattle.tbl_model.specs.StoreNotes.{NoGate, is_restore, MayGo, MayGoOn, Tells}
 use Rattle.tbl_model.specs.AppBlocks.{faulted, restore_answer}
 use Rattle.cds_store.specs.Calls.{HasFlags, is_gate, is_old}
-use Rattle.cds_store.specs.StoreBlocks.{StoreParts, StandsFor, AreHeld, slot_of, held_at, after_fault}
-use Rattle.cds_layout.specs.Restores.{TellsTorn}
+use Rattle.cds_store.specs.StoreBlocks.{StoreParts, StandsFor, AreHeld, slot_of, held_at, after_words, after_fault}
+use Rattle.cds_layout.specs.Restores.{TellsTorn, words}
 use Rattle.cds_layout.specs.declared.blocks.RestoreFault.{RestoreFault}
-use Rattle.cds_layout.specs.declared.blocks.RestoreFault.TheVariants.{Torn, Fault as Unread}
+use Rattle.cds_layout.proofs.Restored.{unheld}
+use Rattle.cds_layout.proofs.Stored.{stored_there}
 use Rattle.cds_store.specs.Sound.{slot_at}
 use Rattle.cds_store.specs.declared.slot.Slot.{Slot}
 use Rattle.cds_store.proofs.Showing.{slot_is}
@@ -36,10 +38,11 @@ use Rattle.cds_store.specs.declared.fault.BankFault.{BankFault}
 use Rattle.cds_store.specs.declared.fault.BankFault.TheVariants.{Fault, Stopped as Cut}
 use Rattle.request_effects.specs.Effects.{IsEffect}
 use Rattle.tbl_session.specs.Crashes.{DuringCalls, writes}
+use Rattle.tbl_session.specs.Restores.{GaveHeld}
 use Rattle.tbl_outside.specs.Bank.{LeavesOnly}
 use Rattle.cds_store.specs.Moments.{LeavesIn}
 use Rattle.store_requests.proofs.Moments.{one_leaves}
-use Rattle.store_requests.specs.Called.{Leaving, with_boot, broken_note, broken_status, done_note, call_note, call_status, IsTold, unasked, IsCalled, Calls}
+use Rattle.store_requests.specs.Called.{Leaving, with_boot, broken_note, broken_status, done_note, call_note, call_status, IsTold, IsUngiven, unasked, IsCalled, Calls}
 use Rattle.tbl_model.specs.declared.telemetry.Named.{Named}
 use Rattle.request_effects.specs.declared.effect.Effect.{Effect}
 use Rattle.tbl_outside.specs.declared.bank.Bank.{Ghosts}
@@ -66,10 +69,8 @@ pub told_with : {done : Effect} {status : Status} {detail : ℕ} {bytes other : 
 told_with {done} {status} {detail} {bytes} {other} {note} {is} same same_note told =
     subst (λ b. IsTold done status detail b is) same (subst (IsTold done status detail bytes) same_note told)
 
-pub torn_told : {done : Effect} {status : Status} {words : ℕ} {bytes : List ℕ} {note : BankNote} → note ≡ untouched → bytes ≡ [] → IsTold done status words bytes (record (done_note note) { torn = words })
-    → IsTold done status words [] (record (done_note untouched) { torn = words })
-torn_told {done} {status} {words} {bytes} {note} fresh empty told =
-    told_with empty (ap (λ (n : BankNote). record (done_note n) { torn = words }) fresh) told
+pub ungiven_told : (done : Effect) (w : Option ℕ) {bytes : List ℕ} {note : BankNote} → bytes ≡ [] → note ≡ untouched → IsUngiven done w bytes note → IsUngiven done w [] untouched
+ungiven_told done w {bytes} {note} empty fresh told = subst (λ (b : List ℕ). IsUngiven done w b untouched) empty (subst (IsUngiven done w bytes) fresh told)
 
 -- it is enough to know it of the note that is told
 pub by_note : {B : Type 0} (g : Ghosts B) (first kept : StoreParts B) (s : State) (done : Effect) (means : BankNote → model.Effect) (note : BankNote) → done.note ≡ note
@@ -77,6 +78,11 @@ pub by_note : {B : Type 0} (g : Ghosts B) (first kept : StoreParts B) (s : State
     → Calls g first kept s done means
 by_note g first kept s done means note is all =
     subst (λ (n : BankNote). (ended stopped : Bool) (found : List ℕ) → IsCalled g first kept (unasked s) done (with_boot ended stopped found n) (means (with_boot ended stopped found n))) (sym is) all
+
+-- a call can break off with the flags with which it broke off
+pub flags_break : (gate old : Bool) (fault : BankFault) (call : StoreCall) (store : Blocks) → CanBreak gate old call store → HasFlags gate old fault → CanBreak (is_gate fault) (is_old fault) call store
+flags_break gate old fault call store can flags =
+    subst (λ g. CanBreak g (is_old fault) call store) (sym flags.gate_is) (subst (λ o. CanBreak gate o call store) (sym flags.old_is) can)
 
 -- a note that tells of no restore
 abbrev pub Plain : BankNote → Type 0
@@ -143,32 +149,31 @@ module _ {B : Type 0} (g : Ghosts B) (first kept : StoreParts B) (s : State) (do
         }
 
   -- the first call broke off, which writes
-  pub first_broke : (call : StoreCall) (more : List StoreCall) → Leaving g first kept (DuringCalls (writes (call ∷ more)) s.store) → (writes (call ∷ more) ≡ call ∷ more) → (status : Status) (detail : ℕ) (fault : BankFault) (before : StoreParts B) (gate old : Bool)
-      → is_restore call ≡ false → CanBreak gate old call s.store → HasFlags gate old fault → StandsFor g.tells g.now before s.store
+  pub first_broke : (call : StoreCall) (more : List StoreCall) → Leaving g first kept (DuringCalls (writes (call ∷ more)) s.store) → (writes (call ∷ more) ≡ call ∷ more) → (status : Status) (detail : ℕ) (fault : BankFault) (before : StoreParts B)
+      → is_restore call ≡ false → CanBreak (is_gate fault) (is_old fault) call s.store → StandsFor g.tells g.now before s.store
       → ((blocks : Blocks) → StandsFor g.tells g.now before blocks → StandsFor g.tells g.now kept (broken (is_gate fault) (is_old fault) call blocks))
       → IsTold done (broken_status fault) 0 [] (broken_note fault untouched)
       → (ended stopped : Bool) (found : List ℕ)
       → IsCalled g first kept (unasked s) done (with_boot ended stopped found (broken_note fault untouched)) (then_call (call ∷ more) (with_boot ended stopped found (broken_note fault untouched)) faulted (answered s status detail))
-  first_broke call more moments all status detail fault before gate old plain can flags stands err told =
-      calls_broke (call ∷ more) status detail [] untouched moments call refl fault told (err s.store stands)
-      (subst (λ g. CanBreak g (is_old fault) call s.store) (sym flags.gate_is) (subst (λ o. CanBreak gate o call s.store) (sym flags.old_is) can))
+  first_broke call more moments all status detail fault before plain can stands err told =
+      calls_broke (call ∷ more) status detail [] untouched moments call refl fault told (err s.store stands) can
       (λ is. (plain, all)) tt (λ n restored torn. (restored, torn))
 
   -- a single call that writes
-  pub one_call : (call : StoreCall) → Leaving g first kept (DuringCalls (writes (call ∷ [])) s.store) → (writes (call ∷ []) ≡ call ∷ []) → (ended : Result Unit BankFault) (before : StoreParts B) (gate old : Bool)
+  pub one_call : (call : StoreCall) → Leaving g first kept (DuringCalls (writes (call ∷ [])) s.store) → (writes (call ∷ []) ≡ call ∷ []) → (ended : Result Unit BankFault) (before : StoreParts B)
       → is_restore call ≡ false → ((store : Blocks) → MayGoOn (call ∷ []) store) → ((n : BankNote) → Plain n → Tells (call ∷ []) n)
-      → CanBreak gate old call s.store → IfErr ended (HasFlags gate old)
+      → IfErr ended (λ fault. CanBreak (is_gate fault) (is_old fault) call s.store)
       → StandsFor g.tells g.now before s.store
       → OnOk ended ((blocks : Blocks) → StandsFor g.tells g.now before blocks → StandsFor g.tells g.now kept (after call blocks))
       → IfErr ended (λ fault. (blocks : Blocks) → StandsFor g.tells g.now before blocks → StandsFor g.tells g.now kept (broken (is_gate fault) (is_old fault) call blocks))
       → IsTold done (call_status ended) 0 [] (call_note ended untouched)
       → Calls g first kept s done (λ n. then_call (call ∷ []) n faulted (answered s SUCCESS 0))
-  one_call call moments all (Ok x) before gate old plain gave says can flags stands ok err told =
+  one_call call moments all (Ok x) before plain gave says can stands ok err told =
       by_note g first kept s done (λ n. then_call (call ∷ []) n faulted (answered s SUCCESS 0)) (done_note untouched) told.note_is
       (calls_done (call ∷ []) SUCCESS 0 [] untouched moments told (ok s.store stands) (λ is. cc is) refl (refl, refl) (gave s.store) (λ n restored torn. says n (restored, torn)))
-  one_call call moments all (Err fault) before gate old plain gave says can flags stands ok err told =
+  one_call call moments all (Err fault) before plain gave says can stands ok err told =
       by_note g first kept s done (λ n. then_call (call ∷ []) n faulted (answered s SUCCESS 0)) (broken_note fault untouched) told.note_is
-      (first_broke call [] moments all SUCCESS 0 fault before gate old plain can flags stands err told)
+      (first_broke call [] moments all SUCCESS 0 fault before plain can stands err told)
 
   -- what means the same
   pub calls_same : (one other : BankNote → model.Effect) → ((n : BankNote) → other n ≡ one n) → Calls g first kept s done one → Calls g first kept s done other
@@ -203,40 +208,37 @@ module _ {B : Type 0} (g : Ghosts B) (first kept : StoreParts B) (s : State) (do
 
 -- a copy of an image of this size, and the deletion of a block
 module _ {B : Type 0} (g : Ghosts B) (first before kept : StoreParts B) (s : State) (done : Effect) (slot : ℕ) (ended : Result Unit BankFault) (stands : StandsFor g.tells g.now before s.store) (told : IsTold done (call_status ended) 0 [] (call_note ended untouched)) where
-  pub copy_called : (image : List ℕ) (size : ℕ) → (g.tells_moments → LeavesOnly g.clock g.left_since first.bank kept.bank (LeavesIn (copy slot image) s.store)) → length image ≡ size → IfErr ended (HasFlags false false)
+  pub copy_called : (image : List ℕ) (size : ℕ) → (g.tells_moments → LeavesOnly g.clock g.left_since first.bank kept.bank (LeavesIn (copy slot image) s.store)) → length image ≡ size → IfErr ended (λ fault. (blocks : Blocks) → CanBreak (is_gate fault) (is_old fault) (copy slot image) blocks)
       → OnOk ended ((blocks : Blocks) → StandsFor g.tells g.now before blocks → StandsFor g.tells g.now kept (after (copy slot image) blocks))
       → IfErr ended (λ fault. (blocks : Blocks) → StandsFor g.tells g.now before blocks → StandsFor g.tells g.now kept (broken (is_gate fault) (is_old fault) (copy slot image) blocks))
       → Calls g first kept s done (λ n. if length image == size then then_call (copy slot image ∷ []) n faulted (answered s SUCCESS 0) else answered s ERR_IMAGE_SIZE 0)
-  copy_called image size left fits flags ok err =
+  copy_called image size left fits can ok err =
       calls_same g first kept s done (λ n. then_call (copy slot image ∷ []) n faulted (answered s SUCCESS 0)) (λ n. if length image == size then then_call (copy slot image ∷ []) n faulted (answered s SUCCESS 0) else answered s ERR_IMAGE_SIZE 0)
       (λ n. ap (λ b. if b then then_call (copy slot image ∷ []) n faulted (answered s SUCCESS 0) else answered s ERR_IMAGE_SIZE 0) (eq-eqb (length image) size fits))
-      (one_call g first kept s done (copy slot image) (one_leaves g first kept (copy slot image) [] s.store left) refl ended before false false refl (λ store. (tt, tt)) (λ n plain. plain) (refl, refl) flags stands ok err told)
+      (one_call g first kept s done (copy slot image) (one_leaves g first kept (copy slot image) [] s.store left) refl ended before refl (λ store. (tt, tt)) (λ n plain. plain) (IfErr-weaker ended _ _ (λ fault all. all s.store) can) stands ok err told)
 
   pub delete_called : (g.tells_moments → LeavesOnly g.clock g.left_since first.bank kept.bank (LeavesIn (delete slot) s.store)) → IfErr ended (HasFlags true false)
       → OnOk ended ((blocks : Blocks) → StandsFor g.tells g.now before blocks → StandsFor g.tells g.now kept (after (delete slot) blocks))
       → IfErr ended (λ fault. (blocks : Blocks) → StandsFor g.tells g.now before blocks → StandsFor g.tells g.now kept (broken (is_gate fault) (is_old fault) (delete slot) blocks))
       → Calls g first kept s done (λ n. then_call (delete slot ∷ []) n faulted (answered s SUCCESS 0))
-  delete_called left flags ok err = one_call g first kept s done (delete slot) (one_leaves g first kept (delete slot) [] s.store left) refl ended before true false refl (λ store. (tt, tt)) (λ n plain. plain) (refl, refl) flags stands ok err told
+  delete_called left flags ok err = one_call g first kept s done (delete slot) (one_leaves g first kept (delete slot) [] s.store left) refl ended before refl (λ store. (tt, tt)) (λ n plain. plain) (IfErr-weaker ended (HasFlags true false) _ (λ fault has. flags_break true false fault (delete slot) s.store (refl, refl) has) flags) stands ok err told
 
 -- ---- a restore
 
 -- what the bank shows of a block is what stands in it
-held_is : (bytes : List ℕ) (directory : List (Option Block)) (n : ℕ) (left : Stored) → slice_index_or (map (option_map (stored_in bytes)) directory) n None ≡ Some left → left.held ≡ held_in bytes left.block
-held_is bytes [] n left is = absurd (cc is)
-held_is bytes (None ∷ blocks) zero left is = absurd (cc is)
-held_is bytes (Some b ∷ blocks) zero left is = subst (λ (x : Stored). x.held ≡ held_in bytes x.block) (same_Some (stored_in bytes b) left is) refl
-held_is bytes (x ∷ blocks) (suc n) left is = held_is bytes blocks n left is
+held_is : (bytes : List ℕ) (n : ℕ) (o : Option Block) (left : Stored) → option_map (stored_in bytes n) o ≡ Some left → left.held ≡ held_in bytes n left.block
+held_is bytes n None left is = absurd (cc is)
+held_is bytes n (Some b) left is = subst (λ (x : Stored). x.held ≡ held_in bytes n x.block) (same_Some (stored_in bytes n b) left is) refl
 
 -- an image that came back is what the block of the slot held
-pub held_image : (bytes : List ℕ) (blocks : Blocks) (slot : ℕ) (image : List ℕ) → Shows blocks (store_of bytes) → held_at slot (store_of bytes) ≡ Some image → ForSome (stored_at blocks slot) (λ b. held_in bytes b.block ≡ Some image)
-unfolding store_of
+pub held_image : (bytes : List ℕ) (blocks : Blocks) (slot : ℕ) (image : List ℕ) → Shows blocks (store_of bytes) → held_at slot (store_of bytes) ≡ Some image → ForSome (stored_at blocks slot) (λ b. held_in bytes slot b.block ≡ Some image)
 held_image bytes blocks slot image shows held b there = by (stored_at (store_of bytes) slot) refl held (subst (λ o. MayShow o (stored_at (store_of bytes) slot)) there (shows.each slot)) where
-  by : (o : Option Stored) → stored_at (store_of bytes) slot ≡ o → option_and_then (λ (b : Stored). b.held) (stored_at (store_of bytes) slot) ≡ Some image → MayShow (Some b) (stored_at (store_of bytes) slot) → held_in bytes b.block ≡ Some image
+  by : (o : Option Stored) → stored_at (store_of bytes) slot ≡ o → option_and_then (λ (b : Stored). b.held) (stored_at (store_of bytes) slot) ≡ Some image → MayShow (Some b) (stored_at (store_of bytes) slot) → held_in bytes slot b.block ≡ Some image
   by None is held shown = absurd (cc (ap (option_and_then (λ (b : Stored). b.held)) is, held))
   by (Some left) is held shown =
       let same : left.block ≡ b.block = ap (λ (x : Stored). x.block) (subst (MayShow (Some b)) is shown).0 in
       let whole : left.held ≡ Some image = sym (ap (option_and_then (λ (b : Stored). b.held)) is) ∙ held in
-      sym (ap (held_in bytes) same) ∙ sym (held_is bytes (directory_of bytes) slot left is) ∙ whole
+      sym (ap (held_in bytes slot) same) ∙ sym (held_is bytes slot (slice_index_or (directory_of bytes) slot None) left (sym (stored_there bytes slot) ∙ is)) ∙ whole
 
 -- the block of a slot that stands for blocks
 pub block_there : (slots : List (Option Slot)) (blocks : Blocks) (slot : ℕ) (b : Stored) → slots ≡ map (option_map slot_of) blocks → stored_at blocks slot ≡ Some b → slot_at slots slot ≡ Some (slot_of b)
@@ -251,7 +253,7 @@ module _ (bytes : List ℕ) (blocks : Blocks) (slot : ℕ) where
     by (Some left) is held shown = subst (MayGive b) (sym (ap (option_and_then (λ (b : Stored). b.held)) is) ∙ held) (subst (MayShow (Some b)) is shown).1
 
   pub gives_none : (slots : List (Option Slot)) → slots ≡ map (option_map slot_of) blocks → AreHeld bytes blocks
-      → ForSome (slot_at slots slot) (λ t. held_in bytes t.block ≡ None) → ForSome (stored_at blocks slot) (λ b. MayGive b None)
+      → ForSome (slot_at slots slot) (λ t. held_in bytes slot t.block ≡ None) → ForSome (stored_at blocks slot) (λ b. MayGive b None)
   gives_none slots same held none b there =
       let at : slot_at slots slot ≡ Some (slot_of b) = slot_is [] slots blocks same slot ∙ ap (option_map slot_of) there in
       subst (MayGive b) (none (slot_of b) at) (held slot b there)
@@ -277,22 +279,31 @@ module _ {B : Type 0} (g : Ghosts B) (first before kept : StoreParts B) (s : Sta
       (subst (λ (i : List ℕ). MayGo (restore slot (Some i)) s.store) (sym same) (λ b there. (gives b there, sized b there)), tt)
       (λ n restored torn. (ap (option_map (λ (b : Buffer). b.list)) restored, λ given. torn)))
 
-  pub torn_called : g.tells → (broke : RestoreFault) (length word found words : ℕ) → broke ≡ Torn length word found
-      → (g.tells → ForSome (slot_at before.slots slot) (λ t. TellsTorn (g.now before.bank) t.block broke))
+  pub ungiven_called : g.tells → (broke : RestoreFault)
+      → (g.tells → ForSome (slot_at before.slots slot) (λ t. TellsTorn (g.now before.bank) slot t.block broke))
       → ((blocks : Blocks) → StandsFor g.tells g.now before blocks → StandsFor g.tells g.now kept (after_fault broke slot blocks))
-      → IsTold done ERR_CDS_TORN words [] (record (done_note untouched) { torn = words })
+      → IsUngiven done (words broke) [] untouched
       → Restores
-  torn_called told broke length word found words is none left answer =
-      let gives = gives_none (g.now before.bank) s.store slot before.slots stands.slots (stands.holds told) (λ t at. (subst (TellsTorn (g.now before.bank) t.block) is (none told t at)).no_image) in
-      let there = subst (λ f. StandsFor g.tells g.now kept (after_fault f slot s.store)) is (left s.store stands) in
-      by_note g first kept s done means (record (done_note untouched) { torn = words }) answer.note_is
-      (calls_done g first kept s done (restore slot None ∷ []) ERR_CDS_TORN words [] (record untouched { torn = words }) moments answer there (λ is. cc is) refl (refl, refl) ((λ b there. (gives b there, tt)), tt)
-      (λ n restored torn. (ap (option_map (λ (b : Buffer). b.list)) restored, λ given. absurd (cc given))))
+  ungiven_called told broke none left answer = by (words broke) refl (left s.store stands) answer where
+    by : (w : Option ℕ) → words broke ≡ w → StandsFor g.tells g.now kept (after_words w slot s.store) → IsUngiven done w [] untouched → Restores
+    by (Some told_words) is there answer =
+        let gives = gives_none (g.now before.bank) s.store slot before.slots stands.slots (stands.holds told) (λ t at. (unheld (g.now before.bank) slot t.block broke told_words is (none told t at)).no_image) in
+        by_note g first kept s done means (record (done_note untouched) { torn = told_words }) answer.note_is
+        (calls_done g first kept s done (restore slot None ∷ []) ERR_CDS_TORN told_words [] (record untouched { torn = told_words }) moments answer there (λ is. cc is) refl (refl, refl) ((λ b there. (gives b there, tt)), tt)
+        (λ n restored torn. (ap (option_map (λ (b : Buffer). b.list)) restored, λ given. absurd (cc given))))
+    by None is there answer =
+        by_note g first kept s done means (broken_note (Fault false false) untouched) answer.note_is
+        (calls_broke g first kept s done (restore slot None ∷ []) ERR_CDS_TORN 0 [] untouched moments (restore slot None) refl (Fault false false) answer there (refl, refl) (λ is. absurd (cc is)) tt (λ n restored torn. (restored, torn)))
 
-  pub unread_called : (broke : RestoreFault) → broke ≡ Unread
-      → ((blocks : Blocks) → StandsFor g.tells g.now before blocks → StandsFor g.tells g.now kept (after_fault broke slot blocks))
-      → IsTold done ERR_CDS_FAULT 0 [] (broken_note (Fault false false) untouched) → Restores
-  unread_called broke is left told =
-      let there = subst (λ f. StandsFor g.tells g.now kept (after_fault f slot s.store)) is (left s.store stands) in
-      by_note g first kept s done means (broken_note (Fault false false) untouched) told.note_is
-      (calls_broke g first kept s done (restore slot None ∷ []) ERR_CDS_TORN 0 [] untouched moments (restore slot None) refl (Fault false false) told there (refl, refl) (λ is. absurd (cc is)) tt (λ n restored torn. (restored, torn)))
+-- what it gave is what the block held
+pub ungiven_gave : {B : Type 0} (g : Ghosts B) (before : StoreParts B) (done : Effect) (slot : ℕ) (blocks : Blocks) (broke : RestoreFault) → g.tells → StandsFor g.tells g.now before blocks
+    → (g.tells → ForSome (slot_at before.slots slot) (λ t. TellsTorn (g.now before.bank) slot t.block broke))
+    → IsUngiven done (words broke) [] untouched → done.note.outcome ≡ Done → ForSome (stored_at blocks slot) (λ b. GaveHeld (g.now before.bank) slot b.block done.note)
+ungiven_gave g before done slot blocks broke told stands none answer went b there = by (words broke) refl answer where
+  by : (w : Option ℕ) → words broke ≡ w → IsUngiven done w [] untouched → GaveHeld (g.now before.bank) slot b.block done.note
+  by (Some told_words) is answer =
+      let torn = unheld (g.now before.bank) slot b.block broke told_words is (none told (slot_of b) (block_there before.slots blocks slot b stands.slots there)) in record {
+        image = ap (λ (n : BankNote). restored_image n) answer.note_is ∙ sym torn.no_image;
+        words = λ none. ap (λ (n : BankNote). n.torn) answer.note_is ∙ torn.words_are;
+      }
+  by None is answer = absurd (cc (went, ap (λ (n : BankNote). n.outcome) answer.note_is))

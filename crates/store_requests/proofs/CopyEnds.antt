@@ -5,7 +5,7 @@ use Rattle.std.specs.Option.{option_map}
 use Rattle.std.proofs.lemmas.List.Quantifiers.{position-Some}
 use Rattle.std.proofs.lemmas.Option.{same_Some}
 use Rattle.tbl_kinds.specs.Blocks.{Store as Blocks}
-use Rattle.tbl_kinds.specs.StoreCalls.{StoreCall, copy, after, broken}
+use Rattle.tbl_kinds.specs.StoreCalls.{StoreCall, copy, after, broken, CanBreak}
 use Rattle.tbl_kinds.specs.Notes.{untouched}
 use Rattle.tbl_kinds.specs.declared.block.Block.{Block}
 use Rattle.tbl_kinds.specs.declared.block.BlockKind.{BlockKind}
@@ -18,7 +18,7 @@ use Rattle.tbl_model.specs.StoreUse.{left_by}
 use Rattle.tbl_model.specs.Copies.{went_active, is_activation, block_of, copied_to, copied_of, then_copy}
 use Rattle.tbl_model.specs.declared.telemetry.TelemetryEvent.{TelemetryEvent}
 use Rattle.tbl_model.specs.declared.telemetry.TelemetryEvent.TheVariants.{CopyFailed}
-use Rattle.cds_store.specs.Calls.{CallCounted, HasFlags, is_gate, is_old}
+use Rattle.cds_store.specs.Calls.{CallCounted, is_gate, is_old}
 use Rattle.cds_store.specs.Slots.{is_open_slot, open_slot, block_of as block_in}
 use Rattle.cds_store.specs.Sound.{slot_at, IsOpenOf}
 use Rattle.cds_store.specs.StoreBlocks.{StoreParts, StandsFor}
@@ -94,11 +94,11 @@ module _ {B : Type 0} (g : Ghosts B) (first kept : StoreParts B) (e : model.Effe
       subst (IsCalled g first kept (done_first e) before n) (sym (same n)) (alone moments told stands ended stopped found)
 
   -- it is copied into this slot
-  pub copied_after : (prior : StoreParts B) (row slot : ℕ) (image : List ℕ) (done : Effect) (ended : Result Unit BankFault) → (g.tells_moments → LeavesOnly g.clock g.left_since first.bank kept.bank (LeavesIn (copy slot image) e.next.store)) → StandsFor g.tells g.now prior e.next.store → IfErr ended (HasFlags false false)
+  pub copied_after : (prior : StoreParts B) (row slot : ℕ) (image : List ℕ) (done : Effect) (ended : Result Unit BankFault) → (g.tells_moments → LeavesOnly g.clock g.left_since first.bank kept.bank (LeavesIn (copy slot image) e.next.store)) → StandsFor g.tells g.now prior e.next.store → IfErr ended (λ fault. (blocks : Blocks) → CanBreak (is_gate fault) (is_old fault) (copy slot image) blocks)
       → OnOk ended ((blocks : Blocks) → StandsFor g.tells g.now prior blocks → StandsFor g.tells g.now kept (after (copy slot image) blocks))
       → IfErr ended (λ fault. (blocks : Blocks) → StandsFor g.tells g.now prior blocks → StandsFor g.tells g.now kept (broken (is_gate fault) (is_old fault) (copy slot image) blocks))
       → IsCopied row slot ended before done → Copies done (λ n. copied_to row n e (Some slot) (Some image))
-  copied_after prior row slot image done (Ok x) left stands flags ok err copied = by_told done (λ n. copied_to row n e (Some slot) (Some image)) (done_note untouched) copied.note (λ ended stopped found. record {
+  copied_after prior row slot image done (Ok x) left stands can ok err copied = by_told done (λ n. copied_to row n e (Some slot) (Some image)) (done_note untouched) copied.note (λ ended stopped found. record {
     blocks = ok e.next.store stands;
     effect = record {
       status = is.status ∙ ap (λ (a : Answer). a.status) (sym copied.answer);
@@ -118,7 +118,7 @@ module _ {B : Type 0} (g : Ghosts B) (first kept : StoreParts B) (e : model.Effe
     writing = λ stop. refl;
     moments = one_leaves g first kept (copy slot image) [] e.next.store left;
   })
-  copied_after prior row slot image done (Err (Fault gate old)) left stands flags ok err copied = by_told done (λ n. copied_to row n e (Some slot) (Some image)) (broken_note (Fault gate old) untouched) copied.note (λ ended stopped found. record {
+  copied_after prior row slot image done (Err (Fault gate old)) left stands can ok err copied = by_told done (λ n. copied_to row n e (Some slot) (Some image)) (broken_note (Fault gate old) untouched) copied.note (λ ended stopped found. record {
     blocks = err e.next.store stands;
     effect = record {
       status = is.status ∙ ap (λ (a : Answer). a.status) (sym copied.answer);
@@ -132,13 +132,13 @@ module _ {B : Type 0} (g : Ghosts B) (first kept : StoreParts B) (e : model.Effe
       notice = is.notice ∙ sym copied.notice;
       next = refl;
     };
-    ends = record { call = copy slot image; next = refl; breaks = (flags.gate_is, flags.old_is) };
+    ends = record { call = copy slot image; next = refl; breaks = can e.next.store };
     gave = tt;
     says = (refl, refl);
     writing = λ stop. refl;
     moments = one_leaves g first kept (copy slot image) [] e.next.store left;
   })
-  copied_after prior row slot image done (Err (Cut gate old)) left stands flags ok err copied = by_told done (λ n. copied_to row n e (Some slot) (Some image)) (broken_note (Cut gate old) untouched) copied.note (λ ended stopped found. record {
+  copied_after prior row slot image done (Err (Cut gate old)) left stands can ok err copied = by_told done (λ n. copied_to row n e (Some slot) (Some image)) (broken_note (Cut gate old) untouched) copied.note (λ ended stopped found. record {
     blocks = err e.next.store stands;
     effect = record {
       status = ap (λ (a : Answer). a.status) (sym copied.answer);
@@ -152,7 +152,7 @@ module _ {B : Type 0} (g : Ghosts B) (first kept : StoreParts B) (e : model.Effe
       notice = sym copied.notice;
       next = refl;
     };
-    ends = (record { call = copy slot image; next = refl; breaks = (flags.gate_is, flags.old_is) }, refl);
+    ends = (record { call = copy slot image; next = refl; breaks = can e.next.store }, refl);
     gave = tt;
     says = (refl, refl);
     writing = λ stop. refl;

@@ -15,7 +15,7 @@ use Rattle.tbl_kinds.specs.declared.note.Outcome.TheVariants.{Untouched, Done, F
 use Rattle.tbl_kinds.specs.declared.note.Outcome.{Outcome}
 use Rattle.tbl_kinds.specs.declared.request.ResetKind.TheVariants.{Processor}
 use Rattle.tbl_kinds.specs.declared.status.Status.{Status}
-use Rattle.tbl_kinds.specs.declared.status.TheConstants.Status.{SUCCESS, INFO_STOPPED, INFO_RECOVERED_TBL, WARN_NOT_CRITICAL}
+use Rattle.tbl_kinds.specs.declared.status.TheConstants.Status.{SUCCESS, INFO_STOPPED, INFO_RECOVERED_TBL, WARN_NOT_CRITICAL, ERR_CDS_TORN, ERR_CDS_FAULT}
 use Rattle.tbl_model.specs.State.{State, Table, Tables}
 use Rattle.tbl_model.specs.TableSteps.{with_first, uncritical, added}
 use Rattle.tbl_model.specs.Effects as model
@@ -28,13 +28,13 @@ use Rattle.tbl_model.specs.CriticalTables.{registered, not_kept, recovered, inst
 use Rattle.tbl_model.specs.Copies.{block_of}
 use Rattle.sharing.specs.Registering.{next_row, next_handle}
 use Rattle.cds_layout.specs.declared.blocks.RestoreFault.{RestoreFault}
-use Rattle.cds_layout.specs.declared.blocks.RestoreFault.TheVariants.{Torn, Fault as Unread}
+use Rattle.cds_layout.proofs.Restored.{unheld}
 use Rattle.cds_layout.specs.Images.{store_of}
-use Rattle.cds_layout.specs.Restores.{TellsTorn, RestoreCounted}
+use Rattle.cds_layout.specs.Restores.{TellsTorn, RestoreCounted, FaultCounted, words}
 use Rattle.cds_store.specs.Calls.{HasFlags, IfBank, lacks_room, is_gate, is_old}
 use Rattle.cds_store.specs.Slots.{doubtful_slot}
 use Rattle.cds_store.specs.Sound.{slot_at}
-use Rattle.cds_store.specs.StoreBlocks.{StoreParts, StandsFor, slot_of, held_at, after_fault}
+use Rattle.cds_store.specs.StoreBlocks.{StoreParts, StandsFor, slot_of, held_at, after_words, after_fault}
 use Rattle.cds_store.proofs.Reservations.{doubtful_same}
 use Rattle.cds_store.specs.declared.fault.BankFault.{BankFault}
 use Rattle.cds_store.specs.declared.fault.BankFault.TheVariants.{Fault, Stopped as Cut}
@@ -42,9 +42,9 @@ use Rattle.cds_store.specs.declared.fault.ReserveFault.{ReserveFault}
 use Rattle.cds_store.specs.declared.fault.ReserveFault.TheVariants.{NoRoom, Bank}
 use Rattle.tbl_model.specs.BankCounts.{tells_trouble, HasCause}
 use Rattle.request_effects.specs.Effects.{IsEffect, IsWithin}
-use Rattle.store_requests.specs.Called.{NoBoot, Troubled, with_boot, broken_note, done_note, IsTold, IsCall, unasked, IsCalled, Calls, Leaving}
+use Rattle.store_requests.specs.Called.{NoBoot, Troubled, with_boot, broken_note, done_note, IsTold, IsUngiven, IsCall, unasked, IsCalled, Calls, Leaving}
 use Rattle.tbl_session.specs.Restores.{GaveHeld, RestoresHeld}
-use Rattle.store_requests.specs.Registering.{Enters, EntersBroken, EntersRestored, EntersReserved, recovery, making}
+use Rattle.store_requests.specs.Registering.{Enters, EntersBroken, EntersWithout, EntersRestored, EntersReserved, recovery, making}
 use Rattle.request_effects.specs.declared.effect.Effect.{Effect}
 use Rattle.store_requests.proofs.Calls.{told_so, by_note, calls_same, held_image, block_there, gives_image, gives_none}
 use Rattle.tbl_session.specs.Crashes.{DuringCalls, writes}
@@ -149,7 +149,7 @@ module _ {B : Type 0} (g : Ghosts B) (first kept : StoreParts B) (s : State) (do
   pub enters_restored : Leaving g first kept (DuringCalls [] s.store) → with_first None t ≡ t → g.tells → (before : StoreParts B) (slot : ℕ) (ended : Result Unit RestoreFault) (image : List ℕ) → StandsFor g.tells g.now before s.store → EntersRestored old new t done ended image
       → OnOk ended (g.tells → held_at slot (store_of (g.now before.bank)) ≡ Some image)
       → OnOk ended ((blocks : Blocks) → StandsFor g.tells g.now before blocks → StandsFor g.tells g.now kept (after (restore slot (Some image)) blocks))
-      → IfErr ended (λ fault. g.tells → ForSome (slot_at before.slots slot) (λ b. TellsTorn (g.now before.bank) b.block fault))
+      → IfErr ended (λ fault. g.tells → ForSome (slot_at before.slots slot) (λ b. TellsTorn (g.now before.bank) slot b.block fault))
       → IfErr ended (λ fault. (blocks : Blocks) → StandsFor g.tells g.now before blocks → StandsFor g.tells g.now kept (after_fault fault slot blocks))
       → ForSome (stored_at s.store slot) (λ b. b.block.size ≡ length image)
       → Calls g first kept changed done (recovery s row t slot)
@@ -164,15 +164,16 @@ module _ {B : Type 0} (g : Ghosts B) (first kept : StoreParts B) (s : State) (do
         (subst (λ (i : List ℕ). StandsFor g.tells g.now kept (after (restore slot (Some i)) s.store)) (sym whole) (ok s.store stands)) (λ is. cc is) refl (refl, refl)
         (subst (λ (i : List ℕ). MayGo (restore slot (Some i)) s.store) (sym whole) (λ b there. (gives_image (g.now before.bank) s.store slot image (stands.shows told) (held told) b there, sym (sized b there))), tt)
         (λ n restored torn. (ap (option_map (λ (b : Buffer). b.list)) restored, λ given. torn)))
-  enters_restored moments fresh told before slot (Err (Torn size word found)) image stands enters held ok torn err sized =
-      let words = word * 65536 + found in
-      let gives = gives_none (g.now before.bank) s.store slot before.slots stands.slots (stands.holds told) (λ b at. (torn told b at).no_image) in
-      by_note g first kept changed done (recovery s row t slot) (record (done_note untouched) { torn = words }) enters.told.note_is
-      (enters_done (restore slot None ∷ []) (with_first None t) SUCCESS (record untouched { torn = words }) moments handle (subst (λ (u : Table). Enters old new u done SUCCESS (record (done_note untouched) { torn = words })) (sym fresh) enters) (err s.store stands) (λ is. cc is) refl (refl, refl) ((λ b there. (gives b there, tt)), tt)
-      (λ n restored torn. (ap (option_map (λ (b : Buffer). b.list)) restored, λ given. absurd (cc given))))
-  enters_restored moments fresh told before slot (Err Unread) image stands enters held ok torn err sized =
-      by_note g first kept changed done (recovery s row t slot) (broken_note (Fault false false) untouched) (broken_is (Fault false false) untouched enters)
-      (enters_broke (restore slot None ∷ []) (with_first None t) SUCCESS untouched moments (restore slot None) refl (Fault false false) enters (err s.store stands) (refl, refl) (λ is. absurd (cc is)) tt (λ n restored torn. (restored, torn)))
+  enters_restored moments fresh told before slot (Err broke) image stands enters held ok torn err sized = by (words broke) refl (err s.store stands) enters where
+    by : (w : Option ℕ) → words broke ≡ w → StandsFor g.tells g.now kept (after_words w slot s.store) → EntersWithout old new t done w → Calls g first kept changed done (recovery s row t slot)
+    by (Some told_words) is there enters =
+        let gives = gives_none (g.now before.bank) s.store slot before.slots stands.slots (stands.holds told) (λ b at. (unheld (g.now before.bank) slot b.block broke told_words is (torn told b at)).no_image) in
+        by_note g first kept changed done (recovery s row t slot) (record (done_note untouched) { torn = told_words }) enters.told.note_is
+        (enters_done (restore slot None ∷ []) (with_first None t) SUCCESS (record untouched { torn = told_words }) moments handle (subst (λ (u : Table). Enters old new u done SUCCESS (record (done_note untouched) { torn = told_words })) (sym fresh) enters) there (λ is. cc is) refl (refl, refl) ((λ b at. (gives b at, tt)), tt)
+        (λ n restored torn. (ap (option_map (λ (b : Buffer). b.list)) restored, λ given. absurd (cc given))))
+    by None is there enters =
+        by_note g first kept changed done (recovery s row t slot) (broken_note (Fault false false) untouched) (broken_is (Fault false false) untouched enters)
+        (enters_broke (restore slot None ∷ []) (with_first None t) SUCCESS untouched moments (restore slot None) refl (Fault false false) enters there (refl, refl) (λ is. absurd (cc is)) tt (λ n restored torn. (restored, torn)))
 
   -- ---- its block is made
 
@@ -296,33 +297,66 @@ module _ {B : Type 0} (g : Ghosts B) (before kept : StoreParts B) (old new : Tab
       let a = counted.0 in let b = counted.1 in
       enters_call (with_first (Some image) t) INFO_RECOVERED_TBL (record (done_note untouched) { restored = done.note.restored }) enters.0 (record { ended = refl; stopped = refl; found = refl }) (λ is. cc is) refl
       (record { fault_count = more_faults; stop_count = more_stops; fault = inl (omega (arith, a)); stop = inl (omega (arith, b)); no_fault = λ none. a; no_stop = λ none. b })
-  restored_call (Err (Torn size word found)) image enters counted more_faults more_stops =
-      let a = counted.0 in let b = counted.1 in
-      enters_call t SUCCESS (record (done_note untouched) { torn = word * 65536 + found }) enters (record { ended = refl; stopped = refl; found = refl }) (λ is. cc is) refl
-      (record { fault_count = more_faults; stop_count = more_stops; fault = inl (omega (arith, a)); stop = inl (omega (arith, b)); no_fault = λ none. a; no_stop = λ none. b })
-  restored_call (Err Unread) image enters counted more_faults more_stops =
-      let b = counted.1 in
-      broken_call (Fault false false) untouched enters (record { ended = refl; stopped = refl; found = refl })
-      (record { fault_count = more_faults; stop_count = more_stops; fault = rose_one _ _ counted.0; stop = inl (omega (arith, b)); no_fault = λ none. absurd (cc none); no_stop = λ none. b })
+  restored_call (Err broke) image enters counted more_faults more_stops = by (words broke) enters counted where
+    by : (w : Option ℕ) → EntersWithout old new t done w → FaultCounted g.faults g.stops before.bank kept.bank w → IsCall g before kept done
+    by (Some told_words) enters counted =
+        let a = counted.0 in let b = counted.1 in
+        enters_call t SUCCESS (record (done_note untouched) { torn = told_words }) enters (record { ended = refl; stopped = refl; found = refl }) (λ is. cc is) refl
+        (record { fault_count = more_faults; stop_count = more_stops; fault = inl (omega (arith, a)); stop = inl (omega (arith, b)); no_fault = λ none. a; no_stop = λ none. b })
+    by None enters counted =
+        let b = counted.1 in
+        broken_call (Fault false false) untouched enters (record { ended = refl; stopped = refl; found = refl })
+        (record { fault_count = more_faults; stop_count = more_stops; fault = rose_one _ _ counted.0; stop = inl (omega (arith, b)); no_fault = λ none. absurd (cc none); no_stop = λ none. b })
+
+-- a restore gave no image
+pub ungiven_call : {B : Type 0} (g : Ghosts B) (before kept : StoreParts B) (done : Effect) (broke : RestoreFault) → kept.booted ≡ true → IsUngiven done (words broke) [] untouched
+    → FaultCounted g.faults g.stops before.bank kept.bank (words broke) → g.faults before.bank ≤ g.faults kept.bank → g.stops before.bank ≤ g.stops kept.bank → IsCall g before kept done
+ungiven_call g before kept done broke booted told counted more_faults more_stops = by (words broke) told counted where
+  by : (w : Option ℕ) → IsUngiven done w [] untouched → FaultCounted g.faults g.stops before.bank kept.bank w → IsCall g before kept done
+  by (Some told_words) told counted =
+      let a = counted.0 in let b = counted.1 in record {
+        within = silent_within done ERR_CDS_TORN told_words (record (done_note untouched) { torn = told_words }) told;
+        verdicts = told.silent.verdicts;
+        no_boot = subst NoBoot (sym told.note_is) (record { ended = refl; stopped = refl; found = refl });
+        stopped = λ is. absurd (cc (ap (λ (n : BankNote). n.outcome) (sym told.note_is) ∙ is));
+        cause = rw told.status_is (plain_cause ERR_CDS_TORN done.note refl);
+        trouble = subst (Troubled g before.bank kept.bank) (sym told.note_is) (record { fault_count = more_faults; stop_count = more_stops; fault = inl (omega (arith, a)); stop = inl (omega (arith, b)); no_fault = λ none. a; no_stop = λ none. b });
+        booted = booted;
+      }
+  by None told counted =
+      let b = counted.1 in record {
+        within = silent_within done ERR_CDS_FAULT 0 (broken_note (Fault false false) untouched) told;
+        verdicts = told.silent.verdicts;
+        no_boot = subst NoBoot (sym told.note_is) (record { ended = refl; stopped = refl; found = refl });
+        stopped = λ is. absurd (cc (ap (λ (n : BankNote). n.outcome) (sym told.note_is) ∙ is));
+        cause = rw (told.status_is, told.note_is) (record {
+          stop = λ is. let same = ap (λ (status : Status). status.0) is in absurd (omega (arith, same));
+          fault = λ is. refl;
+          boot = λ is. let same = ap (λ (status : Status). status.0) is in absurd (omega (arith, same));
+        });
+        trouble = subst (Troubled g before.bank kept.bank) (sym told.note_is) (record { fault_count = more_faults; stop_count = more_stops; fault = rose_one _ _ counted.0; stop = inl (omega (arith, b)); no_fault = λ none. absurd (cc none); no_stop = λ none. b });
+        booted = booted;
+      }
 
 -- what the restore gave is what the block held
 pub restored_gave : {B : Type 0} (g : Ghosts B) (before : StoreParts B) (old new : Tables) (t : Table) (done : Effect) (slot : ℕ) (blocks : Blocks) (ended : Result Unit RestoreFault) (image : List ℕ) → g.tells
     → StandsFor g.tells g.now before blocks → EntersRestored old new t done ended image
     → OnOk ended (g.tells → held_at slot (store_of (g.now before.bank)) ≡ Some image)
-    → IfErr ended (λ fault. g.tells → ForSome (slot_at before.slots slot) (λ b. TellsTorn (g.now before.bank) b.block fault))
-    → done.note.outcome ≡ Done → ForSome (stored_at blocks slot) (λ b. GaveHeld (g.now before.bank) b.block done.note)
+    → IfErr ended (λ fault. g.tells → ForSome (slot_at before.slots slot) (λ b. TellsTorn (g.now before.bank) slot b.block fault))
+    → done.note.outcome ≡ Done → ForSome (stored_at blocks slot) (λ b. GaveHeld (g.now before.bank) slot b.block done.note)
 restored_gave g before old new t done slot blocks (Ok x) image told stands enters held torn went b there =
     let whole = held_image (g.now before.bank) blocks slot image (stands.shows told) (held told) b there in record {
       image = enters.1 ∙ sym whole;
       words = λ none. absurd (cc (none, enters.1));
     }
-restored_gave g before old new t done slot blocks (Err (Torn size word found)) image told stands enters held torn went b there =
-    let is = torn told (slot_of b) (block_there before.slots blocks slot b stands.slots there) in record {
-      image = ap (λ (n : BankNote). restored_image n) enters.told.note_is ∙ sym is.no_image;
-      words = λ none. ap (λ (n : BankNote). n.torn) enters.told.note_is ∙ (λ i. is.kept_is i * 65536 + is.computed i);
-    }
-restored_gave g before old new t done slot blocks (Err Unread) image told stands enters held torn went b there =
-    absurd (cc (went, ap (λ (n : BankNote). n.outcome) enters.told.note_is))
+restored_gave g before old new t done slot blocks (Err broke) image told stands enters held torn went b there = by (words broke) refl enters where
+  by : (w : Option ℕ) → words broke ≡ w → EntersWithout old new t done w → GaveHeld (g.now before.bank) slot b.block done.note
+  by (Some told_words) is enters =
+      let none = unheld (g.now before.bank) slot b.block broke told_words is (torn told (slot_of b) (block_there before.slots blocks slot b stands.slots there)) in record {
+        image = ap (λ (n : BankNote). restored_image n) enters.told.note_is ∙ sym none.no_image;
+        words = λ _. ap (λ (n : BankNote). n.torn) enters.told.note_is ∙ none.words_are;
+      }
+  by None is enters = absurd (cc (went, ap (λ (n : BankNote). n.outcome) enters.told.note_is))
 
 -- ---- what it restores
 
@@ -339,7 +373,7 @@ module _ (bytes : List ℕ) (s : State) (row : ℕ) (t : Table) where
     by Failed = held
     by Stopped = held
 
-  pub recovery_holds : (slot : ℕ) (n : BankNote) → (n.outcome ≡ Done → ForSome (stored_at s.store slot) (λ b. GaveHeld bytes b.block n)) → RestoresAsHeld n (recovery s row t slot n)
+  pub recovery_holds : (slot : ℕ) (n : BankNote) → (n.outcome ≡ Done → ForSome (stored_at s.store slot) (λ b. GaveHeld bytes slot b.block n)) → RestoresAsHeld n (recovery s row t slot n)
   recovery_holds slot n held = calls_hold (restore slot (restored_image n) ∷ []) n (recovered s row t (restored_image n)) held
 
   -- nothing, where it has no block of its size

@@ -6,6 +6,7 @@ use Rattle.tbl_kinds.specs.declared.note.Outcome.{Outcome}
 use Rattle.tbl_kinds.specs.declared.note.Outcome.TheVariants.{Untouched, Done, Failed, Stopped}
 use Rattle.tbl_outside.specs.BankCalls.{BankCall, Asks}
 use Rattle.tbl_outside.specs.declared.bank.Bank.{Ghosts}
+use Rattle.cds_layout.specs.Images.{spelled}
 use Rattle.cds_layout.specs.Order.{restore_calls, copy_calls, delete_calls, close_calls, reserve_calls}
 use Rattle.cds_store.specs.Slots.{open_slot, doubtful_slot, without_slot, room_in}
 use Rattle.cds_store.specs.Sound.{slot_at}
@@ -19,12 +20,12 @@ AsksBy g old new Done calls = Asks g.tells_calls g.calls old new true calls
 AsksBy g old new Failed calls = Asks g.tells_calls g.calls old new false calls
 AsksBy g old new Stopped calls = Asks g.tells_calls g.calls old new false calls
 
--- what a copy into the block of a slot asks, and a restore of it
-abbrev pub copy_at : List (Option Slot) → ℕ → List ℕ → List BankCall
-copy_at slots slot image = option_map_or (λ (s : Slot). copy_calls s.block image) (slot_at slots slot) []
+-- what a copy into the block of a slot asks over these bytes, and a restore of it
+abbrev pub copy_at : List ℕ → List (Option Slot) → ℕ → List ℕ → List BankCall
+copy_at bytes slots slot image = option_map_or (λ (s : Slot). copy_calls bytes slot s.block (spelled s.block.size image)) (slot_at slots slot) []
 
-abbrev pub restore_at : List (Option Slot) → ℕ → List BankCall
-restore_at slots slot = option_map_or (λ (s : Slot). restore_calls s.block) (slot_at slots slot) []
+abbrev pub restore_at : List ℕ → List (Option Slot) → ℕ → List BankCall
+restore_at bytes slots slot = option_map_or (λ (s : Slot). restore_calls bytes slot s.block) (slot_at slots slot) []
 
 -- what the deletion of the block of a table of this name asks, open or in doubt
 abbrev pub delete_named : List (Option Slot) → List ℕ → List BankCall

@@ -22,7 +22,7 @@ use Rattle.tbl_kinds.specs.declared.note.BankNote.{BankNote}
 use Rattle.tbl_kinds.specs.declared.note.Outcome.{Outcome}
 use Rattle.tbl_kinds.specs.declared.note.Outcome.TheVariants.{Untouched, Done, Failed, Stopped}
 use Rattle.tbl_kinds.specs.declared.request.ResetKind.TheVariants.{Processor}
-use Rattle.tbl_kinds.specs.declared.status.TheConstants.Status.{SUCCESS, INFO_STOPPED, ERR_CDS_FAULT, ERR_CDS_NO_ROOM}
+use Rattle.tbl_kinds.specs.declared.status.TheConstants.Status.{SUCCESS, INFO_STOPPED, ERR_CDS_FAULT, ERR_CDS_TORN, ERR_CDS_NO_ROOM}
 use Rattle.tbl_kinds.specs.declared.status.Status.{Status}
 use Rattle.tbl_model.specs.declared.telemetry.Shown.TheVariants.{Nothing}
 use Rattle.cds_store.specs.declared.fault.BankFault.{BankFault}
@@ -107,6 +107,11 @@ call_note (Err fault) note = broken_note fault note
 abbrev pub call_status : Result Unit BankFault → Status
 call_status (Ok x) = SUCCESS
 call_status (Err fault) = broken_status fault
+
+-- a restore that gave no image: what was told of its block, or that the bank failed
+abbrev pub IsUngiven : Effect → Option ℕ → List ℕ → BankNote → Type 0
+IsUngiven done (Some told) bytes note = IsTold done ERR_CDS_TORN told bytes (record (done_note note) { torn = told })
+IsUngiven done None bytes note = IsTold done ERR_CDS_FAULT 0 bytes (broken_note (Fault false false) note)
 
 -- the same of a reservation, which tells its slot, or that there is no room
 abbrev pub reserve_note : Result ℕ ReserveFault → BankNote → BankNote

@@ -1,13 +1,12 @@
 -- A table is registered, and the answer tells its handle.
-use Rattle.std.specs.Prelude.{◌≡◌, ◌⊎◌, ℕ, ◌+◌, ◌*◌, ◌≤◌, List, [], ◌∷◌, length, true, false, Option, Some, Result, Ok, Err, OnOk, IfErr}
+use Rattle.std.specs.Prelude.{◌≡◌, ◌⊎◌, ℕ, ◌≤◌, List, [], ◌∷◌, length, true, false, Option, Some, None, Result, Ok, Err, OnOk, IfErr}
 use Rattle.std.specs.Option.{ForSome}
 use Rattle.tbl_kinds.specs.Blocks.{Store as Blocks}
 use Rattle.tbl_outside.specs.Bank.{LeavesOnly}
 use Rattle.tbl_kinds.specs.Notes.{untouched, restored_image}
 use Rattle.cds_layout.specs.Images.{store_of}
-use Rattle.cds_layout.specs.Restores.{TellsTorn, RestoreCounted}
+use Rattle.cds_layout.specs.Restores.{TellsTorn, RestoreCounted, words}
 use Rattle.cds_layout.specs.declared.blocks.RestoreFault.{RestoreFault}
-use Rattle.cds_layout.specs.declared.blocks.RestoreFault.TheVariants.{Torn, Fault as Unread}
 use Rattle.cds_store.specs.Sound.{slot_at}
 use Rattle.cds_store.specs.StoreBlocks.{StoreParts, StandsFor, held_at, after_fault}
 use Rattle.tbl_kinds.specs.StoreCalls.{restore, after}
@@ -50,11 +49,15 @@ EntersBroken old new t done (Cut gate prior) note = IsTold done INFO_STOPPED 0 [
 abbrev pub EntersRecovered : Tables → Tables → Table → Effect → List ℕ → BankNote → Type 0
 EntersRecovered old new t done image note = Enters old new (with_first (Some image) t) done INFO_RECOVERED_TBL (record (done_note note) { restored = done.note.restored })
 
+-- by what was told of its block, which gave no image
+abbrev pub EntersWithout : Tables → Tables → Table → Effect → Option ℕ → Type 0
+EntersWithout old new t done (Some told) = Enters old new t done SUCCESS (record (done_note untouched) { torn = told })
+EntersWithout old new t done None = EntersBroken old new t done (Fault false false) untouched
+
 -- by how the restore of its block ended, which was into this image
 abbrev pub EntersRestored : Tables → Tables → Table → Effect → Result Unit RestoreFault → List ℕ → Type 0
 EntersRestored old new t done (Ok x) image = EntersRecovered old new t done image untouched × (restored_image done.note ≡ Some image)
-EntersRestored old new t done (Err (Torn length kept found)) image = Enters old new t done SUCCESS (record (done_note untouched) { torn = kept * 65536 + found })
-EntersRestored old new t done (Err Unread) image = EntersBroken old new t done (Fault false false) untouched
+EntersRestored old new t done (Err fault) image = EntersWithout old new t done (words fault)
 
 -- by how the reservation of its block ended, which is the last call
 abbrev pub EntersReserved : Tables → Tables → Table → Effect → Result ℕ ReserveFault → BankNote → Type 0
@@ -88,7 +91,7 @@ pub record Restores {B : Type 0} (g : Ghosts B) (old new : StoreParts B) (slot s
   pub booted : new.booted ≡ true
   pub held : OnOk ended (g.tells → held_at slot (store_of (g.now old.bank)) ≡ Some image)
   pub ok : OnOk ended ((blocks : Blocks) → StandsFor g.tells g.now old blocks → StandsFor g.tells g.now new (after (restore slot (Some image)) blocks))
-  pub torn : IfErr ended (λ fault. g.tells → ForSome (slot_at old.slots slot) (λ s. TellsTorn (g.now old.bank) s.block fault))
+  pub torn : IfErr ended (λ fault. g.tells → ForSome (slot_at old.slots slot) (λ s. TellsTorn (g.now old.bank) slot s.block fault))
   pub err : IfErr ended (λ fault. (blocks : Blocks) → StandsFor g.tells g.now old blocks → StandsFor g.tells g.now new (after_fault fault slot blocks))
   pub counted : RestoreCounted g.faults g.stops old.bank new.bank ended
   pub more_faults : g.faults old.bank ≤ g.faults new.bank

@@ -1,7 +1,7 @@
 //! An application's own blocks of the Critical Data Store: copied into, restored and deleted.
 
 ghost use Rattle.std.specs.Option.{ForSome};
-ghost use Rattle.std.specs.Prelude.{◌≡◌, ◌==◌, Option, ◌+◌, ◌*◌, ◌<◌, ◌≤◌, is_some, true, false, [], length, None, Some, IfSome, IfOk, IfErr, OnErr};
+ghost use Rattle.std.specs.Prelude.{◌≡◌, ◌==◌, Option, ◌<◌, ◌≤◌, is_some, true, false, [], length, None, Some, IfSome, IfOk, IfErr, OnErr};
 ghost use Rattle.tbl_kinds.specs.Blocks.{Stored, Store as Blocks};
 ghost use Rattle.tbl_kinds.specs.Notes.{untouched, restored_image};
 ghost use Rattle.tbl_kinds.specs.StoreSteps.{stored_at};
@@ -14,9 +14,10 @@ ghost use Rattle.cds_store.specs.Sound.{slot_at, IsOpenOf};
 ghost use Rattle.cds_store.specs.StoreBlocks.{StandsFor};
 ghost use Rattle.tbl_session.specs.Restores.{GaveHeld};
 ghost use Rattle.cds_layout.specs.Order.{delete_calls};
+ghost use Rattle.cds_layout.specs.Restores.{words};
 ghost use Rattle.store_requests.specs.BankCalls.{AsksBy, copy_at, restore_at};
 ghost use Rattle.store_requests.specs.OwnBlocks.{copying, restoring};
-ghost use Rattle.store_requests.specs.Called.{Calls, IsCall, IsTold, done_note, is_own_slot};
+ghost use Rattle.store_requests.specs.Called.{Calls, IsCall, IsTold, IsUngiven, done_note, is_own_slot};
 
 use crate::blocks::{delete, plain};
 use crate::notes::{broken, called, done, note_room};
@@ -101,7 +102,7 @@ fn copy_into<B: Bank>(
     ensures effect { IfOk result (λ done. B.tells → (s : State) → StandsFor B.tells B.now store.old s.store
         → Calls B.Bank store.old store.new s done (copying s own.slot own.size image.now)) }
     ensures call { IfOk result (IsCall B.Bank store.old store.new) }
-    ensures bank_calls { IfOk result (λ done. AsksBy B.Bank store.old.bank store.new.bank done.note.outcome (copy_at store.old.slots own.slot image.now)) }
+    ensures bank_calls { IfOk result (λ done. B.tells → AsksBy B.Bank store.old.bank store.new.bank done.note.outcome (copy_at (B.now store.old.bank) store.old.slots own.slot image.now)) }
     ensures err { OnErr result (store.new ≡ store.old) }
 {
     if image.len() != own.size as usize {
@@ -128,7 +129,7 @@ pub fn cds_copy<B: Bank>(
         → Calls B.Bank store.old store.new s done (cds_copy_effect s app slot image.now)) }
     ensures call { IfOk result (IsCall B.Bank store.old store.new) }
     // The bank got the calls that this call of the store makes, and no others.
-    ensures bank_calls { IfOk result (λ done. AsksBy B.Bank store.old.bank store.new.bank done.note.outcome (copy_at store.old.slots slot image.now)) }
+    ensures bank_calls { IfOk result (λ done. B.tells → AsksBy B.Bank store.old.bank store.new.bank done.note.outcome (copy_at (B.now store.old.bank) store.old.slots slot image.now)) }
     ensures err { OnErr result (store.new ≡ store.old) }
 {
     match own_block(store, apps, app, slot) {
@@ -153,18 +154,34 @@ fn given(image: &[u8], mut reply: Bytes, mut kept: Bytes, mut note: Box<BankNote
     done(Answer::plain(Status::SUCCESS), reply, note)
 }
 
-/// A torn block gave no image: its two check words are told.
-fn torn(kept: u16, found: u16, empty: Bytes, mut note: Box<BankNote>) -> Effect
+/// A block that was read gave no image: this is told of it.
+fn torn(words: u32, empty: Bytes, mut note: Box<BankNote>) -> Effect
     requires { note.value.done < 255 }
-    ensures { IsTold result Status.ERR_CDS_TORN (kept * 65536 + found) empty.list (record (done_note note.value) { torn = kept * 65536 + found }) }
+    ensures { IsTold result Status.ERR_CDS_TORN words empty.list (record (done_note note.value) { torn = words }) }
 {
-    let words = u32::from(kept) * 65_536 + u32::from(found);
     note.torn = words;
     let answer = Answer {
         status: Status::ERR_CDS_TORN,
         detail: words,
     };
     done(answer, empty, note)
+}
+
+/// A block gave no image: either it was read and has none, or the bank failed.
+fn not_given(fault: RestoreFault, empty: Bytes, note: Box<BankNote>) -> Effect
+    requires { note.value.done < 255 }
+    ensures { IsUngiven result (words fault) empty.list note.value }
+{
+    match fault.words() {
+        Some(words) => torn(words, empty, note),
+        None => {
+            let fault = BankFault::Fault {
+                gate: false,
+                old: false,
+            };
+            broken(fault, empty, note)
+        }
+    }
 }
 
 /// Restores the image of a block into this memory, whose length it has.
@@ -189,20 +206,13 @@ fn restore_into<B: Bank>(
     ensures effect { B.tells → (s : State) → StandsFor B.tells B.now store.old s.store
         → Calls B.Bank store.old store.new s result (restoring s slot) }
     ensures call { IsCall B.Bank store.old store.new result }
-    ensures bank_calls { AsksBy B.Bank store.old.bank store.new.bank result.note.outcome (restore_at store.old.slots slot) }
+    ensures bank_calls { B.tells → AsksBy B.Bank store.old.bank store.new.bank result.note.outcome (restore_at (B.now store.old.bank) store.old.slots slot) }
     ensures gave { B.tells → (blocks : Blocks) → StandsFor B.tells B.now store.old blocks → result.note.outcome ≡ went.Done
-        → ForSome (stored_at blocks slot) (λ b. GaveHeld (B.now store.old.bank) b.block result.note) }
+        → ForSome (stored_at blocks slot) (λ b. GaveHeld (B.now store.old.bank) slot b.block result.note) }
 {
     match store.restore(slot, image) {
         Ok(()) => given(image, reply, kept, note),
-        Err(RestoreFault::Torn { kept, found, .. }) => torn(kept, found, empty, note),
-        Err(RestoreFault::Fault) => {
-            let fault = BankFault::Fault {
-                gate: false,
-                old: false,
-            };
-            broken(fault, empty, note)
-        }
+        Err(fault) => not_given(fault, empty, note),
     }
 }
 
@@ -220,9 +230,9 @@ fn restore_from<B: Bank>(
     ensures effect { IfOk result (λ done. B.tells → (s : State) → StandsFor B.tells B.now store.old s.store
         → Calls B.Bank store.old store.new s done (restoring s own.slot)) }
     ensures call { IfOk result (IsCall B.Bank store.old store.new) }
-    ensures bank_calls { IfOk result (λ done. AsksBy B.Bank store.old.bank store.new.bank done.note.outcome (restore_at store.old.slots own.slot)) }
+    ensures bank_calls { IfOk result (λ done. B.tells → AsksBy B.Bank store.old.bank store.new.bank done.note.outcome (restore_at (B.now store.old.bank) store.old.slots own.slot)) }
     ensures gave { IfOk result (λ done. B.tells → (blocks : Blocks) → StandsFor B.tells B.now store.old blocks → done.note.outcome ≡ went.Done
-        → ForSome (stored_at blocks own.slot) (λ b. GaveHeld (B.now store.old.bank) b.block done.note)) }
+        → ForSome (stored_at blocks own.slot) (λ b. GaveHeld (B.now store.old.bank) own.slot b.block done.note)) }
     ensures err { OnErr result (store.new ≡ store.old) }
 {
     let size = own.size as usize;
@@ -248,10 +258,10 @@ pub fn cds_restore<B: Bank>(
         → Calls B.Bank store.old store.new s done (cds_restore_effect s app slot)) }
     ensures call { IfOk result (IsCall B.Bank store.old store.new) }
     // The bank got the calls that this call of the store makes, and no others.
-    ensures bank_calls { IfOk result (λ done. AsksBy B.Bank store.old.bank store.new.bank done.note.outcome (restore_at store.old.slots slot)) }
+    ensures bank_calls { IfOk result (λ done. B.tells → AsksBy B.Bank store.old.bank store.new.bank done.note.outcome (restore_at (B.now store.old.bank) store.old.slots slot)) }
     // What it gave is what the block held in the bank as the call began.
     ensures gave { IfOk result (λ done. B.tells → (blocks : Blocks) → StandsFor B.tells B.now store.old blocks → done.note.outcome ≡ went.Done
-        → ForSome (stored_at blocks slot) (λ b. GaveHeld (B.now store.old.bank) b.block done.note)) }
+        → ForSome (stored_at blocks slot) (λ b. GaveHeld (B.now store.old.bank) slot b.block done.note)) }
     ensures err { OnErr result (store.new ≡ store.old) }
 {
     match own_block(store, apps, app, slot) {

@@ -14,13 +14,14 @@ ghost use Rattle.tbl_model.specs.CriticalTables.{critical_effect};
 ghost use Rattle.tbl_model.specs.Registration.{register_effect};
 ghost use Rattle.tbl_model.specs.Fit.{AreFit};
 ghost use Rattle.validation.specs.Kits.{owners};
+ghost use Rattle.cds_layout.specs.Restores.{words};
 ghost use Rattle.cds_store.specs.Slots.{open_slot};
 ghost use Rattle.cds_store.specs.Sound.{slot_at, IsOpenOf};
 ghost use Rattle.cds_store.specs.StoreBlocks.{StandsFor};
 ghost use Rattle.sharing.specs.Registering.{next_row, planned, CanRegister};
 ghost use Rattle.tbl_session.specs.Restores.{GaveHeld};
 ghost use Rattle.store_requests.specs.Called.{Calls, IsCall, GaveAsHeld, done_note};
-ghost use Rattle.store_requests.specs.Registering.{Enters, EntersBroken, EntersRecovered, EntersRestored, EntersReserved, Restores, AtMostOne, recovery, making, keeping};
+ghost use Rattle.store_requests.specs.Registering.{Enters, EntersBroken, EntersRecovered, EntersRestored, EntersReserved, Restores, AtMostOne, recovery, making, keeping, EntersWithout};
 
 use crate::notes::{note_broken, note_done, note_room, noted};
 use crate::table_blocks::sized_block;
@@ -90,13 +91,12 @@ fn recovered(
     noted(answer, empty, note)
 }
 
-/// Its block is torn, with these check words: the table begins without an image.
+/// Its block has no image, and tells this: the table begins without one.
 fn torn(
     tables: &mut Tables,
     app: u8,
     plan: NewTable,
-    kept: u16,
-    found: u16,
+    words: u32,
     empty: Bytes,
     mut note: Box<BankNote>,
 ) -> Effect
@@ -104,12 +104,39 @@ fn torn(
     requires begins { plan.first ≡ None }
     requires empty { empty.list ≡ [] }
     requires done { note.value.done < 255 }
-    ensures enters { Enters tables.old tables.new (planned tables.old app plan) result Status.SUCCESS (record (done_note note.value) { torn = kept * 65536 + found }) }
+    ensures enters { Enters tables.old tables.new (planned tables.old app plan) result Status.SUCCESS (record (done_note note.value) { torn = words }) }
 {
-    note.torn = u32::from(kept) * 65_536 + u32::from(found);
+    note.torn = words;
     note_done(&mut note);
     let answer = sharing::register(tables, app, plan, Status::SUCCESS);
     noted(answer, empty, note)
+}
+
+/// The restore of its block gave no image: either the block was read and has none, or the bank failed.
+fn not_restored(
+    tables: &mut Tables,
+    app: u8,
+    plan: NewTable,
+    fault: RestoreFault,
+    empty: Bytes,
+    note: Box<BankNote>,
+) -> Effect
+    requires can { CanRegister tables.old plan }
+    requires begins { plan.first ≡ None }
+    requires empty { empty.list ≡ [] }
+    requires untouched { note.value ≡ untouched }
+    ensures enters { EntersWithout tables.old tables.new (planned tables.old app plan) result (words fault) }
+{
+    match fault.words() {
+        Some(words) => torn(tables, app, plan, words, empty, note),
+        None => {
+            let fault = BankFault::Fault {
+                gate: false,
+                old: false,
+            };
+            lost(tables, app, plan, fault, empty, note)
+        }
+    }
 }
 
 /// The restore of its block ended so.
@@ -134,16 +161,7 @@ fn restored(
 {
     match ended {
         Ok(()) => recovered(tables, app, plan, image, kept, empty, note),
-        Err(RestoreFault::Torn { kept, found, .. }) => {
-            torn(tables, app, plan, kept, found, empty, note)
-        }
-        Err(RestoreFault::Fault) => {
-            let fault = BankFault::Fault {
-                gate: false,
-                old: false,
-            };
-            lost(tables, app, plan, fault, empty, note)
-        }
+        Err(fault) => not_restored(tables, app, plan, fault, empty, note),
     }
 }
 
@@ -191,7 +209,7 @@ fn recover<B: Bank>(
     ensures call { IfOk result (IsCall B.Bank store.old store.new) }
     // What it gave is what the block held in the bank as the call began.
     ensures gave { IfOk result (λ done. B.tells → (blocks : Blocks) → StandsFor B.tells B.now store.old blocks → done.note.outcome ≡ went.Done
-        → ForSome (stored_at blocks slot) (λ b. GaveHeld (B.now store.old.bank) b.block done.note)) }
+        → ForSome (stored_at blocks slot) (λ b. GaveHeld (B.now store.old.bank) slot b.block done.note)) }
     ensures one { IfOk result (λ done. AtMostOne tables.old tables.new app plan) }
     ensures err_tables { OnErr result (tables.new ≡ tables.old) }
     ensures err_store { OnErr result (store.new ≡ store.old) }

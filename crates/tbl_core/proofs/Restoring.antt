@@ -81,7 +81,7 @@ module _ (bytes : List ℕ) (s : State) (n : BankNote) where
     by (Some slot) None = calls_hold (delete slot ∷ []) (answered s SUCCESS 0) tt
 
   -- it gave what the block held
-  pub restore_holds : (app slot : ℕ) → (n.outcome ≡ Done → ForSome (stored_at s.store slot) (λ b. GaveHeld bytes b.block n)) → RestoresAsHeld (cds_restore_effect s app slot n)
+  pub restore_holds : (app slot : ℕ) → (n.outcome ≡ Done → ForSome (stored_at s.store slot) (λ b. GaveHeld bytes slot b.block n)) → RestoresAsHeld (cds_restore_effect s app slot n)
   unfolding cds_restore_effect
   restore_holds app slot held = by_name (name_of s app) _ (λ name. by_own name (stored_at s.store slot) _ (λ b.
       calls_hold (restore slot (restored_image n) ∷ []) (restore_answer s n.torn (restored_image n)) held))

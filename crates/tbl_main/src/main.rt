@@ -65,7 +65,7 @@ fn tell(text: &str, sink: &mut StandardOutput) -> u8 {
 }
 
 /// How many bytes the Critical Data Store has.
-const BANK_SIZE: u32 = 131_072;
+const BANK_SIZE: u32 = 262_144;
 
 /// The gate of the program, which returns at once.
 struct OpenGate;

@@ -15,7 +15,7 @@ use Rattle.tbl_model.specs.Dispatch.{effect_of}
 use Rattle.tbl_model.specs.StoreNotes.{IsNoteOf}
 use Rattle.tbl_model.specs.History.{Run, begins_at, given_in, effect_in, onward, onward_by, run_from, IsAnswered, AreAnswered}
 use Rattle.tbl_session.specs.Recovery.{IsHistory, Registration, registering, request_of, Registers, Begins, ComesBack, started}
-use Rattle.tbl_laws.proofs.RecoveryLaws.{StartsWith, recovers, gives_what_it_holds, recovers_or_begins, recovers_copied, registers_at_start}
+use Rattle.tbl_laws.proofs.RecoveryLaws.{StartsWith, recovers, gives_what_it_holds, recovers_copied, loses_none, registers_at_start}
 use Rattle.cds_layout.specs.Images.{store_of}
 use Rattle.validation.specs.Kits.{owners}
 use Rattle.tbl_outside.specs.declared.validator.KitEntry.{KitEntry}
@@ -94,8 +94,10 @@ recovers_from opening entries image history at next_opening next answered place 
           let recovered = recovers opening entries at.0 left at.2 history run.state name r registers.over slot block copied of holds in
           begins run e r registers.asks is left name _ _ recovered.status recovered.begins;
       sure = λ slot b of shown none. gives_back run e r registers.asks is left name b.held (gives_what_it_holds opening entries at.0 left at.2 history run.state name r registers.over slot b of shown none);
-      broken = λ slot b of shown tried. comes_back run e r registers.asks is _ left name (recovers_or_begins opening entries at.0 left at.2 history run.state name r registers.over slot b of shown tried);
-      copied = λ slot b of shown not_by_chance. comes_back run e r registers.asks is _ left name (recovers_copied opening entries at.0 left at.2 history run.state name r registers.over slot b of shown not_by_chance);
+      copied = λ slot b of shown. comes_back run e r registers.asks is _ left name (recovers_copied opening entries at.0 left at.2 history run.state name r registers.over slot b of shown);
+      never_lost = λ slot b of shown some.
+          let found = loses_none opening entries at.0 left at.2 history run.state name r registers.over slot b of shown some in
+          (found.0, found.1, begins run e r registers.asks is left name _ _ found.2.status found.2.begins);
     }
 
 -- ---- after the start of one application

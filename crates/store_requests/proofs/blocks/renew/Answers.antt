@@ -1,4 +1,4 @@
-use Rattle.std.proofs.Common.{ap, ◌∙◌, refl, sym, [], ◌∷◌, Some, rules, ◌≡◌, ℕ, List, Option, None, Result, subst}
+use Rattle.std.proofs.Common.{ap, ◌∙◌, refl, sym, [], ◌∷◌, Some, true, false, rules, ◌≡◌, ℕ, List, Option, None, Result, subst}
 use Rattle.tbl_kinds.specs.StoreCalls.{reserve, delete, after}
 use Rattle.tbl_kinds.specs.declared.block.BlockKind.TheVariants.{App}
 use Rattle.tbl_kinds.specs.declared.status.TheConstants.Status.{SUCCESS}
@@ -7,7 +7,7 @@ use Rattle.tbl_model.specs.Effects.{answered}
 use Rattle.tbl_model.specs.StoreUse.{then_call}
 use Rattle.tbl_model.specs.AppBlocks.{faulted, new_slot, renewal}
 use Rattle.store_requests.specs.Called.{reserve_note, done_note, broken_note}
-use Rattle.store_requests.proofs.Calls.{by_note, told_with, first_broke}
+use Rattle.store_requests.proofs.Calls.{by_note, told_with, first_broke, flags_break}
 use Rattle.store_requests.proofs.Reserved.{renewed}
 use Rattle.store_requests.proofs.Moments.{one_leaves, two_leave}
 use Rattle.store_requests.proofs.Reserved.{room_left}
@@ -46,7 +46,7 @@ returns-in-Err-clause-effect g c = λ tells s stands.
     let told = told_with c.requires.empty (ap (broken_note c.in-Err.fault) c.requires.untouched) c.broken.ensures in
     by_note b c.args.store.now c.delete_block.new.self s c.broken.result (λ n. then_call (renewal App c.args.name.now c.args.size (Some c.args.old)) n faulted (answered s SUCCESS slot)) (broken_note c.in-Err.fault untouched) told.note_is
     (first_broke b c.args.store.now c.delete_block.new.self s c.broken.result (delete c.args.old) (reserve App c.args.name.now c.args.size ∷ [])
-    (one_leaves b c.args.store.now c.delete_block.new.self (delete c.args.old) (reserve App c.args.name.now c.args.size ∷ []) s.store (λ m. c.in-Err.ensures.moments m s.store stands)) refl SUCCESS slot c.in-Err.fault c.args.store.now _ _ refl (refl, refl) c.in-Err.ensures.flags stands c.in-Err.ensures.err told)
+    (one_leaves b c.args.store.now c.delete_block.new.self (delete c.args.old) (reserve App c.args.name.now c.args.size ∷ []) s.store (λ m. c.in-Err.ensures.moments m s.store stands)) refl SUCCESS slot c.in-Err.fault c.args.store.now refl (flags_break true false c.in-Err.fault (delete c.args.old) s.store (refl, refl) c.in-Err.ensures.flags) stands c.in-Err.ensures.err told)
 
 -- a block of this name in doubt isn't there after the deletion, so there is room
 pub returns-in-Ok-clause-bank_calls : goal.returns-in-Ok-clause-bank_calls

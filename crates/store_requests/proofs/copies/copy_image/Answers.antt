@@ -22,7 +22,7 @@ returns-clause-copies g c = λ tells e t is named sized stands.
     let ended = c.copy-ended.ensures in
     same_copies b c.args.store.now c.copy-ended.new.self e c.args.effect is c.copied.result (λ n. copied_to c.args.row n e (Some slot) (Some c.args.image.now)) (λ n. copied_to c.args.row n e (block_of t e.next.store) (Some c.args.image.now))
     (λ n. ap (λ o. copied_to c.args.row n e o (Some c.args.image.now)) there)
-    (copied_after b c.args.store.now c.copy-ended.new.self e c.args.effect is c.args.store.now c.args.row slot c.args.image.now c.copied.result c.copy-ended.result (λ m. ended.moments m e.next.store stands) stands ended.flags ended.ok ended.err c.copied.ensures)
+    (copied_after b c.args.store.now c.copy-ended.new.self e c.args.effect is c.args.store.now c.args.row slot c.args.image.now c.copied.result c.copy-ended.result (λ m. ended.moments m e.next.store stands) stands ended.breaks ended.ok ended.err c.copied.ensures)
 
 pub returns-clause-call : goal.returns-clause-call
 returns-clause-call g c =

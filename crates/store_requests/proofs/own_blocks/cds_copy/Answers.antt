@@ -33,9 +33,9 @@ returns-in-Err-clause-effect g c = λ tells s apps stands.
 pub returns-in-Ok-clause-bank_calls : goal.returns-in-Ok-clause-bank_calls
 returns-in-Ok-clause-bank_calls g c =
     let old = c.args.store.now in
-    subst (λ (slot : ℕ). IfOk c.copy_into.result (λ done. AsksBy g.B.Bank old.bank c.copy_into.new.store.bank done.note.outcome (copy_at old.slots slot c.args.image.now))) c.in-Ok.ensures.slot c.copy_into.ensures.bank_calls
+    subst (λ (slot : ℕ). IfOk c.copy_into.result (λ done. g.B.Bank.tells → AsksBy g.B.Bank old.bank c.copy_into.new.store.bank done.note.outcome (copy_at (g.B.Bank.now old.bank) old.slots slot c.args.image.now))) c.in-Ok.ensures.slot c.copy_into.ensures.bank_calls
 
 pub returns-in-Err-clause-bank_calls : goal.returns-in-Err-clause-bank_calls
-returns-in-Err-clause-bank_calls g c =
+returns-in-Err-clause-bank_calls g c told =
     let old = c.args.store.now in
-    bank_calls_none g.B.Bank old.bank old.bank (copy_at old.slots c.args.slot c.args.image.now) c.plain.result.note refl c.plain.ensures.note_is
+    bank_calls_none g.B.Bank old.bank old.bank (copy_at (g.B.Bank.now old.bank) old.slots c.args.slot c.args.image.now) c.plain.result.note refl c.plain.ensures.note_is

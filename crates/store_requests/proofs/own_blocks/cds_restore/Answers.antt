@@ -37,15 +37,15 @@ returns-in-Ok-clause-gave g c =
     let b = g.B.Bank in
     subst
     (λ (slot : ℕ). IfOk c.restore_from.result (λ done. b.tells → (blocks : Blocks) → StandsFor b.tells b.now c.args.store.now blocks → done.note.outcome ≡ Done
-    → ForSome (stored_at blocks slot) (λ x. GaveHeld (b.now c.args.store.now.bank) x.block done.note)))
+    → ForSome (stored_at blocks slot) (λ x. GaveHeld (b.now c.args.store.now.bank) slot x.block done.note)))
     c.in-Ok.ensures.slot c.restore_from.ensures.gave
 
 pub returns-in-Ok-clause-bank_calls : goal.returns-in-Ok-clause-bank_calls
 returns-in-Ok-clause-bank_calls g c =
     let old = c.args.store.now in
-    subst (λ (slot : ℕ). IfOk c.restore_from.result (λ done. AsksBy g.B.Bank old.bank c.restore_from.new.store.bank done.note.outcome (restore_at old.slots slot))) c.in-Ok.ensures.slot c.restore_from.ensures.bank_calls
+    subst (λ (slot : ℕ). IfOk c.restore_from.result (λ done. g.B.Bank.tells → AsksBy g.B.Bank old.bank c.restore_from.new.store.bank done.note.outcome (restore_at (g.B.Bank.now old.bank) old.slots slot))) c.in-Ok.ensures.slot c.restore_from.ensures.bank_calls
 
 pub returns-in-Err-clause-bank_calls : goal.returns-in-Err-clause-bank_calls
-returns-in-Err-clause-bank_calls g c =
+returns-in-Err-clause-bank_calls g c told =
     let old = c.args.store.now in
-    bank_calls_none g.B.Bank old.bank old.bank (restore_at old.slots c.args.slot) c.plain.result.note refl c.plain.ensures.note_is
+    bank_calls_none g.B.Bank old.bank old.bank (restore_at (g.B.Bank.now old.bank) old.slots c.args.slot) c.plain.result.note refl c.plain.ensures.note_is

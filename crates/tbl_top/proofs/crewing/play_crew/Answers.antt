@@ -7,6 +7,7 @@ use Rattle.tbl_session.specs.Orders.{ByActor}
 use Rattle.tbl_top.proofs.CrewLemmas.{by_actor, none_behind, read_behind}
 use Rattle.tbl_top.proofs.ScriptsLemmas.{scripts_fit, scripts_count, scripts_each, scripts_part}
 use Rattle.tbl_top.proofs.SessionLemmas.{session_of}
+use Rattle.tbl_top.proofs.StatusLemmas.{finished_not_usage}
 use Rattle.tbl_top.proofs.crewing.play_crew.Goals as goal
 
 pub play_beside-playback-requires-clause-fits : goal.play_beside-playback-requires-clause-fits
@@ -48,3 +49,8 @@ returns-clause-session g c o serves =
     (λ all. by_actor c.finish-status.result fault c.scripts.result pairs played.entries (λ actor. ap (λ s. script_of s actor) scripts ∙ scripts_part pairs reads.4.each actor) (λ ended. none_behind fault read tells.result tells.ensures.behind (all ended)) one.played)
     (read_behind read pairs c.read_all-read.new.self.rest reads.0 failed at_end reads.4 fault tells.result tells.ensures.behind)
     c.read_all-read.ensures.source_failed tells.ensures.boot tells.ensures.count tells.ensures.written tells.ensures.cause c.finish-status.ensures.count (rw (← c.is_whole-is_whole.ensures, ← tells.ensures.same) c.finish-status.ensures.finishes)
+
+pub returns-clause-not_usage : goal.returns-clause-not_usage
+returns-clause-not_usage g c =
+    finished_not_usage c.tell_crew-standing.result c.read_all-read.result.1 c.is_whole-is_whole.result c.finish-status.result c.tell_crew-standing.new.playback.entries
+    (g.K.Sink.taken c.tell_crew-standing.new.sink, g.K.Sink.faults c.tell_crew-standing.new.sink) (g.K.Sink.taken c.finish-status.new.sink, g.K.Sink.faults c.finish-status.new.sink) c.finish-status.ensures.finishes
