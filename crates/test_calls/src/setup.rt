@@ -16,7 +16,7 @@ const MOST_WRITES: u32 = 2_048;
 const MOST_WRITTEN: u32 = 1_048_576;
 
 fn zeros(alloc: Global) -> Result<Vec<u8>, AllocError>
-    ensures { IfOk result (λ v. length v.items ≡ 131072) }
+    ensures { IfOk result (λ v. length v.items ≡ bank_size) }
 {
     vec![in alloc; 0; BANK_SIZE as usize]
 }
@@ -90,7 +90,7 @@ fn bank_over(
     breaks: &[Break],
     bad_reads: &[u32],
 ) -> Result<MemBank, Memory>
-    requires { length bytes.now ≡ 131072 }
+    requires { length bytes.now ≡ bank_size }
     ensures { IfOk result (λ bank. bank_size ≤ length bank.bytes) }
 {
     let bytes = kept(alloc, bytes)?;

@@ -1,6 +1,7 @@
 //! A run, and how it ended.
 
 ghost use Rattle.std.specs.Prelude.{◌≡◌, ◌≤◌, length, IfOk};
+ghost use Rattle.tbl_kinds.specs.Places.{bank_size};
 
 use std::alloc::Global;
 use std::sync::Wait;
@@ -12,7 +13,7 @@ use tbl_top::run;
 use test_tables::{CaseFault, Row};
 
 /// How many bytes the bank has.
-const BANK_SIZE: u32 = 131_072;
+const BANK_SIZE: u32 = 262_144;
 
 /// The status of a run whose sink fails.
 const WRITE_FAILED: u8 = 4;
@@ -27,7 +28,7 @@ struct Ending {
 
 /// A bank of zeros.
 pub(crate) fn bank(alloc: Global) -> Result<CalmBank, Memory>
-    ensures { IfOk result (λ bank. length bank ≡ 131072) }
+    ensures { IfOk result (λ bank. length bank ≡ bank_size) }
 {
     CalmBank::of_zeros(alloc, BANK_SIZE)
 }

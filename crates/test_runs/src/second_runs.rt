@@ -1,6 +1,7 @@
 //! A session, a write of whose bank breaks off, and a second one over the bank that the first gave back.
 
 ghost use Rattle.std.specs.Prelude.{◌≡◌, length, IfOk};
+ghost use Rattle.tbl_kinds.specs.Places.{bank_size};
 
 use crate::sessions::{Session, play};
 use std::alloc::Global;
@@ -36,7 +37,7 @@ fn breaks_in(alloc: Global, word: &str) -> Result<Breaks, CaseFault> {
 
 /// A bank of zeros, one write of which breaks off.
 fn broken_bank(alloc: Global, place: Break) -> Result<MemBank, CaseFault>
-    ensures { IfOk result (λ bank. length bank.bytes ≡ 131072) }
+    ensures { IfOk result (λ bank. length bank.bytes ≡ bank_size) }
 {
     let zeros = zeros(alloc)?;
     bank_over(alloc, zeros, &[place], &[])
@@ -44,7 +45,7 @@ fn broken_bank(alloc: Global, place: Break) -> Result<MemBank, CaseFault>
 
 /// A bank that keeps what another one held, and in which no write breaks off.
 fn next_bank(alloc: Global, bank: &MemBank) -> Result<MemBank, CaseFault>
-    ensures { IfOk result (λ b. length b.bytes ≡ 131072) }
+    ensures { IfOk result (λ b. length b.bytes ≡ bank_size) }
 {
     let bytes = bank.bytes();
     if bytes.len() != BANK_SIZE {
@@ -60,7 +61,7 @@ fn play_first<R: Threads + Wait + Sync>(
     row: &Row,
     bank: MemBank,
 ) -> Result<MemBank, CaseFault>
-    requires { length bank.bytes ≡ 131072 }
+    requires { length bank.bytes ≡ bank_size }
 {
     play(rt, row, row.text(1)?, 3, 6, bank)
 }
@@ -80,7 +81,7 @@ fn play_second<R: Threads + Wait + Sync>(
 
 /// Plays both sessions in order, the second over the bank that the first gave back, and compares how they end.
 fn play_both(row: &Row, bank: MemBank) -> Result<(), CaseFault>
-    requires { length bank.bytes ≡ 131072 }
+    requires { length bank.bytes ≡ bank_size }
 {
     let mut first = Session::make(row, "play", 3, 7)?;
     let mut second = Session::make(row, "play", 4, 9)?;

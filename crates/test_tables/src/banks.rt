@@ -1,6 +1,7 @@
 //! Banks as the cells of a row state them: what they hold, which of their writes break off and which of their reads fail.
 
 ghost use Rattle.std.specs.Prelude.{◌≡◌, length, IfOk};
+ghost use Rattle.tbl_kinds.specs.Places.{bank_size};
 
 use crate::fault::CaseFault;
 use crate::number::number_in;
@@ -16,7 +17,7 @@ const MOST_WRITES: u32 = 512;
 const MOST_WRITTEN: u32 = 65_536;
 
 /// How many bytes a bank has.
-pub const BANK_SIZE: usize = 131_072;
+pub const BANK_SIZE: usize = 262_144;
 
 /// A bank that nothing was written to. Copies of it take a build that checks each access far less time than loops over
 /// single bytes.
@@ -24,7 +25,7 @@ static ZEROS: [u8; BANK_SIZE] = [0; BANK_SIZE];
 
 /// The bytes of a bank that nothing was written to.
 pub fn zeros(alloc: Global) -> Result<Bytes, Memory>
-    ensures { IfOk result (λ b. length b.list ≡ 131072) }
+    ensures { IfOk result (λ b. length b.list ≡ bank_size) }
 {
     let mut bytes = Bytes::make(alloc, BANK_SIZE)?;
     bytes.append(&ZEROS);
@@ -58,7 +59,7 @@ fn patch_pair(alloc: Global, bytes: &mut Bytes, pair: &[&str]) -> Result<(), Cas
 
 /// The bytes of a bank: zeros, over which stands what a cell has, as `0 43445331 16 A5`.
 pub fn bank_bytes(row: &Row, at: usize) -> Result<Bytes, CaseFault>
-    ensures { IfOk result (λ b. length b.list ≡ 131072) }
+    ensures { IfOk result (λ b. length b.list ≡ bank_size) }
 {
     let words: Vec<&str> = row.text(at)?.split_ascii_whitespace().collect(row.alloc())?;
     let mut bytes = zeros(row.alloc())?;
@@ -75,8 +76,8 @@ pub fn bank_over(
     breaks: &[Break],
     bad_reads: &[u32],
 ) -> Result<MemBank, CaseFault>
-    requires { length bytes.list ≡ 131072 }
-    ensures { IfOk result (λ bank. length bank.bytes ≡ 131072) }
+    requires { length bytes.list ≡ bank_size }
+    ensures { IfOk result (λ bank. length bank.bytes ≡ bank_size) }
 {
     match MemBank::make(alloc, bytes, breaks, bad_reads, MOST_WRITES, MOST_WRITTEN) {
         Ok(bank) => Ok(bank),
@@ -86,7 +87,7 @@ pub fn bank_over(
 
 /// A bank that nothing was written to, and in which nothing fails.
 pub fn new_bank(alloc: Global) -> Result<MemBank, CaseFault>
-    ensures { IfOk result (λ bank. length bank.bytes ≡ 131072) }
+    ensures { IfOk result (λ bank. length bank.bytes ≡ bank_size) }
 {
     let zeros = zeros(alloc)?;
     bank_over(alloc, zeros, &[], &[])
@@ -117,8 +118,8 @@ fn breaks_in(alloc: Global, cell: &str) -> Result<Vec<Break>, CaseFault> {
 
 /// A bank of these bytes. Which of its writes break off and which of its reads fail stands in the cells 4 and 5.
 fn broken_bank(row: &Row, bytes: Bytes) -> Result<MemBank, CaseFault>
-    requires { length bytes.list ≡ 131072 }
-    ensures { IfOk result (λ bank. length bank.bytes ≡ 131072) }
+    requires { length bytes.list ≡ bank_size }
+    ensures { IfOk result (λ bank. length bank.bytes ≡ bank_size) }
 {
     let breaks = breaks_in(row.alloc(), row.text(4)?)?;
     let bad_reads = row.numbers(5)?;
@@ -128,7 +129,7 @@ fn broken_bank(row: &Row, bytes: Bytes) -> Result<MemBank, CaseFault>
 /// The bank before a session: what it holds stands in cell 3, as [`bank_bytes`] reads it, which of its writes break off in the
 /// next one, as `3/0/stop 4/15/fail`, and the numbers of its reads that fail in the one after it.
 pub fn bank_in(row: &Row) -> Result<MemBank, CaseFault>
-    ensures { IfOk result (λ bank. length bank.bytes ≡ 131072) }
+    ensures { IfOk result (λ bank. length bank.bytes ≡ bank_size) }
 {
     let bytes = bank_bytes(row, 3)?;
     broken_bank(row, bytes)

@@ -21,6 +21,8 @@ mod recovering;
 #[cfg(test)]
 mod shipped_functions;
 #[cfg(test)]
+mod showing;
+#[cfg(test)]
 mod tables;
 #[cfg(test)]
 mod validations;

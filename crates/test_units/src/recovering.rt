@@ -1,10 +1,14 @@
 ghost use Rattle.std.specs.Prelude.{◌≡◌, length, IfOk};
+ghost use Rattle.tbl_kinds.specs.Places.{bank_size};
 
 use cds_store::recover;
 use std::alloc::Global;
 use std::test::Fail;
 use tbl_fakes::MemBank;
 use tbl_kinds::{BlockKind, Bytes, Memory, Name};
+
+/// How many bytes the bank has.
+const BANK_SIZE: usize = 262_144;
 
 fn zeros(alloc: Global, len: usize) -> Result<Vec<u8>, Memory>
     ensures { IfOk result (λ v. length v.items ≡ len) }
@@ -14,17 +18,17 @@ fn zeros(alloc: Global, len: usize) -> Result<Vec<u8>, Memory>
 
 /// Zeros, as many as the bank has.
 fn no_bytes(alloc: Global) -> Result<Bytes, Memory>
-    ensures { IfOk result (λ b. length b.list ≡ 131072) }
+    ensures { IfOk result (λ b. length b.list ≡ bank_size) }
 {
-    let zeros = zeros(alloc, 131_072)?;
-    let mut bytes = Bytes::make(alloc, 131_072)?;
+    let zeros = zeros(alloc, BANK_SIZE)?;
+    let mut bytes = Bytes::make(alloc, BANK_SIZE)?;
     bytes.append(&zeros);
     Ok(bytes)
 }
 
 /// A bank of zeros.
 fn bank(alloc: Global) -> Result<MemBank, Memory>
-    ensures { IfOk result (λ bank. length bank.bytes ≡ 131072) }
+    ensures { IfOk result (λ bank. length bank.bytes ≡ bank_size) }
 {
     MemBank::make(alloc, no_bytes(alloc)?, &[], &[], 16, 16_384)
 }

@@ -1,5 +1,6 @@
 use Rattle.std.proofs.Common.{◌≡◌, length}
+use Rattle.tbl_kinds.specs.Places.{bank_size}
 use Rattle.test_tables.proofs.banks.bank_bytes.Given as goal
 
 abbrev pub invariant-runs : goal.invariant-runs
-invariant-runs l = length l.bytes.list ≡ 131072
+invariant-runs l = length l.bytes.list ≡ bank_size
