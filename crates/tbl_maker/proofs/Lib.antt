@@ -1,0 +1,13 @@
+pub mod Parting
+pub mod Digits
+pub mod Values
+pub mod Numbers
+pub mod Fields
+pub mod Images
+pub mod FullNames
+pub mod Makes
+pub mod BadLines
+pub mod Hex
+pub mod Puts
+pub mod Shapes
+pub mod Described

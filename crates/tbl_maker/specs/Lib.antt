@@ -1,0 +1,13 @@
+pub mod Names
+pub mod Types
+pub mod Values
+pub mod Fields
+pub mod Shapes
+pub mod Descriptions
+pub mod Making
+pub mod Describing
+pub mod Digits
+pub mod Lines
+pub mod Parts
+pub mod Words
+pub mod Worked
