@@ -1,7 +1,9 @@
 //! Plays a session with a reset of the processor after each byte of each write of its bank, and tells which image of each
-//! critical table comes back after it. The row of a write is written as soon as its resets were tried.
+//! critical table comes back after it. The row of a write is written as soon as its resets were tried. With `--mirror` it plays
+//! the session over two banks as one, and lets the first fail in each write in turn.
 #![tactic(auto)]
 
+mod dying;
 mod input;
 mod plan;
 mod play;
@@ -11,6 +13,7 @@ mod text;
 mod tries;
 mod words;
 
+use dying::die;
 use input::{End, Session, read_session};
 use plan::{Plan, tables_of, writes_of};
 use play::{Fault, Room, behind, close};
@@ -20,7 +23,7 @@ use tbl_adapters::{StandardInput, StandardOutput};
 use tbl_fakes::Span;
 use tbl_kinds::Entry;
 use tbl_outside::Sink;
-use text::{tell_end, tell_front, tell_write};
+use text::{tell_death, tell_deaths_end, tell_deaths_front, tell_end, tell_front, tell_write};
 use tries::{Counts, Sweep, Write, try_write};
 use words::{Words, given_words};
 
@@ -30,17 +33,44 @@ const HELP: &str = "tbl_resets: which image comes back after a reset
 tbl_resets              reads session records from standard input, and writes a table to standard output,
                         each row as it is known
 tbl_resets --every N    inside writes of more than 64 bytes it tries only the numbers of bytes that N divides
+tbl_resets --mirror     plays the session over two banks as one, the first of which dies in one write after the other,
+                        and tells what comes back after the next start
 tbl_resets --help       writes this text to standard output
 
 It ends with one of these statuses:
 0  the work is done
-1  memory ran out, or a mix of images came back
+1  memory ran out, or a mix of images came back, or an image was lost with --mirror
 2  the words are none of the above, and nothing was read or written
 3  reading failed
 4  writing failed
 5  a record of the input is bad or cut short; the records before it were tried
 6  the input goes on after 32,768 records, or has too many to ask the service for more
 ";
+
+/// What is tried of a session.
+#[derive(Clone, Copy)]
+struct Mode {
+    /// Inside long writes each number of bytes is tried that this one divides.
+    every: u32,
+    /// Whether the first of two banks dies, in the place of resets.
+    is_mirrored: bool,
+}
+
+impl Mode {
+    fn resets(every: u32) -> Mode {
+        Mode {
+            every,
+            is_mirrored: false,
+        }
+    }
+
+    fn mirror() -> Mode {
+        Mode {
+            every: 1,
+            is_mirrored: true,
+        }
+    }
+}
 
 /// The table on its way to standard output.
 #[derive(Drop)]
@@ -49,8 +79,8 @@ struct Told {
     /// What is written next, as one row, and is cleared then.
     text: String,
     counts: Counts,
-    /// How many requests had been made by the last write.
-    played: Option<usize>,
+    /// How many images were lost.
+    lost: usize,
 }
 
 impl Told {
@@ -59,7 +89,7 @@ impl Told {
             sink,
             text: String::new(alloc),
             counts: Counts::zero(),
-            played: None,
+            lost: 0,
         }
     }
 
@@ -78,9 +108,7 @@ impl Told {
 
     /// Writes the row of a write that was tried.
     fn write_row(&mut self, plan: &Plan<'_>, write: Write, sweep: &Sweep) -> Result<(), Fault> {
-        let is_first = self.played != Some(sweep.played);
-        self.played = Some(sweep.played);
-        tell_write(&mut self.text, plan, write, sweep, is_first)?;
+        tell_write(&mut self.text, plan, write, sweep)?;
         self.write_out()
     }
 
@@ -119,8 +147,35 @@ fn tell_at_place<R: Eprint>(
     tell_tried(rt, plan, write, &mut sweep, told)
 }
 
+/// Lets the first of two banks die in the write at this place, after half of its bytes, and writes its lines. The answer is how
+/// many images were lost.
+fn tell_death_at(plan: &Plan<'_>, at: usize, span: Span, told: &mut Told) -> Result<usize, Fault> {
+    let Ok(number) = u32::try_from(at.saturating_add(1)) else {
+        return Err(Fault::Full);
+    };
+    let death = die(plan, number, span.length / 2)?;
+    tell_death(&mut told.text, plan, number, &death.runs.ended)?;
+    told.write_out()?;
+    Ok(death.lost)
+}
+
+/// Lets the first of two banks die in each write of a session, and writes the table.
+fn tell_deaths(plan: &Plan<'_>, told: &mut Told) -> Result<(), Fault> {
+    tell_deaths_front(&mut told.text, plan)?;
+    told.write_out()?;
+    for (at, span) in plan.writes.iter().enumerate() {
+        let lost = tell_death_at(plan, at, *span, told)?;
+        told.lost = told.lost.saturating_add(lost);
+    }
+    tell_deaths_end(&mut told.text, plan, told.lost)?;
+    told.write_out()
+}
+
 /// Tries all writes of a session, and writes the table.
 fn tell_all<R: Eprint>(rt: &R, plan: &Plan<'_>, told: &mut Told) -> Result<(), Fault> {
+    if plan.is_mirrored {
+        return tell_deaths(plan, told);
+    }
     told.write_front(plan)?;
     for (at, span) in plan.writes.iter().enumerate() {
         tell_at_place(rt, plan, at, *span, told)?;
@@ -132,7 +187,7 @@ fn tell_all<R: Eprint>(rt: &R, plan: &Plan<'_>, told: &mut Told) -> Result<(), F
 fn tried_behind<R: Eprint + AllocGlobal>(
     rt: &R,
     session: &Session,
-    every: u32,
+    mode: Mode,
     room: Room,
     writes: &[Span],
     history: &[Entry],
@@ -144,7 +199,8 @@ fn tried_behind<R: Eprint + AllocGlobal>(
     let plan = Plan {
         alloc,
         records,
-        every,
+        every: mode.every,
+        is_mirrored: mode.is_mirrored,
         room,
         writes,
         history,
@@ -157,7 +213,7 @@ fn tried_behind<R: Eprint + AllocGlobal>(
 fn tried<R: Eprint + AllocGlobal>(
     rt: &R,
     session: &Session,
-    every: u32,
+    mode: Mode,
     told: &mut Told,
 ) -> Result<(), Fault> {
     let alloc = rt.alloc();
@@ -165,7 +221,7 @@ fn tried<R: Eprint + AllocGlobal>(
     let count = session.count as usize;
     let (room, writes) = writes_of(alloc, records, count)?;
     let core = behind(alloc, records, count, room)?;
-    let done = tried_behind(rt, session, every, room, &writes, core.history(), told);
+    let done = tried_behind(rt, session, mode, room, &writes, core.history(), told);
     close(core);
     done
 }
@@ -184,11 +240,11 @@ fn status_of(end: End) -> u8 {
 fn try_session<R: Eprint + AllocGlobal>(
     rt: &R,
     session: &Session,
-    every: u32,
+    mode: Mode,
     told: &mut Told,
 ) -> u8 {
-    match tried(rt, session, every, told) {
-        Ok(()) if told.counts.mixed > 0 => 1,
+    match tried(rt, session, mode, told) {
+        Ok(()) if told.counts.mixed > 0 || told.lost > 0 => 1,
         Ok(()) => status_of(session.end),
         Err(Fault::Memory) => 1,
         Err(Fault::Unwritten) => 4,
@@ -197,20 +253,21 @@ fn try_session<R: Eprint + AllocGlobal>(
 }
 
 /// Reads a session, tries it, and gives the status for that.
-fn try_input(rt: &HostRuntime, every: u32, sink: StandardOutput) -> u8 {
+fn try_input(rt: &HostRuntime, mode: Mode, sink: StandardOutput) -> u8 {
     let alloc = rt.alloc();
     let mut source = StandardInput::of(rt.stdin());
     let Ok(session) = read_session(alloc, &mut source) else {
         return 1;
     };
     let mut told = Told::make(alloc, sink);
-    try_session(rt, &session, every, &mut told)
+    try_session(rt, &session, mode, &mut told)
 }
 
 fn main(rt: HostRuntime) -> ExitCode {
     let mut sink = StandardOutput::of(rt.stdout());
     let status = match given_words(&rt) {
-        Words::Try { every } => try_input(&rt, every, sink),
+        Words::Try { every } => try_input(&rt, Mode::resets(every), sink),
+        Words::Mirror => try_input(&rt, Mode::mirror(), sink),
         Words::Help if sink.write(HELP.as_bytes()).is_ok() => 0,
         Words::Help => 4,
         Words::Unknown => 2,

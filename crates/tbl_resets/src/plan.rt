@@ -18,6 +18,8 @@ pub(crate) struct Plan<'a> {
     pub(crate) records: &'a [u8],
     /// Inside long writes each number of bytes is tried that this one divides.
     pub(crate) every: u32,
+    /// Whether the session is played over two banks, the first of which dies, in the place of resets.
+    pub(crate) is_mirrored: bool,
     pub(crate) room: Room,
     pub(crate) writes: &'a [Span],
     pub(crate) history: &'a [Entry],

@@ -10,17 +10,17 @@ use std::alloc::{AllocError, AllocFailed, Global};
 use tbl_core::{Core, StartFault, StepFault};
 use tbl_fakes::{Break, MemBank};
 use tbl_kinds::{Actor, Admit, Bytes, Entry, Memory, Request, Status, fits};
-use tbl_outside::{Back, Failed};
+use tbl_outside::{Back, Bank, Failed};
 use validation::Kit;
 
 /// How many bytes a bank has.
-const BANK_SIZE: usize = 131_072;
+const BANK_SIZE: usize = 262_144;
 
 /// A bank that nothing was written to.
 static ZEROS: [u8; BANK_SIZE] = [0; BANK_SIZE];
 
 /// The most entries of a history.
-const MOST_ENTRIES: usize = 32_768;
+pub(crate) const MOST_ENTRIES: usize = 32_768;
 
 /// The service over a bank in memory, with the validation functions of the shipped program.
 pub(crate) type Service = Core<MemBank, Shipped>;
@@ -68,7 +68,7 @@ pub(crate) struct Room {
 }
 
 /// The validation functions of the shipped program.
-fn shipped(alloc: Global) -> Result<Kit<Shipped>, Memory>
+pub(crate) fn shipped(alloc: Global) -> Result<Kit<Shipped>, Memory>
     ensures { IfOk result (AskedBelow asked_of 1) }
 {
     Kit::make(alloc, shipped_entries(alloc)?)
@@ -76,7 +76,7 @@ fn shipped(alloc: Global) -> Result<Kit<Shipped>, Memory>
 
 /// A bank of these bytes.
 fn bank_of(alloc: Global, image: &[u8], breaks: &[Break], room: Room) -> Result<MemBank, Memory>
-    requires { length image.now ≡ 131072 }
+    requires { length image.now ≡ bank_size }
     ensures { IfOk result (λ bank. bank_size ≤ length bank.bytes) }
 {
     let mut bytes = Bytes::make(alloc, image.len())?;
@@ -93,7 +93,7 @@ pub(crate) struct Left {
 }
 
 /// What a stop left in a bank.
-fn left_in(alloc: Global, bank: &MemBank, played: usize) -> Result<Left, Fault>
+pub(crate) fn left_in(alloc: Global, bank: &MemBank, played: usize) -> Result<Left, Fault>
     ensures image { IfOk result (λ left. left.image.list ≡ bank.now.bytes) }
     ensures played { IfOk result (λ left. left.played ≡ played) }
 {
@@ -130,7 +130,7 @@ fn start_over(alloc: Global, bank: MemBank, kit: Kit<Shipped>) -> Result<Started
 
 /// Starts the service over a bank of these bytes, whose writes break off where the list says so.
 fn start(alloc: Global, image: &[u8], breaks: &[Break], room: Room) -> Result<Started, Fault>
-    requires { length image.now ≡ 131072 }
+    requires { length image.now ≡ bank_size }
 {
     let kit = shipped(alloc)?;
     let bank = bank_of(alloc, image, breaks, room)?;
@@ -138,7 +138,7 @@ fn start(alloc: Global, image: &[u8], breaks: &[Break], room: Room) -> Result<St
 }
 
 /// The entry of the request that was played last.
-pub(crate) fn last_entry(core: &Service) -> Result<&Entry, Fault> {
+pub(crate) fn last_entry<B: Bank>(core: &Core<B, Shipped>) -> Result<&Entry, Fault> {
     match core.history().last() {
         Some(entry) => Ok(entry),
         None => Err(Fault::Full),
@@ -146,7 +146,7 @@ pub(crate) fn last_entry(core: &Service) -> Result<&Entry, Fault> {
 }
 
 /// Plays a request. The answer is whether the service goes on after it: not where the processor was reset in it.
-fn step(core: &mut Service, actor: Actor, request: Request) -> Result<bool, Fault>
+fn step<B: Bank>(core: &mut Core<B, Shipped>, actor: Actor, request: Request) -> Result<bool, Fault>
     ensures added { IfOk result (λ _. length core.new.entries ≡ length core.old.entries + 1) }
 {
     if !fits(actor, &request) || !core.is_live() || core.history().len() >= MOST_ENTRIES {
@@ -167,7 +167,11 @@ pub(crate) fn ask(core: &mut Service, actor: Actor, request: Request) -> Result<
 
 /// Plays the record at the front of some bytes, and gives its length: 0 where there is none, or where the processor was reset
 /// in it.
-fn step_front(alloc: Global, core: &mut Service, records: &[u8]) -> Result<usize, Fault> {
+fn step_front<B: Bank>(
+    alloc: Global,
+    core: &mut Core<B, Shipped>,
+    records: &[u8],
+) -> Result<usize, Fault> {
     match next_record(alloc, records)? {
         Next::Item {
             actor,
@@ -179,7 +183,12 @@ fn step_front(alloc: Global, core: &mut Service, records: &[u8]) -> Result<usize
 }
 
 /// Plays so many records, or those up to the one in which the processor is reset.
-fn step_all(alloc: Global, core: &mut Service, records: &[u8], most: usize) -> Result<(), Fault> {
+pub(crate) fn step_all<B: Bank>(
+    alloc: Global,
+    core: &mut Core<B, Shipped>,
+    records: &[u8],
+    most: usize,
+) -> Result<(), Fault> {
     let mut at = 0usize;
     for _ in 0..most {
         let Some(rest) = records.get(at..) else {

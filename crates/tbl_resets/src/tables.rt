@@ -116,7 +116,7 @@ impl Table {
     }
 
     /// The last image whose copy was completed before the last of so many requests, where its block still had it then.
-    fn completed(&self, played: usize) -> Option<&Image> {
+    pub(crate) fn completed(&self, played: usize) -> Option<&Image> {
         for event in self.events.iter().rev() {
             if event.place.saturating_add(1) < played {
                 match &event.change {

@@ -14,6 +14,9 @@ const REQUEST_AT: usize = 14;
 
 const WRITES_AT: usize = 38;
 
+/// Where the second column begins in the lines of deaths.
+const DEATH_AT: usize = 26;
+
 /// How wide the column of what is written is beside the name of a table, and the one of the bytes after it.
 const COPY_LEN: usize = 14;
 
@@ -95,59 +98,45 @@ fn tell_copied(text: &mut String, plan: &Plan<'_>, played: usize) -> Result<(), 
     text.push_str("image of an application block")
 }
 
-/// Whether a request copies an image into a block.
-fn is_copy(plan: &Plan<'_>, played: usize) -> bool {
-    let Some(place) = played.checked_sub(1) else {
-        return false;
-    };
-    match plan.history.get(place) {
-        Some(entry) => matches!(
-            &entry.request,
-            Request::LoadImage { .. }
-                | Request::LoadFile { .. }
-                | Request::Update { .. }
-                | Request::Manage { .. }
-                | Request::CdsCopy { .. }
-        ),
-        None => false,
-    }
-}
-
 /// Where the directory begins, and the bytes of an entry.
 const DIRECTORY_AT: u32 = 16;
 
 const ENTRY_LEN: u32 = 64;
 
+/// Where in an entry its turn bytes stand.
+const TURNS_AT: u32 = 52;
+
 /// Where the blocks begin.
 const BLOCKS_AT: u32 = 8_208;
 
-/// Writes what a write has, by its place in the bank (docs/STORE.md). A copy writes its image first, and then the head.
+/// What a write in an entry has, by its place there.
+fn part_of(place: u32) -> &'static str {
+    match place {
+        0 => "gate",
+        TURNS_AT.. => "turn byte",
+        _ => "entry",
+    }
+}
+
+/// Writes what a write has, by its place in the bank (docs/STORE.md). Only a copy writes into the place of a block.
 fn tell_piece(
     text: &mut String,
     plan: &Plan<'_>,
     played: usize,
     span: Span,
-    is_first: bool,
 ) -> Result<(), AllocError> {
     let at = span.at;
     if at >= BLOCKS_AT {
-        if is_first && is_copy(plan, played) {
-            return tell_copied(text, plan, played);
-        }
-        return write!(text, "head of the block at {at}");
+        return tell_copied(text, plan, played);
     }
     let Some(place) = at.checked_sub(DIRECTORY_AT) else {
         return text.push_str(if at == 0 { "live byte" } else { "letters" });
     };
-    let slot = place / ENTRY_LEN;
     if span.length > ENTRY_LEN {
         return text.push_str("directory");
     }
-    let part = if place % ENTRY_LEN == 0 {
-        "gate"
-    } else {
-        "entry"
-    };
+    let slot = place / ENTRY_LEN;
+    let part = part_of(place % ENTRY_LEN);
     write!(text, "{part} of slot {slot}")
 }
 
@@ -178,7 +167,6 @@ fn tell_head(
     plan: &Plan<'_>,
     write: Write,
     played: usize,
-    is_first: bool,
 ) -> Result<(), AllocError> {
     let Write { number, span } = write;
     let length = span.length;
@@ -186,7 +174,7 @@ fn tell_head(
     write!(text, "{number:<6} {length:<6} ")?;
     tell_maker(text, plan, played)?;
     blanks_to(text, line, WRITES_AT)?;
-    tell_piece(text, plan, played, span, is_first)
+    tell_piece(text, plan, played, span)
 }
 
 /// Writes the ranges of the table at a place, the first after what stands in the line. The answer is where the next line
@@ -215,11 +203,10 @@ pub(crate) fn tell_write(
     plan: &Plan<'_>,
     write: Write,
     sweep: &Sweep,
-    is_first: bool,
 ) -> Result<(), AllocError> {
     let after = after_at(plan);
     let mut line = text.len();
-    tell_head(text, plan, write, sweep.played, is_first)?;
+    tell_head(text, plan, write, sweep.played)?;
     for (at, table) in plan.tables.iter().enumerate() {
         line = tell_runs(text, line, after, at, table, &sweep.runs.ended)?;
     }
@@ -374,4 +361,54 @@ pub(crate) fn tell_end(
 ) -> Result<(), AllocError> {
     tell_count(text, plan, counts)?;
     tell_sums(text, counts)
+}
+
+/// Writes what stands before the lines of the first death.
+pub(crate) fn tell_deaths_front(text: &mut String, plan: &Plan<'_>) -> Result<(), AllocError> {
+    tell_tables(text, plan)?;
+    text.push_str("first bank dies in write  what comes back after the next start\n")
+}
+
+/// Writes the lines of a death: one for each table.
+pub(crate) fn tell_death(
+    text: &mut String,
+    plan: &Plan<'_>,
+    number: u32,
+    runs: &[Run],
+) -> Result<(), AllocError> {
+    let mut line = text.len();
+    write!(text, "{number}")?;
+    for run in runs {
+        if let Some(table) = plan.tables.get(run.table) {
+            let name = table.name.as_str();
+            blanks_to(text, line, DEATH_AT)?;
+            write!(text, "{name}: ")?;
+            tell_back(text, run.back)?;
+            text.push_str("\n")?;
+            line = text.len();
+        }
+    }
+    if line == text.len() {
+        Ok(())
+    } else {
+        text.push_str("\n")
+    }
+}
+
+/// Writes what stands after the lines of the last death.
+pub(crate) fn tell_deaths_end(
+    text: &mut String,
+    plan: &Plan<'_>,
+    lost: usize,
+) -> Result<(), AllocError> {
+    let writes = plan.writes.len();
+    write!(
+        text,
+        "\nThe first of two banks died in each of {writes} writes, and the second went on alone. "
+    )?;
+    if lost == 0 {
+        text.push_str("No image was lost.\n")
+    } else {
+        writeln!(text, "{lost} images were lost.")
+    }
 }

@@ -74,7 +74,7 @@ pub(crate) struct Runs {
 }
 
 impl Runs {
-    fn make(alloc: Global) -> Runs {
+    pub(crate) fn make(alloc: Global) -> Runs {
         Runs {
             ended: Vec::new(alloc),
             open: Vec::new(alloc),
@@ -109,7 +109,7 @@ impl Runs {
     }
 
     /// Ends each range.
-    fn end(&mut self) -> Result<(), AllocError> {
+    pub(crate) fn end(&mut self) -> Result<(), AllocError> {
         self.ended.extend_from_slice(&self.open)
     }
 }

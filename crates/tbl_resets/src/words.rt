@@ -10,6 +10,8 @@ pub(crate) enum Words {
     Help,
     /// To try the resets: inside long writes each number of bytes that this one divides.
     Try { every: u32 },
+    /// To let the first of two banks die in each write.
+    Mirror,
     /// Nothing that is known.
     Unknown,
     /// Memory ran out.
@@ -29,6 +31,7 @@ fn read_words(words: &[String]) -> Words {
     match words {
         [] | [_] => Words::Try { every: 1 },
         [_, word] if word.as_str() == "--help" => Words::Help,
+        [_, word] if word.as_str() == "--mirror" => Words::Mirror,
         [_, word, number] if word.as_str() == "--every" => try_every(number.as_str()),
         _ => Words::Unknown,
     }

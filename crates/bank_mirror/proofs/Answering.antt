@@ -1,0 +1,82 @@
+-- What a call of two banks as one tells, and what holds after it.
+use Rattle.std.proofs.Common.{◌≡◌, ◌⊎◌, inl, inr, ℕ, ◌+◌, ◌-◌, ◌^◌, ◌<◌, ◌≤◌, min, List, sym, subst, arith}
+use Rattle.std.specs.Prelude.{if◌then◌else◌, Result, Ok, Err, is_err, OnOk, OnErr}
+use Rattle.std.proofs.lemmas.Bool.{cases_lt}
+use Rattle.tbl_outside.specs.declared.bank.Bank.{Ghosts}
+use Rattle.tbl_outside.specs.declared.bank.Written.{Written}
+use Rattle.tbl_outside.specs.declared.bank.Written.TheVariants.{Done, Failed, Stopped}
+use Rattle.tbl_outside.specs.Bank.{LeavesOnly}
+use Rattle.tbl_outside.specs.Counts.{Rose, Still, RoseAlone, Counted, risen}
+use Rattle.tbl_outside.proofs.Counts.{Rose-risen}
+use Rattle.bank_mirror.specs.Pairs.{Pair}
+use Rattle.bank_mirror.specs.Moments.{Leaves}
+use Rattle.bank_mirror.specs.Counts.{opening_of, stops_of, OneStopped, IsSince, GoesOn, SameStops, MayFail, WriteCounted}
+use Rattle.bank_mirror.specs.BanksInUse.{IsHeld, IsExcused, KeepsExcuse, HasCause}
+use Rattle.bank_mirror.specs.Mirrors.{Mirrored, IsMirror, moment_of, LeftSinceOf, faults_of, stops_in, fails}
+use Rattle.bank_mirror.proofs.Excuses.{since_on}
+
+-- a sum that stands still at a top rises with either of its parts
+sum_rises : (a b a' b' top : ℕ) → a ≤ a' → b ≤ b' → a + b < a' + b' → (min (a + b) top < min (a' + b') top) ⊎ (min (a' + b') top ≡ top)
+sum_rises a b a' b' top first second rose = elim (cases_lt (a' + b') top) [
+  | inl below ↦ inl (omega (arith, rose, below))
+  | inr over ↦ inr (omega (arith, over))
+]
+
+sum_full : (a' b' top : ℕ) → a' ≡ top → min (a' + b') top ≡ top
+sum_full a' b' top full = omega (arith, full)
+
+sum_full_too : (a' b' top : ℕ) → b' ≡ top → min (a' + b') top ≡ top
+sum_full_too a' b' top full = omega (arith, full)
+
+sum_grows : (a b a' b' top : ℕ) → a ≤ a' → b ≤ b' → min (a + b) top ≤ min (a' + b') top
+sum_grows a b a' b' top first second = omega (arith, first, second)
+
+module _ {A B : Type 0} (a : Ghosts A) (b : Ghosts B) where
+  stops_rise : (old new : Pair A B) → IsSince a b (old.first, old.second) new → OneStopped a b (old.first, old.second) new → Rose (stops_of a b old) (stops_of a b new)
+  stops_rise old new since (inl (inl rose)) = sum_rises (a.stops old.first) (b.stops old.second) (a.stops new.first) (b.stops new.second) (2 ^ 64 - 1) since.first_stops since.second_stops (omega (arith, rose, since.second_stops))
+  stops_rise old new since (inl (inr full)) = inr (sum_full (a.stops new.first) (b.stops new.second) (2 ^ 64 - 1) full)
+  stops_rise old new since (inr (inl rose)) = sum_rises (a.stops old.first) (b.stops old.second) (a.stops new.first) (b.stops new.second) (2 ^ 64 - 1) since.first_stops since.second_stops (omega (arith, rose, since.first_stops))
+  stops_rise old new since (inr (inr full)) = inr (sum_full_too (a.stops new.first) (b.stops new.second) (2 ^ 64 - 1) full)
+
+  pub stops_grow : (old new : Pair A B) → IsSince a b (old.first, old.second) new → stops_of a b old ≤ stops_of a b new
+  stops_grow old new since = sum_grows (a.stops old.first) (b.stops old.second) (a.stops new.first) (b.stops new.second) (2 ^ 64 - 1) since.first_stops since.second_stops
+
+  pub same_stops : (old new : Pair A B) → SameStops a b (old.first, old.second) new → stops_of a b new ≡ stops_of a b old
+  same_stops old new same = λ i. min (same.0 i + same.1 i) (2 ^ 64 - 1)
+
+  -- its counts move as a bank's do
+  pub write_counted : (old new : Mirrored A B) (written : Written) → IsSince a b (old.pair.first, old.pair.second) new.pair → WriteCounted a b (old.pair.first, old.pair.second) new.pair written
+      → new.faults ≡ (if fails written then risen old.faults else old.faults) → Counted faults_of (stops_in a b) old new written
+  write_counted old new Done since counted faults = (faults, same_stops old.pair new.pair counted)
+  write_counted old new Failed since counted faults = (subst (Rose old.faults) (sym faults) (Rose-risen old.faults), same_stops old.pair new.pair counted.1)
+  write_counted old new Stopped since counted faults = (stops_rise old.pair new.pair since counted, faults)
+
+  pub read_done : {T E : Type 0} (old new : Mirrored A B) (read : Result T E) → SameStops a b (old.pair.first, old.pair.second) new.pair
+      → new.faults ≡ (if is_err read then risen old.faults else old.faults) → OnOk read (Still faults_of (stops_in a b) old new)
+  read_done old new (Ok x) same faults = (faults, same_stops old.pair new.pair same)
+  read_done old new (Err e) same faults = tt
+
+  pub read_failed : {T E : Type 0} (old new : Mirrored A B) (read : Result T E) → SameStops a b (old.pair.first, old.pair.second) new.pair
+      → new.faults ≡ (if is_err read then risen old.faults else old.faults) → OnErr read (RoseAlone faults_of (stops_in a b) old new)
+  read_failed old new (Ok x) same faults = tt
+  read_failed old new (Err e) same faults = (subst (Rose old.faults) (sym faults) (Rose-risen old.faults), same_stops old.pair new.pair same)
+
+  -- its moments are those of both
+  pub of_pairs : (old new : Mirrored A B) (IsSuch : List ℕ → Type 0) → Leaves a b old.pair new.pair IsSuch → LeavesOnly moment_of (LeftSinceOf a b) old new IsSuch
+  of_pairs old new IsSuch leaves = record { later = leaves.later; each = leaves.each; adds_only = leaves.adds_only; keeps = leaves.keeps }
+
+  -- a call keeps what holds between two calls
+  pub mirror_on : (old new : Mirrored A B) → IsMirror a b old → GoesOn a b old.pair new.pair → new.mark_failed ≡ old.mark_failed
+      → IsHeld a b new.in_use new.pair → KeepsExcuse a b old.in_use old.pair new.pair new.in_use → IsMirror a b new
+  mirror_on old new was goes mark held keeps = record {
+    held = held;
+    since = subst (λ opening. IsSince a b opening new.pair) (sym goes.same_opening) (since_on a b (opening_of old.pair) old.pair new.pair was.since goes);
+    excused =
+        subst (λ opening. IsExcused a b new.mark_failed opening new.pair new.in_use) (sym goes.same_opening)
+        (subst (λ mark_failed. IsExcused a b mark_failed (opening_of old.pair) new.pair new.in_use) (sym mark) (keeps old.mark_failed (opening_of old.pair) was.since was.excused));
+  }
+
+  -- and a call that fails has a cause since the opening
+  pub has_cause : (old : Mirrored A B) (new : Pair A B) → IsMirror a b old → GoesOn a b old.pair new → HasCause a b old.in_use old.pair new → MayFail a b old.mark_failed (opening_of new) new
+  has_cause old new was goes cause =
+      subst (λ opening. MayFail a b old.mark_failed opening new) (sym goes.same_opening) (cause old.mark_failed (opening_of old.pair) was.since was.excused)

@@ -1,0 +1,5 @@
+pub mod Moments
+pub mod Bytes
+pub mod Excuses
+pub mod Joined
+pub mod Answering

@@ -1,0 +1,20 @@
+use Rattle.std.proofs.Common.{◌≡◌, List, ℕ, sym, subst}
+use Rattle.bank_mirror.specs.Pairs.{Pair, bytes_of, pair_of}
+use Rattle.bank_mirror.specs.Moments.{moment, LeftSince}
+use Rattle.bank_mirror.proofs.mirror.Mirror.open.Goals as goal
+
+pub returns-in-Ok-clause-moments : goal.returns-in-Ok-clause-moments
+returns-in-Ok-clause-moments g c told =
+    let a = g.A.Bank in
+    let b = g.B.Bank in
+    subst (λ (was : Pair _ _). (image : List ℕ) → LeftSince a b c.open.new.self (moment was) image → image ≡ bytes_of a b was) c.make-banks.ensures (c.open.ensures.moments told).each
+
+pub returns-in-Err-clause-back_moments : goal.returns-in-Err-clause-back_moments
+returns-in-Err-clause-back_moments g c told =
+    let a = g.A.Bank in
+    let b = g.B.Bank in
+    let ended = c.end-first.ensures in
+    let back : Pair _ _ = record { first = c.end-first.result.0; second = c.end-first.result.1; past = c.end-first.result.2.items } in
+    let same : back ≡ c.open.new.self = λ i. record { first = ended.first i; second = ended.second i; past = ended.past i } in
+    subst (λ (pair : Pair _ _). (image : List ℕ) → LeftSince a b pair 0 image → image ≡ pair_of (a.now c.args.first) (b.now c.args.second)) (sym same)
+    (subst (λ (was : Pair _ _). (image : List ℕ) → LeftSince a b c.open.new.self (moment was) image → image ≡ bytes_of a b was) c.make-banks.ensures (c.open.ensures.moments told).each)

@@ -1,0 +1,7 @@
+pub mod Pairs
+pub mod Moments
+pub mod Counts
+pub mod BanksInUse
+pub mod Mirrors
+pub mod Openings
+pub mod Laws

@@ -1,0 +1,47 @@
+-- Two banks as one bank.
+use Rattle.std.specs.Prelude.{◌≡◌, ℕ, Bool, true, false, List}
+use Rattle.tbl_outside.specs.declared.bank.Written.{Written}
+use Rattle.tbl_outside.specs.declared.bank.Written.TheVariants.{Done, Failed, Stopped}
+use Rattle.tbl_outside.specs.declared.bank.Bank.{Ghosts}
+use Rattle.bank_mirror.specs.declared.in_use.InUse.{InUse}
+use Rattle.bank_mirror.specs.Pairs.{Pair}
+use Rattle.bank_mirror.specs.Moments.{moment, LeftSince}
+use Rattle.bank_mirror.specs.Counts.{opening_of, IsSince, stops_of}
+use Rattle.bank_mirror.specs.BanksInUse.{IsHeld, IsExcused}
+
+-- both, which of them is in, whether the opening's write of the mark failed, and how often a call failed
+pub record Mirrored (A B : Type 0) : Type 0 where
+  pub pair : Pair A B
+  pub in_use : InUse
+  pub mark_failed : Bool
+  pub faults : ℕ
+
+-- what holds between two calls
+pub record IsMirror {A B : Type 0} (a : Ghosts A) (b : Ghosts B) (mirror : Mirrored A B) : Type 0 where
+  pub held : IsHeld a b mirror.in_use mirror.pair
+  pub since : IsSince a b (opening_of mirror.pair) mirror.pair
+  pub excused : IsExcused a b mirror.mark_failed (opening_of mirror.pair) mirror.pair mirror.in_use
+
+-- its moments are those of the two
+abbrev pub moment_of : {A B : Type 0} → Mirrored A B → ℕ
+moment_of mirror = moment mirror.pair
+
+abbrev pub LeftSinceOf : {A B : Type 0} → Ghosts A → Ghosts B → Mirrored A B → ℕ → List ℕ → Type 0
+LeftSinceOf a b mirror = LeftSince a b mirror.pair
+
+-- it counts the calls that failed, and the stops of both
+abbrev pub faults_of : {A B : Type 0} → Mirrored A B → ℕ
+faults_of mirror = mirror.faults
+
+abbrev pub stops_in : {A B : Type 0} → Ghosts A → Ghosts B → Mirrored A B → ℕ
+stops_in a b mirror = stops_of a b mirror.pair
+
+-- it is still the same opening, of which the same is told
+pub record SameOpening {A B : Type 0} (old new : Mirrored A B) : Type 0 where
+  pub opening : opening_of new.pair ≡ opening_of old.pair
+  pub mark : new.mark_failed ≡ old.mark_failed
+
+abbrev pub fails : Written → Bool
+fails Done = false
+fails Failed = true
+fails Stopped = false

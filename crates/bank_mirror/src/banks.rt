@@ -1,0 +1,140 @@
+//! Both banks, and each call of one of them. What a reset may leave meanwhile is an image of that one, beside the bytes
+//! of the other.
+
+ghost use Rattle.std.specs.Prelude.{◌≡◌, ◌+◌, ◌<◌, ◌≤◌, [], ◌∷◌, length, OnOk, OnErr, IfOk};
+ghost use Rattle.tbl_kinds.specs.Numbers.{piece, patched};
+ghost use Rattle.tbl_outside.specs.Bank.{Torn};
+ghost use Rattle.tbl_outside.specs.Counts.{Still, RoseAlone, Counted};
+ghost use Rattle.bank_mirror.specs.Pairs.{Pair, BothTellMoments, stale, is_stale};
+ghost use Rattle.bank_mirror.specs.Moments.{OfFirst, OfSecond, Leaves};
+ghost use Rattle.bank_mirror.specs.Counts.{GoesOn};
+
+use http_server::Log;
+use std::marker::Model;
+use tbl_outside::{Bank, Failed, Written};
+
+/// The mark of a stale first bank: this byte in the second, right after the first one's size.
+pub const STALE: u8 = 0x4C;
+
+/// Both banks, the second larger than the first, and what both were before each call of one of them. The last takes no
+/// memory: only contracts see it.
+#[derive(Drop)]
+pub(crate) struct Banks<A: Bank, B: Bank> {
+    first: A,
+    second: B,
+    past: Log<A, B>,
+}
+
+impl<A: Bank, B: Bank> Model for Banks<A, B> {
+    ghost use Rattle.std.specs.Prelude.{◌<◌};
+    ghost use Rattle.bank_mirror.specs.Pairs.{Pair};
+
+    ghost Value = { Pair A B };
+
+    ghost view = { λ banks. record { first = banks.first; second = banks.second; past = banks.past.items } };
+
+    ghost invariant = { λ banks. A.size banks.first < B.size banks.second };
+}
+
+impl<A: Bank, B: Bank> Banks<A, B> {
+    /// Both, before any call.
+    pub(crate) fn make(first: A, second: B) -> Banks<A, B>
+        requires { A.size first < B.size second }
+        ensures { result ≡ record { first = first; second = second; past = [] } }
+    {
+        Banks {
+            first,
+            second,
+            past: Log::new(),
+        }
+    }
+
+    /// Both again, and what they were before each call.
+    pub(crate) fn end(self) -> (A, B, Log<A, B>)
+        ensures first { result.0 ≡ self.first }
+        ensures second { result.1 ≡ self.second }
+        ensures past { result.2.items ≡ self.past }
+    {
+        (self.first, self.second, self.past)
+    }
+
+    /// How many bytes the first has.
+    pub(crate) fn size(&self) -> u32
+        ensures size { result ≡ A.size self.now.first }
+        ensures larger { A.size self.now.first < B.size self.now.second }
+    {
+        self.first.size()
+    }
+
+    /// Reads a piece of the first.
+    pub(crate) fn read_first(&mut self, at: u32, into: &mut [u8]) -> Result<(), Failed>
+        requires { at + length into.old ≤ A.size self.old.first }
+        ensures read { OnOk result (A.tells → into.new ≡ piece at (length into.old) (A.now self.old.first)) }
+        ensures kept { A.tells → A.now self.new.first ≡ A.now self.old.first }
+        ensures other { self.new.second ≡ self.old.second }
+        ensures moments { BothTellMoments A.Bank B.Bank → Leaves A.Bank B.Bank self.old self.new
+            (OfFirst (λ image. image ≡ A.now self.old.first) (B.now self.old.second)) }
+        ensures done { OnOk result (Still A.faults A.stops self.old.first self.new.first) }
+        ensures failed { OnErr result (RoseAlone A.faults A.stops self.old.first self.new.first) }
+        ensures goes_on { GoesOn A.Bank B.Bank self.old self.new }
+    {
+        let past = self.past.and(&self.first, &self.second);
+        let read = self.first.read_at(at, into);
+        self.past = past;
+        read
+    }
+
+    /// Reads a piece of what the second has for the first, with its mark.
+    pub(crate) fn read_second(&mut self, at: u32, into: &mut [u8]) -> Result<(), Failed>
+        requires { at + length into.old ≤ A.size self.old.first + 1 }
+        ensures larger { A.size self.old.first < B.size self.old.second }
+        ensures read { OnOk result (B.tells → into.new ≡ piece at (length into.old) (B.now self.old.second)) }
+        ensures kept { B.tells → B.now self.new.second ≡ B.now self.old.second }
+        ensures other { self.new.first ≡ self.old.first }
+        ensures moments { BothTellMoments A.Bank B.Bank → Leaves A.Bank B.Bank self.old self.new
+            (OfSecond (A.now self.old.first) (λ image. image ≡ B.now self.old.second)) }
+        ensures done { OnOk result (Still B.faults B.stops self.old.second self.new.second) }
+        ensures failed { OnErr result (RoseAlone B.faults B.stops self.old.second self.new.second) }
+        ensures goes_on { GoesOn A.Bank B.Bank self.old self.new }
+    {
+        let past = self.past.and(&self.first, &self.second);
+        let read = self.second.read_at(at, into);
+        self.past = past;
+        read
+    }
+
+    /// Writes over a piece of the first.
+    pub(crate) fn write_first(&mut self, at: u32, bytes: &[u8]) -> Written
+        requires { at + length bytes.now ≤ A.size self.old.first }
+        ensures done { result ≡ Written.Done → A.tells → A.now self.new.first ≡ patched (A.now self.old.first) at bytes.now }
+        ensures torn { A.tells → Torn at (length bytes.now) (A.now self.old.first) (A.now self.new.first) }
+        ensures other { self.new.second ≡ self.old.second }
+        ensures moments { BothTellMoments A.Bank B.Bank → Leaves A.Bank B.Bank self.old self.new
+            (OfFirst (Torn at (length bytes.now) (A.now self.old.first)) (B.now self.old.second)) }
+        ensures counted { Counted A.faults A.stops self.old.first self.new.first result }
+        ensures goes_on { GoesOn A.Bank B.Bank self.old self.new }
+    {
+        let past = self.past.and(&self.first, &self.second);
+        let written = self.first.write_at(at, bytes);
+        self.past = past;
+        written
+    }
+
+    /// Writes over a piece of what the second has for the first, with its mark.
+    pub(crate) fn write_second(&mut self, at: u32, bytes: &[u8]) -> Written
+        requires { at + length bytes.now ≤ A.size self.old.first + 1 }
+        ensures larger { A.size self.old.first < B.size self.old.second }
+        ensures done { result ≡ Written.Done → B.tells → B.now self.new.second ≡ patched (B.now self.old.second) at bytes.now }
+        ensures torn { B.tells → Torn at (length bytes.now) (B.now self.old.second) (B.now self.new.second) }
+        ensures other { self.new.first ≡ self.old.first }
+        ensures moments { BothTellMoments A.Bank B.Bank → Leaves A.Bank B.Bank self.old self.new
+            (OfSecond (A.now self.old.first) (Torn at (length bytes.now) (B.now self.old.second))) }
+        ensures counted { Counted B.faults B.stops self.old.second self.new.second result }
+        ensures goes_on { GoesOn A.Bank B.Bank self.old self.new }
+    {
+        let past = self.past.and(&self.first, &self.second);
+        let written = self.second.write_at(at, bytes);
+        self.past = past;
+        written
+    }
+}

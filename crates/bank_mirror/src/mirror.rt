@@ -1,0 +1,240 @@
+// Two banks as one bank.
+ghost use Rattle.std.specs.Prelude.{◌≡◌, ◌+◌, ◌<◌, ◌≤◌, ◌∷◌, [], List, ℕ, true, false, if◌then◌else◌, length, OnOk, OnErr, IfOk, IfErr};
+ghost use Rattle.tbl_kinds.specs.Numbers.{piece, patched};
+ghost use Rattle.tbl_outside.specs.Bank.{Torn, LeavesOnly};
+ghost use Rattle.tbl_outside.specs.BankCalls.{read, write};
+ghost use Rattle.tbl_outside.specs.Counts.{Still, RoseAlone, Counted, risen};
+ghost use Rattle.bank_mirror.specs.Pairs.{BothTell, BothTellMoments, is_stale, bytes_of, pair_of};
+ghost use Rattle.bank_mirror.specs.Moments.{LeftSince};
+ghost use Rattle.bank_mirror.specs.Counts.{SecondFailed, OneFailed, IsSince, MayFail, opening_of};
+ghost use Rattle.bank_mirror.specs.Openings.{OpenCounted};
+ghost use Rattle.bank_mirror.specs.BanksInUse.{IsHeld, IsExcused};
+ghost use Rattle.bank_mirror.specs.Mirrors.{moment_of, LeftSinceOf, faults_of, stops_in, fails, SameOpening};
+
+use crate::banks::Banks;
+use crate::in_use::InUse;
+use crate::opening::OpenFault;
+use http_server::Log;
+use std::alloc::Global;
+use std::marker::Model;
+use tbl_outside::{Bank, Failed, Written};
+
+/// Two banks as one bank of the first one's size, which loses nothing while one of them fails.
+#[derive(Drop)]
+pub struct Mirror<A: Bank, B: Bank> {
+    banks: Banks<A, B>,
+    in_use: InUse,
+    mark_failed: bool,
+    faults: u64,
+}
+
+impl<A: Bank, B: Bank> Model for Mirror<A, B> {
+    ghost use Rattle.bank_mirror.specs.Mirrors.{Mirrored, IsMirror};
+
+    ghost Value = { Mirrored A B };
+
+    ghost view = { λ m. record { pair = m.banks; in_use = m.in_use; mark_failed = m.mark_failed; faults = m.faults } };
+
+    ghost invariant = { λ m. IsMirror A.Bank B.Bank (record { pair = m.banks; in_use = m.in_use; mark_failed = m.mark_failed; faults = m.faults }) };
+}
+
+/// Two banks that weren't opened as one, handed back beside the cause.
+#[derive(Drop)]
+pub struct OpenBack<A: Bank, B: Bank> {
+    pub cause: OpenFault,
+    pub first: A,
+    pub second: B,
+    /// What both were before each call of one of them. It takes no memory: only contracts see it.
+    pub past: Log<A, B>,
+}
+
+impl<A: Bank, B: Bank> Mirror<A, B> {
+    /// Opens two banks as one, the second larger than the first. Where the mark says that the first is stale, the second's
+    /// front is copied over the first and the mark is taken away last, else the first is copied over the second's front. A
+    /// bank in which a write of the copy fails is out. All memory that it needs is taken before the first call.
+    pub fn open(alloc: Global, first: A, second: B) -> Result<Mirror<A, B>, OpenBack<A, B>>
+        requires { A.size first < B.size second }
+        ensures bytes { IfOk result (λ m. BothTell A.Bank B.Bank →
+            bytes_of A.Bank B.Bank m.pair ≡ pair_of (A.now first) (B.now second)) }
+        ensures held { IfOk result (λ m. IsHeld A.Bank B.Bank m.in_use m.pair) }
+        ensures moments { IfOk result (λ m. BothTellMoments A.Bank B.Bank → (image : List ℕ) →
+            LeftSince A.Bank B.Bank m.pair 0 image → image ≡ pair_of (A.now first) (B.now second)) }
+        ensures opening { IfOk result (λ m. opening_of m.pair ≡ (first, second)) }
+        ensures excuse { IfOk result (λ m. IsExcused A.Bank B.Bank m.mark_failed (first, second) m.pair m.in_use) }
+        ensures mark { IfOk result (λ m. m.mark_failed ≡ true → SecondFailed A.Bank B.Bank (first, second) m.pair) }
+        ensures unmarked { IfOk result (λ m. BothTell A.Bank B.Bank →
+            is_stale (length (A.now first)) (B.now second) ≡ false → m.mark_failed ≡ false) }
+        ensures faults { IfOk result (λ m. m.faults ≡ 0) }
+        ensures size { IfOk result (λ m. A.size m.pair.first ≡ A.size first) }
+        ensures counts { IfOk result (λ m. IsSince A.Bank B.Bank (first, second) m.pair) }
+
+        ensures back_bytes { IfErr result (λ back. BothTell A.Bank B.Bank →
+            pair_of (A.now back.first) (B.now back.second) ≡ pair_of (A.now first) (B.now second)) }
+        ensures back_moments { IfErr result (λ back. BothTellMoments A.Bank B.Bank → (image : List ℕ) →
+            LeftSince A.Bank B.Bank (record { first = back.first; second = back.second; past = back.past.items }) 0 image →
+            image ≡ pair_of (A.now first) (B.now second)) }
+        ensures back_sizes { IfErr result (λ back. A.size back.first ≡ A.size first × B.size back.second ≡ B.size second) }
+        ensures counted { IfErr result (λ back. OpenCounted A.Bank B.Bank (first, second)
+            (record { first = back.first; second = back.second; past = back.past.items }) back.cause) }
+    {
+        let mut banks = Banks::make(first, second);
+        match banks.open(alloc) {
+            Ok(opened) => Ok(Mirror {
+                banks,
+                in_use: opened.in_use,
+                mark_failed: opened.mark_failed,
+                faults: 0,
+            }),
+            Err(cause) => {
+                let (first, second, past) = banks.end();
+                Err(OpenBack {
+                    cause,
+                    first,
+                    second,
+                    past,
+                })
+            }
+        }
+    }
+
+    /// Which of the two is in.
+    pub fn in_use(&self) -> InUse
+        ensures { result ≡ self.now.in_use }
+    {
+        self.in_use
+    }
+
+    /// Both banks back, the first before the second.
+    pub fn end(self) -> (A, B)
+        ensures { result ≡ (self.pair.first, self.pair.second) }
+    {
+        let (first, second, _past) = self.banks.end();
+        (first, second)
+    }
+}
+
+/// A count of calls that failed, after one more call.
+fn counted(faults: u64, failed: bool) -> u64
+    ensures { result ≡ (if failed then risen faults else faults) }
+{
+    if failed {
+        faults.saturating_add(1)
+    } else {
+        faults
+    }
+}
+
+/// Whether a write failed.
+fn is_failed(written: Written) -> bool
+    ensures { result ≡ fails written }
+{
+    match written {
+        Written::Failed => true,
+        Written::Done | Written::Stopped => false,
+    }
+}
+
+impl<A: Bank, B: Bank> Bank for Mirror<A, B> {
+    ghost use Rattle.std.proofs.Common.{◌≡◌, [], length, inl, refl, ◌∙◌};
+    ghost use Rattle.bank_mirror.specs.Pairs.{pair_of, bytes_of, BothTell, BothTellMoments};
+    ghost use Rattle.bank_mirror.specs.Moments.{MayLeave};
+    ghost use Rattle.bank_mirror.specs.Mirrors.{moment_of, LeftSinceOf, faults_of, stops_in};
+    ghost use Rattle.bank_mirror.specs.Laws.{length-pair_of, none_since};
+
+    ghost tells = { BothTell A.Bank B.Bank };
+
+    ghost tells_moments = { BothTellMoments A.Bank B.Bank };
+
+    ghost size = { λ m. A.size m.pair.first };
+
+    ghost now = { λ m. bytes_of A.Bank B.Bank m.pair };
+
+    ghost may_leave = { λ m. MayLeave A.Bank B.Bank m.pair };
+
+    ghost clock = { moment_of };
+
+    ghost left_since = { LeftSinceOf A.Bank B.Bank };
+
+    ghost faults = { faults_of };
+
+    ghost stops = { stops_in A.Bank B.Bank };
+
+    ghost tells_calls = { λ _. ⊥ };
+
+    ghost calls = { λ _. [] };
+
+    ghost tells_both = { λ told. (A.tells_both told.0, B.tells_both told.1) };
+
+    ghost whole = { λ m told. length-pair_of (A.now m.pair.first) (B.now m.pair.second) ∙ A.whole m.pair.first told.0 };
+
+    ghost leaves_now = { λ m told.
+        (A.now m.pair.first, B.now m.pair.second, A.leaves_now m.pair.first told.0, B.leaves_now m.pair.second told.1, refl) };
+
+    ghost leaves_only_now = { λ m image told may. may.4
+        ∙ (λ i. pair_of (A.leaves_only_now m.pair.first may.0 told.0 may.2 i) (B.leaves_only_now m.pair.second may.1 told.1 may.3 i)) };
+
+    ghost counts_now = { λ m t image told le may. inl may };
+
+    ghost only_now = { λ m image told left. none_since ⟦<A as Bank>⟧ ⟦<B as Bank>⟧ m.pair image left };
+
+    fn size(&self) -> u32
+        ensures { result ≡ A.size self.now.pair.first }
+    {
+        self.banks.size()
+    }
+
+    fn read_at(&mut self, at: u32, into: &mut [u8]) -> Result<(), Failed>
+        requires { at + length into.old ≤ A.size self.old.pair.first }
+        ensures read { OnOk result (BothTell A.Bank B.Bank →
+            into.new ≡ piece at (length into.old) (bytes_of A.Bank B.Bank self.old.pair)) }
+        ensures kept { BothTell A.Bank B.Bank →
+            bytes_of A.Bank B.Bank self.new.pair ≡ bytes_of A.Bank B.Bank self.old.pair }
+        ensures moments { BothTellMoments A.Bank B.Bank → LeavesOnly moment_of (LeftSinceOf A.Bank B.Bank) self.old self.new
+            (λ image. image ≡ bytes_of A.Bank B.Bank self.old.pair) }
+        ensures size { A.size self.new.pair.first ≡ A.size self.old.pair.first }
+        ensures done { OnOk result (Still faults_of (stops_in A.Bank B.Bank) self.old self.new) }
+        ensures failed { OnErr result (RoseAlone faults_of (stops_in A.Bank B.Bank) self.old self.new) }
+        ensures fault_count { self.old.faults ≤ self.new.faults }
+        ensures stop_count { stops_in A.Bank B.Bank self.old ≤ stops_in A.Bank B.Bank self.new }
+        ensures told { ⊥ → ⊥ }
+        ensures bank_calls { ⊥ → [] ≡ read at (length into.old) ∷ [] }
+
+        // It fails only where one of the two failed in this call, and one that is out had its cause since the opening.
+        ensures fault { OnErr result (OneFailed A.Bank B.Bank (self.old.pair.first, self.old.pair.second) self.new.pair) }
+        ensures cause { OnErr result (MayFail A.Bank B.Bank self.new.mark_failed (opening_of self.new.pair) self.new.pair) }
+        ensures opening { SameOpening self.old self.new }
+    {
+        let end = self.banks.read(self.in_use, at, into);
+        self.in_use = end.in_use;
+        self.faults = counted(self.faults, end.read.is_err());
+        end.read
+    }
+
+    fn write_at(&mut self, at: u32, bytes: &[u8]) -> Written
+        requires { at + length bytes.now ≤ A.size self.old.pair.first }
+        ensures done { result ≡ Written.Done → BothTell A.Bank B.Bank →
+            bytes_of A.Bank B.Bank self.new.pair ≡ patched (bytes_of A.Bank B.Bank self.old.pair) at bytes.now }
+        ensures torn { BothTell A.Bank B.Bank → Torn at (length bytes.now)
+            (bytes_of A.Bank B.Bank self.old.pair) (bytes_of A.Bank B.Bank self.new.pair) }
+        ensures moments { BothTellMoments A.Bank B.Bank → LeavesOnly moment_of (LeftSinceOf A.Bank B.Bank) self.old self.new
+            (Torn at (length bytes.now) (bytes_of A.Bank B.Bank self.old.pair)) }
+        ensures size { A.size self.new.pair.first ≡ A.size self.old.pair.first }
+        ensures counted { Counted faults_of (stops_in A.Bank B.Bank) self.old self.new result }
+        ensures fault_count { self.old.faults ≤ self.new.faults }
+        ensures stop_count { stops_in A.Bank B.Bank self.old ≤ stops_in A.Bank B.Bank self.new }
+        ensures told { ⊥ → ⊥ }
+        ensures bank_calls { ⊥ → [] ≡ write at bytes.now ∷ [] }
+
+        // It fails only where one of the two failed in this call, and one that is out had its cause since the opening.
+        ensures fault { result ≡ Written.Failed →
+            OneFailed A.Bank B.Bank (self.old.pair.first, self.old.pair.second) self.new.pair }
+        ensures cause { result ≡ Written.Failed →
+            MayFail A.Bank B.Bank self.new.mark_failed (opening_of self.new.pair) self.new.pair }
+        ensures opening { SameOpening self.old self.new }
+    {
+        let ended = self.banks.write(self.in_use, at, bytes);
+        self.in_use = ended.in_use;
+        self.faults = counted(self.faults, is_failed(ended.written));
+        ended.written
+    }
+}

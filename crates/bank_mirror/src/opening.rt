@@ -1,0 +1,193 @@
+//! An opening of two banks as one: afterwards both hold the same, or one of them is out.
+
+ghost use Rattle.std.specs.Prelude.{◌≡◌, true, false, length, IfOk, IfErr};
+ghost use Rattle.bank_mirror.specs.Pairs.{BothTell, BothTellMoments, bytes_of, front_of, is_marked, SameBytes};
+ghost use Rattle.bank_mirror.specs.Moments.{Leaves};
+ghost use Rattle.bank_mirror.specs.Counts.{GoesOn, SecondFailed};
+ghost use Rattle.bank_mirror.specs.BanksInUse.{IsHeld, IsExcused};
+ghost use Rattle.bank_mirror.specs.Openings.{OpenCounted, CallsCounted};
+
+use crate::banks::Banks;
+use crate::copies::PIECE;
+use crate::in_use::InUse;
+use std::alloc::{AllocError, Global};
+use tbl_outside::{Bank, Failed, Written};
+use thiserror::Error;
+
+/// Why two banks weren't opened as one.
+#[derive(Clone, Copy, Debug, PartialEq, Eq, Error)]
+pub enum OpenFault {
+    /// A bank failed in a read.
+    #[error("a bank failed")]
+    Fault,
+    /// The processor was reset in a write.
+    #[error("the processor was reset")]
+    Stopped,
+    /// Memory ran out. Neither bank was called.
+    #[error("out of memory")]
+    Memory,
+}
+
+impl From<AllocError> for OpenFault {
+    ghost use Rattle.std.specs.Prelude.{◌≡◌};
+    ghost use Rattle.bank_mirror.specs.declared.opening.OpenFault.TheVariants as fault;
+
+    ghost from_gives = { λ _ e. e ≡ fault.Memory };
+
+    fn from(_error: AllocError) -> OpenFault {
+        OpenFault::Memory
+    }
+}
+
+/// Which bank is in after an opening, and whether its write of the mark failed.
+#[derive(Clone, Copy)]
+pub(crate) struct Opened {
+    pub(crate) in_use: InUse,
+    pub(crate) mark_failed: bool,
+}
+
+impl<A: Bank, B: Bank> Banks<A, B> {
+    /// Makes both hold what they hold together. All memory that it needs is taken before the first call.
+    pub(crate) fn open(&mut self, alloc: Global) -> Result<Opened, OpenFault>
+        ensures held { IfOk result (λ opened. IsHeld A.Bank B.Bank opened.in_use self.new) }
+        ensures bytes { BothTell A.Bank B.Bank → bytes_of A.Bank B.Bank self.new ≡ bytes_of A.Bank B.Bank self.old }
+        ensures moments { BothTellMoments A.Bank B.Bank → Leaves A.Bank B.Bank self.old self.new
+            (λ image. image ≡ bytes_of A.Bank B.Bank self.old) }
+        ensures excuse { IfOk result (λ opened.
+            IsExcused A.Bank B.Bank opened.mark_failed (self.old.first, self.old.second) self.new opened.in_use) }
+        ensures mark { IfOk result (λ opened. opened.mark_failed ≡ true →
+            SecondFailed A.Bank B.Bank (self.old.first, self.old.second) self.new) }
+        ensures unmarked { IfOk result (λ opened. BothTell A.Bank B.Bank →
+            is_marked A.Bank B.Bank self.old ≡ false → opened.mark_failed ≡ false) }
+        ensures counted { IfErr result (OpenCounted A.Bank B.Bank (self.old.first, self.old.second) self.new) }
+        ensures goes_on { GoesOn A.Bank B.Bank self.old self.new }
+    {
+        let mut buffer = vec![in alloc; 0; PIECE as usize]?;
+        self.agree(&mut buffer)
+    }
+
+    /// Makes both hold what they hold together, by way of a buffer.
+    pub(crate) fn agree(&mut self, buffer: &mut [u8]) -> Result<Opened, OpenFault>
+        requires { length buffer.old ≡ PIECE }
+        ensures held { IfOk result (λ opened. IsHeld A.Bank B.Bank opened.in_use self.new) }
+        ensures bytes { BothTell A.Bank B.Bank → bytes_of A.Bank B.Bank self.new ≡ bytes_of A.Bank B.Bank self.old }
+        ensures moments { BothTellMoments A.Bank B.Bank → Leaves A.Bank B.Bank self.old self.new
+            (λ image. image ≡ bytes_of A.Bank B.Bank self.old) }
+        ensures excuse { IfOk result (λ opened.
+            IsExcused A.Bank B.Bank opened.mark_failed (self.old.first, self.old.second) self.new opened.in_use) }
+        ensures mark { IfOk result (λ opened. opened.mark_failed ≡ true →
+            SecondFailed A.Bank B.Bank (self.old.first, self.old.second) self.new) }
+        ensures unmarked { IfOk result (λ opened. BothTell A.Bank B.Bank →
+            is_marked A.Bank B.Bank self.old ≡ false → opened.mark_failed ≡ false) }
+        ensures counted { IfErr result (CallsCounted A.Bank B.Bank (self.old.first, self.old.second) self.new) }
+        ensures goes_on { GoesOn A.Bank B.Bank self.old self.new }
+    {
+        match self.first_is_stale() {
+            Ok(true) => self.copy_back(buffer),
+            Ok(false) => self.copy_over(buffer),
+            Err(Failed) => Err(OpenFault::Fault),
+        }
+    }
+
+    /// Copies the first over the second's front.
+    fn copy_over(&mut self, buffer: &mut [u8]) -> Result<Opened, OpenFault>
+        requires buffer { length buffer.old ≡ PIECE }
+        requires fresh { BothTell A.Bank B.Bank → is_marked A.Bank B.Bank self.old ≡ false }
+        ensures held { IfOk result (λ opened. IsHeld A.Bank B.Bank opened.in_use self.new) }
+        ensures bytes { BothTell A.Bank B.Bank → bytes_of A.Bank B.Bank self.new ≡ A.now self.old.first }
+        ensures moments { BothTellMoments A.Bank B.Bank → Leaves A.Bank B.Bank self.old self.new
+            (λ image. image ≡ A.now self.old.first) }
+        ensures excuse { IfOk result (λ opened.
+            IsExcused A.Bank B.Bank opened.mark_failed (self.old.first, self.old.second) self.new opened.in_use) }
+        ensures mark { IfOk result (λ opened. opened.mark_failed ≡ false) }
+        ensures counted { IfErr result (CallsCounted A.Bank B.Bank (self.old.first, self.old.second) self.new) }
+        ensures goes_on { GoesOn A.Bank B.Bank self.old self.new }
+    {
+        match self.copy_to_second(buffer) {
+            Ok(Written::Done) => Ok(Opened {
+                in_use: InUse::Both,
+                mark_failed: false,
+            }),
+            Ok(Written::Failed) => Ok(Opened {
+                in_use: InUse::SecondOut,
+                mark_failed: false,
+            }),
+            Ok(Written::Stopped) => Err(OpenFault::Stopped),
+            Err(Failed) => Err(OpenFault::Fault),
+        }
+    }
+
+    /// Copies the second's front over the first, and takes the mark away last.
+    fn copy_back(&mut self, buffer: &mut [u8]) -> Result<Opened, OpenFault>
+        requires buffer { length buffer.old ≡ PIECE }
+        requires stale { BothTell A.Bank B.Bank → is_marked A.Bank B.Bank self.old ≡ true }
+        ensures held { IfOk result (λ opened. IsHeld A.Bank B.Bank opened.in_use self.new) }
+        ensures bytes { BothTell A.Bank B.Bank → bytes_of A.Bank B.Bank self.new ≡ front_of A.Bank B.Bank self.old }
+        ensures moments { BothTellMoments A.Bank B.Bank → Leaves A.Bank B.Bank self.old self.new
+            (λ image. image ≡ front_of A.Bank B.Bank self.old) }
+        ensures excuse { IfOk result (λ opened.
+            IsExcused A.Bank B.Bank opened.mark_failed (self.old.first, self.old.second) self.new opened.in_use) }
+        ensures mark { IfOk result (λ opened. opened.mark_failed ≡ true →
+            SecondFailed A.Bank B.Bank (self.old.first, self.old.second) self.new) }
+        ensures counted { IfErr result (CallsCounted A.Bank B.Bank (self.old.first, self.old.second) self.new) }
+        ensures goes_on { GoesOn A.Bank B.Bank self.old self.new }
+    {
+        match self.copy_to_first(buffer) {
+            Ok(Written::Done) => self.clear_mark(),
+            Ok(Written::Failed) => Ok(Opened {
+                in_use: InUse::FirstOut,
+                mark_failed: false,
+            }),
+            Ok(Written::Stopped) => Err(OpenFault::Stopped),
+            Err(Failed) => Err(OpenFault::Fault),
+        }
+    }
+
+    /// Takes the mark away, where both hold the same.
+    fn clear_mark(&mut self) -> Result<Opened, OpenFault>
+        requires { BothTell A.Bank B.Bank → front_of A.Bank B.Bank self.old ≡ A.now self.old.first }
+        ensures held { IfOk result (λ opened. IsHeld A.Bank B.Bank opened.in_use self.new) }
+        ensures bytes { BothTell A.Bank B.Bank → bytes_of A.Bank B.Bank self.new ≡ A.now self.old.first }
+        ensures moments { BothTellMoments A.Bank B.Bank → Leaves A.Bank B.Bank self.old self.new
+            (λ image. image ≡ A.now self.old.first) }
+        ensures excuse { IfOk result (λ opened.
+            IsExcused A.Bank B.Bank opened.mark_failed (self.old.first, self.old.second) self.new opened.in_use) }
+        ensures mark { IfOk result (λ opened. opened.mark_failed ≡ true →
+            SecondFailed A.Bank B.Bank (self.old.first, self.old.second) self.new) }
+        ensures counted { IfErr result (CallsCounted A.Bank B.Bank (self.old.first, self.old.second) self.new) }
+        ensures goes_on { GoesOn A.Bank B.Bank self.old self.new }
+    {
+        match self.write_mark(0) {
+            Written::Done => Ok(Opened {
+                in_use: InUse::Both,
+                mark_failed: false,
+            }),
+            Written::Failed => self.open_by_mark(),
+            Written::Stopped => Err(OpenFault::Stopped),
+        }
+    }
+
+    /// Which bank is in by the mark, after a write of it that failed.
+    fn open_by_mark(&mut self) -> Result<Opened, OpenFault>
+        ensures held { IfOk result (λ opened. IsHeld A.Bank B.Bank opened.in_use self.new) }
+        ensures kept { SameBytes A.Bank B.Bank self.old self.new }
+        ensures moments { BothTellMoments A.Bank B.Bank → Leaves A.Bank B.Bank self.old self.new
+            (λ image. image ≡ bytes_of A.Bank B.Bank self.old) }
+        ensures excuse { IfOk result (λ opened.
+            IsExcused A.Bank B.Bank opened.mark_failed (self.old.first, self.old.second) self.new opened.in_use) }
+        ensures counted { IfErr result (CallsCounted A.Bank B.Bank (self.old.first, self.old.second) self.new) }
+        ensures goes_on { GoesOn A.Bank B.Bank self.old self.new }
+    {
+        match self.first_is_stale() {
+            Ok(true) => Ok(Opened {
+                in_use: InUse::FirstOut,
+                mark_failed: true,
+            }),
+            Ok(false) => Ok(Opened {
+                in_use: InUse::SecondOut,
+                mark_failed: true,
+            }),
+            Err(Failed) => Err(OpenFault::Fault),
+        }
+    }
+}
