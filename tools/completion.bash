@@ -3,14 +3,14 @@ _cfetbl() {
     local current=${COMP_WORDS[COMP_CWORD]} words=''
     COMPREPLY=()
     case $COMP_CWORD:${COMP_WORDS[1]} in
-        1:*) words='play crew drill repl show text store resets map report xtce cosmos serve compare explain test --help --version --program' ;;
-        *:play | *:crew) words='--admit --show --text --all --json --diff --pcap --help' ;;
-        *:show) words='--all --json --end --diff --pcap --session-order --check --help' ;;
+        1:*) words='play crew drill repl show text make describe file store resets map report xtce cosmos serve compare explain test --help --version --program' ;;
+        *:play | *:crew) words='--admit --show --text --all --json --diff --pcap --shape --help' ;;
+        *:show) words='--all --json --end --diff --pcap --shape --session-order --check --help' ;;
         *:text) words='--back --kind --help' ;;
-        *:report | *:map) words='-o --help' ;;
+        *:make | *:describe | *:report | *:map) words='-o --help' ;;
         *:serve) words='--cfe-layout --big-endian --listen --command-port --to --telemetry-port --socket --script --clock --help' ;;
         *:xtce | *:cosmos) words='-o --cfe-layout --big-endian --help' ;;
-        *:repl | *:compare | *:explain | *:drill) words='--help' ;;
+        *:repl | *:compare | *:explain | *:file | *:drill) words='--help' ;;
         *:store) words='--all --help' ;;
         *:resets) words='--every --html --help' ;;
     esac

@@ -6,16 +6,22 @@ use std::fs::{File, OpenOptions};
 use std::io;
 use std::os::unix::fs::FileExt;
 
-/// How many bytes the store has, and how many of them stand before the blocks.
-const BANK: u64 = 131_072;
+/// How many bytes the store has, and how many of them stand before the first places of blocks and up to their end.
+const BANK: u64 = 262_144;
+const PLACES_END: u64 = 131_072;
 const DIRECTORY_END: usize = 8_208;
 
 /// Where the directory begins, and how long an entry of it is.
 const DIRECTORY: usize = 16;
 const ENTRY: usize = 64;
 
-/// How long the head of a block is.
+/// How long the head of a place is, and how far the second place of a block is from the first.
 const HEAD: usize = 8;
+const BETWEEN_PLACES: u64 = 131_072;
+
+/// Where in an entry its turn bytes stand, and their values for an open place. Any other is a closed one.
+const TURNS: u64 = 52;
+const TURN_BYTES: [u8; 3] = [0xA0, 0xA1, 0xA2];
 
 /// The first byte of an entry whose block is open.
 const OPEN: u8 = 0xA5;
@@ -43,7 +49,7 @@ impl Block {
         let fits = (1..=2).contains(&block.kind)
             && (1..=16_384).contains(&block.size)
             && DIRECTORY_END as u32 <= block.offset
-            && block.end() <= BANK
+            && block.end() <= PLACES_END
             && block.name.is_name();
         fits.then_some(block)
     }
@@ -78,6 +84,18 @@ fn entry_place(slot: usize) -> u64 {
     (DIRECTORY + ENTRY * slot) as u64
 }
 
+/// Which place doesn't show by these turn bytes, and the turn with which it is opened.
+fn hidden(turns: [u8; 2]) -> (u64, usize) {
+    let after = |turn| (turn + 1) % 3;
+    let [first, second] = turns.map(|byte| TURN_BYTES.iter().position(|it| *it == byte));
+    let is_second = second.is_some() && (first.is_none() || second == first.map(after));
+    let shown = if is_second { second } else { first };
+    (
+        u64::from(!is_second && first.is_some()),
+        shown.map_or(0, after),
+    )
+}
+
 /// Opens the store's file, and makes it as long as the store is.
 pub fn open() -> io::Result<File> {
     let file = OpenOptions::new()
@@ -100,7 +118,7 @@ fn clear(file: &File, front: &[u8]) -> io::Result<()> {
     if front[0] == b'C' {
         file.write_all_at(&[0], 0)?;
     }
-    file.write_all_at(b"DS1\0\0\0\0\0\0\0\0\0\0\0\0", 1)?;
+    file.write_all_at(b"DS2\0\0\0\0\0\0\0\0\0\0\0\0", 1)?;
     file.write_all_at(&[0; DIRECTORY_END - DIRECTORY], DIRECTORY as u64)?;
     file.write_all_at(b"C", 0)
 }
@@ -112,11 +130,11 @@ pub struct Store {
 }
 
 impl Store {
-    /// Reads the directory, and closes the entries that don't count.
+    /// Reads the directory, and closes the entries that don't count. A store of version 1 isn't carried over.
     pub fn boot(file: File) -> io::Result<Store> {
         let mut front = [0; DIRECTORY_END];
         file.read_exact_at(&mut front, 0)?;
-        let is_live = front.starts_with(b"CDS1");
+        let is_live = front.starts_with(b"CDS");
         if !is_live {
             clear(&file, &front)?;
         }
@@ -153,7 +171,7 @@ impl Store {
         };
         let fits = |block: &Block| {
             let mut others = self.blocks.iter().flatten();
-            block.end() <= BANK && others.all(|other| block.is_apart(other))
+            block.end() <= PLACES_END && others.all(|other| block.is_apart(other))
         };
         places.into_iter().map(at).find(fits)
     }
@@ -164,7 +182,6 @@ impl Store {
         let (Some(slot), Some(block)) = (free, self.placed(name, size)) else {
             return Ok(None);
         };
-        self.file.write_all_at(&[0; HEAD], block.offset.into())?;
         let place = entry_place(slot);
         self.file.write_all_at(&block.entry(), place + 1)?;
         self.file.write_all_at(&[OPEN], place)?;
@@ -175,11 +192,18 @@ impl Store {
     /// Copies an image into the block of a slot.
     pub fn copy(&self, slot: usize, image: &[u8]) -> io::Result<()> {
         let block = self.blocks[slot].as_ref().expect("the block is open");
-        let place = u64::from(block.offset);
-        self.file.write_all_at(image, place + HEAD as u64)?;
-        let mut head = [0; HEAD];
-        head[..4].copy_from_slice(&block.size.to_be_bytes());
-        head[4..6].copy_from_slice(&check_word(image).to_be_bytes());
-        self.file.write_all_at(&head, place)
+        let turns_place = entry_place(slot) + TURNS;
+        let mut turns = [0; 2];
+        self.file.read_exact_at(&mut turns, turns_place)?;
+        let (hidden, turn) = hidden(turns);
+        let mut written = Vec::with_capacity(HEAD + image.len());
+        written.extend(block.size.to_be_bytes());
+        written.extend(check_word(image).to_be_bytes());
+        written.extend([0; 2]);
+        written.extend(image);
+        let place = u64::from(block.offset) + BETWEEN_PLACES * hidden;
+        self.file.write_all_at(&written, place)?;
+        self.file
+            .write_all_at(&[TURN_BYTES[turn]], turns_place + hidden)
     }
 }

@@ -6,7 +6,7 @@ from . import files, names, records
 # How many bytes tell what a file is.
 FRONT = 4096
 TEXT_BYTES = frozenset(range(0x20, 0x7F)) | frozenset(range(0x80, 0x100)) | frozenset(b"\t\n\f\r")
-STORE_LETTERS = b"CDS1"
+STORE_LETTERS = b"CDS"
 CAPTURES = tuple(bytes.fromhex(it) for it in ("A1B2C3D4", "D4C3B2A1", "A1B23C4D", "4D3CB2A1", "0A0D0D0A"))
 UTF_16 = (b"\xff\xfe", b"\xfe\xff")
 

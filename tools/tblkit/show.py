@@ -30,8 +30,9 @@ def listed(fields, is_all=False):
     return ", ".join(f"{it.name} {it.words}" for it in fields if is_all or not it.is_blank)
 
 
-def lines(answer, is_all=False):
-    """The lines of an answer: the request with its status, then what it replied and each packet that it sent."""
+def lines(answer, is_all=False, shapes=None):
+    """The lines of an answer: the request with its status, then what it replied, the images of tables whose shapes are known
+    by field, and each packet that it sent."""
     detail, replies = answer.detail(), answer.reply()
     told = [answer.status_words()] + ([f"{detail.name} {detail.words}"] if detail else [])
     told += [answer.table(), answer.handles_words()]
@@ -41,6 +42,7 @@ def lines(answer, is_all=False):
     yield f"{answer.entry.number('place')} {answer.line(is_all)} -> {', '.join(it for it in told if it)}"
     for kind, fields in replies:
         yield from _block(kind, fields, is_all)
+    yield from (INDENT + line for line in (shapes.lines(answer) if shapes else ()))
     for packet in answer.packets:
         yield from _packet_lines(packet, answer.view, is_all)
 

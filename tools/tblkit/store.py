@@ -1,17 +1,23 @@
-"""The bytes of preserved memory, docs/STORE.md: the directory, which entries count, and what stands in their blocks."""
+"""The bytes of preserved memory, docs/STORE.md: the directory, which entries count, and what stands in the places of their blocks."""
 from dataclasses import dataclass
 
 from . import names
 
-SIZE = 131_072
-LIVE = b"CDS1"
+LIVE = b"CDS"
+# After the live letters stands the version. In a store of version 1 a block has one place, and its second half isn't there.
+VERSION_1 = b"1"
 DIRECTORY, SLOTS, ENTRY = 16, 128, 64
-BLOCKS = 8_208
-ROOM = SIZE - BLOCKS
+# The first places of blocks lie from here to there, and the second place of each so many bytes further on.
+BLOCKS, BLOCKS_END, BETWEEN = 8_208, 131_072, 131_072
+SIZE = BLOCKS_END + BETWEEN
+ROOM = BLOCKS_END - BLOCKS
 HEAD = 8
 MOST = 16_384
 OPEN = 0xA5
 KINDS = {1: "table", 2: "application"}
+# The turn bytes of an open place, by its turn. Any other byte is a closed one.
+TURNS = b"\xA0\xA1\xA2"
+PLACES = ("first", "second")
 
 
 def check_word(content):
@@ -32,6 +38,7 @@ class Entry:
     offset: int
     size: int
     name: bytes
+    turns: bytes
     fault: str
 
     @property
@@ -44,8 +51,9 @@ class Entry:
 
 
 @dataclass(frozen=True)
-class Block:
-    """What stands in the block of an entry that counts."""
+class Place:
+    """What stands in a place of a block: its head, and the bytes after that."""
+    at: int
     length: int
     check: int
     image: bytes
@@ -60,8 +68,43 @@ class Block:
         return self.length == len(self.image) and self.check == self.found
 
 
+@dataclass(frozen=True)
+class Block:
+    """The block of an entry that counts: its places, and the number of the one that shows, or none."""
+    places: tuple
+    number: int | None
+
+    @property
+    def shown(self):
+        return None if self.number is None else self.places[self.number]
+
+    @property
+    def is_whole(self):
+        return self.shown is not None and self.shown.is_whole
+
+
 def is_live(bank):
-    return bank[:4] == LIVE
+    return bank.startswith(LIVE)
+
+
+def version(bank):
+    """The version of the store in a bank, None where none is live."""
+    if not is_live(bank):
+        return None
+    return 1 if bank[len(LIVE):].startswith(VERSION_1) else 2
+
+
+def size_of(bank):
+    """How many bytes a bank has that begins so."""
+    return BLOCKS_END if version(bank) == 1 else SIZE
+
+
+def place_by(turns):
+    """Which place shows by these two turn bytes: 0 the first, 1 the second, or none."""
+    first, second = map(TURNS.find, turns)
+    if first < 0:
+        return None if second < 0 else 1
+    return 1 if second == (first + 1) % len(TURNS) else 0
 
 
 def _is_name(name):
@@ -75,7 +118,7 @@ def _fault(raw, kind, offset, size, earlier):
         return f"its kind is {kind}"
     if not 1 <= size <= MOST:
         return f"its size is {size}"
-    if offset < BLOCKS or offset + HEAD + size > SIZE:
+    if offset < BLOCKS or offset + HEAD + size > BLOCKS_END:
         return f"its block would stand at {offset}"
     if not _is_name(name) or raw[12 + len(name):52].strip(b"\0"):
         return "its name field doesn't read as a name"
@@ -98,7 +141,7 @@ def entries(bank):
             continue
         kind, offset, size = raw[1], int.from_bytes(raw[4:8], "big"), int.from_bytes(raw[8:12], "big")
         fault = _fault(raw, kind, offset, size, [it for it in found if not it.fault])
-        found.append(Entry(slot, kind, offset, size, names.name_in(raw[12:52]), fault))
+        found.append(Entry(slot, kind, offset, size, names.name_in(raw[12:52]), raw[52:54], fault))
     return found
 
 
@@ -106,14 +149,21 @@ def counted(bank):
     return [it for it in entries(bank) if not it.fault]
 
 
+def _place(bank, at, size):
+    head, image = bank[at:at + HEAD], bank[at + HEAD:at + HEAD + size]
+    return Place(at, int.from_bytes(head[:4], "big"), int.from_bytes(head[4:6], "big"), image)
+
+
 def block(bank, entry):
-    at = entry.offset
-    image = bank[at + HEAD:entry.end]
-    return Block(int.from_bytes(bank[at:at + 4], "big"), int.from_bytes(bank[at + 4:at + 6], "big"), image)
+    """What stands in the places of an entry that counts, and which of them shows."""
+    if version(bank) == 1:
+        return Block((_place(bank, entry.offset, entry.size),), 0)
+    places = (_place(bank, entry.offset + it * BETWEEN, entry.size) for it in range(len(PLACES)))
+    return Block(tuple(places), place_by(entry.turns))
 
 
 def free(blocks):
-    """How many bytes the blocks leave. They needn't lie together."""
+    """How many bytes the first places of the blocks leave. They needn't lie together."""
     return ROOM - sum(HEAD + it.size for it in blocks)
 
 
@@ -122,7 +172,7 @@ def greatest_gap(blocks):
     gap, at = 0, BLOCKS
     for entry in sorted(blocks, key=lambda it: it.offset):
         gap, at = max(gap, entry.offset - at), entry.end
-    return max(gap, SIZE - at)
+    return max(gap, BLOCKS_END - at)
 
 
 def most_fitting(blocks):

@@ -3,17 +3,18 @@ from . import names, store
 from .pages import element, legend, page, picture, text, titled
 
 FIRST_BYTES = 8
-WHOLE, RESERVED, TORN = "whole", "reserved, never copied", "torn"
+WHOLE, RESERVED, TORN = "whole", "reserved, no image", "torn"
 STATE_COLORS = {WHOLE: "#59a14f", RESERVED: "#f28e2b", TORN: "#d62728"}
 OWNERS = {"table": "a table", "application": "an application"}
-DIRECTORY, FREE = "#b9b0ab", "#f0f0f0"
-LEGEND = (*((color, words) for words, color in STATE_COLORS.items()), (DIRECTORY, "directory"), (FREE, "free"))
+DIRECTORY, FREE, HIDDEN, UNUSED = "#b9b0ab", "#f0f0f0", "#b7cde2", "#ffffff"
+LEGEND = (*((color, words) for words, color in STATE_COLORS.items()), (HIDDEN, "a place that doesn't show"),
+          (DIRECTORY, "directory"), (FREE, "free"))
 # The picture: slots in rows of sixteen, and the bank in rows of so many bytes, each in points.
 SLOTS_A_ROW, SLOT, SLOT_STEP = 16, 20, 22
-ROW, ROW_WIDTH, ROW_HEIGHT, ROW_STEP = 4_096, 820, 15, 18
+ROW, ROW_WIDTH, ROW_HEIGHT, ROW_STEP = 8_192, 820, 15, 18
 BANK_AT, TOP = 400, 24
 STYLE = """\
-.written { fill: #fff; pointer-events: none; } .number { font-size: 8px; }
+.written { fill: #fff; } .written, .named { pointer-events: none; } .number { font-size: 8px; }
 .heading { font-weight: bold; font-size: 13px; }
 """
 
@@ -26,7 +27,7 @@ class Map:
         self.length = len(content)
         bank = content[:store.SIZE].ljust(store.SIZE, b"\0")
         entries = store.entries(bank)
-        self.is_live = store.is_live(bank)
+        self.version, self.size = store.version(bank), store.size_of(bank)
         self.ignored = [it for it in entries if it.fault]
         self.blocks = [(it, store.block(bank, it)) for it in entries if not it.fault]
 
@@ -37,9 +38,9 @@ class Map:
 
     @property
     def gaps(self):
-        """The free pieces between blocks, by their places: where each begins and how many bytes it has."""
+        """The free pieces between first places: where each begins and how many bytes it has."""
         found, at = [], store.BLOCKS
-        for begin, end in [*sorted((it.offset, it.end) for it, _ in self.blocks), (store.SIZE, store.SIZE)]:
+        for begin, end in [*sorted((it.offset, it.end) for it, _ in self.blocks), (store.BLOCKS_END, store.BLOCKS_END)]:
             if begin > at:
                 found.append((at, begin - at))
             at = end
@@ -47,8 +48,10 @@ class Map:
 
 
 def state_of(block):
-    """Whether a block is whole, torn, or was never copied into."""
-    return WHOLE if block.is_whole else TORN if block.length else RESERVED
+    """Whether a block is whole, torn, or has no image yet, since neither place shows or, in version 1, the length is 0."""
+    if block.is_whole:
+        return WHOLE
+    return TORN if block.shown and (len(block.places) > 1 or block.shown.length) else RESERVED
 
 
 def summary(name, found):
@@ -60,32 +63,42 @@ def summary(name, found):
 
 def notes(found):
     """What has to be said of a bank beside its blocks."""
-    if not found.is_live:
+    if found.version is None:
         yield f"It doesn't begin with {store.LIVE.decode()}, so it has no blocks: the next boot writes an empty directory."
-    if found.length < store.SIZE:
+    if found.version == 1:
+        yield "It is of version 1, in which a block has one place: the next boot of the processor carries it over."
+    if found.length < found.size:
         yield f"It has {found.length:,} bytes; the program writes zeros after them, up to {store.SIZE:,}."
     for it in found.ignored:
         yield (f"The entry of slot {it.slot} has an open gate and doesn't count, since {it.fault}: a boot of the processor "
                "closes it.")
 
 
+def _shows(block):
+    """Which place shows."""
+    return "none" if block.number is None else store.PLACES[block.number]
+
+
 def _image_words(block):
-    digits = block.image[:FIRST_BYTES].hex().upper()
-    return digits + (".." if len(block.image) > FIRST_BYTES else "")
+    image = block.shown.image if state_of(block) != RESERVED else b""
+    digits = image[:FIRST_BYTES].hex().upper()
+    return digits + (".." if len(image) > FIRST_BYTES else "")
 
 
 def _check_words(block):
-    kept = f"0x{block.check:04X}"
-    return kept if state_of(block) != TORN else f"{kept}, found 0x{block.found:04X}"
+    if state_of(block) == RESERVED:
+        return "-"
+    kept = f"0x{block.shown.check:04X}"
+    return kept if block.is_whole else f"{kept}, found 0x{block.shown.found:04X}"
 
 
 def lines(name, found):
     """The map as text: the blocks by their slots, then what is free by its place."""
     yield summary(name, found)
     yield from notes(found)
-    rows = [("slot", "place", "bytes", "whose", "name", "state", "check word", "image")]
+    rows = [("slot", "place", "bytes", "whose", "name", "state", "shows", "check word", "image")]
     rows += [(str(it.slot), str(it.offset), str(it.size), store.KINDS[it.kind], names.quoted(it.name), state_of(block),
-              _check_words(block), _image_words(block)) for it, block in found.blocks]
+              _shows(block), _check_words(block), _image_words(block)) for it, block in found.blocks]
     if found.blocks:
         yield ""
         yield from _columns(rows)
@@ -116,8 +129,11 @@ def _pieces(offset, size):
 
 
 def _block_words(entry, block):
-    return (f"slot {entry.slot}, {names.quoted(entry.name)} of {OWNERS[store.KINDS[entry.kind]]}: {entry.size} bytes at "
-            f"{entry.offset}, {state_of(block)}, check word {_check_words(block)}, image {_image_words(block)}")
+    words = f"slot {entry.slot}, {names.quoted(entry.name)} of {OWNERS[store.KINDS[entry.kind]]}: {entry.size} bytes at {entry.offset}"
+    if state_of(block) == RESERVED:
+        return f"{words}, {RESERVED}"
+    return (f"{words}, {state_of(block)}, the {_shows(block)} place shows, check word {_check_words(block)}, "
+            f"image {_image_words(block)}")
 
 
 def _slots(found):
@@ -142,23 +158,35 @@ def _bars(offset, size, words, **attributes):
 
 
 def _bytes(found):
-    for row in range(store.SIZE // ROW):
+    for row in range(found.size // ROW):
         yield element("text", str(row * ROW), x=BANK_AT - 5, y=TOP + row * ROW_STEP + 11, text_anchor="end", class_="number")
     yield from _bars(0, store.BLOCKS, "the directory", fill=DIRECTORY, data_of="directory")
-    for at, size in found.gaps:
-        yield from _bars(at, size, f"{size} bytes free from {at} on", fill=FREE, data_of="free")
+    for half in range(0, found.size, store.BETWEEN):
+        for at, size in found.gaps:
+            yield from _bars(half + at, size, f"{size} bytes free from {half + at} on", fill=FREE, data_of="free")
+    if found.size > store.BETWEEN:
+        yield from _bars(store.BETWEEN, store.BLOCKS, "not used", fill=UNUSED, data_of="unused")
     for entry, block in found.blocks:
-        yield from _bars(entry.offset, store.HEAD + entry.size, _block_words(entry, block), fill=STATE_COLORS[state_of(block)],
+        yield from _block_bars(entry, block)
+        yield from _label(entry, block)
+
+
+def _block_bars(entry, block):
+    """The places of a block. The one that shows has the color of the block's state."""
+    words, color = _block_words(entry, block), STATE_COLORS[state_of(block)]
+    for number, place in enumerate(block.places):
+        name = f"{words}; its {store.PLACES[number]} place" if len(block.places) > 1 else words
+        yield from _bars(place.at, store.HEAD + entry.size, name, fill=color if number == block.number else HIDDEN,
                          data_of=f"slot {entry.slot}")
-        yield from _label(entry)
 
 
-def _label(entry):
-    """The name of a block, in the first of its rows where there is room for it."""
+def _label(entry, block):
+    """The name of a block, in the place that shows, or in the first, and in the first of its rows where there is room for it."""
     name = names.quoted(entry.name)
-    for row, at, length in _pieces(entry.offset, store.HEAD + entry.size):
+    for row, at, length in _pieces(block.places[block.number or 0].at, store.HEAD + entry.size):
         if length * ROW_WIDTH / ROW > 6 * len(name) + 6:
-            yield element("text", text(name), x=BANK_AT + at * ROW_WIDTH / ROW + 3, y=TOP + row * ROW_STEP + 11, class_="written")
+            yield element("text", text(name), x=BANK_AT + at * ROW_WIDTH / ROW + 3, y=TOP + row * ROW_STEP + 11,
+                          class_="written" if block.shown else "named")
             return
 
 
@@ -166,7 +194,7 @@ def html(name, found):
     """The map as a page."""
     headings = [element("text", "slots", x=0, y=14, class_="heading"),
                 element("text", f"bank, {ROW:,} bytes a row", x=BANK_AT, y=14, class_="heading")]
-    drawn = picture(BANK_AT + ROW_WIDTH + 4, TOP + store.SIZE // ROW * ROW_STEP,
+    drawn = picture(BANK_AT + ROW_WIDTH + 4, TOP + found.size // ROW * ROW_STEP,
                     "\n".join([*headings, *_slots(found), *_bytes(found)]))
     listed = element("pre", text("\n".join(list(lines(name, found))[1:])))
     return page(name, "\n".join([element("h1", text(summary(name, found))), legend(LEGEND), drawn, listed]), STYLE)

@@ -69,6 +69,8 @@ def _field_bytes(left, field, request=None):
     if field.form == "data":
         if field.owner == "File" and left.take_if("table"):
             return words.read_table_file(left)
+        if field.owner == "File" and left.take_if("made"):
+            return left.made_file()
         return left.data(f"the {field.name}", records.lengths(request)[1] - field.place)
     if field.form == "name":
         return left.name(f"the {field.name}", field.width).ljust(field.width, b"\0")

@@ -3,11 +3,12 @@ and written as them."""
 import os
 import re
 
-from . import files, names
+from . import described, files, names
 
 WORD = re.compile(r'\s*(?:(#.*)|"((?:[^"\\]|\\.)*)"(?=\s|$)|([^\s"]+)(?=\s|$)|$)')
 ESCAPE = re.compile(r'\\(?:x([0-9A-Fa-f]{2})|(["\\]))')
 
+MOST_DESCRIPTION = 1 << 20
 
 NO_ASCII = "a name is made of the bytes 0x21 to 0x7E, and this one has other characters, in UTF-8 (in quotes \\xNN is any byte)"
 
@@ -188,6 +189,15 @@ class Words:
         except (OSError, ValueError) as error:
             reason = getattr(error, "strerror", None) or error
             raise TextError(f"expected a file that can be read: {name}: {reason}", name.at) from None
+
+    def made_file(self):
+        """The bytes of the table file that a description gives, from the words after `made`."""
+        first = None if self.is_done() else self._words[self._at]
+        text = self._file(MOST_DESCRIPTION)
+        try:
+            return described.make(text)
+        except described.WrongLine as wrong:
+            raise TextError(wrong.said_of(first), first.at) from None
 
 
 def data_words(content):

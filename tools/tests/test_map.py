@@ -9,10 +9,15 @@ from tblkit import store, storemap
 from . import recorded
 from .test_commands import call
 
-EXAMPLE = {0: "43445331", 16: "A5 01 0000 00002010 00000004 412E54", 8208: "00000004 0FA1 0000 01020304"}
-# What docs/STORE.md says of a copy that broke off: the bytes of the block, the state, and the check word of its bytes.
+EXAMPLE = {0: "43445332", 16: "A5 01 0000 00002010 00000004 412E54", 68: "A0", 8208: "00000004 0FA1 0000 01020304"}
+VERSION_1 = {0: "43445331", 68: "00"}
+# Turn bytes and what stands in the second place, the state, which place shows, and the check word of its bytes.
+COPIES = (("A000", "", "whole", "first", 0x0FA1), ("A000", "00000004 3BE3 0000 0506", "whole", "first", 0x0FA1),
+          ("A0A1", "00000004 3BE3 0000 05060708", "whole", "second", 0x3BE3), ("A0A1", "00000004 3BE3 0000 05060704", "torn", "second", 0x3EE3),
+          ("A0A2", "00000004 3BE3 0000 05060708", "whole", "first", 0x0FA1), ("0000", "", "reserved, no image", "none", None))
+# The same of what stands in the only place of version 1.
 BROKEN = (("00000004 0FA1 0000 05060704", "torn", 0x3EE3), ("00000004 0FA1 0000 05060708", "torn", 0x3BE3),
-          ("00000004 3BE3 0000 05060708", "whole", 0x3BE3), ("00000000 0000 0000 01020304", "reserved, never copied", 0x0FA1))
+          ("00000004 3BE3 0000 05060708", "whole", 0x3BE3), ("00000000 0000 0000 01020304", "reserved, no image", 0x0FA1))
 # An entry of slot 1 beside that of the example, and why it doesn't count; without a reason it does.
 ENTRIES = (("A5 02 0000 00002020 00000004 412E54", ""), ("A5 01 0000 00002020 00000004 422E54", ""),
            ("A4 02 0000 00002020 00000004 412E54", None), ("A5 03 0000 00002020 00000004 412E54", "its kind is"),
@@ -36,13 +41,24 @@ class Banks(unittest.TestCase):
     def test_the_example(self):
         self.assertEqual(list(storemap.lines("cds.store", storemap.Map(bank_of()))), [
             "cds.store: 1 of 128 slots, 122,852 of 122,864 bytes free in 1 gap, the greatest 122,852", "",
-            "slot  place  bytes  whose  name  state  check word  image", "0     8208   4      table  A.T   whole  0x0FA1      01020304", "",
+            "slot  place  bytes  whose  name  state  shows  check word  image",
+            "0     8208   4      table  A.T   whole  first  0x0FA1      01020304", "",
             "free from  to      bytes   the greatest block there", "8220       131071  122852  16384"])
 
-    def test_copies_that_broke_off(self):
+    def test_which_place_shows(self):
+        for turns, second, state, shows, found in COPIES:
+            _, block = storemap.Map(bank_of({68: turns, 139280: second})).blocks[0]
+            self.assertEqual((storemap.state_of(block), block.shown and block.shown.found), (state, found))
+            line = list(storemap.lines("a", storemap.Map(bank_of({68: turns, 139280: second}))))[3]
+            self.assertRegex(line, f"  {state} +{shows} +{'-' if found is None else '0x'}")
+
+    def test_version_1(self):
         for digits, state, found in BROKEN:
-            _, block = storemap.Map(bank_of({8208: digits})).blocks[0]
-            self.assertEqual((storemap.state_of(block), block.found), (state, found))
+            mapped = storemap.Map(bank_of(VERSION_1, {8208: digits})[:store.BLOCKS_END])
+            _, block = mapped.blocks[0]
+            self.assertEqual((storemap.state_of(block), block.shown.found), (state, found))
+            self.assertEqual(list(storemap.notes(mapped)), [
+                "It is of version 1, in which a block has one place: the next boot of the processor carries it over."])
 
     def test_which_entries_count(self):
         for digits, reason in ENTRIES:
@@ -59,7 +75,7 @@ class Banks(unittest.TestCase):
     def test_other_banks(self):
         self.assertEqual(list(storemap.lines("a", storemap.Map(bytes(store.SIZE))))[:2], [
             "a: 0 of 128 slots, 122,864 of 122,864 bytes free in 1 gap, the greatest 122,864",
-            "It doesn't begin with CDS1, so it has no blocks: the next boot writes an empty directory."])
+            "It doesn't begin with CDS, so it has no blocks: the next boot writes an empty directory."])
         self.assertIn("It has 9,000 bytes; the program writes zeros", "\n".join(storemap.lines("a", storemap.Map(bank_of()[:9000]))))
 
 
@@ -67,10 +83,16 @@ class Pages(unittest.TestCase):
     def test_the_page(self):
         page = storemap.html("a", storemap.Map(bank_of({80: "A5 02 0000 00003FF0 00001010 412E55"})))
         slots = dict(re.findall(r'data-slot="(\d+)" data-state="([a-z, ]+)"', page))
-        self.assertEqual([slots[it] for it in ("0", "1", "2")], ["whole", "reserved, never copied", "free"])
+        self.assertEqual([slots[it] for it in ("0", "1", "2")], ["whole", "reserved, no image", "free"])
         bars = re.findall(r'data-place="(\d+)" data-bytes="(\d+)" [^>]*data-of="([a-z 0-9]+)"', page)
-        self.assertEqual([it[:2] for it in bars if it[2] == "slot 1"], [("16368", "16"), ("16384", "4096"), ("20480", "8")])
+        first = [(16368, 16), (16384, 4104)]
+        self.assertEqual([(int(at), int(size)) for at, size, whose in bars if whose == "slot 1"],
+                         first + [(at + store.BETWEEN, size) for at, size in first])
         self.assertEqual(sum(int(it[1]) for it in bars), store.SIZE)
+
+    def test_the_page_of_version_1(self):
+        bars = re.findall(r'data-bytes="(\d+)"', storemap.html("a", storemap.Map(bank_of(VERSION_1))))
+        self.assertEqual(sum(map(int, bars)), store.BLOCKS_END)
 
 
 class Words(unittest.TestCase):

@@ -3,6 +3,7 @@ import glob
 import os
 import pty
 import select
+import shutil
 import subprocess
 import sys
 import tempfile
@@ -13,7 +14,8 @@ from tblkit import completion, states
 from . import recorded
 from .test_commands import TOOLS, call
 
-EXAMPLES = sorted(glob.glob(os.path.join(recorded.TOP, "examples", "*.txt")))
+DESCRIPTIONS = glob.glob(os.path.join(recorded.TOP, "examples", "*.tbl.txt"))
+EXAMPLES = sorted({*glob.glob(os.path.join(recorded.TOP, "examples", "*.txt"))} - {*DESCRIPTIONS})
 START = b"app 1 start A\napp 1 register T size 4 double\napp 1 load 0 hex 01020304\napp 1 get 0\n"
 WAIT = 180
 
@@ -29,6 +31,9 @@ class Typed(unittest.TestCase):
         return status, written.decode(), "\n".join(it for it in said.splitlines() if "unproved" not in it)
 
     def test_examples(self):
+        # (a session names descriptions beside it)
+        for name in DESCRIPTIONS:
+            shutil.copy(name, self.folder)
         # (a session that is played under lists of admitted identifiers isn't one of repl's)
         for name in (it for it in EXAMPLES if not it.endswith("/admitted.txt")):
             with self.subTest(name), open(name, "rb") as lines:
@@ -55,10 +60,10 @@ class Typed(unittest.TestCase):
         self.typed(lines)
         self.assertEqual(os.listdir(self.folder), [])
         with open(os.path.join(self.folder, "cds.store"), "wb") as store:
-            store.write(bytes(131072))
+            store.write(bytes(262144))
         self.typed(lines)
         with open(os.path.join(self.folder, "cds.store"), "rb") as store:
-            self.assertEqual(store.read(), bytes(131072))
+            self.assertEqual(store.read(), bytes(262144))
 
     def test_wrong_lines(self):
         status, written, said = self.typed(b"ground NOPE\n:nothing\nground NOOP\n")

@@ -24,11 +24,14 @@ class Resets(unittest.TestCase):
     def test_what_is_read(self):
         before, writes, after = resets.read(shown())
         self.assertEqual([len(before), len(writes), after[1]], [
-            7, 10, "10 writes and 8314 resets were tried: after each number of bytes of each write, 0 and all of them too."])
-        self.assertEqual([(it.size, it.request, it.what) for it in writes[7:9]], [
-            (8, "2 app 1 LoadImage", "head of the block at 8208"), (4, "3 app 1 LoadImage", "image 2 of NAV.MODES")])
+            7, 9, "9 writes and 8307 resets were tried: after each number of bytes of each write, 0 and all of them too."])
+        self.assertEqual([(it.size, it.request, it.what) for it in writes[6:8]], [
+            (1, "2 app 1 LoadImage", "turn byte of slot 0"), (12, "3 app 1 LoadImage", "image 2 of NAV.MODES")])
+        self.assertEqual([(it.first, it.last, it.words) for it in writes[6].backs], [
+            (0, 0, "none"), (1, 1, "recovered: image 1 (crc 0x0FA1), whose copy broke off")])
         self.assertEqual([(it.first, it.last, it.words) for it in writes[8].backs], [
-            (0, 0, "recovered: image 1 (crc 0x0FA1), the last that was copied"), (1, 4, "none")])
+            (0, 0, "recovered: image 1 (crc 0x0FA1), the last that was copied"),
+            (1, 1, "recovered: image 2 (crc 0x3BE3), whose copy broke off")])
 
     def test_each_byte_has_its_color(self):
         page = resets.html("modes.txt", shown())
@@ -38,7 +41,7 @@ class Resets(unittest.TestCase):
         writes = resets.read(shown())[1]
         self.assertEqual({number: sum(last - first + 1 for first, last, _ in it) for number, it in counts.items()},
                          {it.number: it.size + 1 for it in writes})
-        self.assertEqual(re.findall(r'fill="(\S+)" data-write="9"', page), ["#59a14f", "#d8d8d8"])
+        self.assertEqual(re.findall(r'fill="(\S+)" data-write="9"', page), ["#59a14f", "#f28e2b"])
 
     def test_without_tables(self):
         """A session without critical tables has writes all the same."""

@@ -73,7 +73,7 @@ class Served(unittest.TestCase):
         status, written, _ = self.end(served)
         self.assertEqual((status, written[0], written[-1]), (0, "0 ground NOOP -> 0 SUCCESS",
                          "end: status 0, the work is done; 3 entries; all 36 bytes of the session were played"))
-        self.assertEqual(os.path.getsize(os.path.join(self.folder, "cds.store")), 131_072)
+        self.assertEqual(os.path.getsize(os.path.join(self.folder, "cds.store")), 262_144)
 
     def test_a_script_and_callers(self):
         path = os.path.join(self.folder, "calls")

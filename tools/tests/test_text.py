@@ -34,9 +34,9 @@ def lines_of(session):
     return into.getvalue()
 
 
-def records_of(lines):
+def records_of(lines, folder="."):
     into = io.BytesIO()
-    text.to_records(io.BytesIO(lines), into)
+    text.to_records(io.BytesIO(lines), into, folder)
     return into.getvalue()
 
 
@@ -150,4 +150,4 @@ class ThereAndBack(unittest.TestCase):
         self.assertTrue(names)
         for name in names:
             with self.subTest(name), open(name, "rb") as session, open(name.replace(".session", ".txt"), "rb") as lines:
-                self.assertEqual(records_of(lines.read()), session.read())
+                self.assertEqual(records_of(lines.read(), os.path.dirname(name)), session.read())
