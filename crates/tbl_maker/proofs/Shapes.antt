@@ -194,3 +194,29 @@ is_shape_of forms form good one fits =
     let some : nat_lt 0 (length (forms ++ form ∷ [])) ≡ true = lt-ltb 0 (length (forms ++ form ∷ [])) (let len : length (forms ++ form ∷ []) ≡ length forms + 1 = length-append forms (form ∷ []) in omega (arith, len)) in
     let size : nat_le (shape_size (forms ++ form ∷ [])) 16384 ≡ true = le-leb (shape_size (forms ++ form ∷ [])) 16384 (omega (arith, fits, size_push forms form)) in
     and_from _ _ (and_from _ _ some all) size
+
+-- ---- one word, one shape
+
+no_more : (more : List Form) → [] ≡ joined 44 form_word more ++ [] → more ≡ []
+no_more [] e = refl
+no_more (form ∷ more) e =
+    let len : 0 ≡ length (joined 44 form_word (form ∷ more) ++ []) = ap length e in
+    absurd (omega (arith, len, length-append (joined 44 form_word (form ∷ more)) [], length-append (form_word form ++ 44 ∷ []) (joined 44 form_word more), length-append (form_word form) (44 ∷ [])))
+
+same_shorter : (a b : List Form) → AllByRecursion IsGood a → AllByRecursion IsGood b → joined 44 form_word a ≡ joined 44 form_word b → length a ≤ length b → a ≡ b
+same_shorter a b ga gb e le =
+    let found = agree form_word IsGood 44 comma_lacks form_unique a b [] [] ga gb (ap (λ (l : List ℕ). l ++ []) e) le in
+    sym (found.1 ∙ ap (λ (l : List Form). a ++ l) (no_more found.0 found.2) ∙ append-nil a)
+
+-- no two shapes have one word
+pub shape_unique : (a b : List Form) → is_shape a ≡ true → is_shape b ≡ true → shape_word a ≡ shape_word b → a ≡ b
+shape_unique a b right_a right_b e =
+    let pa = shape_parts a right_a in
+    let pb = shape_parts b right_b in
+    let ga = All-test is_form a pa.1 in
+    let gb = All-test is_form b pb.1 in
+    let same : joined 44 form_word a ≡ joined 44 form_word b = sym (join_ended a pa.0) ∙ ap (λ (l : List ℕ). l ++ 44 ∷ []) e ∙ join_ended b pb.0 in
+    elim (cases_lt (length a) (length b)) [
+      | inl longer ↦ same_shorter a b ga gb same (omega (arith, longer))
+      | inr shorter ↦ sym (same_shorter b a gb ga (sym same) shorter)
+    ]

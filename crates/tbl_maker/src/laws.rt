@@ -1,11 +1,12 @@
 //! Laws of descriptions: their texts, shapes and files, and the way back.
 
-ghost use Rattle.std.specs.Prelude.{◌≡◌, ℕ, List, None};
+ghost use Rattle.std.specs.Prelude.{◌≡◌, ℕ, List, None, true};
 ghost use Rattle.tbl_kinds.specs.Admitted.{all_admitted};
 ghost use Rattle.tbl_kinds.specs.TableFiles.{file_flaw, table_file_in};
 ghost use Rattle.tbl_maker.specs.Descriptions.{Description, IsDescription, text_of, shape_of, contents_of, file_of};
 ghost use Rattle.tbl_maker.specs.Making.{IsMadeOf};
 ghost use Rattle.tbl_maker.specs.Describing.{describe_fault, IsDescribedBy};
+ghost use Rattle.tbl_maker.specs.Shapes.{is_shape, shape_word};
 ghost use Rattle.tbl_maker.specs.declared.form.Form.{Form};
 
 use table_files::written_files_are_read;
@@ -13,6 +14,11 @@ use table_files::written_files_are_read;
 /// No two descriptions have one text.
 pub fn a_text_has_one_description()
     ensures { (d e : Description) → IsDescription d → IsDescription e → text_of d ≡ text_of e → d ≡ e }
+{}
+
+/// No two shapes have one word.
+pub fn a_word_has_one_shape()
+    ensures { (shape other : List Form) → is_shape shape ≡ true → is_shape other ≡ true → shape_word shape ≡ shape_word other → shape ≡ other }
 {}
 
 /// No two descriptions have one shape and tell the same name, offset and image.

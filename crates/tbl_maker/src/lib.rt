@@ -18,7 +18,7 @@ pub use describing::{DescribeFault, describe_file};
 pub use field_type::{FieldType, Sign, Width};
 pub use form::Form;
 pub use laws::{
-    a_shape_and_a_file_have_one_description, a_text_has_one_description,
+    a_shape_and_a_file_have_one_description, a_text_has_one_description, a_word_has_one_shape,
     described_files_are_made_again, made_files_are_described,
 };
 pub use making::{MakeFault, make_file};
