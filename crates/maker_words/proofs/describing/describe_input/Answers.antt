@@ -1,0 +1,25 @@
+use Rattle.maker_words.specs.Answers.{ComesOfFile, source_told, sink_told}
+use Rattle.maker_words.proofs.Answering.{answers_read, answers_broke, describes_only, describes_through}
+use Rattle.maker_words.proofs.describing.describe_input.Goals as goal
+
+pub returns-in-Ok-clause-answers : goal.returns-in-Ok-clause-answers
+returns-in-Ok-clause-answers g c =
+    let tells = rw c.bytes.ensures at c.describe_bytes.ensures in
+    answers_read (ComesOfFile c.args.shape.now) c.in-Ok.file.list _ _ _ _ _ c.in-Ok.ensures.reads tells
+
+pub returns-in-Ok-clause-described : goal.returns-in-Ok-clause-described
+returns-in-Ok-clause-described g c =
+    let tells = rw c.bytes.ensures at c.describe_bytes.ensures in
+    describes_only c.args.shape.now _ (source_told g.S.Source c.args.source.now) (source_told g.S.Source c.read_input.new.source) (sink_told g.K.Sink c.args.sink.now) (sink_told g.K.Sink c.describe_bytes.new.sink)
+    (answers_read (ComesOfFile c.args.shape.now) c.in-Ok.file.list _ _ _ _ _ c.in-Ok.ensures.reads tells)
+
+pub returns-in-Ok-clause-complete : goal.returns-in-Ok-clause-complete
+returns-in-Ok-clause-complete g c =
+    let tells = rw c.bytes.ensures at c.describe_bytes.ensures in
+    describes_through c.args.shape.now _ (source_told g.S.Source c.args.source.now) (source_told g.S.Source c.read_input.new.source) (sink_told g.K.Sink c.args.sink.now) (sink_told g.K.Sink c.describe_bytes.new.sink)
+    (answers_read (ComesOfFile c.args.shape.now) c.in-Ok.file.list _ _ _ _ _ c.in-Ok.ensures.reads tells)
+
+pub returns-in-Err-clause-complete : goal.returns-in-Err-clause-complete
+returns-in-Err-clause-complete g c =
+    let told = answers_broke (ComesOfFile c.args.shape.now) c.in-Err.fault (source_told g.S.Source c.args.source.now) (source_told g.S.Source c.read_input.new.source) (sink_told g.K.Sink c.args.sink.now) c.in-Err.ensures.reads c.in-Err.ensures.failed in
+    describes_through c.args.shape.now _ _ _ _ _ (rw (← c.status_of.ensures) at told)
