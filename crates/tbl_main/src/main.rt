@@ -30,6 +30,10 @@ tbl play admit S P, tbl crew admit S P
 tbl store      writes what the store in that file has, a line a block, to standard output
 tbl drill SEED ROUNDS
                plays a session of 9 and ROUNDS records, which the SEED decides, over that file, and writes a line that sums it up
+tbl make       reads the description of a table from standard input and writes its table file to standard output
+tbl describe SHAPE
+               reads a table file and writes its description. The SHAPE has the types and names of the fields, as in
+               u16:limit,i16:gain,hex4:key
 tbl --help     writes this text to standard output
 tbl --version  writes the version to standard output
 
@@ -42,6 +46,10 @@ It ends with one of these statuses:
 5  a record of the input is bad or cut short; the records before it were played
 6  the input goes on after 32,768 records, which were played
 7  the store file can't be opened or made longer, or failed in a boot; no record was played after it
+9  the input of make is no description; its first bad line was written, as in line 3
+10 the input of describe is no table file that can be described
+11 the shape has another length than the image of the file
+12 the input of make or describe has more than 1,048,576 bytes
 ";
 
 /// What `--version` answers.

@@ -14,3 +14,4 @@ pub mod SummaryLemmas
 pub mod ListingLemmas
 pub mod DrillLemmas
 pub mod WordsLemmas
+pub mod MakerLemmas

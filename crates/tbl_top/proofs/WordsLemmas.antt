@@ -1,12 +1,16 @@
 -- What the words of the command line spell, and that they ask for one thing.
-use Rattle.std.proofs.Common.{◌≡◌, ◌≢◌, ◌↔◌, List, ℕ, [], ◌∷◌, length, get_or, Option, Some, None, sym, ap, subst, ◌∙◌, arith}
-use Rattle.std.specs.Prelude.{codes}
+use Rattle.std.proofs.Common.{◌≡◌, ◌≢◌, ◌↔◌, ◌+◌, ◌<◌, ◌≤◌, List, ℕ, [], ◌∷◌, length, get_or, map, Option, Some, None, true, refl, sym, ap, subst, ◌∙◌, arith}
+use Rattle.std.specs.Prelude.{codes, Result, Ok, Err, IfErr}
 use Rattle.tbl_kinds.specs.Buffers.{Buffer}
 use Rattle.tbl_kinds.specs.Admitted.{Admitted, all_admitted}
 use Rattle.admit_lists.specs.Lists.{SpellsAdmit}
-use Rattle.tbl_top.specs.Words.{Spells, Asks}
+use Rattle.tbl_maker.specs.Shapes.{is_shape, shape_word}
+use Rattle.tbl_maker.specs.Words.{IsNoShape}
+use Rattle.tbl_maker.specs.declared.form.Form.{Form}
+use Rattle.tbl_maker.proofs.Shapes.{shape_unique}
+use Rattle.tbl_top.specs.Words.{SpellsSession, Spells, Asks, AsksWithShape, given_bytes}
 use Rattle.tbl_top.specs.declared.words.Word.{Word}
-use Rattle.tbl_top.specs.declared.words.Word.TheVariants.{Play, Crew, Store, Drill}
+use Rattle.tbl_top.specs.declared.words.Word.TheVariants.{Play, Crew, Store, Drill, Make, Describe}
 
 -- one word names no list
 one_admits_all : (word : List ℕ) (requested : Word) (admit : Admitted) → Spells (word ∷ []) requested admit → admit ≡ all_admitted
@@ -14,6 +18,8 @@ one_admits_all word Play admit spells = spells.1
 one_admits_all word Crew admit spells = spells.1
 one_admits_all word Store admit spells = spells.1
 one_admits_all word (Drill seed rounds) admit spells = spells.3
+one_admits_all word Make admit spells = spells.1
+one_admits_all word (Describe shape) admit spells = spells.2
 
 -- nor do three
 three_admit_all : (first second third : List ℕ) (requested : Word) (admit : Admitted) → Spells (first ∷ second ∷ third ∷ []) requested admit → admit ≡ all_admitted
@@ -21,6 +27,8 @@ three_admit_all first second third Play admit spells = absurd spells
 three_admit_all first second third Crew admit spells = absurd spells
 three_admit_all first second third Store admit spells = spells.1
 three_admit_all first second third (Drill seed rounds) admit spells = spells.3
+three_admit_all first second third Make admit spells = spells.1
+three_admit_all first second third (Describe shape) admit spells = spells.2
 
 -- so what they spell is what they spell where all are admitted
 admitting : (words : List (List ℕ)) (found : Option Word) → ((requested : Word) → (found ≡ Some requested) ↔ Spells words requested all_admitted)
@@ -71,6 +79,8 @@ module _ (word more spacecraft processors : List ℕ) (lists : Admitted) (found 
     back Crew admit spells = let first : 0x70 ≡ 0x63 = ap (λ (bytes : List ℕ). get_or bytes 0 0) (sym play ∙ spells.0) in absurd (omega (arith, first))
     back Store admit spells = let lengths = ap length spells.0 in absurd (omega (arith, lengths))
     back (Drill seed rounds) admit spells = let lengths = ap length spells.0 in absurd (omega (arith, lengths))
+    back Make admit spells = let lengths = ap length spells.0 in absurd (omega (arith, lengths))
+    back (Describe shape) admit spells = let lengths = ap length spells.0 in absurd (omega (arith, lengths))
 
   pub of_crew : word ≡ codes "crew" → (requested : Word) (admit : Admitted) → (◌≡◌ {A = Option CommandWord} (Some (Crew, lists)) (Some (requested, admit))) ↔ Spells (word ∷ more ∷ spacecraft ∷ processors ∷ []) requested admit
   of_crew crew requested admit = (only Crew (crew, with_lists, (spelled lists).0 is) requested admit, back requested admit) where
@@ -79,6 +89,8 @@ module _ (word more spacecraft processors : List ℕ) (lists : Admitted) (found 
     back Crew admit spells = ap (with_lists_of Crew) (found_only admit spells.2)
     back Store admit spells = let lengths = ap length spells.0 in absurd (omega (arith, lengths))
     back (Drill seed rounds) admit spells = let lengths = ap length spells.0 in absurd (omega (arith, lengths))
+    back Make admit spells = let lengths = ap length spells.0 in absurd (omega (arith, lengths))
+    back (Describe shape) admit spells = let lengths = ap length spells.0 in absurd (omega (arith, lengths))
 
 -- where the last two are no lists, nothing is spelled
 pub of_no_lists : (word more spacecraft processors : List ℕ) (found : Option Admitted) → found ≡ None → ((admit : Admitted) → (found ≡ Some admit) ↔ SpellsAdmit spacecraft processors admit)
@@ -87,6 +99,80 @@ of_no_lists word more spacecraft processors found is spelled Play admit spells =
 of_no_lists word more spacecraft processors found is spelled Crew admit spells = absurd (cc (is, (spelled admit).1 spells.2))
 of_no_lists word more spacecraft processors found is spelled Store admit spells = let lengths = ap length spells.0 in absurd (omega (arith, lengths))
 of_no_lists word more spacecraft processors found is spelled (Drill seed rounds) admit spells = let lengths = ap length spells.0 in absurd (omega (arith, lengths))
+of_no_lists word more spacecraft processors found is spelled Make admit spells = let lengths = ap length spells.0 in absurd (omega (arith, lengths))
+of_no_lists word more spacecraft processors found is spelled (Describe shape) admit spells = let lengths = ap length spells.0 in absurd (omega (arith, lengths))
+
+-- ---- two words
+
+-- what two words spell: to describe by a shape
+pub two_spell : (first second : List ℕ) (requested : Word) (admit : Admitted) → Spells (first ∷ second ∷ []) requested admit
+    → (first ≡ codes "describe") × (shape : List Form) × (requested ≡ Describe shape) × (is_shape shape ≡ true) × (second ≡ shape_word shape) × (admit ≡ all_admitted)
+two_spell first second Play admit spells = absurd spells
+two_spell first second Crew admit spells = absurd spells
+two_spell first second Store admit spells = let lengths = ap length spells.0 in absurd (omega (arith, lengths))
+two_spell first second (Drill seed rounds) admit spells = let lengths = ap length spells.0 in absurd (omega (arith, lengths))
+two_spell first second Make admit spells = let lengths = ap length spells.0 in absurd (omega (arith, lengths))
+two_spell first second (Describe shape) admit spells =
+    let named : first ≡ codes "describe" = ap (λ (words : List (List ℕ)). get_or words 0 []) spells.0 in
+    let shaped : second ≡ shape_word shape = ap (λ (words : List (List ℕ)). get_or words 1 []) spells.0 in
+    (named, shape, refl, spells.1, shaped, spells.2)
+
+-- a list of one
+pub one_item : (words : List Buffer) (first : Buffer) → 1 ≤ length words → length words < 2 → first ≡ get_or words 0 first → words ≡ first ∷ []
+one_item [] first least most is = absurd (omega (arith, least))
+one_item (a ∷ []) first least most is = cc
+one_item (a ∷ b ∷ words) first least most is = absurd (omega (arith, most))
+
+-- a list of four
+pub four_items : (words : List Buffer) (first second third fourth : Buffer) → 4 ≤ length words → length words < 5 → first ≡ get_or words 0 first → second ≡ get_or words 1 second → third ≡ get_or words 2 third
+    → fourth ≡ get_or words 3 fourth → words ≡ first ∷ second ∷ third ∷ fourth ∷ []
+four_items [] first second third fourth least most e f g h = absurd (omega (arith, least))
+four_items (a ∷ []) first second third fourth least most e f g h = absurd (omega (arith, least))
+four_items (a ∷ b ∷ []) first second third fourth least most e f g h = absurd (omega (arith, least))
+four_items (a ∷ b ∷ c ∷ []) first second third fourth least most e f g h = absurd (omega (arith, least))
+four_items (a ∷ b ∷ c ∷ d ∷ []) first second third fourth least most e f g h = cc
+four_items (a ∷ b ∷ c ∷ d ∷ x ∷ words) first second third fourth least most e f g h = absurd (omega (arith, most))
+
+-- a list of two
+pub two_items : (words : List Buffer) (first second : Buffer) → 2 ≤ length words → length words < 3 → first ≡ get_or words 0 first → second ≡ get_or words 1 second → words ≡ first ∷ second ∷ []
+two_items [] first second least most is also = absurd (omega (arith, least))
+two_items (a ∷ []) first second least most is also = absurd (omega (arith, least))
+two_items (a ∷ b ∷ []) first second least most is also = cc
+two_items (a ∷ b ∷ c ∷ words) first second least most is also = absurd (omega (arith, most))
+
+-- `describe` and a word
+pub with_shape : (words : List Buffer) (first second : Buffer) → words ≡ first ∷ second ∷ [] → first.list ≡ codes "describe" → AsksWithShape words
+with_shape words first second are named = (second.list, ap (map given_bytes) are ∙ ap (λ (name : List ℕ). name ∷ second.list ∷ []) named)
+
+-- what follows of an error
+pub on_err : {T E : Type 0} (r : Result T E) (P Q : Type 0) → (P → Q) → IfErr r (λ _. P) → IfErr r (λ _. Q)
+on_err (Ok x) P Q then none = none
+on_err (Err e) P Q then holds = then holds
+
+-- another word than `describe` spells nothing
+pub of_no_describe : (first second : List ℕ) → (first ≡ codes "describe" → ⊥) → (requested : Word) (admit : Admitted) → (◌≡◌ {A = Option CommandWord} None (Some (requested, admit))) ↔ Spells (first ∷ second ∷ []) requested admit
+of_no_describe first second other requested admit = (λ e. absurd (cc), λ spells. absurd (other (two_spell first second requested admit spells).0))
+
+-- nor does it with a word that is no shape
+pub of_no_shape : (first second : List ℕ) → IsNoShape second → (requested : Word) (admit : Admitted) → (◌≡◌ {A = Option CommandWord} None (Some (requested, admit))) ↔ Spells (first ∷ second ∷ []) requested admit
+of_no_shape first second none requested admit = (λ e. absurd (cc), λ spells. let found = two_spell first second requested admit spells in absurd (none found.1 found.3 found.4))
+
+pub of_shape : (first second : List ℕ) (shape : List Form) → first ≡ codes "describe" → second ≡ shape_word shape → is_shape shape ≡ true
+    → (requested : Word) (admit : Admitted) → (◌≡◌ {A = Option CommandWord} (Some (Describe shape, all_admitted)) (Some (requested, admit))) ↔ Spells (first ∷ second ∷ []) requested admit
+unfolding there_or
+of_shape first second shape named shaped right requested admit = (forth, back) where
+  spelled : Spells (first ∷ second ∷ []) (Describe shape) all_admitted
+  spelled = (λ i. named i ∷ shaped i ∷ [], right, refl)
+
+  forth : ◌≡◌ {A = Option CommandWord} (Some (Describe shape, all_admitted)) (Some (requested, admit)) → Spells (first ∷ second ∷ []) requested admit
+  forth same = subst (λ (x : CommandWord). Spells (first ∷ second ∷ []) x.0 x.1) (ap (there_or (Describe shape, all_admitted)) same) spelled
+
+  back : Spells (first ∷ second ∷ []) requested admit → ◌≡◌ {A = Option CommandWord} (Some (Describe shape, all_admitted)) (Some (requested, admit))
+  back spells =
+      let found = two_spell first second requested admit spells in
+      let same : shape ≡ found.1 = shape_unique shape found.1 right found.3 (sym shaped ∙ found.4) in
+      let asked : Describe shape ≡ requested = ap Describe same ∙ sym found.2 in
+      λ i. Some (asked i, sym found.5 i)
 
 -- ---- what was found
 
@@ -108,19 +194,53 @@ module _ (words : List Buffer) (found : Word) (lists : Admitted) (result : Optio
   pub found_asked : Asks words found lists
   found_asked = (told found lists).0 is
 
-  -- and another one than `crew` is asked for
-  pub not_crew_alone : (found ≢ Crew) → ((word : Word) (admit : Admitted) → Asks words word admit → word ≡ Crew) → ⊥
-  not_crew_alone other alone = other (alone found lists found_asked)
+-- a drill that is asked for has as many records as a session may have, at most
+pub drill_rounds : (words : List Buffer) (word : Word) (admit : Admitted) → Asks words word admit → (seed rounds : ℕ) → word ≡ Drill seed rounds → 9 + rounds ≤ 32768
+drill_rounds words word admit asks seed rounds is =
+    let spelled : Asks words (Drill seed rounds) admit = subst (λ (w : Word). Asks words w admit) is asks in
+    omega (arith, spelled.2)
 
--- no session with a thread for each actor was found
-pub not_crew : (result : Option CommandWord) (lists : Option Admitted) → lists ≡ None → ((admit : Admitted) → (lists ≡ Some admit) ↔ (◌≡◌ {A = Option CommandWord} result (Some (Crew, admit)))) → (admit : Admitted) → ◌≢◌ {A = Option CommandWord} result (Some (Crew, admit))
-not_crew result lists none told admit is = let some = (told admit).1 is in absurd (cc (none, some))
+-- ---- a session with a thread for each actor
 
--- then none is asked for
-pub crew_unasked : (words : List Buffer) (result : Option CommandWord) → ((requested : Word) (admit : Admitted) → (◌≡◌ {A = Option CommandWord} result (Some (requested, admit))) ↔ Asks words requested admit) → ((admit : Admitted) → ◌≢◌ {A = Option CommandWord} result (Some (Crew, admit)))
-    → (word : Word) (admit : Admitted) → Asks words word admit → word ≢ Crew
-crew_unasked words result told other word admit asks is = other admit ((told word admit).1 asks ∙ ap (λ (w : Word). with_lists_of w admit) is)
+-- the first letter of the first word
+abbrev letter_of : List (List ℕ) → ℕ
+letter_of words = get_or (get_or words 0 []) 0 0
 
--- a status that is never that of faulty words
-pub never_usage : {P : Type 0} (status : ℕ) → (status ≢ 2) → (P → ⊥) → (status ≡ 2) ↔ P
-never_usage status known never = (λ two. absurd (known two), λ p. absurd (never p))
+session_letter : (name : List ℕ) (words : List (List ℕ)) (admit : Admitted) → SpellsSession name words admit → letter_of words ≡ get_or name 0 0
+session_letter name (word ∷ []) admit spells = ap (λ (bytes : List ℕ). get_or bytes 0 0) spells.0
+session_letter name (word ∷ more ∷ spacecraft ∷ processors ∷ []) admit spells = ap (λ (bytes : List ℕ). get_or bytes 0 0) spells.0
+session_letter name words admit spells = absurd spells
+
+-- where the words ask for one, they ask for nothing else
+pub crew_alone : (words : List (List ℕ)) (lists : Admitted) → Spells words Crew lists → (word : Word) (admit : Admitted) → Spells words word admit → word ≡ Crew
+crew_alone words lists crew word admit spells = by word spells where
+  letter : letter_of words ≡ 0x63
+  letter = session_letter (codes "crew") words lists crew
+
+  by : (word : Word) → Spells words word admit → word ≡ Crew
+  by Play spells = let other : letter_of words ≡ 0x70 = session_letter (codes "play") words admit spells in absurd (omega (arith, letter, other))
+  by Crew spells = refl
+  by Store spells = let other : letter_of words ≡ 0x73 = ap letter_of spells.0 in absurd (omega (arith, letter, other))
+  by (Drill seed rounds) spells = let other : letter_of words ≡ 0x64 = ap letter_of spells.0 in absurd (omega (arith, letter, other))
+  by Make spells = let other : letter_of words ≡ 0x6d = ap letter_of spells.0 in absurd (omega (arith, letter, other))
+  by (Describe shape) spells = let other : letter_of words ≡ 0x64 = ap letter_of spells.0 in absurd (omega (arith, letter, other))
+
+-- these are the lists of a session with a thread for each actor, so all that is asked for is that one
+module _ (words : List Buffer) (found : Option Admitted) (lists : Admitted) (is : found ≡ Some lists) (told : (admit : Admitted) → (found ≡ Some admit) ↔ Asks words Crew admit) where
+  pub crew_asked : Asks words Crew lists
+  crew_asked = (told lists).0 is
+
+  are_lists : (admit : Admitted) → Asks words Crew admit → lists ≡ admit
+  unfolding there_or
+  are_lists admit asks = ap (there_or lists) (sym is ∙ (told admit).1 asks)
+
+  -- what holds of it holds of what is asked for
+  pub of_crew_lists : (P : Word → Admitted → Type 0) (word : Word) (admit : Admitted) → Asks words word admit → P Crew lists → P word admit
+  of_crew_lists P word admit asks holds =
+      let same : word ≡ Crew = crew_alone (map given_bytes words) lists crew_asked word admit asks in
+      let crew : Asks words Crew admit = subst (λ (w : Word). Asks words w admit) same asks in
+      subst (λ (w : Word). P w admit) (sym same) (subst (P Crew) (are_lists admit crew) holds)
+
+-- there are no such lists, so it isn't asked for
+pub no_crew : (words : List Buffer) (found : Option Admitted) → found ≡ None → ((admit : Admitted) → (found ≡ Some admit) ↔ Asks words Crew admit) → (word : Word) (admit : Admitted) → Asks words word admit → word ≢ Crew
+no_crew words found none told word admit asks is = let some = (told admit).1 (subst (λ (w : Word). Asks words w admit) is asks) in absurd (cc (none, some))

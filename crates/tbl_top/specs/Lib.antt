@@ -1,3 +1,4 @@
+pub mod Maker
 pub mod Words
 pub mod Playing
 pub mod Standing

@@ -1,16 +1,16 @@
 //! A session as its words say.
 
-ghost use Rattle.std.specs.Prelude.{◌≡◌, ◌↔◌, ◌≤◌, ◌<◌, ◌^◌, All};
+ghost use Rattle.std.specs.Prelude.{◌≡◌, ◌≤◌, ◌<◌, ◌^◌, All};
 ghost use Rattle.tbl_kinds.specs.Admitted.{Admitted};
 ghost use Rattle.tbl_kinds.specs.Places.{bank_size};
 ghost use Rattle.tbl_outside.specs.declared.validator.KitEntry.{KitEntry as Entry};
 ghost use Rattle.tbl_session.specs.Session.{opening_of, ran};
-ghost use Rattle.tbl_top.specs.Words.{Asks, Outcome, Completes, ReadsNothing};
+ghost use Rattle.tbl_top.specs.Words.{Asks, IsUnknown, Outcome, Completes, ReadsNothing};
 ghost use Rattle.tbl_top.specs.declared.words.Word.{Word as CommandWord};
 
 use crate::crewing::run_crew;
 use crate::session::run_in_order;
-use crate::words::{crew_lists, word_of};
+use crate::words::crew_lists;
 use std::alloc::Global;
 use std::sync::Wait;
 use std::thread::Threads;
@@ -19,7 +19,9 @@ use tbl_outside::{Bank, Gate, KitEntry, Sink, Source, Validator};
 
 /// Does what the words ask for. `play` and `crew` boot over the bank as after a reset of the processor, read session records from
 /// the source, play them, and write the transcript to the sink: with `play` in order, as they come in, with `crew` with a thread
-/// for each actor, once all of them were read. Table files may come from the spacecraft and processors that the words admit. `store` reads the bank alone, and writes the text of its store. The applications have the validation functions of the kit, which are numbered from
+/// for each actor, once all of them were read. Table files may come from the spacecraft and processors that the words admit. `store` reads the bank alone, and writes the text of its store.
+/// `make` reads a description from the source and writes its table file, and `describe` reads a table file and writes its
+/// description; neither reads nor writes the bank. The applications have the validation functions of the kit, which are numbered from
 /// 0; these may be boxes or of any one type. The gate is told of each turn of a thread. The status, which docs/FORMATS.md lists,
 /// and the bank come back.
 pub fn run<
@@ -41,8 +43,10 @@ pub fn run<
 ) -> (u8, B)
     requires room { bank_size ≤ B.size bank }
     requires asked { All (λ (e : Entry C). C.asked e.check < 2 ^ 62) kit.items }
-    // 2 exactly where the words are none that it knows; then nothing is read or written.
-    ensures usage { (result.0 ≡ 2) ↔ ((word : CommandWord) (admit : Admitted) → ¬ Asks words.now word admit) }
+    // 2 only where the words are none that it knows; then it comes always, but where memory runs out for the word after `describe`.
+    // Nothing is read or written then.
+    ensures usage { result.0 ≡ 2 → (word : CommandWord) (admit : Admitted) → ¬ Asks words.now word admit }
+    ensures unknown { ((word : CommandWord) (admit : Admitted) → ¬ Asks words.now word admit) → IsUnknown words.now result.0 }
     ensures untouched { ((word : CommandWord) (admit : Admitted) → ¬ Asks words.now word admit) → (source.new ≡ source.old) × (sink.new ≡ sink.old) × (result.1 ≡ bank) }
 
     // Where the word needs no records, the source isn't read.
@@ -59,7 +63,7 @@ pub fn run<
     // The bank that comes back has room for a further call.
     ensures room { bank_size ≤ B.size result.1 }
 {
-    match crew_lists(word_of(words)) {
+    match crew_lists(words) {
         Some(admit) => run_crew(rt, alloc, source, sink, bank, kit, admit, gate),
         None => run_in_order(alloc, words, source, sink, bank, kit),
     }

@@ -1,8 +1,9 @@
 //! A session from its first byte to the end of its transcript.
 
-ghost use Rattle.std.specs.Prelude.{◌≡◌, ◌≢◌, ◌↔◌, ◌≤◌, ◌<◌, ◌^◌, List, [], false, All, IfOk, IfErr};
+ghost use Rattle.std.specs.Prelude.{◌≡◌, ◌≢◌, ℕ, ◌+◌, ◌≤◌, ◌<◌, ◌^◌, List, [], false, All, IfOk, IfErr};
 ghost use Rattle.tbl_kinds.specs.Admitted.{Admitted};
 ghost use Rattle.tbl_kinds.specs.Places.{bank_size};
+ghost use Rattle.tbl_kinds.specs.Records.{record_limit};
 ghost use Rattle.tbl_kinds.specs.StoreSteps.{Shows};
 ghost use Rattle.cds_layout.specs.Images.{store_of};
 ghost use Rattle.tbl_core.specs.Service.{StartCounted};
@@ -14,17 +15,18 @@ ghost use Rattle.tbl_session.specs.Orders.{InOrder};
 ghost use Rattle.tbl_session.specs.Session.{Session, opening_of, ran};
 ghost use Rattle.tbl_history.specs.Serving.{Serves};
 ghost use Rattle.tbl_top.specs.Playing.{bytes_fed, IsSession};
-ghost use Rattle.tbl_top.specs.Words.{Asks, Outcome, Completes, ReadsNothing};
+ghost use Rattle.tbl_top.specs.Words.{Asks, IsUnknown, Outcome, Completes, ReadsNothing};
 ghost use Rattle.tbl_top.specs.declared.playback.Standing.TheVariants.{Open};
 ghost use Rattle.tbl_top.specs.declared.words.Word.{Word as CommandWord};
-ghost use Rattle.tbl_top.specs.declared.words.Word.TheVariants.{Crew};
+ghost use Rattle.tbl_top.specs.declared.words.Word.TheVariants.{Crew, Drill};
 
 use crate::drilling::run_drill;
-use crate::finishing::finish_unbegun;
+use crate::finishing::{NO_MEMORY, finish_unbegun};
 use crate::listing::list_store;
 use crate::player::Player;
 use crate::reading::read_all;
 use crate::words::{Word, word_of};
+use maker_words::{describe_input, make_input};
 use std::alloc::Global;
 use tbl_core::{Core, StartFault};
 use tbl_kinds::{Admit, Bytes};
@@ -132,6 +134,40 @@ pub(crate) fn play_in_order<S: Source, K: Sink, B: Bank, C: Validator>(
     }
 }
 
+/// Does what one of the words asks for, but for `crew`, which is usage to it.
+fn do_word<S: Source, K: Sink, B: Bank, C: Validator>(
+    alloc: Global,
+    word: Word,
+    admit: Admit,
+    source: &mut S,
+    sink: &mut K,
+    bank: B,
+    kit: Vec<KitEntry<C>>,
+) -> (u8, B)
+    requires room { bank_size ≤ B.size bank }
+    requires asked { All (λ (e : Entry C). C.asked e.check < 2 ^ 62) kit.items }
+    requires few { (seed rounds : ℕ) → word ≡ Drill seed rounds → 9 + rounds ≤ record_limit }
+    ensures usage { result.0 ≡ 2 → word ≡ Crew }
+    ensures crew { word ≡ Crew → (result.0 ≡ 2) × (source.new ≡ source.old) × (sink.new ≡ sink.old) × (result.1 ≡ bank) }
+    ensures unread { ReadsNothing word → source.new ≡ source.old }
+    ensures outcome { word ≢ Crew → Outcome word B.Bank C.verdict (opening_of B.Bank bank kit.items admit) (ran S.Source K.Sink (source.old, sink.old) (source.new, sink.new) result) }
+    ensures complete { word ≢ Crew → Completes word B.Bank bank (ran S.Source K.Sink (source.old, sink.old) (source.new, sink.new) result) }
+    ensures room { bank_size ≤ B.size result.1 }
+{
+    match word {
+        Word::Play => play_in_order(alloc, source, sink, bank, kit, admit),
+        Word::Store => {
+            let mut bank = bank;
+            let status = list_store(alloc, &mut bank, sink);
+            (status, bank)
+        }
+        Word::Drill { seed, rounds } => run_drill(alloc, seed, rounds, sink, bank, kit, admit),
+        Word::Make => (make_input(alloc, source, sink), bank),
+        Word::Describe { shape } => (describe_input(alloc, &shape, source, sink), bank),
+        Word::Crew => (USAGE, bank),
+    }
+}
+
 /// Does what `run` does with each word but `crew`, which is usage to it. It takes no handle for waiting.
 pub fn run_in_order<S: Source, K: Sink, B: Bank, C: Validator>(
     alloc: Global,
@@ -143,7 +179,8 @@ pub fn run_in_order<S: Source, K: Sink, B: Bank, C: Validator>(
 ) -> (u8, B)
     requires room { bank_size ≤ B.size bank }
     requires asked { All (λ (e : Entry C). C.asked e.check < 2 ^ 62) kit.items }
-    ensures usage { (result.0 ≡ 2) ↔ ((word : CommandWord) (admit : Admitted) → Asks words.now word admit → word ≡ Crew) }
+    ensures usage { result.0 ≡ 2 → (word : CommandWord) (admit : Admitted) → Asks words.now word admit → word ≡ Crew }
+    ensures unknown { ((word : CommandWord) (admit : Admitted) → Asks words.now word admit → word ≡ Crew) → IsUnknown words.now result.0 }
     ensures untouched { ((word : CommandWord) (admit : Admitted) → Asks words.now word admit → word ≡ Crew) → (source.new ≡ source.old) × (sink.new ≡ sink.old) × (result.1 ≡ bank) }
     ensures unread { (word : CommandWord) (admit : Admitted) → Asks words.now word admit → ReadsNothing word → source.new ≡ source.old }
     ensures outcome { (word : CommandWord) (admit : Admitted) → Asks words.now word admit → word ≢ Crew
@@ -152,17 +189,11 @@ pub fn run_in_order<S: Source, K: Sink, B: Bank, C: Validator>(
         → Completes word B.Bank bank (ran S.Source K.Sink (source.old, sink.old) (source.new, sink.new) result) }
     ensures room { bank_size ≤ B.size result.1 }
 {
-    let Some((word, admit)) = word_of(words) else {
-        return (USAGE, bank);
+    let Ok(found) = word_of(alloc, words) else {
+        return (NO_MEMORY, bank);
     };
-    match word {
-        Word::Play => play_in_order(alloc, source, sink, bank, kit, admit),
-        Word::Store => {
-            let mut bank = bank;
-            let status = list_store(alloc, &mut bank, sink);
-            (status, bank)
-        }
-        Word::Drill { seed, rounds } => run_drill(alloc, seed, rounds, sink, bank, kit, admit),
-        Word::Crew => (USAGE, bank),
+    match found {
+        Some((word, admit)) => do_word(alloc, word, admit, source, sink, bank, kit),
+        None => (USAGE, bank),
     }
 }

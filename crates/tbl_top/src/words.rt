@@ -1,20 +1,22 @@
 //! The words of the command line.
 
-ghost use Rattle.std.specs.Prelude.{◌≡◌, ◌↔◌, Some, ◌∷◌, []};
+ghost use Rattle.std.specs.Prelude.{◌≡◌, ◌↔◌, Some, ◌∷◌, [], codes, IfOk, IfErr};
 ghost use Rattle.tbl_kinds.specs.Admitted.{Admitted, all_admitted};
-ghost use Rattle.tbl_top.specs.Words.{Asks, Spells};
+ghost use Rattle.tbl_top.specs.Words.{Asks, AsksWithShape, Spells};
 ghost use Rattle.tbl_top.specs.declared.words.Word.{Word as CommandWord};
 ghost use Rattle.tbl_top.specs.declared.words.Word.TheVariants.{Crew};
 
 use admit_lists::read_admit;
 use plain_text::read_decimal;
-use tbl_kinds::{Admit, Bytes};
+use std::alloc::Global;
+use tbl_kinds::{Admit, Bytes, Memory};
+use tbl_maker::{Shape, read_shape};
 
 /// The most rounds of a drill: with the records that it begins with it has as many as a session may have.
 const MOST_ROUNDS: u64 = 32_759;
 
 /// What the program is asked to do.
-#[derive(Clone, Copy, PartialEq, Eq)]
+#[derive(Drop)]
 pub enum Word {
     /// `play`: plays the records in order, as they come in.
     Play,
@@ -24,6 +26,10 @@ pub enum Word {
     Store,
     /// `drill SEED ROUNDS`: plays a session that the seed decides, and writes a line that sums it up.
     Drill { seed: u64, rounds: u32 },
+    /// `make`: makes the table file of a description.
+    Make,
+    /// `describe SHAPE`: describes a table file by a shape.
+    Describe { shape: Shape },
 }
 
 /// What a word asks for that stands alone.
@@ -36,6 +42,8 @@ fn lone_word(word: &[u8]) -> Option<Word>
         Some(Word::Crew)
     } else if word == b"store".as_slice() {
         Some(Word::Store)
+    } else if word == b"make".as_slice() {
+        Some(Word::Make)
     } else {
         None
     }
@@ -99,14 +107,61 @@ fn three_words(word: &[u8], seed: &[u8], rounds: &[u8]) -> Option<(Word, Admit)>
     admitting_all(drill_of(word, seed, rounds))
 }
 
+/// What two words ask for: to describe a table file. Memory may run out for the shape.
+fn two_words(alloc: Global, word: &[u8], shape: &[u8]) -> Result<Option<(Word, Admit)>, Memory>
+    ensures told { IfOk result (λ found. (given : CommandWord) (admit : Admitted) → (found ≡ Some (given, admit)) ↔ Spells (word.now ∷ shape.now ∷ []) given admit) }
+    ensures memory { IfErr result (λ _. word.now ≡ codes "describe") }
+{
+    if word != b"describe".as_slice() {
+        return Ok(None);
+    }
+    match read_shape(alloc, shape)? {
+        Some(shape) => Ok(Some((Word::Describe { shape }, Admit::all()))),
+        None => Ok(None),
+    }
+}
+
 /// What the words ask for, and from which spacecraft and processors files are admitted then; None where they are none that the
-/// program knows.
-pub(crate) fn word_of(words: &[Bytes]) -> Option<(Word, Admit)>
-    ensures { (given : CommandWord) (admit : Admitted) → (result ≡ Some (given, admit)) ↔ Asks words.now given admit }
+/// program knows. Memory may run out for a shape.
+pub(crate) fn word_of(alloc: Global, words: &[Bytes]) -> Result<Option<(Word, Admit)>, Memory>
+    ensures told { IfOk result (λ found. (given : CommandWord) (admit : Admitted) → (found ≡ Some (given, admit)) ↔ Asks words.now given admit) }
+    ensures memory { IfErr result (λ _. AsksWithShape words.now) }
+{
+    match words {
+        [word] => Ok(one_word(word.bytes())),
+        [word, shape] => two_words(alloc, word.bytes(), shape.bytes()),
+        [word, seed, rounds] => Ok(three_words(word.bytes(), seed.bytes(), rounds.bytes())),
+        [word, more, spacecraft, processors] => Ok(four_words(
+            word.bytes(),
+            more.bytes(),
+            spacecraft.bytes(),
+            processors.bytes(),
+        )),
+        _ => Ok(None),
+    }
+}
+
+/// The lists of a session with a thread for each actor, where this is one.
+fn lists_of_crew(given: Option<(Word, Admit)>) -> Option<Admit>
+    ensures { (admit : Admitted) → (result ≡ Some admit) ↔ (given ≡ Some (Crew, admit)) }
+{
+    let (word, admit) = given?;
+    match word {
+        Word::Crew => Some(admit),
+        Word::Play => None,
+        Word::Store => None,
+        Word::Drill { .. } => None,
+        Word::Make => None,
+        Word::Describe { .. } => None,
+    }
+}
+
+/// What the words ask for, where it is a session.
+fn session_word(words: &[Bytes]) -> Option<(Word, Admit)>
+    ensures { (admit : Admitted) → (result ≡ Some (Crew, admit)) ↔ Asks words.now Crew admit }
 {
     match words {
         [word] => one_word(word.bytes()),
-        [word, seed, rounds] => three_words(word.bytes(), seed.bytes(), rounds.bytes()),
         [word, more, spacecraft, processors] => four_words(
             word.bytes(),
             more.bytes(),
@@ -118,14 +173,8 @@ pub(crate) fn word_of(words: &[Bytes]) -> Option<(Word, Admit)>
 }
 
 /// The lists of a session with a thread for each actor, where the words ask for one.
-pub(crate) fn crew_lists(given: Option<(Word, Admit)>) -> Option<Admit>
-    ensures { (admit : Admitted) → (result ≡ Some admit) ↔ (given ≡ Some (Crew, admit)) }
+pub(crate) fn crew_lists(words: &[Bytes]) -> Option<Admit>
+    ensures { (admit : Admitted) → (result ≡ Some admit) ↔ Asks words.now Crew admit }
 {
-    let (word, admit) = given?;
-    match word {
-        Word::Crew => Some(admit),
-        Word::Play => None,
-        Word::Store => None,
-        Word::Drill { .. } => None,
-    }
+    lists_of_crew(session_word(words))
 }
