@@ -195,7 +195,7 @@ status 66 ERR_NOT_VALIDATED
 
     def test_all(self):
         lines = call("cfetbl-explain")[1].decode().splitlines()
-        self.assertEqual((lines[0], lines[-1], len(lines)), ("status 0 SUCCESS", "run 8 the store was stopped while it booted", 87))
+        self.assertEqual((lines[0], lines[-1], len(lines)), ("status 0 SUCCESS", "run 12 the input of make or describe is too long", 91))
 
     def test_what_is_not_known(self):
         for words, said in ((["99"], "is called 99; without a word it tells the numbers and names of all"),

@@ -79,7 +79,10 @@ impl RowCases for Runs {
     /// `play | NAME | INPUT | BANK | BREAKS | BAD READS | STATUS | OUTPUT | WRITES | BANK` is a session over a bank in memory:
     /// what the bank holds before it, which of its writes break off and which of its reads fail, and then how it ends, with the
     /// ranges of all writes and the bank after it. With `crew` in the place of `play` it is played with a thread for each
-    /// actor, and with `store` or `drill SEED ROUNDS` there is no input. `again | WORD | NAME | INPUT | INPUT | BREAKS | STATUS | OUTPUT
+    /// actor, with `store` or `drill SEED ROUNDS` there is no input, and with `make` or `describe SHAPE` it is a description or a
+    /// table file.
+    ///
+    /// `again | WORD | NAME | INPUT | INPUT | BREAKS | STATUS | OUTPUT
     /// | STATUS | OUTPUT` is a session with this word over a bank of zeros, a write of which breaks off at each of these places, and
     /// then a second one in order over the bank that the first gave back, with how each ends. `cut | WORD | NAME | INPUT | CUT | CUT |
     /// STATUS | OUTPUT` is a session over a bank of zeros with this word, or with `both`, whose source and sink are cut after so many
@@ -103,8 +106,10 @@ impl RowCases for Runs {
             ("rooms", 10) => try_rooms(rt, row),
             ("calm", 5) => try_calm(rt, row),
             ("fed", 8) => try_lengths(row),
-            ("play" | "crew" | "store", 10) => try_session(rt, row),
-            (words, 10) if words.starts_with("drill ") => try_session(rt, row),
+            ("play" | "crew" | "store" | "make", 10) => try_session(rt, row),
+            (words, 10) if words.starts_with("drill ") || words.starts_with("describe ") => {
+                try_session(rt, row)
+            }
             ("cut", 8) => try_cuts(rt, row),
             ("again", 10) => try_again(rt, row),
             ("free", 9) => try_free(rt, row),
