@@ -1,0 +1,59 @@
+-- A call by a seat, from the seat before to the seat after.
+use Rattle.std.proofs.Common.{◌≡◌, ◌≢◌, ℕ, ◌+◌, List, [], ◌∷◌, length, Option, refl, sym, ap, ◌∙◌, subst, arith, ℤ}
+use Rattle.std.specs.Prelude.{Result}
+use Rattle.atomic_table.specs.Seated.{TableId}
+use Rattle.atomic_table.specs.Table.{Me}
+use Rattle.turn_lock.specs.Turns.{Idle, Holds, Knows, Leads}
+use Rattle.turn_lock.specs.declared.rule.View.{View}
+use Rattle.tbl_kinds.specs.Records.{actor_number}
+use Rattle.tbl_kinds.specs.declared.request.Actor.{Actor}
+use Rattle.tbl_kinds.specs.declared.request.Request.{Request}
+use Rattle.tbl_outside.specs.declared.bank.Bank.{Ghosts}
+use Rattle.tbl_core.specs.declared.service.StepFault.{StepFault}
+use Rattle.tbl_live.specs.Answers.{Answers}
+use Rattle.tbl_live.specs.Moves.{Moves}
+use Rattle.tbl_live.specs.Saying.{Says}
+use Rattle.tbl_live.specs.Seats.{SeatView, IsSeat, seat_of}
+use Rattle.tbl_live.specs.ServedView.{ServedView}
+use Rattle.tbl_live.specs.declared.receipts.CallFault.{CallFault}
+use Rattle.tbl_live.specs.declared.receipts.Receipt.{Receipt}
+use Rattle.tbl_live.proofs.FollowingLemmas.{follows, longer}
+use Rattle.tbl_live.proofs.SayingLemmas.{says}
+
+module _ {B C : Type 0} (g : Ghosts B) (verdict : C → List ℕ → ℤ) (me taken : Me (Option (ServedView B C)) (View (ServedView B C))) (actor : Actor) (saw : ℕ) (met : Option StepFault) (y : ServedView B C)
+    (inv : IsSeat me actor saw met) (knows : Knows (Moves g verdict) me.0.from me.0.seen y) (holds : Holds taken me.0.from me.0.seen y) where
+  led : Leads (Moves g verdict) (λ other. other ≢ actor_number actor) inv.last y
+  led =
+      let k : Knows (Moves g verdict) (actor_number actor) (inv.last ∷ []) y = subst (λ (m : Me (Option (ServedView B C)) (View (ServedView B C))). Knows (Moves g verdict) m.0.from m.0.seen y) inv.idle knows in
+      let p : actor_number actor + 0 ≡ actor_number actor = omega arith in
+      subst (λ (n : ℕ). Leads (Moves g verdict) (λ other. other ≢ n) inv.last y) p (k 0 inv.last refl)
+
+  seen_is : me.0.seen ≡ inv.last ∷ []
+  seen_is = ap (λ (m : Me (Option (ServedView B C)) (View (ServedView B C))). m.0.seen) inv.idle
+
+  -- the turn that was taken is the actor's
+  pub taken_from : taken.0.from ≡ actor_number actor
+  taken_from = ap (λ (m : Me (Option (ServedView B C)) (View (ServedView B C))). m.0.from) holds ∙ ap (λ (m : Me (Option (ServedView B C)) (View (ServedView B C))). m.0.from) inv.idle
+
+  module _ (z : ServedView B C) (back : Me (Option (ServedView B C)) (View (ServedView B C))) (moves : Moves g verdict y (actor_number actor) z) (idle : Idle back taken.0.from (z ∷ [])) where
+    back_is : Idle back (actor_number actor) (z ∷ [])
+    back_is = subst (λ (n : ℕ). Idle back n (z ∷ [])) taken_from idle
+
+    back_seen : back.0.seen ≡ z ∷ []
+    back_seen = ap (λ (m : Me (Option (ServedView B C)) (View (ServedView B C))). m.0.seen) back_is
+
+    pub seat_after : (saw' : ℕ) (met' : Option StepFault) → saw' ≡ length z.core.entries → met' ≡ z.fault → IsSeat back actor saw' met'
+    seat_after saw' met' saw_is met_is = record {
+      last = z;
+      idle = back_is;
+      past = let base = moves.base in let past = moves.past in let more = longer g verdict (actor_number actor) y z moves in omega (arith, base, past, more);
+      tells = record { saw_at_most = omega (arith, saw_is); met_is = λ fault e. sym met_is ∙ e };
+    }
+
+    pub called : (of of' : TableId) (saw' : ℕ) (met' : Option StepFault) (request : Request) (bytes after : List ℕ) (result : Result Receipt CallFault) → of' ≡ of → saw' ≡ length z.core.entries → met' ≡ z.fault
+        → Answers y z actor request bytes after result → Says (seat_of of actor me.0.seen saw met) (seat_of of' actor back.0.seen saw' met') request bytes after result
+    called of of' saw' met' request bytes after result of_is saw_is met_is answers =
+        let said = says g verdict of actor saw met inv.last y z inv.past inv.tells (follows g verdict (actor_number actor) inv.last y led) moves request bytes after result answers in
+        let old_is : seat_of of actor me.0.seen saw met ≡ seat_of of actor (inv.last ∷ []) saw met = ap (λ (s : List (ServedView B C)). seat_of of actor s saw met) seen_is in
+        let new_is : seat_of of' actor back.0.seen saw' met' ≡ seat_of of actor (z ∷ []) (length z.core.entries) z.fault = λ i. seat_of (of_is i) actor (back_seen i) (saw_is i) (met_is i) in
+        subst (λ (p : SeatView B C × SeatView B C). Says p.0 p.1 request bytes after result) (λ i. (sym old_is i, sym new_is i)) said

@@ -1,0 +1,85 @@
+-- What a call tells its caller, by what it did under the lock.
+use Rattle.std.proofs.Common.{◌≡◌, ℕ, ◌<◌, ◌≤◌, List, [], ◌∷◌, ◌++◌, length, length-append, Option, Some, None, Ok, Err, refl, ap, ◌∙◌, subst, arith, ℤ}
+use Rattle.std.specs.Prelude.{Result}
+use Rattle.std.specs.List.{AllByRecursion}
+use Rattle.atomic_table.specs.Seated.{TableId}
+use Rattle.tbl_kinds.specs.Records.{actor_number}
+use Rattle.tbl_kinds.specs.declared.entry.Entry.{Entry}
+use Rattle.tbl_kinds.specs.declared.request.Actor.{Actor}
+use Rattle.tbl_kinds.specs.declared.request.Request.{Request}
+use Rattle.tbl_outside.specs.declared.bank.Bank.{Ghosts}
+use Rattle.tbl_core.specs.declared.service.StepFault.{StepFault}
+use Rattle.tbl_live.specs.Answers.{Adds, Refuses, Answers}
+use Rattle.tbl_live.specs.Calls.{Call, call_of, own}
+use Rattle.tbl_live.specs.Moves.{Moves}
+use Rattle.tbl_live.specs.Saying.{AddsCall, Stays, Told, Says}
+use Rattle.tbl_live.specs.Seats.{SeatView, TellsLast}
+use Rattle.tbl_live.specs.ServedView.{ServedView}
+use Rattle.tbl_live.specs.declared.receipts.CallFault.{CallFault}
+use Rattle.tbl_live.specs.declared.receipts.CallFault.TheVariants.{Ended, Full, Step, Memory}
+use Rattle.tbl_live.specs.declared.receipts.Receipt.{Receipt}
+use Rattle.tbl_live.proofs.OwnLemmas.{own_mine, below}
+use Rattle.tbl_live.proofs.FollowingLemmas.{Follows, extends_length, longer}
+
+-- what is no fault is none
+none_of : (met : Option StepFault) → ((fault : StepFault) → met ≡ Some fault → ⊥) → met ≡ None
+none_of None not_one = refl
+none_of (Some fault) not_one = absurd (not_one fault refl)
+
+module _ {B C : Type 0} (g : Ghosts B) (verdict : C → List ℕ → ℤ) (of : TableId) (actor : Actor) (saw : ℕ) (met : Option StepFault) (x y z : ServedView B C) (past : x.base ≤ length x.core.entries) (last : TellsLast saw met x)
+    (follows : Follows (actor_number actor) x y) (moves : Moves g verdict y (actor_number actor) z) where
+  -- the seat before, and after
+  abbrev old : SeatView B C
+  old = record { of = of; actor = actor; seen = x ∷ []; calls = own x.base (actor_number actor) x.core.entries; saw = saw; met = met }
+
+  abbrev new : SeatView B C
+  new = record { of = of; actor = actor; seen = z ∷ []; calls = own z.base (actor_number actor) z.core.entries; saw = length z.core.entries; met = z.fault }
+
+  bases : z.base ≡ x.base
+  bases = moves.base ∙ follows.base
+
+  past_y : x.base ≤ length y.core.entries
+  past_y = subst (λ (n : ℕ). n ≤ length y.core.entries) follows.base moves.past
+
+  module _ (request : Request) (bytes after : List ℕ) where
+    adds : (e : Entry) → Adds y z actor request e bytes after → AddsCall old new request (call_of (length y.core.entries) e) bytes after
+    adds e one = record {
+      added = ap (λ (n : ℕ). own n (actor_number actor) z.core.entries) bases ∙ ap (own x.base (actor_number actor)) one.added
+          ∙ own_mine x.base (actor_number actor) y.core.entries e past_y (ap actor_number one.actor_is) ∙ ap (λ (l : List Call). l ++ call_of (length y.core.entries) e ∷ []) follows.calls;
+      request_is = one.request_is;
+      above = subst (AllByRecursion (λ (c : Call). c.place < length y.core.entries)) follows.calls (below x.base (actor_number actor) y.core.entries past_y);
+      room = one.may.room;
+      saw = ap length one.added ∙ length-append y.core.entries (e ∷ []);
+      appended = one.appended;
+    }
+
+    stays : Refuses y z bytes after → Stays old new bytes after
+    stays no_one = record {
+      calls = ap (λ (n : ℕ). own n (actor_number actor) z.core.entries) bases ∙ ap (λ (v : ServedView B C). own x.base (actor_number actor) v.core.entries) no_one.same ∙ follows.calls;
+      none = no_one.none;
+    }
+
+    still_fault : z ≡ y → z.fault ≡ y.fault
+    still_fault same = ap (λ (v : ServedView B C). v.fault) same
+
+    still_count : z ≡ y → length z.core.entries ≡ length y.core.entries
+    still_count same = ap (λ (v : ServedView B C). length v.core.entries) same
+
+    -- no fault was met before
+    none_met : y.fault ≡ None → met ≡ None
+    none_met went = none_of met (λ fault is. let there = follows.fault fault (last.met_is fault is) in absurd (cc (went, there)))
+
+    told : (result : Result Receipt CallFault) → Answers y z actor request bytes after result → Told old new request bytes after result
+    told (Ok receipt) a = (call_of (length y.core.entries) a.0, adds a.0 a.1, a.3 ∙ (λ i. record { place = length y.core.entries; actor = a.1.actor_is i; status = a.0.reply.status; detail = a.0.reply.detail }), a.2)
+    told (Err (Ended fault)) a = (stays a.1, still_fault a.1.same ∙ a.0)
+    told (Err (Full count)) a = (stays a.1, still_fault a.1.same ∙ a.0.0, a.0.2, let same = still_count a.1.same in let full = a.0.1 in omega (arith, same, full))
+    told (Err (Step fault)) a = ((call_of (length y.core.entries) a.0.0, adds a.0.0 a.0.1), none_met a.0.1.may.went, a.1)
+    told (Err Memory) a = (stays a.1, still_fault a.1.same ∙ a.0.went, let same = still_count a.1.same in let room = a.0.room in omega (arith, same, room))
+
+    pub says : (result : Result Receipt CallFault) → Answers y z actor request bytes after result → Says old new request bytes after result
+    says result a = record {
+      same = record { of_it = refl; actor_is = refl };
+      told = told result a;
+      saw = let first = extends_length x.core.entries y.core.entries follows.extends in let then = longer g verdict (actor_number actor) y z moves in let at_most = last.saw_at_most in omega (arith, at_most, first, then);
+      met = λ fault is. moves.fault fault (follows.fault fault (last.met_is fault is));
+    }

@@ -1,0 +1,10 @@
+use Rattle.std.proofs.Common.{ap, refl}
+use Rattle.tbl_kinds.specs.Records.{actor_number}
+use Rattle.tbl_live.specs.Seats.{calls_in}
+use Rattle.tbl_live.proofs.seats.Seat.leave.Goals as goal
+
+pub returns-clause-last : goal.returns-clause-last
+returns-clause-last g c =
+    let i = c.self.invariant in
+    let seen = ap (λ m. m.0.seen) i.idle in
+    rw (← c.self.view_is) (i.last, i.idle, record { number = refl; calls = ap (calls_in (actor_number c.self.inside.actor)) seen; tells = i.tells })

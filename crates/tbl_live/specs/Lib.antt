@@ -1,0 +1,7 @@
+pub mod Calls
+pub mod ServedView
+pub mod Moves
+pub mod Answers
+pub mod Seats
+pub mod Saying
+pub mod Boards

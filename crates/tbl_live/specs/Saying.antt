@@ -1,0 +1,46 @@
+-- What a call tells its caller, by the caller's seat before it and after it.
+use Rattle.std.specs.Prelude.{◌≡◌, ℕ, ◌+◌, ◌<◌, ◌≤◌, List, [], ◌∷◌, ◌++◌, Some, None, Result, Ok, Err}
+use Rattle.std.specs.List.{AllByRecursion}
+use Rattle.tbl_kinds.specs.Records.{record_limit}
+use Rattle.tbl_kinds.specs.declared.request.Actor.{Actor}
+use Rattle.tbl_kinds.specs.declared.request.Request.{Request}
+use Rattle.tbl_core.specs.declared.service.StepFault.{StepFault}
+use Rattle.tbl_live.specs.Calls.{Call}
+use Rattle.tbl_live.specs.Seats.{SeatView, IsSame}
+use Rattle.tbl_live.specs.declared.receipts.Receipt.{Receipt}
+use Rattle.tbl_live.specs.declared.receipts.CallFault.{CallFault}
+use Rattle.tbl_live.specs.declared.receipts.CallFault.TheVariants.{Ended, Full, Step, Memory}
+
+-- the receipt of a call of this actor
+abbrev pub receipt_for : Actor → Call → Receipt
+receipt_for actor call = record { place = call.place; actor = actor; status = call.status; detail = call.detail }
+
+-- this call is one more in the seat's list, for this request, with a place after all others; its reply's bytes are appended to those that
+-- were there
+pub record AddsCall {B C : Type 0} (old new : SeatView B C) (request : Request) (call : Call) (bytes after : List ℕ) : Type 0 where
+  pub added : new.calls ≡ old.calls ++ call ∷ []
+  pub request_is : call.request ≡ request
+  pub above : AllByRecursion (λ (c : Call). c.place < call.place) old.calls
+  pub room : call.place < record_limit
+  pub saw : new.saw ≡ call.place + 1
+  pub appended : after ≡ bytes ++ call.bytes
+
+-- no call more, and no bytes
+pub record Stays {B C : Type 0} (old new : SeatView B C) (bytes after : List ℕ) : Type 0 where
+  pub calls : new.calls ≡ old.calls
+  pub none : after ≡ bytes
+
+-- by what is answered; no fault was met before a call that was played, refused as full, or ran out of memory
+abbrev pub Told : {B C : Type 0} → SeatView B C → SeatView B C → Request → List ℕ → List ℕ → Result Receipt CallFault → Type 0
+Told old new request bytes after (Ok receipt) = (call : Call) × AddsCall old new request call bytes after × (receipt ≡ receipt_for old.actor call) × (new.met ≡ None)
+Told old new request bytes after (Err (Ended fault)) = Stays old new bytes after × (new.met ≡ Some fault)
+Told old new request bytes after (Err (Full count)) = Stays old new bytes after × (new.met ≡ None) × (count ≡ record_limit) × (record_limit ≤ new.saw)
+Told old new request bytes after (Err (Step fault)) = ((call : Call) × AddsCall old new request call bytes after) × (old.met ≡ None) × (new.met ≡ Some fault)
+Told old new request bytes after (Err Memory) = Stays old new bytes after × (new.met ≡ None) × (new.saw < record_limit)
+
+-- the seat is still of its service and its actor, the number that it saw doesn't fall, and a fault that it met stays
+pub record Says {B C : Type 0} (old new : SeatView B C) (request : Request) (bytes after : List ℕ) (result : Result Receipt CallFault) : Type 0 where
+  pub same : IsSame old new
+  pub told : Told old new request bytes after result
+  pub saw : old.saw ≤ new.saw
+  pub met : (fault : StepFault) → old.met ≡ Some fault → new.met ≡ Some fault

@@ -1,0 +1,15 @@
+//! A service that a program's own threads call: the layer above may rely on it that all calls stand in one legal history, and that
+//! each seat's calls are all that this history has of its actor, none lost, none made up and none twice.
+#![tactic(auto)]
+
+mod board;
+mod receipts;
+mod seats;
+mod served;
+mod service;
+
+pub use board::{Board, Ticket};
+pub use receipts::{CallFault, Receipt};
+pub use seats::{Seat, Seats};
+pub use served::Served;
+pub use service::{REPLY_LIMIT, Service};

@@ -1,0 +1,59 @@
+//! What a call gives its caller.
+
+ghost use Rattle.std.specs.Prelude.{◌≡◌};
+
+use tbl_core::StepFault;
+use tbl_kinds::{Actor, Status};
+
+/// Where a call stands in the history, and how it was answered.
+#[derive(Clone, Copy, PartialEq, Eq)]
+pub struct Receipt {
+    pub(crate) place: u32,
+    pub(crate) actor: Actor,
+    pub(crate) status: Status,
+    pub(crate) detail: u32,
+}
+
+impl Receipt {
+    /// The number of entries before the call's.
+    pub fn place(&self) -> u32
+        ensures { result ≡ self.now.place }
+    {
+        self.place
+    }
+
+    /// Who called.
+    pub fn actor(&self) -> Actor
+        ensures { result ≡ self.now.actor }
+    {
+        self.actor
+    }
+
+    /// What the call was answered with.
+    pub fn status(&self) -> Status
+        ensures { result ≡ self.now.status }
+    {
+        self.status
+    }
+
+    /// What the status is about: a handle, a verdict, a function code. 0 where nothing is named.
+    pub fn detail(&self) -> u32
+        ensures { result ≡ self.now.detail }
+    {
+        self.detail
+    }
+}
+
+/// Why a call has no receipt.
+#[derive(Clone, Copy, PartialEq, Eq)]
+pub enum CallFault {
+    /// A boot in an earlier call failed or was stopped, as this says. The service plays no further request.
+    Ended(StepFault),
+    /// The history has as many entries as it may have, which is `count`.
+    Full { count: u32 },
+    /// The service booted in this call, and that boot failed or was stopped. The call stands in the history as its last entry, and
+    /// the bytes of its reply were appended.
+    Step(StepFault),
+    /// Memory ran out. Nothing was changed.
+    Memory,
+}

@@ -1,0 +1,190 @@
+//! The service that a program's threads share.
+
+ghost use Rattle.std.specs.Prelude.{◌≡◌, ℕ, ◌+◌, ◌<◌, ◌≤◌, false, None, List, [], ◌∷◌, length, replicate, IfOk, IfErr, vec_capacity};
+ghost use Rattle.tbl_kinds.specs.Records.{record_limit};
+ghost use Rattle.tbl_kinds.specs.Requests.{Fits};
+ghost use Rattle.request_effects.specs.Effects.{reply_limit};
+ghost use Rattle.tbl_session.specs.Actors.{actor_count};
+ghost use Rattle.tbl_session.specs.Openings.{Opening};
+ghost use Rattle.tbl_session.specs.Served.{IsServed};
+ghost use Rattle.tbl_history.specs.Serving.{Serves};
+ghost use Rattle.turn_lock.specs.Turns.{Idle};
+ghost use Rattle.tbl_live.specs.Moves.{Extends};
+ghost use Rattle.tbl_live.specs.Saying.{Says};
+ghost use Rattle.tbl_live.specs.Seats.{SeatView, AreSeats, AreFresh, AreDealt, AreOf, TellsOf};
+ghost use mathlib.Core.Option.{some};
+ghost use lib.ListN.{get_elem?};
+
+use crate::receipts::{CallFault, Receipt};
+use crate::seats::{Seat, Seats};
+use crate::served::Served;
+use std::alloc::Global;
+use std::marker::Model;
+use std::snapshot::Snapshot;
+use std::sync::Wait;
+use tbl_core::Core;
+use tbl_kinds::{Bytes, Request};
+use tbl_outside::{Bank, Validator};
+use turn_lock::{Place, TurnLock};
+
+/// How many actors there are: the ground and 16 applications.
+const ACTOR_COUNT: u8 = 17;
+
+/// The most bytes that a reply has, for which a call needs room.
+pub const REPLY_LIMIT: usize = 66_000;
+
+/// A service that threads call, each by a seat of its own. Contracts see it as which one it is, and the core that it was opened over.
+#[derive(Drop)]
+pub struct Service<B: Bank, C: Validator> {
+    lock: TurnLock<Served<B, C>>,
+}
+
+impl<B: Bank, C: Validator> Model for Service<B, C> {
+    ghost use Rattle.std.specs.Prelude.{◌≡◌, length};
+    ghost use Rattle.tbl_live.specs.Seats.{ServiceView};
+
+    ghost Value = { ServiceView B C };
+
+    ghost view = { λ s. record { of = s.lock.table.shared.table_id; opened = s.lock.table.shared.key.value.core } };
+
+    ghost invariant = { λ s. s.lock.table.shared.key.value.base ≡ length s.lock.table.shared.key.value.core.entries };
+}
+
+impl<B: Bank, C: Validator> Service<B, C> {
+    /// A service over a core, and a seat for each actor. An Err means out of memory, with the core as it was.
+    pub fn open(alloc: Global, core: Core<B, C>) -> Result<(Service<B, C>, Seats<B, C>), Core<B, C>>
+        requires live { core.state.ended ≡ false }
+        ensures opened { IfOk result (λ made. made.0.opened ≡ core) }
+        ensures seats { IfOk result (λ made. AreSeats made.0.of (made.1.ground ∷ made.1.apps.items)) }
+        ensures fresh { IfOk result (λ made. AreFresh (made.1.ground ∷ made.1.apps.items)) }
+        ensures err { IfErr result (λ back. back ≡ core) }
+    {
+        let Ok(seats) = Vec::with_capacity(alloc, usize::from(ACTOR_COUNT)) else {
+            return Err(core);
+        };
+        let served = Served::open(alloc, core)?;
+        match TurnLock::make(alloc, served) {
+            Ok((lock, place)) => {
+                let seats = deal_all(&lock, place, seats);
+                Ok((Service { lock }, seats))
+            }
+            Err(served) => Err(served.end()),
+        }
+    }
+
+    /// Plays a request as the actor of a seat: waits for the lock, makes one step, and appends the bytes of the reply to `out`. It
+    /// takes no memory but what the step does.
+    pub fn call<R: Wait>(
+        &self,
+        rt: &R,
+        seat: &mut Seat<B, C>,
+        request: Request,
+        out: &mut Bytes,
+    ) -> Result<Receipt, CallFault>
+        requires own { seat.old.of ≡ self.now.of }
+        requires fits { Fits seat.old.actor request }
+        requires room { reply_limit ≤ out.old.spare }
+        ensures says { Says seat.old seat.new request out.old.list out.new.list result }
+        ensures room { out.old.spare + length out.old.list ≤ out.new.spare + length out.new.list }
+    {
+        let actor = seat.actor;
+        let mut served = self.lock.take(rt, &mut seat.place);
+        let before = Snapshot::of(&served);
+        let answer = served.answer(actor, request, out);
+        seat.saw = served.count();
+        seat.met = served.fault();
+        self.lock.put_back(&mut seat.place, &before, served);
+        answer
+    }
+
+    /// The core with all calls in its history, once all seats are back. It waits for nobody.
+    pub fn close(self, seats: Seats<B, C>) -> Core<B, C>
+        requires seats { AreSeats self.of (seats.ground ∷ seats.apps.items) }
+        // Whatever opening the core stood for as the service opened, it stands for it still.
+        ensures serves { (o : Opening B C) → Serves B.Bank C.verdict o self.opened → Serves B.Bank C.verdict o result }
+        // So all that a session promises of its history holds of this one.
+        ensures served { (o : Opening B C) → Serves B.Bank C.verdict o self.opened → IsServed B.Bank C.verdict o result.state.store.bank result.entries }
+        ensures extends { Extends self.opened.entries result.entries }
+        ensures few { length self.opened.entries ≤ record_limit → length result.entries ≤ record_limit }
+        // Each seat's calls are all that the history has of its actor since.
+        ensures own { (number : ℕ) (seat : SeatView B C) → get_elem? (seats.ground ∷ seats.apps.items) number ≡ some seat → TellsOf (length self.opened.entries) result seat }
+    {
+        let Service { lock } = self;
+        let place = gather(&lock, seats.ground, seats.apps);
+        lock.close(place).end()
+    }
+}
+
+/// Gives each actor a seat of its own.
+fn deal_all<B: Bank, C: Validator>(
+    lock: &TurnLock<Served<B, C>>,
+    place: Place<Served<B, C>>,
+    mut seats: Vec<Seat<B, C>>,
+) -> Seats<B, C>
+    requires own { place.table_id ≡ lock.now.table.shared.table_id }
+    requires all { Idle place.me 0 (replicate actor_count lock.now.table.shared.key.value) }
+    requires first { lock.now.table.shared.key.value.base ≡ length lock.now.table.shared.key.value.core.entries }
+    requires empty { seats.items ≡ [] }
+    requires room { actor_count ≤ vec_capacity seats }
+    ensures { AreDealt lock.now.table.shared.table_id actor_count (result.ground ∷ result.apps.items) }
+{
+    deal(lock, place, 0, ACTOR_COUNT, &mut seats);
+    let ground = seats.remove(0);
+    Seats {
+        ground,
+        apps: seats,
+    }
+}
+
+/// Gives so many actors, from one on, a seat each, after the seats of those before them.
+fn deal<B: Bank, C: Validator>(
+    lock: &TurnLock<Served<B, C>>,
+    mut place: Place<Served<B, C>>,
+    from: u8,
+    count: u8,
+    seats: &mut Vec<Seat<B, C>>,
+)
+    requires some { 0 < count }
+    requires within { from + count ≤ actor_count }
+    requires own { place.table_id ≡ lock.now.table.shared.table_id }
+    requires all { Idle place.me from (replicate count lock.now.table.shared.key.value) }
+    requires first { lock.now.table.shared.key.value.base ≡ length lock.now.table.shared.key.value.core.entries }
+    requires before { AreDealt lock.now.table.shared.table_id from seats.old.items }
+    requires room { from + count ≤ vec_capacity seats.old }
+    ensures dealt { AreDealt lock.now.table.shared.table_id (from + count) seats.new.items }
+    ensures room { vec_capacity seats.new ≡ vec_capacity seats.old }
+{
+    if count == 1 {
+        seats.push_reserved(Seat::make(place, from));
+        return;
+    }
+    let low = count / 2;
+    let upper = lock.split(&mut place);
+    deal(lock, place, from, low, seats);
+    deal(lock, upper, from + low, count - low, seats);
+}
+
+/// Makes one seat of all, the last first.
+fn gather<B: Bank, C: Validator>(
+    lock: &TurnLock<Served<B, C>>,
+    ground: Seat<B, C>,
+    mut apps: Vec<Seat<B, C>>,
+) -> Place<Served<B, C>>
+    requires seats { AreSeats lock.now.table.shared.table_id (ground ∷ apps.items) }
+    ensures own { result.table_id ≡ lock.now.table.shared.table_id }
+    ensures all { Idle result.me 0 result.me.0.seen × (length result.me.0.seen ≡ actor_count) }
+    ensures each { AreOf 0 result.me.0.seen (ground ∷ apps.items) }
+{
+    let Some(last) = apps.pop() else {
+        unreachable!()
+    };
+    let mut place = last.leave();
+    'apps: while let Some(seat) = apps.pop() {
+        let mut lower = seat.leave();
+        lock.join(&mut lower, place);
+        place = lower;
+    }
+    let mut lowest = ground.leave();
+    lock.join(&mut lowest, place);
+    lowest
+}
