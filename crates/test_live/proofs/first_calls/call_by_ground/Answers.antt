@@ -1,0 +1,9 @@
+use Rattle.tbl_live.proofs.SeatLemmas.{ground_of}
+use Rattle.test_live.proofs.Seats.{still_ground}
+use Rattle.test_live.proofs.first_calls.call_by_ground.Goals as goal
+
+pub call_both-requires : goal.call_both-requires
+call_both-requires g c = record { ground = ground_of _ _ _ c.requires.seats }
+
+pub returns : goal.returns
+returns g c = record { seats = still_ground _ _ _ c.requires.seats _ c.call_both.ensures.same }
