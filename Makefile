@@ -1,10 +1,10 @@
-# make               proves the programs that are installed; it needs the Rattle kit (`rt` on the path)
-# make install       installs them with their tools, manual page, completion, documents and examples; PREFIX= is /usr/local
+# make               proves the programs and the library that are installed; it needs the Rattle kit (`rt` on the path)
+# make install       installs them with their tools, headers, manual page, completion, documents and examples; PREFIX= is /usr/local
 # make uninstall     takes the same files away
 # make package       makes a Debian package of them, in out/package
 # make test          the tests: ./cfetbl test
 #
-# DESTDIR= stands before each path that is written, as packages need it. PROGRAMS= is a folder with other builds of the programs.
+# DESTDIR= stands before each path that is written, as packages need it. PROGRAMS= is a folder with other builds of the programs and the library.
 PREFIX = /usr/local
 export DESTDIR PREFIX PROGRAMS
 

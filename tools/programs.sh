@@ -1,15 +1,25 @@
 # For the scripts of a clone, which set `top` and read this file: which builds of its programs are there.
 
-# Whether the file is a program and nothing at the other places is newer. A folder is newer than the program, too, once a
-# file of it was added or taken away.
-is_newest() {
+# Whether the file is there and nothing at the other places is newer. A folder is newer than the file, too, once a file of it was
+# added or taken away.
+is_newest_file() {
     local newer
-    [ -x "$1" ] && newer=$(find "${@:2}" -newer "$1" -print -quit) && [ -z "$newer" ]
+    [ -f "$1" ] && newer=$(find "${@:2}" -newer "$1" -print -quit) && [ -z "$newer" ]
+}
+
+# The same of a program.
+is_newest() {
+    [ -x "$1" ] && is_newest_file "$@"
 }
 
 # Whether the program of the crate $1 was proved since a source was changed.
 is_proved() {
     is_newest "$top/crates/$1/out/$1" "$top/crates.txt" "$top"/crates/*/{src,specs,proofs}
+}
+
+# Whether the static library of the crate $1 was proved since a source was changed.
+is_proved_library() {
+    is_newest_file "$top/crates/$1/out/lib$1.a" "$top/crates.txt" "$top"/crates/*/{src,specs,proofs}
 }
 
 # The folder of unproved builds: in the clone, or in a cache folder where the clone can't be written, by the clone's path there.
