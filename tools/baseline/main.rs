@@ -4,9 +4,9 @@
 //! It does what `play` and `crew` do for the requests of the sessions of `tools/bench`, as somebody writes it in Rust who
 //! needs no proof: it makes the same system calls to read and write, writes the same transcript byte for byte, and keeps its
 //! whole history to the end. Every kind of request and of command is read. Where one comes that is left out, the program says
-//! so on standard error and ends with 2. Left out are validation functions, dumps and what owners do with dump-only tables,
-//! notices, applications' blocks in the Critical Data Store, faults of the store, critical tables whose block is there when
-//! they are registered, resets, and the words `--help` and `--version`.
+//! so on standard error and ends with 2. Left out are validation functions, dumps of dump-only tables and what owners do with
+//! these, notices, applications' blocks in the Critical Data Store, faults of the store, critical tables whose block is there
+//! when they are registered, resets, and the words `--help` and `--version`.
 
 mod check_word;
 mod crew;

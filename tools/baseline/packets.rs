@@ -143,7 +143,7 @@ pub fn read_table_file(bytes: &[u8]) -> Result<TableFile<'_>, Status> {
     if !bytes.starts_with(b"cFE1") {
         return Err(Status::BadContentId);
     }
-    if four_at(bytes, 4) != 8 {
+    if four_at(bytes, 4) != TABLE_FILE {
         return Err(Status::BadSubtypeId);
     }
     if bytes.len() < 116 {
@@ -168,6 +168,47 @@ pub fn read_table_file(bytes: &[u8]) -> Result<TableFile<'_>, Status> {
 pub struct Clock {
     pub seconds: u32,
     pub sub: u16,
+}
+
+/// The subtypes of files.
+const TABLE_FILE: u32 = 8;
+const REGISTRY_FILE: u32 = 9;
+
+/// A file's header with its description, which begins a file of so many bytes.
+fn file_of(length: usize, subtype: u32, clock: Clock, description: &[u8]) -> Vec<u8> {
+    let mut file = Vec::with_capacity(length);
+    file.extend_from_slice(b"cFE1");
+    for field in [
+        subtype,
+        64,
+        66,
+        1,
+        0,
+        clock.seconds,
+        u32::from(clock.sub) << 16,
+    ] {
+        file.extend_from_slice(&field.to_be_bytes());
+    }
+    file.extend_from_slice(description);
+    file.resize(64, 0);
+    file
+}
+
+/// The file of a table's dump.
+pub fn table_file(table: &Name<40>, image: &[u8], clock: Clock) -> Vec<u8> {
+    let mut file = file_of(116 + image.len(), TABLE_FILE, clock, b"Table image");
+    file.extend_from_slice(&[0; 8]);
+    file.extend_from_slice(&(image.len() as u32).to_be_bytes());
+    file.extend_from_slice(table.field());
+    file.extend_from_slice(image);
+    file
+}
+
+/// The file of the registry's dump, of the records of all tables.
+pub fn registry_file(records: &[u8], clock: Clock) -> Vec<u8> {
+    let mut file = file_of(64 + records.len(), REGISTRY_FILE, clock, b"Table registry");
+    file.extend_from_slice(records);
+    file
 }
 
 /// Both headers of a telemetry packet of so many bytes.
@@ -216,6 +257,7 @@ pub struct Counters {
     pub updated: Clock,
     pub updated_table: Name<40>,
     pub loaded_file: Name<64>,
+    pub dumped_file: Name<64>,
     pub loaded_table: Name<40>,
 }
 
@@ -236,12 +278,13 @@ impl Counters {
             updated: Clock::default(),
             updated_table: Name::NONE,
             loaded_file: Name::NONE,
+            dumped_file: Name::NONE,
             loaded_table: Name::NONE,
         }
     }
 }
 
-/// Appends a housekeeping packet. Every verdict is 0, and the name of the last dump is zeros.
+/// Appends a housekeeping packet. Every verdict is 0.
 pub fn put_housekeeping(
     out: &mut Vec<u8>,
     counters: &Counters,
@@ -270,7 +313,7 @@ pub fn put_housekeeping(
     out.extend_from_slice(counters.validated_table.field());
     out.extend_from_slice(counters.updated_table.field());
     out.extend_from_slice(counters.loaded_file.field());
-    out.extend_from_slice(Name::<64>::NONE.field());
+    out.extend_from_slice(counters.dumped_file.field());
     out.extend_from_slice(counters.loaded_table.field());
 }
 

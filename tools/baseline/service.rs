@@ -3,8 +3,8 @@
 use crate::left_out;
 use crate::names::{full_name, Name};
 use crate::packets::{
-    event_packet, put_housekeeping, put_registry, read_command, read_table_file, Clock, Command,
-    Counters, Event,
+    event_packet, put_housekeeping, put_registry, read_command, read_table_file, registry_file,
+    table_file, Clock, Command, Counters, Event,
 };
 use crate::records::{Actor, Request};
 use crate::store::Store;
@@ -217,11 +217,16 @@ impl Service {
         }
     }
 
-    /// Puts a file into the drawer.
+    /// Puts a file that was uplinked into the drawer.
     fn file(&mut self, name: &Name<64>, contents: &[u8]) -> Status {
         if !name.is_name() {
             return Status::BadName;
         }
+        self.put_file(name, contents)
+    }
+
+    /// Puts a file into the drawer, where there is room for its name.
+    fn put_file(&mut self, name: &Name<64>, contents: &[u8]) -> Status {
         if let Some(file) = self.drawer.iter_mut().find(|file| file.name == *name) {
             file.contents.clear();
             file.contents.extend_from_slice(contents);
@@ -247,7 +252,12 @@ impl Service {
                 let (row, answer) = self.load(&file);
                 self.answered(2, row, answer)
             }
-            Ok(Command::Dump { .. } | Command::DumpRegistry { .. }) => left_out("a dump"),
+            Ok(Command::Dump {
+                select,
+                table,
+                file,
+            }) => self.dump(&table, select, &file),
+            Ok(Command::DumpRegistry { file }) => self.dump_registry(&file),
             Ok(Command::DeleteCds { .. }) => left_out("DELETE_CDS"),
             Ok(Command::Validate { select, table }) => self.validate(&table, select),
             Ok(Command::Activate { table }) => self.about(5, &table, Tables::activate),
@@ -356,6 +366,43 @@ impl Service {
         counters.check = check;
         counters.is_active = is_active;
         counters.validated_table = *name;
+        reply
+    }
+
+    /// Writes the dump of an image of a table, which isn't dump-only.
+    fn dump(&mut self, name: &Name<40>, select: u16, file: &Name<64>) -> Reply {
+        let Some(row) = self.tables.find(name) else {
+            return self.answered(3, None, Status::NoSuchTable.into());
+        };
+        match self.tables.dumped(row, select) {
+            Ok(image) => {
+                let contents = table_file(name, image, self.clock);
+                self.write_dump(3, Some(row), file, contents)
+            }
+            Err(status) => self.answered(3, Some(row), status.into()),
+        }
+    }
+
+    fn dump_registry(&mut self, file: &Name<64>) -> Reply {
+        let contents = registry_file(&self.tables.records(), self.clock);
+        self.write_dump(6, None, file, contents)
+    }
+
+    /// Puts the file of a dump into the drawer, and answers with it.
+    fn write_dump(&mut self, code: u8, row: Option<u8>, name: &Name<64>, file: Vec<u8>) -> Reply {
+        let status = self.put_file(name, &file);
+        let mut reply = self.answered(code, row, status.into());
+        if status == Status::Success {
+            let event = Event {
+                number: 7,
+                status,
+                row,
+                detail: file.len() as u32,
+            };
+            self.tell(&mut reply.packets, &event);
+            self.counters.dumped_file = *name;
+            reply.bytes = file;
+        }
         reply
     }
 

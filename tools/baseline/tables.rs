@@ -1,6 +1,7 @@
 //! The registry of tables, and the handles of applications.
 
 use crate::check_word::check_word;
+use crate::left_out;
 use crate::names::Name;
 use crate::packets::{read_table_file, Clock, TableFile};
 use crate::service::{Answer, Status};
@@ -181,6 +182,12 @@ impl Tables {
     pub fn critical_count(&self) -> usize {
         let slots = self.rows.iter().flatten().filter_map(|table| table.slot);
         slots.count()
+    }
+
+    /// The records of all tables, in order of their rows.
+    pub fn records(&self) -> Vec<u8> {
+        let records: Vec<_> = self.rows.iter().flatten().map(Table::record).collect();
+        records.concat()
     }
 
     /// The row of the table of this full name.
@@ -531,6 +538,23 @@ impl Tables {
         }
         load.is_validated = true;
         Ok((check_word(&load.image), false))
+    }
+
+    /// The image of the table in a row that a dump writes at once.
+    pub fn dumped(&self, row: u8, select: u16) -> Result<&[u8], Status> {
+        let table = self.table(row);
+        if 1 < select {
+            return Err(Status::BadSelect);
+        }
+        if table.is_dump_only {
+            left_out("the dump of a dump-only table");
+        }
+        if select == 1 {
+            table.image.as_deref().ok_or(Status::NeverLoaded)
+        } else {
+            let load = table.load.as_ref().ok_or(Status::NoLoad)?;
+            Ok(&load.image)
+        }
     }
 
     /// Asks that the load of the table in a row goes active.
