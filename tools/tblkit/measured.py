@@ -1,0 +1,214 @@
+"""What a program takes for a session: instructions, time and memory. And the plain Rust program of tools/baseline, built.
+
+What is measured is always `play`, `crew` or `drill` over a new store file. No measure reads a clock or a counter of the program's
+own.
+"""
+import fcntl
+import functools
+import os
+import shutil
+import statistics
+import struct
+import subprocess
+import tempfile
+import termios
+import time
+
+from . import callgrind
+from .programs import TOP
+
+PROVED = os.path.join(TOP, "crates", "tbl_main", "out", "tbl_main")
+# How often a session is timed, and how often its memory is measured.
+RUNS = 20
+WEIGHINGS = 9
+# Between two looks at a program that is to wait.
+PAUSE = 0.001
+
+
+def run(words, source=None, folder=None, sink=subprocess.PIPE):
+    """Runs a program that has to succeed, in a folder, and gives what it writes."""
+    done = subprocess.run(words, stdin=source, stdout=sink, stderr=subprocess.PIPE, cwd=folder, check=False)
+    if done.returncode:
+        why = done.stderr.decode(errors="replace").strip()
+        raise OSError(f"{' '.join(words)} ended with status {done.returncode}\n{why}")
+    return done.stdout
+
+
+def file_of(session):
+    """A file from which the session can be read."""
+    source = tempfile.TemporaryFile()
+    source.write(session)
+    source.seek(0)
+    return source
+
+
+def without_debug_information(program, copy):
+    """A copy of the program that every valgrind reads."""
+    run(["strip", "--strip-debug", "-o", copy, program])
+    return copy
+
+
+def plain_program(folder):
+    """The plain Rust program, built in the folder; none where rustc isn't there."""
+    if not shutil.which("rustc"):
+        return None
+    built, source = os.path.join(folder, "built"), os.path.join(TOP, "tools", "baseline", "main.rs")
+    flags = ["--edition=2021", "-Copt-level=3", "-Clto=fat", "-Ccodegen-units=1", "-Cdebuginfo=0", "-Cpanic=abort"]
+    run(["rustc", *flags, "-o", built, source])
+    return without_debug_information(built, os.path.join(folder, "plain"))
+
+
+# ---- instructions
+
+
+def counted(program, session):
+    """What callgrind says of the program that plays the session, and what that writes and leaves in its store file."""
+    with tempfile.TemporaryDirectory() as folder, file_of(session) as source:
+        counts = os.path.join(folder, "counts")
+        words = ["valgrind", "--tool=callgrind", f"--callgrind-out-file={counts}", program, "play"]
+        transcript = run(words, source, folder)
+        with open(os.path.join(folder, "cds.store"), "rb") as store:
+            written = transcript, store.read()
+        with open(counts, encoding="utf-8", errors="replace") as said:
+            return said.read(), written
+
+
+@functools.lru_cache
+def _before(program, opening):
+    """How many instructions the program takes for what comes before a work."""
+    return callgrind.instructions(counted(program, opening)[0])
+
+
+def instructions(program, work):
+    """How many instructions the program takes for a request of the work's rounds, and what it writes and leaves in its store file."""
+    said, written = counted(program, work.session(work.rounds))
+    took = callgrind.instructions(said) - _before(program, work.session(0))
+    return round(took / work.requests(work.rounds)), written
+
+
+def functions(program, work):
+    """How many instructions each function takes itself for a request of the work's rounds."""
+    before, after = (callgrind.read(counted(program, work.session(it))[0])[0] for it in (0, work.rounds))
+    return {function: count / work.requests(work.rounds) for function, count in (after - before).items()}
+
+
+# ---- time
+
+
+def milliseconds(way, source):
+    """How long a program takes by its words for the session in a file, over a new store file."""
+    source.seek(0)
+    with tempfile.TemporaryDirectory() as folder:
+        begun = time.perf_counter()
+        run(way, source, folder, subprocess.DEVNULL)
+        return 1_000 * (time.perf_counter() - begun)
+
+
+def least_times(ways, *sessions):
+    """How long each way takes for each session, the least of a few runs in turns: a list for each session."""
+    sources = [file_of(it) for it in sessions]
+    try:
+        runs = [[[milliseconds(way, source) for way in ways] for source in sources] for _ in range(RUNS)]
+    finally:
+        for source in sources:
+            source.close()
+    return [[min(of_one) for of_one in zip(*of_session)] for of_session in zip(*runs)]
+
+
+def output_of(way, session):
+    """What a program writes by its words for a session."""
+    with tempfile.TemporaryDirectory() as folder, file_of(session) as source:
+        return run(way, source, folder)
+
+
+# ---- memory
+
+
+def _failure(started):
+    return OSError(f"{' '.join(started.args)} ended with status {started.wait()}")
+
+
+def _pause(started):
+    """Waits for a process that isn't to end yet."""
+    if started.poll() is not None:
+        raise _failure(started)
+    time.sleep(PAUSE)
+
+
+def _is_waiting(pid):
+    """Whether the process waits for something that comes from outside."""
+    with open(f"/proc/{pid}/stat", encoding="ascii", errors="replace") as stat:
+        return stat.read().rpartition(")")[2].split()[0] == "S"
+
+
+def _peak(started):
+    """How many bytes a process has had at most by the time that it waits."""
+    while not _is_waiting(started.pid):
+        _pause(started)
+    with open(f"/proc/{started.pid}/status", encoding="ascii", errors="replace") as status:
+        row = next(line for line in status if line.startswith("VmHWM:"))
+    return 1_024 * int(row.split()[1])
+
+
+def _finish(started):
+    if started.wait():
+        raise _failure(started)
+
+
+def _unread(pipe):
+    """How many bytes stand in a pipe."""
+    return struct.unpack("i", fcntl.ioctl(pipe, termios.FIONREAD, bytes(4)))[0]
+
+
+def _write_all(started, content):
+    """Writes the input of a process, and waits until it has read that."""
+    left = memoryview(content)
+    try:
+        while left:
+            left = left[started.stdin.write(left):]
+    except BrokenPipeError:
+        raise _failure(started) from None
+    while _unread(started.stdin):
+        _pause(started)
+
+
+def memory_of_play(program, session):
+    """How many bytes the program has had at most when it has played the session. Its input ends only after that is known."""
+    with tempfile.TemporaryDirectory() as folder:
+        words = [program, "play"]
+        started = subprocess.Popen(words, stdin=subprocess.PIPE, stdout=subprocess.DEVNULL, cwd=folder, bufsize=0)
+        with started.stdin:
+            _write_all(started, session)
+            peak = _peak(started)
+        _finish(started)
+        return peak
+
+
+def usual_memory(program, session):
+    """The same, the middle one of a few runs: the system counts a process's pages only so well."""
+    return statistics.median(memory_of_play(program, session) for _ in range(WEIGHINGS))
+
+
+def _full_pipe():
+    """Both ends of a pipe that takes no further byte, and how many it has."""
+    reader, writer = os.pipe()
+    os.set_blocking(writer, False)
+    filled = 0
+    try:
+        while True:
+            filled += os.write(writer, bytes(4_096))
+    except BlockingIOError:
+        os.set_blocking(writer, True)
+    return os.fdopen(reader, "rb"), writer, filled
+
+
+def memory_of_line(words):
+    """How many bytes a program that writes one line has had at most when it writes that, and the line. It has to wait with it."""
+    source, writer, filled = _full_pipe()
+    with tempfile.TemporaryDirectory() as folder, source:
+        started = subprocess.Popen(words, stdin=subprocess.DEVNULL, stdout=writer, cwd=folder)
+        os.close(writer)
+        peak = _peak(started)
+        told = source.read()[filled:]
+        _finish(started)
+        return peak, told.decode()

@@ -1,0 +1,201 @@
+"""What tools/bench and tools/walk measure: the works, what is read of callgrind, the way of a request, tables of figures, and the
+peak memory of a program. What callgrind itself counts isn't tried here."""
+import io
+import os
+import stat
+import sys
+import tempfile
+import unittest
+
+from tblkit import callgrind, figures, measured, records, ways, works
+from tblkit.programs import TOP
+
+COUNTS = """version: 1
+creator: callgrind-3.19.0
+events: Ir
+
+fl=(1) a.rt
+fn=(1) tbl_core::parts::play::<#c4>
+16 5
+cfn=(2) tbl_kinds::entry::new
+calls=3 0
+16 60
+cob=(2) /lib/libc.so.6
+cfi=(9) string.c
+cfn=(3) memcpy
+calls=4 0
+16 40
+
+fn=(2)
+20 60
+cfn=(4) core::option::map::<44'tbl_kinds::entry>
+calls=3 0
+20 9
+
+fn=(1)
+18 1
+cfn=(2)
+calls=2 0
+18 40
+
+fn=(4)
+7 9
+
+summary: 1234
+"""
+PLAY, NEW, MAP = "tbl_core::parts::play::<#c4>", "tbl_kinds::entry::new", "core::option::map::<44'tbl_kinds::entry>"
+
+TABLES = """Text with 1,234.
+
+| work | instructions a request | plain Rust | times |
+|---|---|---|---|
+| NOOP | 1,000 | 900 | 1.11 |
+| a, b | 12,345 | - | - |
+| unknown | - | 1 | - |
+
+| work | requests | milliseconds |
+|---|---|---|
+| NOOP | 20 | 1.5 |
+"""
+
+# A program that has had 64 MiB, and then reads its input or writes a line, by its word.
+HUNGRY = """#!{python}
+import sys
+bytearray(64 << 20)
+if sys.argv[1] == "play":
+    while sys.stdin.buffer.read(4096):
+        pass
+elif sys.argv[1] == "drill":
+    print("entries 9")
+else:
+    sys.exit(3)
+"""
+LEAST, MOST = 64 << 20, 128 << 20
+
+
+def fault_of(session):
+    """Why a session isn't one of good records; empty where it is."""
+    pieces = list(records.pieces(io.BytesIO(session)))
+    return next((it.fault for it in pieces if it.fault), "more records" if len(pieces) > records.MOST_RECORDS else "")
+
+
+class Works(unittest.TestCase):
+    def test_each_is_a_session(self):
+        found = list(works.works())
+        self.assertEqual(len({it.name for it in found}), len(found))
+        for work in found:
+            self.assertEqual(fault_of(work.session(1)), "", work.name)
+            self.assertLessEqual(len(work.opening) + work.requests(work.rounds), records.MOST_RECORDS)
+            self.assertTrue(work.session(work.rounds).startswith(work.session(0)))
+
+    def test_a_pass_has_no_reset(self):
+        opening, again = works.ordinary_pass()
+        self.assertEqual((len(opening), len(again)), (15, 30))
+        self.assertFalse([it for it in opening + again if it.startswith("reset")])
+
+    def test_a_state_is_what_it_says(self):
+        for state in works.STATES:
+            for name in works.REQUESTS:
+                work = works.request_in(state, name)
+                self.assertEqual(fault_of(work.session(1)), "", name)
+                self.assertEqual(len(work.opening), state.place)
+                said = [it.split()[2] for it in work.opening if it.startswith("app")]
+                self.assertEqual(said.count("register"), state.tables)
+                self.assertEqual(said.count("register") + said.count("share"), state.handles)
+                # No power of two comes between the first place and the last one.
+                last = state.place + work.requests(work.rounds) - 1
+                self.assertEqual(state.place.bit_length(), last.bit_length())
+
+    def test_crews_take_turns(self):
+        for make in works.CREWS.values():
+            for actors in works.ACTORS:
+                found = works.in_turn(make, actors)
+                self.assertEqual([it[1] for it in found[:actors]], list(range(1, actors + 1)))
+                self.assertLessEqual(len(found), records.MOST_RECORDS)
+
+
+class Callgrind(unittest.TestCase):
+    def test_instructions(self):
+        self.assertEqual(callgrind.instructions(COUNTS), 1234)
+
+    def test_functions_by_names(self):
+        own, calls = callgrind.read(COUNTS)
+        self.assertEqual(own, {PLAY: 6, NEW: 60, MAP: 9})
+        self.assertEqual(calls, {(PLAY, NEW): 5, (PLAY, "memcpy"): 4, (NEW, MAP): 3})
+
+
+class Ways(unittest.TestCase):
+    def test_where_a_function_stands(self):
+        with tempfile.TemporaryDirectory() as top:
+            for path in ("a/src/lib.rt", "a/src/parts.rt", "a/src/parts/row.rt", "b/src/main.rt"):
+                os.makedirs(os.path.join(top, "crates", os.path.dirname(path)), exist_ok=True)
+                with open(os.path.join(top, "crates", path), "x", encoding="utf-8"):
+                    pass
+            for symbol, path in (("a::parts::Parts::play::<#c4>", "a/src/parts.rt"), ("a::parts::row::Row::new", "a/src/parts/row.rt"),
+                                 ("a::added", "a/src/lib.rt"), ("b::main::<1'b::x>", "b/src/main.rt"),
+                                 ("a::parts::fn::first::position+FnMut::call_mut", "a/src/parts.rt")):
+                self.assertEqual(ways.file_of(symbol, top), os.path.join("crates", path))
+            self.assertEqual(ways.file_of("c::parts::play", top), "")
+
+    def test_what_the_compiler_wrote(self):
+        for symbol in ("a::Destruct++none::drop::<u8>", "a::core++option++Option+Destruct::drop::<#c4>"):
+            self.assertFalse(ways.is_written(symbol))
+        self.assertTrue(ways.is_written("a::parts::fn::first::position+FnMut::call_mut"))
+
+    def test_calls_below_a_function(self):
+        calls = {("a::run", "a::step::<#1>"): 1, ("a::run", "b::write"): 1, ("a::step::<#1>", "b::new"): 5, ("b::new", "core::map"): 1,
+                 ("core::map", "b::fn::new::map+FnOnce::call_once"): 3, ("b::fn::new::map+FnOnce::call_once", "b::size"): 3,
+                 ("a::step::<#1>", "memcpy"): 4, ("b::new", "b::core++option++Option+Destruct::drop"): 2, ("a::steps", "b::new"): 7}
+        way = ways.Way(calls, {"a", "b"}, "a::step", TOP)
+        self.assertEqual(way.figures(), [8, 5, 2, 1, 0])
+        self.assertEqual(list(way.changing), [("a::step::<#1>", "b::new")])
+
+
+class Figures(unittest.TestCase):
+    def test_what_is_kept(self):
+        kept = figures.kept(TABLES.splitlines(), ["work", "instructions a request"])
+        self.assertEqual(kept, {"NOOP": [1000, 900], "a, b": [12345]})
+
+    def test_what_is_more(self):
+        kept = {"NOOP": [1000, 900]}
+        self.assertEqual(list(figures.more_than_kept(kept, "NOOP", [1020])), [])
+        self.assertEqual(list(figures.more_than_kept(kept, "NOOP", [1021])), ["docs/PERFORMANCE.md has 1,000"])
+        self.assertEqual(list(figures.more_than_kept(kept, "NOOP", [1000, 919])), ["docs/PERFORMANCE.md has 1,000 900"])
+        self.assertEqual(list(figures.more_than_kept(kept, "NOOP", [1050], figures.MEMORY_SLACK)), [])
+        self.assertEqual(list(figures.more_than_kept(kept, "NOOP", [1051], figures.MEMORY_SLACK)), ["docs/PERFORMANCE.md has 1,000"])
+        self.assertEqual(list(figures.more_than_kept(kept, "LOAD", [1])), ["docs/PERFORMANCE.md has no figure"])
+
+    def test_times(self):
+        self.assertEqual(figures.beside([1500, 1000], "{:,}"), ["1,500", "1,000", "1.50"])
+        self.assertEqual(figures.beside([1500], "{:,}"), ["1,500"])
+
+    def test_the_document_has_each_row(self):
+        with open(os.path.join(TOP, "docs", "PERFORMANCE.md"), encoding="utf-8") as document:
+            lines = document.readlines()
+        for heads, rows in ((["work", "instructions a request"], [it.name for it in works.works()]),
+                            (["work", "requests"], [it.name for it in works.works()]),
+                            (["request", works.STATES[0].name], list(works.REQUESTS)),
+                            (["request", "calls"], list(works.REQUESTS))):
+            self.assertEqual(list(figures.kept(lines, heads)), rows)
+
+
+class Memory(unittest.TestCase):
+    def setUp(self):
+        folder = tempfile.TemporaryDirectory()
+        self.addCleanup(folder.cleanup)
+        self.program = os.path.join(folder.name, "hungry")
+        with open(self.program, "x", encoding="utf-8") as script:
+            script.write(HUNGRY.format(python=sys.executable))
+        os.chmod(self.program, stat.S_IRWXU)
+
+    def test_of_a_session(self):
+        self.assertTrue(LEAST < measured.memory_of_play(self.program, bytes(1 << 20)) < MOST)
+
+    def test_of_a_line(self):
+        peak, told = measured.memory_of_line([self.program, "drill"])
+        self.assertTrue(LEAST < peak < MOST)
+        self.assertEqual(told, "entries 9\n")
+
+    def test_a_program_that_fails(self):
+        with self.assertRaisesRegex(OSError, "ended with status 3"):
+            measured.memory_of_line([self.program, "other"])
