@@ -5,3 +5,4 @@ pub mod SayingLemmas
 pub mod CallLemmas
 pub mod SeatLemmas
 pub mod EndLemmas
+pub mod SeatCalls

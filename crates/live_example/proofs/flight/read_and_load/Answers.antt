@@ -4,7 +4,7 @@ use Rattle.shipped_kit.specs.declared.validators.FirstByte.{FirstByte}
 use Rattle.tbl_live.specs.Seats.{SeatView, AreSeats}
 use Rattle.tbl_live.proofs.SeatLemmas.{ground_of, are_apps, still_seats}
 use Rattle.live_example.specs.Flights.{AreSame}
-use Rattle.live_example.proofs.Seats.{written}
+use Rattle.tbl_live.proofs.SeatCalls.{written}
 use Rattle.live_example.proofs.flight.read_and_load.Goals as goal
 
 pub read_beside-requires-clause-ground : goal.read_beside-requires-clause-ground

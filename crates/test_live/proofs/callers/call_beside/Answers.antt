@@ -4,7 +4,7 @@ use Rattle.tbl_fakes.specs.declared.calm_bank.CalmBank.{CalmBank}
 use Rattle.shipped_kit.specs.declared.validators.FirstByte.{FirstByte}
 use Rattle.tbl_live.specs.Seats.{SeatView, AreSeats, IsSame}
 use Rattle.tbl_live.proofs.SeatLemmas.{are_apps}
-use Rattle.test_live.proofs.Seats.{written, still_apps}
+use Rattle.tbl_live.proofs.SeatCalls.{written, still_apps}
 use Rattle.test_live.proofs.callers.call_beside.Goals as goal
 
 pub call_each-requires : goal.call_each-requires

@@ -1,5 +1,5 @@
 use Rattle.tbl_live.proofs.SeatLemmas.{ground_of}
-use Rattle.test_live.proofs.Seats.{still_ground}
+use Rattle.tbl_live.proofs.SeatCalls.{still_ground}
 use Rattle.test_live.proofs.first_calls.call_by_ground.Goals as goal
 
 pub call_both-requires : goal.call_both-requires

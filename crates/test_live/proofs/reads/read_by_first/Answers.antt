@@ -3,7 +3,7 @@ use Rattle.tbl_fakes.specs.declared.calm_bank.CalmBank.{CalmBank}
 use Rattle.shipped_kit.specs.declared.validators.FirstByte.{FirstByte}
 use Rattle.tbl_live.specs.Seats.{SeatView, IsAppOf, IsSame}
 use Rattle.tbl_live.proofs.SeatLemmas.{are_apps}
-use Rattle.test_live.proofs.Seats.{still_one}
+use Rattle.tbl_live.proofs.SeatCalls.{still_one}
 use Rattle.test_live.proofs.reads.read_by_first.Goals as goal
 
 pub read_all-requires : goal.read_all-requires
