@@ -1,13 +1,15 @@
 -- What is read at the front of an input.
-use Rattle.std.specs.Prelude.{◌≡◌, ℕ, ◌==◌, List, [], ◌∷◌, Bool, if◌then◌else◌}
+use Rattle.std.specs.Prelude.{◌≡◌, ℕ, ◌+◌, ◌==◌, true, false, List, [], ◌∷◌, length, Bool, if◌then◌else◌}
 use Rattle.std.specs.List.{list_any}
 use Rattle.tbl_kinds.specs.Requests.{HasNoValidator255}
 use Rattle.tbl_kinds.specs.Records.{Pair, IsSized, kind_of, body_of}
+use Rattle.tbl_kinds.specs.Heads.{is_right_body}
 use Rattle.tbl_kinds.specs.declared.request.Actor.{Actor}
 use Rattle.tbl_kinds.specs.declared.request.Actor.TheVariants.{Ground, App}
 use Rattle.tbl_kinds.specs.declared.request.Request.{Request}
 use Rattle.session_records.specs.declared.reading.Next.{Next}
-use Rattle.session_records.specs.declared.reading.Next.TheVariants.{Item}
+use Rattle.session_records.specs.declared.reading.Next.TheVariants.{Item, Short, Bad, End}
+use Rattle.session_records.specs.declared.head.Head.{Head}
 
 -- who has this number in a head
 abbrev pub actor_at : ℕ → Actor
@@ -38,3 +40,10 @@ pub record IsSpelledBy (kind : ℕ) (body : List ℕ) (request : Request) : Type
   pub no_validator_255 : HasNoValidator255 request
   pub kind_is : kind_of request ≡ kind
   pub body_is : body_of request ≡ body
+
+-- the record of this kind and body, of the head's sender; or the body isn't of the right form
+abbrev pub IsReadAs : ℕ → Head → List ℕ → Next → Type 0
+IsReadAs kind head body (Item actor request used) = (actor ≡ actor_at head.actor) × (used ≡ 4 + length body) × IsSpelledBy kind body request × (is_right_body kind body ≡ true)
+IsReadAs kind head body Bad = is_right_body kind body ≡ false
+IsReadAs kind head body Short = ⊥
+IsReadAs kind head body End = ⊥

@@ -2,7 +2,7 @@ ghost use Rattle.std.specs.Prelude.{◌≡◌, ◌↔◌, ◌≤◌, [], length,
 ghost use Rattle.tbl_kinds.specs.Numbers.{two};
 ghost use Rattle.tbl_kinds.specs.Records.{IsRecord, spelling};
 ghost use Rattle.tbl_kinds.specs.Heads.{IsShort, IsBad, is_name_field, has_name, has_name_last, is_reset_body, is_good_head, is_right_body};
-ghost use Rattle.session_records.specs.Reading.{IfItem, IsSpelledBy, is_handle_kind, keeps_bytes};
+ghost use Rattle.session_records.specs.Reading.{IfItem, IsReadAs, is_handle_kind, keeps_bytes};
 
 use crate::fields::{read_four, read_two, read_validator};
 use crate::head::{HEAD_LEN, Head, actor_of};
@@ -26,6 +26,18 @@ pub enum Next {
     End,
 }
 
+/// A record of the head's sender, with this request. The request is made where it is answered, since one that a function hands on
+/// is copied each time.
+macro_rules! record {
+    ($head:expr, $body:expr, $request:expr) => {
+        Next::Item {
+            actor: actor_of($head.actor),
+            request: $request,
+            used: HEAD_LEN + $body.len(),
+        }
+    };
+}
+
 fn copy_of(alloc: Global, piece: &[u8]) -> Result<Bytes, Memory>
     ensures { IfOk result (λ b. b.list ≡ piece.now) }
 {
@@ -34,179 +46,222 @@ fn copy_of(alloc: Global, piece: &[u8]) -> Result<Bytes, Memory>
     Ok(bytes)
 }
 
-fn command(alloc: Global, body: &[u8]) -> Result<Option<Request>, Memory>
-    ensures right { IfOk result (λ found. is_some found ≡ true) }
-    ensures spelled { IfOk result (λ found. IfSome found (λ request. IsSpelledBy 0x01 body.now request)) }
+#[tactic(auto, unfolding(tbl_kinds::specs::Heads::is_right_body))]
+fn command(alloc: Global, head: Head, body: &[u8]) -> Result<Next, Memory>
+    ensures item { IfOk result (IsReadAs 0x01 head body.now) }
+    ensures memory { OnErr result (IsTrue (is_right_body 0x01 body.now)) }
 {
     let bytes = copy_of(alloc, body)?;
-    Ok(Some(Request::Command { bytes }))
+    Ok(record!(head, body, Request::Command { bytes }))
 }
 
-fn file(alloc: Global, body: &[u8]) -> Result<Option<Request>, Memory>
+#[tactic(auto, unfolding(tbl_kinds::specs::Heads::is_right_body))]
+fn file(alloc: Global, head: Head, body: &[u8]) -> Result<Next, Memory>
     requires { 64 ≤ length body.now }
-    ensures right { IfOk result (λ found. is_some found ≡ has_name 0 64 body.now) }
-    ensures spelled { IfOk result (λ found. IfSome found (λ request. IsSpelledBy 0x02 body.now request)) }
-    ensures memory { OnErr result (IsTrue (has_name 0 64 body.now)) }
+    ensures item { IfOk result (IsReadAs 0x02 head body.now) }
+    ensures memory { OnErr result (IsTrue (is_right_body 0x02 body.now)) }
 {
     let (field, contents) = body.split_at(64);
     let Some(name) = Name::<64>::exact(field) else {
-        return Ok(None);
+        return Ok(Next::Bad);
     };
     let bytes = copy_of(alloc, contents)?;
-    Ok(Some(Request::File { name, bytes }))
+    Ok(record!(head, body, Request::File { name, bytes }))
 }
 
-fn time(body: &[u8]) -> Request
+#[tactic(auto, unfolding(tbl_kinds::specs::Heads::is_right_body))]
+fn time(head: Head, body: &[u8]) -> Next
     requires { length body.now ≡ 6 }
-    ensures { IsSpelledBy 0x03 body.now result }
+    ensures { IsReadAs 0x03 head body.now result }
 {
     let (seconds, rest) = read_four(body);
     let (sub, _) = read_two(rest);
-    Request::Time { seconds, sub }
+    record!(head, body, Request::Time { seconds, sub })
 }
 
-fn reset(body: &[u8]) -> Option<Request>
+#[tactic(auto, unfolding(tbl_kinds::specs::Heads::is_right_body))]
+fn reset(head: Head, body: &[u8]) -> Next
     requires { length body.now ≡ 1 }
-    ensures right { is_some result ≡ is_reset_body body.now }
-    ensures spelled { IfSome result (λ request. IsSpelledBy 0x04 body.now request) }
+    ensures { IsReadAs 0x04 head body.now result }
 {
     let kind = match body[0] {
         1 => ResetKind::Processor,
         2 => ResetKind::PowerOn,
-        _ => return None,
+        _ => return Next::Bad,
     };
-    Some(Request::Reset { kind })
+    record!(head, body, Request::Reset { kind })
 }
 
-fn start(body: &[u8]) -> Option<Request>
+#[tactic(auto, unfolding(tbl_kinds::specs::Heads::is_right_body))]
+fn start(head: Head, body: &[u8]) -> Next
     requires { length body.now ≡ 20 }
-    ensures right { is_some result ≡ is_name_field body.now }
-    ensures spelled { IfSome result (λ request. IsSpelledBy 0x10 body.now request) }
+    ensures { IsReadAs 0x10 head body.now result }
 {
-    let name = Name::<20>::exact(body)?;
-    Some(Request::Start { name })
+    let Some(name) = Name::<20>::exact(body) else {
+        return Next::Bad;
+    };
+    record!(head, body, Request::Start { name })
 }
 
-fn register(body: &[u8]) -> Option<Request>
+#[tactic(auto, unfolding(tbl_kinds::specs::Heads::is_right_body))]
+fn register(head: Head, body: &[u8]) -> Next
     requires { length body.now ≡ 23 }
-    ensures right { is_some result ≡ has_name 0 16 body.now }
-    ensures spelled { IfSome result (λ request. IsSpelledBy 0x11 body.now request) }
+    ensures { IsReadAs 0x11 head body.now result }
 {
     let (field, rest) = body.split_at(16);
-    let name = Name::<16>::exact(field)?;
+    let Some(name) = Name::<16>::exact(field) else {
+        return Next::Bad;
+    };
     let (size, rest) = read_four(rest);
     let (flags, rest) = read_two(rest);
     let validator = read_validator(rest);
-    Some(Request::Register {
-        name,
-        size,
-        flags,
-        validator,
-    })
+    record!(
+        head,
+        body,
+        Request::Register {
+            name,
+            size,
+            flags,
+            validator
+        }
+    )
 }
 
-fn share(body: &[u8]) -> Option<Request>
+#[tactic(auto, unfolding(tbl_kinds::specs::Heads::is_right_body))]
+fn share(head: Head, body: &[u8]) -> Next
     requires { length body.now ≡ 40 }
-    ensures right { is_some result ≡ is_name_field body.now }
-    ensures spelled { IfSome result (λ request. IsSpelledBy 0x12 body.now request) }
+    ensures { IsReadAs 0x12 head body.now result }
 {
-    let name = Name::<40>::exact(body)?;
-    Some(Request::Share { name })
+    let Some(name) = Name::<40>::exact(body) else {
+        return Next::Bad;
+    };
+    record!(head, body, Request::Share { name })
 }
 
-fn load_image(alloc: Global, body: &[u8]) -> Result<Option<Request>, Memory>
+#[tactic(auto, unfolding(tbl_kinds::specs::Heads::is_right_body))]
+fn load_image(alloc: Global, head: Head, body: &[u8]) -> Result<Next, Memory>
     requires { 2 ≤ length body.now }
-    ensures right { IfOk result (λ found. is_some found ≡ true) }
-    ensures spelled { IfOk result (λ found. IfSome found (λ request. IsSpelledBy 0x14 body.now request)) }
+    ensures item { IfOk result (IsReadAs 0x14 head body.now) }
+    ensures memory { OnErr result (IsTrue (is_right_body 0x14 body.now)) }
 {
     let (handle, rest) = read_two(body);
     let image = copy_of(alloc, rest)?;
-    Ok(Some(Request::LoadImage { handle, image }))
+    Ok(record!(head, body, Request::LoadImage { handle, image }))
 }
 
-fn load_file(body: &[u8]) -> Option<Request>
+#[tactic(auto, unfolding(tbl_kinds::specs::Heads::is_right_body))]
+fn load_file(head: Head, body: &[u8]) -> Next
     requires { length body.now ≡ 66 }
-    ensures right { is_some result ≡ has_name_last body.now }
-    ensures spelled { IfSome result (λ request. IsSpelledBy 0x15 body.now request) }
+    ensures { IsReadAs 0x15 head body.now result }
 {
     let (handle, field) = read_two(body);
-    let name = Name::<64>::exact(field)?;
-    Some(Request::LoadFile { handle, name })
+    let Some(name) = Name::<64>::exact(field) else {
+        return Next::Bad;
+    };
+    record!(head, body, Request::LoadFile { handle, name })
 }
 
-fn edit(alloc: Global, body: &[u8]) -> Result<Option<Request>, Memory>
+#[tactic(auto, unfolding(tbl_kinds::specs::Heads::is_right_body))]
+fn edit(alloc: Global, head: Head, body: &[u8]) -> Result<Next, Memory>
     requires { 6 ≤ length body.now }
-    ensures right { IfOk result (λ found. is_some found ≡ true) }
-    ensures spelled { IfOk result (λ found. IfSome found (λ request. IsSpelledBy 0x1A body.now request)) }
+    ensures item { IfOk result (IsReadAs 0x1A head body.now) }
+    ensures memory { OnErr result (IsTrue (is_right_body 0x1A body.now)) }
 {
     let (handle, rest) = read_two(body);
     let (offset, rest) = read_four(rest);
     let bytes = copy_of(alloc, rest)?;
-    Ok(Some(Request::Edit {
-        handle,
-        offset,
-        bytes,
-    }))
+    Ok(record!(
+        head,
+        body,
+        Request::Edit {
+            handle,
+            offset,
+            bytes
+        }
+    ))
 }
 
-fn read(body: &[u8]) -> Request
+#[tactic(auto, unfolding(tbl_kinds::specs::Heads::is_right_body))]
+fn read(head: Head, body: &[u8]) -> Next
     requires { length body.now ≡ 10 }
-    ensures { IsSpelledBy 0x1C body.now result }
+    ensures { IsReadAs 0x1C head body.now result }
 {
     let (handle, rest) = read_two(body);
     let (offset, rest) = read_four(rest);
     let (len, _) = read_four(rest);
-    Request::Read {
-        handle,
-        offset,
-        len,
-    }
+    record!(
+        head,
+        body,
+        Request::Read {
+            handle,
+            offset,
+            len
+        }
+    )
 }
 
-fn get_info(body: &[u8]) -> Option<Request>
+#[tactic(auto, unfolding(tbl_kinds::specs::Heads::is_right_body))]
+fn get_info(head: Head, body: &[u8]) -> Next
     requires { length body.now ≡ 40 }
-    ensures right { is_some result ≡ is_name_field body.now }
-    ensures spelled { IfSome result (λ request. IsSpelledBy 0x1F body.now request) }
+    ensures { IsReadAs 0x1F head body.now result }
 {
-    let name = Name::<40>::exact(body)?;
-    Some(Request::GetInfo { name })
+    let Some(name) = Name::<40>::exact(body) else {
+        return Next::Bad;
+    };
+    record!(head, body, Request::GetInfo { name })
 }
 
-fn notify(body: &[u8]) -> Request
+#[tactic(auto, unfolding(tbl_kinds::specs::Heads::is_right_body))]
+fn notify(head: Head, body: &[u8]) -> Next
     requires { length body.now ≡ 10 }
-    ensures { IsSpelledBy 0x20 body.now result }
+    ensures { IsReadAs 0x20 head body.now result }
 {
     let (handle, rest) = read_two(body);
     let (msg, rest) = read_two(rest);
     let (code, rest) = read_two(rest);
     let (parameter, _) = read_four(rest);
-    Request::Notify {
-        handle,
-        msg,
-        code,
-        parameter,
-    }
+    record!(
+        head,
+        body,
+        Request::Notify {
+            handle,
+            msg,
+            code,
+            parameter
+        }
+    )
 }
 
-fn cds_register(body: &[u8]) -> Option<Request>
+#[tactic(auto, unfolding(tbl_kinds::specs::Heads::is_right_body))]
+fn exit(head: Head, body: &[u8]) -> Next
+    requires { length body.now ≡ 0 }
+    ensures { IsReadAs 0x21 head body.now result }
+{
+    record!(head, body, Request::Exit)
+}
+
+#[tactic(auto, unfolding(tbl_kinds::specs::Heads::is_right_body))]
+fn cds_register(head: Head, body: &[u8]) -> Next
     requires { length body.now ≡ 20 }
-    ensures right { is_some result ≡ has_name 0 16 body.now }
-    ensures spelled { IfSome result (λ request. IsSpelledBy 0x30 body.now request) }
+    ensures { IsReadAs 0x30 head body.now result }
 {
     let (field, rest) = body.split_at(16);
-    let name = Name::<16>::exact(field)?;
+    let Some(name) = Name::<16>::exact(field) else {
+        return Next::Bad;
+    };
     let (size, _) = read_four(rest);
-    Some(Request::CdsRegister { name, size })
+    record!(head, body, Request::CdsRegister { name, size })
 }
 
-fn cds_copy(alloc: Global, body: &[u8]) -> Result<Option<Request>, Memory>
+#[tactic(auto, unfolding(tbl_kinds::specs::Heads::is_right_body))]
+fn cds_copy(alloc: Global, head: Head, body: &[u8]) -> Result<Next, Memory>
     requires { 2 ≤ length body.now }
-    ensures right { IfOk result (λ found. is_some found ≡ true) }
-    ensures spelled { IfOk result (λ found. IfSome found (λ request. IsSpelledBy 0x31 body.now request)) }
+    ensures item { IfOk result (IsReadAs 0x31 head body.now) }
+    ensures memory { OnErr result (IsTrue (is_right_body 0x31 body.now)) }
 {
     let (slot, rest) = read_two(body);
     let image = copy_of(alloc, rest)?;
-    Ok(Some(Request::CdsCopy { slot, image }))
+    Ok(record!(head, body, Request::CdsCopy { slot, image }))
 }
 
 /// The handle or the slot that a body of two bytes is.
@@ -218,73 +273,71 @@ fn handle_in(body: &[u8]) -> u16
     handle
 }
 
-/// The request of a kind whose body is a handle alone, or the slot of a block.
-#[tactic(auto, using(crate::proofs::Spelled::handle_len))]
-fn handle_request(head: Head, body: &[u8]) -> Request
+/// The record of a kind whose body is a handle alone, or the slot of a block.
+#[tactic(auto, using(crate::proofs::Spelled::handle_len), unfolding(tbl_kinds::specs::Heads::is_right_body))]
+fn handle_record(head: Head, body: &[u8]) -> Next
     requires kind { IsTrue (is_handle_kind head.kind) }
     requires good { IsTrue (is_good_head head.kind head.actor (length body.now)) }
-    ensures { IsSpelledBy head.kind body.now result }
+    ensures { IsReadAs head.kind head body.now result }
 {
     let handle = handle_in(body);
     match head.kind {
-        0x13 => Request::Unregister { handle },
-        0x16 => Request::Update { handle },
-        0x17 => Request::Validate { handle },
-        0x18 => Request::Manage { handle },
-        0x19 => Request::DumpToBuffer { handle },
-        0x1B => Request::Get { handle },
-        0x1D => Request::Release { handle },
-        0x1E => Request::GetStatus { handle },
-        0x32 => Request::CdsRestore { slot: handle },
-        0x33 => Request::CdsDelete { slot: handle },
+        0x13 => record!(head, body, Request::Unregister { handle }),
+        0x16 => record!(head, body, Request::Update { handle }),
+        0x17 => record!(head, body, Request::Validate { handle }),
+        0x18 => record!(head, body, Request::Manage { handle }),
+        0x19 => record!(head, body, Request::DumpToBuffer { handle }),
+        0x1B => record!(head, body, Request::Get { handle }),
+        0x1D => record!(head, body, Request::Release { handle }),
+        0x1E => record!(head, body, Request::GetStatus { handle }),
+        0x32 => record!(head, body, Request::CdsRestore { slot: handle }),
+        0x33 => record!(head, body, Request::CdsDelete { slot: handle }),
         _ => unreachable!(),
     }
 }
 
-/// The request that a body of this kind spells, if it is of the right form, of the kinds whose requests keep no bytes of
-/// their own. It isn't inlined: its arms would clear their memory for each record of the other kinds.
+/// The record of a kind whose requests keep no bytes of their own. It isn't inlined: its arms would clear their memory for each
+/// record of the other kinds.
 #[inline(never)]
 #[tactic(auto, unfolding(tbl_kinds::specs::Heads::is_right_body, tbl_kinds::specs::Heads::is_good_head))]
-fn plain_request(head: Head, body: &[u8]) -> Option<Request>
+fn plain_record(head: Head, body: &[u8]) -> Next
     requires kind { keeps_bytes head.kind ≡ false }
     requires good { IsTrue (is_good_head head.kind head.actor (length body.now)) }
-    ensures right { is_some result ≡ is_right_body head.kind body.now }
-    ensures spelled { IfSome result (λ request. IsSpelledBy head.kind body.now request) }
+    ensures { IsReadAs head.kind head body.now result }
 {
     match head.kind {
-        0x03 => Some(time(body)),
-        0x04 => reset(body),
-        0x10 => start(body),
-        0x11 => register(body),
-        0x12 => share(body),
-        0x15 => load_file(body),
-        0x1C => Some(read(body)),
-        0x1F => get_info(body),
-        0x20 => Some(notify(body)),
-        0x21 => Some(Request::Exit),
-        0x30 => cds_register(body),
+        0x03 => time(head, body),
+        0x04 => reset(head, body),
+        0x10 => start(head, body),
+        0x11 => register(head, body),
+        0x12 => share(head, body),
+        0x15 => load_file(head, body),
+        0x1C => read(head, body),
+        0x1F => get_info(head, body),
+        0x20 => notify(head, body),
+        0x21 => exit(head, body),
+        0x30 => cds_register(head, body),
         0x13 | 0x16 | 0x17 | 0x18 | 0x19 | 0x1B | 0x1D | 0x1E | 0x32 | 0x33 => {
-            Some(handle_request(head, body))
+            handle_record(head, body)
         }
-        _ => None,
+        _ => Next::Bad,
     }
 }
 
-/// The request that a body of this kind spells, if it is of the right form.
+/// The record of this head and body, if the body is of the right form.
 #[tactic(auto, unfolding(tbl_kinds::specs::Heads::is_right_body, tbl_kinds::specs::Heads::is_good_head))]
-fn request_of(alloc: Global, head: Head, body: &[u8]) -> Result<Option<Request>, Memory>
+fn record_of(alloc: Global, head: Head, body: &[u8]) -> Result<Next, Memory>
     requires { IsTrue (is_good_head head.kind head.actor (length body.now)) }
-    ensures right { IfOk result (λ found. is_some found ≡ is_right_body head.kind body.now) }
-    ensures spelled { IfOk result (λ found. IfSome found (λ request. IsSpelledBy head.kind body.now request)) }
+    ensures item { IfOk result (IsReadAs head.kind head body.now) }
     ensures memory { OnErr result (IsTrue (is_right_body head.kind body.now)) }
 {
     match head.kind {
-        0x01 => command(alloc, body),
-        0x02 => file(alloc, body),
-        0x14 => load_image(alloc, body),
-        0x1A => edit(alloc, body),
-        0x31 => cds_copy(alloc, body),
-        _ => Ok(plain_request(head, body)),
+        0x01 => command(alloc, head, body),
+        0x02 => file(alloc, head, body),
+        0x14 => load_image(alloc, head, body),
+        0x1A => edit(alloc, head, body),
+        0x31 => cds_copy(alloc, head, body),
+        _ => Ok(plain_record(head, body)),
     }
 }
 
@@ -313,12 +366,5 @@ pub fn next_record(alloc: Global, bytes: &[u8]) -> Result<Next, Memory>
         return Ok(Next::Short);
     }
     let (body, _) = rest.split_at(head.len);
-    match request_of(alloc, head, body)? {
-        None => Ok(Next::Bad),
-        Some(request) => Ok(Next::Item {
-            actor: actor_of(head.actor),
-            request,
-            used: HEAD_LEN + head.len,
-        }),
-    }
+    record_of(alloc, head, body)
 }
