@@ -7,4 +7,4 @@ mod writing;
 
 pub use laws::an_end_is_no_entry;
 pub use reading::{EndRecord, EntryHead, read_end, read_entry};
-pub use writing::{write_end, write_entry};
+pub use writing::{FRONT_LENGTH, write_around, write_end, write_entry};

@@ -1,16 +1,20 @@
 ghost use Rattle.std.specs.Prelude.{◌≡◌, ◌+◌, ◌<◌, ◌≤◌, ◌^◌, [], ◌∷◌, ◌++◌, length, OnOk, OnErr};
+ghost use Rattle.arrayvec.specs.ArrayVec.{array_vec_len};
 ghost use Rattle.tbl_kinds.specs.Numbers.{four};
 ghost use Rattle.tbl_kinds.specs.Records.{actor_number};
-ghost use Rattle.tbl_kinds.specs.Transcript.{entry_bytes, end_bytes};
+ghost use Rattle.tbl_kinds.specs.Transcript.{fields_of, entry_bytes, end_bytes};
+ghost use Rattle.transcript.specs.Writing.{front_of, rest_of};
 
 use arrayvec::ArrayVec;
 use tbl_kinds::fields::put;
 use tbl_kinds::{Bytes, Entry, Memory};
 
-/// What stands before the reply's bytes: place, actor, status, detail, and how many bytes the reply has.
-fn head_of(place: u32, entry: &Entry) -> ArrayVec<u8, 17>
+/// What stands before the reply's bytes: place, actor, status, detail, and how many bytes the reply has. There is room for a
+/// further number.
+fn head_of(place: u32, entry: &Entry) -> ArrayVec<u8, 21>
     requires { length entry.now.reply.bytes.list < 2 ^ 32 }
-    ensures { result.items ≡ four place ++ actor_number entry.now.actor ∷ [] ++ four entry.now.reply.status.0 ++ four entry.now.reply.detail ++ four (length entry.now.reply.bytes.list) }
+    ensures bytes { result.items ≡ four place ++ actor_number entry.now.actor ∷ [] ++ four entry.now.reply.status.0 ++ four entry.now.reply.detail ++ four (length entry.now.reply.bytes.list) }
+    ensures len { array_vec_len result ≡ 17 }
 {
     let count = entry.reply.bytes.bytes().len() as u32;
     let mut head = ArrayVec::new();
@@ -22,6 +26,24 @@ fn head_of(place: u32, entry: &Entry) -> ArrayVec<u8, 17>
     head
 }
 
+/// Appends what stands before the packets, into room that was reserved. It is one piece where the reply has no bytes.
+#[tactic(auto, unfolding(tbl_kinds::specs::Transcript::entry_spelling))]
+fn put_front(out: &mut Bytes, mut head: ArrayVec<u8, 21>, bytes: &[u8], packets_len: u32)
+    requires room { 21 + length bytes.now ≤ out.old.spare }
+    requires len { array_vec_len head ≡ 17 }
+    ensures bytes { out.new.list ≡ out.old.list ++ head.items ++ bytes.now ++ four packets_len }
+    ensures room { out.old.spare ≤ out.new.spare + (21 + length bytes.now) }
+{
+    if bytes.is_empty() {
+        put(&mut head, &packets_len.to_be_bytes());
+        out.append(head.as_slice());
+    } else {
+        out.append(head.as_slice());
+        out.append(bytes);
+        out.append(&packets_len.to_be_bytes());
+    }
+}
+
 /// Appends the spelling of the entry that stands at this place of the history. Where memory runs out, nothing is
 /// changed.
 #[tactic(auto, unfolding(tbl_kinds::specs::Transcript::entry_spelling))]
@@ -31,13 +53,28 @@ pub fn write_entry(out: &mut Bytes, place: u32, entry: &Entry) -> Result<(), Mem
     ensures ok { OnOk result (out.new.list ≡ out.old.list ++ entry_bytes place entry.now) }
     ensures err { OnErr result (out.new ≡ out.old) }
 {
-    let head = head_of(place, entry);
     let bytes = entry.reply.bytes.bytes();
     let packets = entry.reply.packets.bytes();
     out.reserve(21 + bytes.len() + packets.len())?;
-    out.append(head.as_slice());
-    out.append(bytes);
-    out.append(&(packets.len() as u32).to_be_bytes());
+    put_front(out, head_of(place, entry), bytes, packets.len() as u32);
+    out.append(packets);
+    Ok(())
+}
+
+/// How many bytes of an entry stand before those of its reply.
+pub const FRONT_LENGTH: usize = 17;
+
+/// Appends what stands around the bytes of an entry's reply: what comes before them, and then its packets with their number. So a
+/// long reply needn't be copied to be written. Where memory runs out, nothing is changed.
+pub fn write_around(out: &mut Bytes, place: u32, entry: &Entry) -> Result<(), Memory>
+    requires bytes { length entry.now.reply.bytes.list < 2 ^ 32 }
+    requires packets { length entry.now.reply.packets.list < 2 ^ 32 }
+    ensures ok { OnOk result (out.new.list ≡ out.old.list ++ front_of (fields_of place entry.now) ++ rest_of (fields_of place entry.now)) }
+    ensures err { OnErr result (out.new ≡ out.old) }
+{
+    let packets = entry.reply.packets.bytes();
+    out.reserve(21 + packets.len())?;
+    put_front(out, head_of(place, entry), &[], packets.len() as u32);
     out.append(packets);
     Ok(())
 }
