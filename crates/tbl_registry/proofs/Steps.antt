@@ -13,6 +13,8 @@ use Rattle.access_desc.specs.Steps.{at_place, changed_at, has, pins_old, with_no
 use Rattle.working_buffers.specs.Places.{LentBuffer}
 use Rattle.std.proofs.Math.ListN.{get_or-map}
 use Rattle.tbl_registry.specs.Pins.{Pins, Leads}
+use Rattle.tbl_registry.specs.Lending.{pinned_image, name_by, lent_at}
+use Rattle.tbl_registry.specs.declared.pin.Pin.{Pin}
 use Rattle.tbl_registry.specs.Sound.{IsSound}
 use Rattle.tbl_registry.specs.Seen.{tables_of, handle_of, with_last, drop_before_unless}
 use Rattle.tbl_registry.proofs.Places.{AtEachPlace-set, none_passes}
@@ -179,3 +181,16 @@ module _ (rows : List (Option Table)) (handles : List (Option HandleView)) (buff
       by : (old : Bool) → Pins t old → cond old t.before t.last ≡ Some image → unwrap_or (cond (cond old (t.count - 1) t.count == t.count) t.last t.before) [] ≡ image
       by true p last = let some = p.loaded in let other : (t.count - 1 == t.count) ≡ false = grind (arith, nat_tests) in rw (other, last) refl
       by false p last = let same : (t.count == t.count) ≡ true = search rules in rw (same, last) refl
+
+  -- it lends that image
+  pub lends : (place : ℕ) (image : List ℕ) → h.pinned ≡ true → cond h.old t.before t.last ≡ Some image → lent_at n place (tables_of rows handles) ≡ Some (record { bytes = image; handle = n; place = place; name = t.name })
+  lends place image pinned is =
+      let the_image : cond (cond h.old (t.count - 1) t.count == t.count) t.last t.before ≡ Some image = by h.old (here_pins pinned) is in
+      let all : pinned_image n (tables_of rows handles) ≡ Some image = rw (access_is, pinned, l.row_is, l.table) the_image in
+      let named : name_by n (tables_of rows handles) ≡ t.name = rw access_is refl in
+      ap (option_map (λ (bytes : List ℕ). let pin : Pin = record { bytes = bytes; handle = n; place = place; name = name_by n (tables_of rows handles) } in pin)) all
+      ∙ ap (λ (name : List ℕ). let pin : Pin = record { bytes = image; handle = n; place = place; name = name } in Some pin) named
+    where
+      by : (old : Bool) → Pins t old → cond old t.before t.last ≡ Some image → cond (cond old (t.count - 1) t.count == t.count) t.last t.before ≡ Some image
+      by true p last = let some = p.loaded in let other : (t.count - 1 == t.count) ≡ false = grind (arith, nat_tests) in rw other last
+      by false p last = let same : (t.count == t.count) ≡ true = search rules in rw same last

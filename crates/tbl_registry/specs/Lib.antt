@@ -5,3 +5,4 @@ pub mod Seen
 pub mod Sound
 pub mod Views
 pub mod Adding
+pub mod Lending

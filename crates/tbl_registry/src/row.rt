@@ -1,4 +1,4 @@
-ghost use Rattle.std.specs.Prelude.{◌≡◌, ◌&&◌, ◌<◌, ◌+◌, ◌-◌, ◌≤◌, ◌^◌, ◌==◌, ℕ, List, [], true, false, not, None, Some, IsSome, IfSome, is_some, length, unwrap_or, bit_and, if◌then◌else◌};
+ghost use Rattle.std.specs.Prelude.{◌≡◌, ◌&&◌, ◌<◌, ◌+◌, ◌-◌, ◌≤◌, ◌^◌, ◌==◌, ℕ, List, [], true, false, not, None, Some, IsSome, IfSome, IfOk, is_some, length, unwrap_or, bit_and, if◌then◌else◌};
 ghost use Rattle.std.specs.Option.{option_map, option_copied};
 ghost use Rattle.std.specs.Borrow.{Bor};
 ghost use Rattle.std.specs.Str.{bytes_eq};
@@ -12,7 +12,7 @@ ghost use Rattle.tbl_model.specs.TableSteps.{new_table, with_first, unchecked, b
 use bitflags::Flags;
 use buffer_pairs::{Buffers, Image};
 use std::marker::Model;
-use tbl_kinds::{Name40, Name64, Options, Status};
+use tbl_kinds::{Memory, Name40, Name64, Options, Status};
 use tbl_model::Notice;
 
 mod info;
@@ -310,6 +310,23 @@ impl Row {
             self.buffers.active()
         };
         Some(image?.bytes())
+    }
+
+    /// A further owner of its last image, or of the one before it. None where there is none; an Err means that the image has as
+    /// many owners as can be counted.
+    pub(crate) fn share(&self, before: bool) -> Result<Option<Image>, Memory>
+        ensures image { IfOk result (λ image. image ≡ (if before then self.now.before else self.now.last)) }
+        ensures loaded { 0 < self.now.count → IsSome self.now.last }
+    {
+        let image = if before {
+            self.buffers.before()
+        } else {
+            self.buffers.active()
+        };
+        match image {
+            Some(image) => Ok(Some(image.share()?)),
+            None => Ok(None),
+        }
     }
 
     /// Takes an image as its last one.

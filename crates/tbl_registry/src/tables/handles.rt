@@ -1,6 +1,6 @@
 //! What applications do with handles on tables, and with the images that they pin.
 
-ghost use Rattle.std.specs.Prelude.{◌≡◌, ◌≤◌, ◌+◌, ◌^◌, [], None, Some, Ok, Err, IsSome, IfOk, OnOk, IfErr, IfSome, IfNone, is_some, if◌then◌else◌, nat_lt, length, map, position, slice_index_or, option_and_then};
+ghost use Rattle.std.specs.Prelude.{◌≡◌, ◌<◌, ◌≤◌, ◌+◌, ◌^◌, [], None, Some, Ok, Err, IsSome, IfOk, OnOk, IfErr, IfSome, OnSome, IfNone, is_some, if◌then◌else◌, nat_lt, length, map, position, slice_index_or, option_and_then};
 ghost use Rattle.std.specs.Option.{option_map, ForSome};
 ghost use Rattle.tbl_kinds.specs.Limits.{table_limit};
 ghost use Rattle.tbl_model.specs.State.{Table, Handle};
@@ -9,13 +9,15 @@ ghost use Rattle.tbl_kinds.specs.Free.{least_free};
 ghost use Rattle.tbl_model.specs.Tables.{table_at};
 ghost use Rattle.tbl_model.specs.TableSteps.{check, handle_at, access_of, get_address, release, read, locker, new_handle, with_handle, give_back, registered_by};
 ghost use Rattle.access_desc.specs.Steps.{at_place, changed_at, has, pins, pins_old, with_no_pin};
+ghost use Rattle.tbl_registry.specs.Lending.{pins_image, lent_at};
 ghost use Rattle.tbl_registry.specs.Seen.{handle_of, tables_of, with_last, drop_before_unless};
 
 use super::Tables;
+use crate::pin::Pin;
 use crate::row::Row;
 use crate::rows::table_in;
 use access_desc::{HandleView, Handles};
-use tbl_kinds::{Answer, Status};
+use tbl_kinds::{Answer, Memory, Status};
 
 /// What a handle stands for, with its table's row and its table.
 fn access<'a>(
@@ -27,6 +29,7 @@ fn access<'a>(
     ensures row { IfSome result (λ found. found.0.row ≡ Some found.1) }
     ensures table { IfSome result (λ found. slice_index_or rows.now found.1 None ≡ Some found.2.now) }
     ensures none { IfNone result (access_of (tables_of rows.now handles.now) handle ≡ None) }
+    ensures within { OnSome result (handle < 256) }
 {
     let view = handles.view(handle)?;
     let row = view.row?;
@@ -251,6 +254,26 @@ impl Tables {
             return Err(Status::ERR_OUT_OF_RANGE);
         }
         Ok(&image[from..to])
+    }
+
+    /// Lends the image that a handle pins, with the place of the call that got its address. None where the handle leads to no
+    /// table, or pins no image. No byte is copied, and no memory is taken; an Err means that the image has as many owners as can
+    /// be counted.
+    pub fn lend(&self, handle: u16, place: u32) -> Result<Option<Pin>, Memory>
+        ensures lent { IfOk result (λ lent. lent ≡ lent_at handle place self.now) }
+        ensures none { IfOk result (λ lent. is_some lent ≡ pins_image handle self.now) }
+        ensures within { IfOk result (λ lent. OnSome lent (handle < 256)) }
+    {
+        let Some((view, _, table)) = access(&self.rows, &self.handles, handle) else {
+            return Ok(None);
+        };
+        if !view.pinned {
+            return Ok(None);
+        }
+        let Some(image) = table.share(view.old)? else {
+            unreachable!();
+        };
+        Ok(Some(Pin::of(image, handle, place, table.name().copy())))
     }
 
     /// The least handle in the way of a new image of the table of a row (cFE User's Guide, Table Services, "Locking").
