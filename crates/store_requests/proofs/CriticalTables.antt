@@ -1,6 +1,6 @@
 -- A registration as the model has it, by what is found: how many tables are critical, and which block stands under the name.
 use Rattle.std.proofs.Common.{◌≡◌, inl, inr, ℕ, [], ◌∷◌, ◌≤◌, ◌<◌, suc, arith, Bool, true, false, not, Option, Some, None, refl, sym, ◌∙◌, ap, subst}
-use Rattle.std.specs.Prelude.{if◌then◌else◌, option_and_then, unwrap_or, IsSome, nat_le}
+use Rattle.std.specs.Prelude.{if◌then◌else◌, option_and_then, unwrap_or, IsSome, IfSome, nat_le, length, replicate}
 use Rattle.std.specs.Option.{option_or}
 use Rattle.tbl_kinds.specs.StoreCalls.{restore}
 use Rattle.tbl_kinds.specs.StoreSteps.{stored_at, open_of, doubtful_of, has_room}
@@ -10,14 +10,15 @@ use Rattle.tbl_kinds.specs.declared.note.BankNote.{BankNote}
 use Rattle.tbl_kinds.specs.declared.status.TheConstants.Status.{SUCCESS}
 use Rattle.tbl_model.specs.State.{State, Table, Tables}
 use Rattle.tbl_kinds.specs.Free.{least_free}
-use Rattle.tbl_model.specs.Tables.{is_critical, critical_count}
-use Rattle.tbl_model.specs.TableSteps.{new_table, as_registered, with_first, added}
+use Rattle.tbl_model.specs.Tables.{is_critical, is_dump_only, critical_count}
+use Rattle.tbl_model.specs.TableSteps.{new_table, as_registered, first_image, with_first, added}
 use Rattle.tbl_model.specs.Refusals.{may_use}
 use Rattle.tbl_model.specs.Registration.{new_effect}
 use Rattle.tbl_model.specs.Fit.{AreFit}
 use Rattle.tbl_laws.proofs.Changes.{grown}
 use Rattle.tbl_laws.proofs.Ordinary.{new_row}
 use Rattle.std.proofs.lemmas.Bool.Decides.{nat_tests}
+use Rattle.std.proofs.lemmas.List.{length-replicate}
 use Rattle.tbl_model.specs.Effects as model
 use Rattle.tbl_model.specs.Effects.{answered}
 use Rattle.tbl_model.specs.StoreUse.{then_call}
@@ -111,6 +112,13 @@ some_is (Some n) is = refl
 pub fits_one : (s : State) (n : ℕ) (old new : Tables) (app : ℕ) (plan : NewTable) → s.tables ≡ old → CanRegister old plan → may_use s.kit app plan.validator ≡ true → AreFit n s → AtMostOne old new app plan → AreFit (suc n) (record s { tables = new })
 fits_one s n old new app plan same can may fit (inl is) = subst (λ (tables : Tables). AreFit (suc n) (record s { tables = tables })) (same ∙ sym is) (grown n s fit)
 fits_one s n old new app plan same can may fit (inr more) =
-    subst (λ (tables : Tables). AreFit (suc n) (record s { tables = tables })) (ap (added (next_row old) (with_first more.1 (new_table plan.name app plan.size more.0 plan.validator (next_handle old)))) same ∙ sym more.2)
+    subst (λ (tables : Tables). AreFit (suc n) (record s { tables = tables })) (ap (added (next_row old) (with_first more.1 (new_table plan.name app plan.size more.0 plan.validator (next_handle old)))) same ∙ sym more.3)
     (new_row s n fit plan.name (next_row old) (next_handle old) app plan.size more.0 plan.validator more.1
     (ap (λ (tables : Tables). least_free tables.rows) same ∙ some_is (least_free old.rows) can.row) (ap (λ (tables : Tables). least_free tables.handles) same ∙ some_is (least_free old.handles) can.handle) may)
+
+-- the image that a table begins with has its size
+pub first_sized : (t : Table) → IfSome (first_image t) (λ image. length image ≡ t.size)
+first_sized t = by (is_dump_only t) where
+  by : (b : Bool) → IfSome (if b then Some (replicate {A = ℕ} t.size 0) else None) (λ image. length image ≡ t.size)
+  by true = length-replicate t.size 0
+  by false = tt

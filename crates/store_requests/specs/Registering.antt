@@ -1,5 +1,5 @@
 -- A table is registered, and the answer tells its handle.
-use Rattle.std.specs.Prelude.{◌≡◌, ◌⊎◌, ℕ, ◌≤◌, List, [], ◌∷◌, length, true, false, Option, Some, None, Result, Ok, Err, OnOk, IfErr}
+use Rattle.std.specs.Prelude.{◌≡◌, ◌⊎◌, ℕ, ◌≤◌, List, [], ◌∷◌, length, true, false, Option, Some, None, Result, Ok, Err, OnOk, IfErr, IfSome}
 use Rattle.std.specs.Option.{ForSome}
 use Rattle.tbl_kinds.specs.Blocks.{Store as Blocks}
 use Rattle.tbl_outside.specs.Bank.{LeavesOnly}
@@ -19,7 +19,7 @@ use Rattle.tbl_model.specs.AppBlocks.{renewal}
 use Rattle.tbl_model.specs.CriticalTables.{registered, not_kept, recovered, instead, kept_effect}
 use Rattle.tbl_model.specs.TableSteps.{new_table, with_first, uncritical, added}
 use Rattle.tbl_registry.specs.declared.row.NewTable.{NewTable}
-use Rattle.sharing.specs.Registering.{next_row, next_handle, planned}
+use Rattle.sharing.specs.Registering.{next_row, next_handle, planned, CanRegister}
 use Rattle.cds_store.specs.declared.fault.BankFault.{BankFault}
 use Rattle.cds_store.specs.declared.fault.BankFault.TheVariants.{Fault, Stopped as Cut}
 use Rattle.cds_store.specs.declared.fault.ReserveFault.{ReserveFault}
@@ -65,9 +65,16 @@ EntersReserved old new t done (Ok slot) note = Enters old new t done SUCCESS (do
 EntersReserved old new t done (Err NoRoom) note = EntersUncritical old new t done note
 EntersReserved old new t done (Err (Bank fault)) note = EntersBroken old new t done fault note
 
--- the tables are the old ones, or there is one more, of this plan's name, size and function
+-- the tables are the old ones, or there is one more, of this plan's name, size and function, and an image that it begins with has its size
 abbrev pub AtMostOne : Tables → Tables → ℕ → NewTable → Type 0
-AtMostOne old new app plan = (new ≡ old) ⊎ ((options : ℕ) × (first : Option (List ℕ)) × (new ≡ added (next_row old) (with_first first (new_table plan.name app plan.size options plan.validator (next_handle old))) old))
+AtMostOne old new app plan =
+    (new ≡ old)
+    ⊎ ((options : ℕ) × (first : Option (List ℕ)) × IfSome first (λ image. length image ≡ plan.size)
+    × (new ≡ added (next_row old) (with_first first (new_table plan.name app plan.size options plan.validator (next_handle old))) old))
+
+-- of some plan that nothing was in the way of
+abbrev pub RegistersOne : Tables → Tables → ℕ → Type 0
+RegistersOne old new app = (new ≡ old) ⊎ ((plan : NewTable) × CanRegister old plan × AtMostOne old new app plan)
 
 -- ---- what the model says of its block
 

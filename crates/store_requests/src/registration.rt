@@ -21,7 +21,7 @@ ghost use Rattle.cds_store.specs.StoreBlocks.{StandsFor};
 ghost use Rattle.sharing.specs.Registering.{next_row, planned, CanRegister};
 ghost use Rattle.tbl_session.specs.Restores.{GaveHeld};
 ghost use Rattle.store_requests.specs.Called.{Calls, IsCall, GaveAsHeld, done_note};
-ghost use Rattle.store_requests.specs.Registering.{Enters, EntersBroken, EntersRecovered, EntersRestored, EntersReserved, Restores, AtMostOne, recovery, making, keeping, EntersWithout};
+ghost use Rattle.store_requests.specs.Registering.{Enters, EntersBroken, EntersRecovered, EntersRestored, EntersReserved, Restores, AtMostOne, RegistersOne, recovery, making, keeping, EntersWithout};
 
 use crate::notes::{note_broken, note_done, note_room, noted};
 use crate::table_blocks::sized_block;
@@ -428,6 +428,7 @@ pub fn register<B: Bank, C: Validator>(
         → GaveAsHeld B.Bank store.old s.store done (register_effect s app short.now size flags validator)) }
     // What holds of tables still does, over a bank that doesn't tell its bytes too.
     ensures fit { IfOk result (λ done. (s : State) (n : ℕ) → s.tables ≡ tables.old → s.kit ≡ owners kit.now → AreFit n s → AreFit (suc n) (record s { tables = tables.new })) }
+    ensures one { IfOk result (λ done. RegistersOne tables.old tables.new app) }
     ensures err_tables { OnErr result (tables.new ≡ tables.old) }
     ensures err_store { OnErr result (store.new ≡ store.old) }
 {

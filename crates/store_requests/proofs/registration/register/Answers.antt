@@ -15,7 +15,7 @@ use Rattle.std.specs.Prelude.{false}
 use Rattle.tbl_kinds.specs.declared.status.TheConstants.Status.{SUCCESS}
 use Rattle.tbl_model.specs.Effects.{answered}
 use Rattle.store_requests.proofs.Moments.{uncalled_leaves}
-use Rattle.store_requests.proofs.CriticalTables.{critical_new, plain_new, fits_one}
+use Rattle.store_requests.proofs.CriticalTables.{critical_new, plain_new, fits_one, first_sized}
 use Rattle.store_requests.proofs.Registrations.{enters_alone}
 use Rattle.store_requests.proofs.registration.register.Goals as goal
 
@@ -49,7 +49,15 @@ pub returns-clause-fit : goal.returns-clause-fit
 returns-clause-fit g c = λ s n tables kit fit.
     let old = c.args.tables.now in
     fits_one s n old c.register_plain.new.tables c.args.app c.in-Ok.plan tables c.in-Ok.ensures.can (subst (λ (k : List (Option ℕ)). may_use k c.args.app c.in-Ok.plan.validator ≡ true) (sym kit) c.in-Ok.ensures.may) fit
-    (inr (option_bits c.in-Ok.plan.flags, first_image (planned old c.args.app c.in-Ok.plan), (search rules)))
+    (inr (option_bits c.in-Ok.plan.flags, first_image (planned old c.args.app c.in-Ok.plan), first_sized (planned old c.args.app c.in-Ok.plan), (search rules)))
+
+pub returns-then-contains-clause-one : goal.returns-then-contains-clause-one
+returns-then-contains-clause-one g c = one c.register_critical.result _ _ c.register_critical.ensures.one (λ done is. inr (c.in-Ok.plan, c.in-Ok.ensures.can, is))
+
+pub returns-clause-one : goal.returns-clause-one
+returns-clause-one g c =
+    let old = c.args.tables.now in
+    inr (c.in-Ok.plan, c.in-Ok.ensures.can, inr (option_bits c.in-Ok.plan.flags, first_image (planned old c.args.app c.in-Ok.plan), first_sized (planned old c.args.app c.in-Ok.plan), (search rules)))
 
 -- it is refused
 pub returns-in-Err-clause-effect : goal.returns-in-Err-clause-effect
