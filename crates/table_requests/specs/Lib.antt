@@ -3,3 +3,4 @@ pub mod Limits
 pub mod Loads
 pub mod Managed
 pub mod Rows
+pub mod Reads

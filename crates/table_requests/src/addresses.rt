@@ -1,11 +1,12 @@
 //! Addresses of tables: got, read through, and given back.
 
-ghost use Rattle.std.specs.Prelude.{◌≡◌, ◌≤◌, [], length, IfOk, IfErr};
+ghost use Rattle.std.specs.Prelude.{◌≡◌, ◌≤◌, [], length, IfOk, IfErr, IfSome};
 ghost use Rattle.tbl_model.specs.State.{State};
 ghost use Rattle.tbl_model.specs.Effects.{answered, answered_with};
 ghost use Rattle.tbl_model.specs.Addresses.{get_effect, release_effect, read_effect};
 ghost use Rattle.tbl_kinds.specs.Limits.{table_limit};
 ghost use Rattle.request_effects.specs.Effects.{IsEffect, IsQuiet};
+ghost use Rattle.table_requests.specs.Reads.{Reads, AreRead};
 
 use crate::checks::check;
 use request_effects::Effect;
@@ -47,6 +48,7 @@ fn piece<'a>(
 ) -> Result<&'a [u8], Status>
     ensures ok { IfOk result (λ bytes. (s : State) → s.tables ≡ tables.now → s.apps ≡ apps.now → read_effect s app handle offset len ≡ record (answered s Status.SUCCESS 0) { bytes = bytes.now }) }
     ensures err { IfErr result (λ status. (s : State) → s.tables ≡ tables.now → s.apps ≡ apps.now → read_effect s app handle offset len ≡ answered s status 0) }
+    ensures reads { IfOk result (λ bytes. Reads handle offset len tables.now bytes.now) }
     ensures within { IfOk result (λ bytes. length bytes.now ≤ table_limit) }
 {
     match check(tables, apps, app, handle, false) {
@@ -55,7 +57,23 @@ fn piece<'a>(
     }
 }
 
-/// An application reads bytes of the image that its handle pins.
+/// These bytes: as they were lent, or else a copy.
+fn lent_or_copied(lent: Option<Bytes>, piece: &[u8], mut empty: Bytes) -> Result<Bytes, Memory>
+    requires lent { IfSome lent (λ slice. slice.list ≡ piece.now) }
+    requires empty { empty.list ≡ [] }
+    ensures { IfOk result (λ bytes. bytes.list ≡ piece.now) }
+{
+    match lent {
+        Some(slice) => Ok(slice),
+        None => {
+            empty.reserve(piece.len())?;
+            empty.append(piece);
+            Ok(empty)
+        }
+    }
+}
+
+/// An application reads bytes of the image that its handle pins. Where they were lent, none is copied and no memory is taken.
 pub fn read(
     tables: &Tables,
     apps: &Apps,
@@ -63,17 +81,18 @@ pub fn read(
     handle: u16,
     offset: u32,
     len: u32,
-    mut empty: Bytes,
+    lent: Option<Bytes>,
+    empty: Bytes,
 ) -> Result<Effect, Memory>
-    requires { empty.list ≡ [] }
+    requires lent { IfSome lent (λ slice. AreRead handle offset len tables.now slice.list) }
+    requires empty { empty.list ≡ [] }
     ensures effect { IfOk result (λ done. (s : State) → s.tables ≡ tables.now → s.apps ≡ apps.now → IsEffect done [] s (read_effect s app handle offset len)) }
     ensures quiet { IfOk result IsQuiet }
 {
     match piece(tables, apps, app, handle, offset, len) {
         Ok(piece) => {
-            empty.reserve(piece.len())?;
-            empty.append(piece);
-            Ok(Effect::of(Answer::plain(Status::SUCCESS), empty))
+            let bytes = lent_or_copied(lent, piece, empty)?;
+            Ok(Effect::of(Answer::plain(Status::SUCCESS), bytes))
         }
         Err(status) => Ok(Effect::of(Answer::plain(status), empty)),
     }
