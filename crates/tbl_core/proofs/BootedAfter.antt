@@ -2,7 +2,7 @@
 use Rattle.std.proofs.Common.{◌≡◌, ◌≢◌, ◌∙◌, ℕ, suc, List, not, Option, Some, None, refl, sym, ap, subst, inl}
 use Rattle.tbl_kinds.specs.Blocks.{Store as Blocks}
 use Rattle.tbl_kinds.specs.StoreCalls.{StoreCall}
-use Rattle.tbl_model.specs.State.{State}
+use Rattle.tbl_model.specs.State.{State, Tables}
 use Rattle.tbl_model.specs.Effects as model
 use Rattle.tbl_model.specs.Given.{Given}
 use Rattle.tbl_model.specs.StoreNotes.{Boots, Ends}
@@ -11,6 +11,7 @@ use Rattle.tbl_laws.proofs.Ordinary.{fit_at_first}
 use Rattle.tbl_kinds.specs.declared.note.BankNote.{BankNote}
 use Rattle.tbl_kinds.specs.declared.note.Outcome.{Outcome}
 use Rattle.tbl_kinds.specs.declared.note.Outcome.TheVariants.{Untouched, Done, Failed, Stopped}
+use Rattle.tbl_kinds.specs.declared.request.Actor.{Actor}
 use Rattle.tbl_kinds.specs.declared.request.Request.{Request}
 use Rattle.tbl_kinds.specs.declared.request.ResetKind.TheVariants.{Processor}
 use Rattle.tbl_outside.specs.declared.validator.KitEntry.{KitEntry}
@@ -25,12 +26,14 @@ use Rattle.request_effects.specs.Effects.{given_of}
 use Rattle.tbl_core.specs.Service.{PartsView, HoldsAll, state_of, step_of, Bounds, EndsIn, HasEffect, Has, Makes, Meets, IsMade, after_stop}
 use Rattle.tbl_core.specs.Verdicts.{Judged}
 use Rattle.request_effects.specs.declared.effect.Effect.{Effect}
+use Rattle.tbl_core.specs.Pins.{HaveImages, PinsGoOn}
+use Rattle.tbl_core.proofs.Pinning.{stopped_pins}
 use Rattle.tbl_core.proofs.Trouble.{troubled_after, caused_after}
 use Rattle.tbl_outside.specs.declared.bank.Bank.{Ghosts}
 use Rattle.tbl_outside.specs.declared.validator.Validator.{Ghosts as ValidatorGhosts}
 
 module _ {B C : Type 0} (g : Ghosts B) (v : ValidatorGhosts C) (bounds : Bounds) (old mid new : PartsView B C) (request : Request) (means : State → Given → Option model.Effect)
-    (called : Effect) (note : BankNote) (makes : Makes g v bounds old mid called) (meets : Meets g v (step_of old mid request) means called)
+    (called : Effect) (note : BankNote) (makes : Makes g v bounds request old mid called) (meets : Meets g v (step_of old mid request) means called)
     (follows : Follows called.note note) (held : new ≡ after_stop called.note.outcome note new.store mid)
     (boots : g.tells → (s : State) → HoldsAll g mid s → HoldsAll g new (boots_after called.note.outcome note s))
     (found : g.tells → (s : State) → HoldsAll g mid s → called.note.outcome ≡ Stopped → Boots (Some Processor) s.store note)
@@ -64,6 +67,17 @@ module _ {B C : Type 0} (g : Ghosts B) (v : ValidatorGhosts C) (bounds : Bounds)
     by Done at is = stays (λ stop. cc (at, stop)) (ap (λ (h : PartsView B C). h.ended) is)
     by Failed at is = stays (λ stop. cc (at, stop)) (ap (λ (h : PartsView B C). h.ended) is)
     by Stopped at is = ap (λ (h : PartsView B C). h.ended) is
+
+  pins : HaveImages old.tables → HaveImages new.tables × PinsGoOn old.tables new.tables request called.answer.status
+  pins has = by called.note.outcome refl held where
+    stays : new.tables ≡ mid.tables → HaveImages new.tables × PinsGoOn old.tables new.tables request called.answer.status
+    stays same = subst (λ (tables : Tables). HaveImages tables × PinsGoOn old.tables tables request called.answer.status) (sym same) (makes.pins has)
+
+    by : (outcome : Outcome) → called.note.outcome ≡ outcome → new ≡ after_stop outcome note new.store mid → HaveImages new.tables × PinsGoOn old.tables new.tables request called.answer.status
+    by Untouched at is = stays (ap (λ (h : PartsView B C). h.tables) is)
+    by Done at is = stays (ap (λ (h : PartsView B C). h.tables) is)
+    by Failed at is = stays (ap (λ (h : PartsView B C). h.tables) is)
+    by Stopped at is = stopped_pins old.tables new.tables request called.answer.status (makes.stopped at).0 (ap (λ (h : PartsView B C). h.tables) is)
 
   booted_on : (called.note.outcome ≡ Stopped → new.store.booted ≡ not note.ended) → new.store.booted ≡ not new.ended
   booted_on boots_store = by called.note.outcome refl held where
@@ -140,4 +154,5 @@ module _ {B C : Type 0} (g : Ghosts B) (v : ValidatorGhosts C) (bounds : Bounds)
     ended = ended;
     trouble = troubled_after g old.store.bank mid.store.bank new.store.bank called.note note follows (λ is. (makes.stopped is).1) makes.trouble trouble;
     cause = caused_after called.answer.status called.note note follows (λ is. (makes.stopped is).1) makes.cause;
+    pins = pins;
   }

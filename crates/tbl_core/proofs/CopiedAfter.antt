@@ -14,7 +14,12 @@ use Rattle.tbl_kinds.specs.declared.request.Request.TheVariants as ask
 use Rattle.tbl_kinds.specs.declared.status.Status.{Status}
 use Rattle.tbl_kinds.specs.declared.status.TheConstants.Status.{INFO_STOPPED}
 use Rattle.tbl_kinds.specs.TableFiles.{TableFile}
-use Rattle.tbl_model.specs.State.{State, Table}
+use Rattle.tbl_model.specs.State.{State, Table, Tables}
+use Rattle.tbl_model.specs.StoreNotes.{IsNoteOf}
+use Rattle.tbl_model.proofs.NoteLaws.{may_be_untouched}
+use Rattle.tbl_core.specs.Pins.{HaveImages, PinsGoOn}
+use Rattle.tbl_core.proofs.Pinning.{law_pins, pins_with}
+use Rattle.tbl_core.proofs.Telling.{activates_no_reset, activates_no_get}
 use Rattle.tbl_model.specs.Tables.{table_at, is_critical}
 use Rattle.tbl_model.specs.Effects as model
 use Rattle.tbl_model.specs.Given.{Given}
@@ -155,7 +160,15 @@ module _ {B C : Type 0} (g : Ghosts B) (v : ValidatorGhosts C) (old new : PartsV
       boot = λ is. let same = ap (λ (status : Status). status.0) (sym cut.0 ∙ is) in absurd (omega (arith, same));
     }
 
-  pub copies_makes : Makes g v (events_alone (suc (most_owned_events request))) old new done
+  -- the pins that it leaves
+  pins : HaveImages old.tables → HaveImages new.tables × PinsGoOn old.tables new.tables request done.answer.status
+  pins has =
+      let noted : IsNoteOf request left.0.calls [] does.before.note = subst (λ (note : BankNote). IsNoteOf request left.0.calls [] note) (sym does.does.note) (subst (λ (calls : List StoreCall). IsNoteOf request calls [] untouched) (sym left.2.calls) (may_be_untouched request [] (activates_no_reset request can))) in
+      let on : HaveImages new.tables × PinsGoOn old.tables new.tables request left.0.status = subst (λ (tables : Tables). HaveImages tables × PinsGoOn old.tables tables request left.0.status) left.3.tables
+      (law_pins (state_of old) so_many fits has actor request (given_of does.before) left.0 whole noted) in
+      (on.0, pins_with old.tables new.tables request left.0.status done.answer.status (activates_no_get request can) on.1)
+
+  pub copies_makes : Makes g v (events_alone (suc (most_owned_events request))) request old new done
   copies_makes = record {
     fit = λ n fit. fit_without (suc n) [] (state_of new) (subst (AreFit (suc n)) (state_is (record new { store = old.store }) [] left.0.next left.3) (ordinary_left n fit).fit);
     judged = (
@@ -170,6 +183,7 @@ module _ {B C : Type 0} (g : Ghosts B) (v : ValidatorGhosts C) (old new : PartsV
     stopped = λ is. (does.call.stopped is, does.call.no_boot);
     trouble = does.call.trouble;
     cause = cause;
+    pins = pins;
   }
 
   pub copies_meets : is_reset request ≡ false → Meets g v (step_of old new request) (λ s given. effect_of s actor request given) done

@@ -18,3 +18,6 @@ pub mod Telling
 pub mod Trouble
 pub mod Verdicts
 pub mod Vouching
+pub mod Pinning
+pub mod Places
+pub mod Lending

@@ -30,6 +30,7 @@ use Rattle.tbl_core.specs.Service.{PartsView, state_of, step_of, events_alone, E
 use Rattle.tbl_core.specs.Verdicts.{Judged}
 use Rattle.request_effects.specs.declared.effect.Effect.{Effect}
 use Rattle.tbl_core.proofs.Verdicts.{none_judged}
+use Rattle.tbl_core.proofs.Pinning.{no_pins}
 use Rattle.tbl_outside.specs.declared.bank.Bank.{Ghosts}
 use Rattle.tbl_outside.specs.declared.validator.Validator.{Ghosts as ValidatorGhosts}
 
@@ -82,7 +83,7 @@ module _ {B C : Type 0} (g : Ghosts B) (v : ValidatorGhosts C) (old new : PartsV
       let same : new.kit ≡ old.kit = ap (λ (h : PartsView B C). h.kit) held in
       rw (same, silent.verdicts) (none_judged v old.kit [] untouched (None ∷ None ∷ []) refl refl)
 
-  pub reset_makes : kept.booted ≡ not ended → Troubled g old.store.bank kept.bank (with_boot ended stopped [] untouched) → Makes g v (events_alone 0) old new done
+  pub reset_makes : kept.booted ≡ not ended → Troubled g old.store.bank kept.bank (with_boot ended stopped [] untouched) → Makes g v (events_alone 0) (ask.Reset kind) old new done
   reset_makes booted trouble = record {
     fit = λ n fits. fit_at_first (suc n) (state_of new) (ap (λ (h : PartsView B C). h.tables) held) (ap (λ (h : PartsView B C). h.pending) held);
     judged = ([], judged);
@@ -99,6 +100,7 @@ module _ {B C : Type 0} (g : Ghosts B) (v : ValidatorGhosts C) (old new : PartsV
     stopped = rw note (λ is. absurd (cc is));
     trouble = let same : new.store.bank ≡ kept.bank = ap (λ (h : PartsView B C). h.store.bank) held in rw same (record { fault_count = trouble.fault_count; stop_count = trouble.stop_count; fault = rw note trouble.fault; stop = rw note trouble.stop; no_fault = rw note trouble.no_fault; no_stop = rw note trouble.no_stop });
     cause = rw (answer, note) (caused (first_state [] [] all_admitted) (record { note = with_boot ended stopped found untouched; verdicts = [] }) Ground (ask.Reset kind));
+    pins = λ has. no_pins old.tables new.tables (ask.Reset kind) done.answer.status (ap (λ (h : PartsView B C). h.tables) held) (λ n. refl);
   }
 
   pub reset_meets : (g.tells_moments → (blocks : Blocks) → HasBlocks g.tells g.now old.store blocks → LeavesOnly g.clock g.left_since old.store.bank kept.bank (BootLeaves kind blocks))

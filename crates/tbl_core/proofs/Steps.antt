@@ -1,5 +1,5 @@
 -- From what a step did to the core to the legal history.
-use Rattle.std.proofs.Common.{◌≡◌, suc, false, List, [], ◌∷◌, ◌++◌, length, Some, Result, Ok, Err, refl, sym, ap, subst, ◌∙◌, length-append, arith}
+use Rattle.std.proofs.Common.{◌≡◌, ℕ, suc, false, List, [], ◌∷◌, ◌++◌, length, Some, Result, Ok, Err, refl, sym, ap, subst, ◌∙◌, length-append, arith}
 use Rattle.tbl_model.specs.State.{State, Tables}
 use Rattle.tbl_kinds.specs.Requests.{Fits}
 use Rattle.tbl_model.specs.Effects as model
@@ -20,6 +20,9 @@ use Rattle.tbl_core.specs.Verdicts.{Judged}
 use Rattle.tbl_session.specs.Verdicts.{questions_in}
 use Rattle.tbl_session.specs.Crashes.{all_calls_in, UnderWay}
 use Rattle.tbl_core.proofs.Verdicts.{answers_each, few_more}
+use Rattle.tbl_core.specs.Pins.{gets_by, HaveImages, PinsGoOn}
+use Rattle.tbl_core.proofs.Places.{Kept, Changed, places_kept, gets_on, image_on, got_on}
+use Rattle.tbl_kinds.specs.declared.status.Status.{Status}
 use Rattle.request_effects.specs.declared.effect.Effect.{Effect}
 use Rattle.request_effects.specs.declared.clock.Clock.{Clock}
 use Rattle.tbl_core.specs.declared.service.StepFault.{StepFault}
@@ -58,6 +61,10 @@ module _ (done : Effect) (clock : Clock) (actor : Actor) (request : Request) (s 
 
 -- ---- one request
 
+-- what it keeps, as far as pins are concerned
+abbrev pub kept_of : {B C : Type 0} → CoreView B C → Kept
+kept_of core = record { entries = core.entries; tables = core.state.tables; gets = core.gets }
+
 -- what a request did
 pub record Did {B C : Type 0} (g : Ghosts B) (v : ValidatorGhosts C) (old new : CoreView B C) (actor : Actor) (request : Request) (clock : Clock) (done : Effect) : Type 0 where
   pub fits : Fits actor request
@@ -70,8 +77,10 @@ pub record Did {B C : Type 0} (g : Ghosts B) (v : ValidatorGhosts C) (old new : 
   pub after : Logged
   pub entries : before.entries ≡ old.entries
   pub counts : before.counts ≡ old.counts
+  pub kept : before.gets ≡ old.gets
   pub entered : new.entries ≡ after.entries
   pub counted : new.counts ≡ after.counts
+  pub placed : new.gets ≡ after.gets
   pub finishes : Finishes before after clock new.state.tables actor request done
 
 module _ {B C : Type 0} (g : Ghosts B) (v : ValidatorGhosts C) (old new : CoreView B C) (actor : Actor) (request : Request) (clock : Clock) (done : Effect)
@@ -135,11 +144,27 @@ module _ {B C : Type 0} (g : Ghosts B) (v : ValidatorGhosts C) (old new : CoreVi
   unfolding entry
   moments is_told r shown = rw (left is_told r shown).1 (left is_told r shown).2.moments
 
+  -- ---- its pins
+
+  gets_is : new.gets ≡ gets_by old.gets (length old.entries) did.finishes.reply.status request
+  gets_is = did.placed ∙ did.finishes.gets ∙ ap (λ (gets : List ℕ). gets_by gets (length did.before.entries) did.finishes.reply.status request) did.kept
+      ∙ ap (λ (es : List Entry). gets_by old.gets (length es) did.finishes.reply.status request) did.entries
+
+  pins_on : HaveImages new.state.tables × PinsGoOn old.state.tables new.state.tables request did.finishes.reply.status
+  pins_on = let on = did.made.pins did.ready.images in (on.0, subst (λ (status : Status). PinsGoOn old.state.tables new.state.tables request status) (sym did.finishes.status) on.1)
+
+  changed : Changed (kept_of old) (kept_of new) entry
+  unfolding entry
+  changed = record { added = added; gets = gets_is; pins = pins_on.1; places = did.ready.places }
+
   ready : IsReady v new
   ready = record {
     fit = rw one_more (did.made.fit (length old.entries) did.ready.fit);
     booted = did.made.booted;
     kit = rw one_more (few_more v old.state.kit new.state.kit did.made.judged.0 done.verdicts (length old.entries) did.made.two did.made.judged.1 did.ready.kit);
+    images = pins_on.0;
+    places = places_kept (kept_of old) (kept_of new) entry changed;
+    gets = gets_on (kept_of old) (kept_of new) entry changed did.ready.gets;
   }
 
   pub did_play : (result : Result Unit StepFault) → result ≡ session_end done.note → Plays g v old new actor request result
@@ -160,6 +185,7 @@ module _ {B C : Type 0} (g : Ghosts B) (v : ValidatorGhosts C) (old new : CoreVi
     trouble = did.made.trouble;
     cause = rw did.finishes.status did.made.cause;
     moments = moments;
+    pins = record { each = image_on (kept_of old) (kept_of new) entry changed; got = got_on (kept_of old) (kept_of new) entry changed };
   }
 
 -- ---- the history

@@ -1,5 +1,5 @@
 -- A request that calls the store was made: what it did, with any note that a boot after it may leave.
-use Rattle.std.proofs.Common.{◌≡◌, ◌≢◌, ◌∙◌, ℕ, suc, List, [], ◌∷◌, Bool, false, not, Option, Some, None, Result, Ok, refl, sym, ap, subst, inl}
+use Rattle.std.proofs.Common.{◌≡◌, ◌≢◌, ◌∙◌, ℕ, suc, List, [], ◌∷◌, Bool, false, not, Option, Some, None, IsSome, unwrap_or, Result, Ok, refl, sym, ap, subst, inl, inr}
 use Rattle.tbl_kinds.specs.Notes.{untouched}
 use Rattle.tbl_kinds.specs.Blocks.{Store as Blocks}
 use Rattle.tbl_model.specs.State.{State, Tables}
@@ -22,6 +22,15 @@ use Rattle.tbl_kinds.specs.declared.request.Request.TheVariants as ask
 use Rattle.std.proofs.lemmas.Option.{same_Some}
 use Rattle.tbl_kinds.specs.GroundCommands.{GroundCommand, delete_cds, command_in}
 use Rattle.tbl_kinds.specs.declared.entry.Answer.{Answer}
+use Rattle.tbl_model.specs.Whole.{asks_address}
+use Rattle.tbl_laws.proofs.Pins.{Keeps, stays_keeps, add_keeps}
+use Rattle.tbl_laws.proofs.Ordinary.{free_place}
+use Rattle.tbl_kinds.specs.Free.{least_free}
+use Rattle.tbl_model.specs.TableSteps.{new_table}
+use Rattle.sharing.specs.Registering.{next_row, next_handle}
+use Rattle.store_requests.specs.Registering.{AtMostOne, RegistersOne}
+use Rattle.tbl_core.proofs.Pinning.{kept_pins}
+use Rattle.tbl_kinds.specs.declared.request.Actor.{Actor}
 use Rattle.tbl_kinds.specs.declared.request.Actor.TheVariants.{Ground}
 use Rattle.tbl_model.specs.AppBlocks.{delete_cds_effect}
 use Rattle.tbl_model.specs.Commands.{read_command_in, effect_by}
@@ -118,8 +127,9 @@ module _ {B C : Type 0} (g : Ghosts B) (v : ValidatorGhosts C) (old new : PartsV
         let same : new.kit ≡ old.kit = ap (λ (h : PartsView B C). h.kit) held in
         rw (same, call.verdicts) (none_judged v old.kit questions untouched (None ∷ None ∷ []) none refl)
 
-    pub call_makes : ((n : ℕ) → AreFit n (state_of old) → AreFit (suc n) (record (state_of old) { tables = new.tables })) → Makes g v (events_alone 0) old new done
-    call_makes fit =
+    pub call_makes : ((n : ℕ) → AreFit n (state_of old) → AreFit (suc n) (record (state_of old) { tables = new.tables })) → Keeps old.tables new.tables → ((n : ℕ) → asks_address n request ≡ false)
+        → Makes g v (events_alone 0) request old new done
+    call_makes fit keeps none =
         let goes : new.ended ≡ false = ap (λ (h : PartsView B C). h.ended) held ∙ live in record {
           fit = λ n was. subst (AreFit (suc n)) (ap state_of (sym held)) (fit n was);
           judged = ([], unasked [] refl);
@@ -130,6 +140,7 @@ module _ {B C : Type 0} (g : Ghosts B) (v : ValidatorGhosts C) (old new : PartsV
           stopped = λ is. (call.stopped is, call.no_boot);
           trouble = call.trouble;
           cause = call.cause;
+          pins = λ has. kept_pins old.tables new.tables has request done.answer.status keeps none;
         }
 
     -- where the model's effect is this
@@ -157,8 +168,9 @@ module _ {B C : Type 0} (g : Ghosts B) (v : ValidatorGhosts C) (old new : PartsV
     same_tables : new ≡ record old { store = new.store; tables = new.tables }
     same_tables = held ∙ ap (λ (tables : Tables). record old { store = new.store; tables = tables }) (sym (ap (λ (h : PartsView B C). h.tables) held))
 
-    pub block_makes : Makes g v (events_alone 0) old new done
-    block_makes = call_makes same_tables live call (λ n fit. subst (λ (tables : Tables). AreFit (suc n) (record (state_of old) { tables = tables })) (sym (ap (λ (h : PartsView B C). h.tables) held)) (grown n (state_of old) fit))
+    pub block_makes : ((n : ℕ) → asks_address n request ≡ false) → Makes g v (events_alone 0) request old new done
+    block_makes none = call_makes same_tables live call (λ n fit. subst (λ (tables : Tables). AreFit (suc n) (record (state_of old) { tables = tables })) (sym (ap (λ (h : PartsView B C). h.tables) held)) (grown n (state_of old) fit))
+        (subst (Keeps old.tables) (sym (ap (λ (h : PartsView B C). h.tables) held)) (stays_keeps old.tables)) none
 
     pub block_meets : (means : State → BankNote → model.Effect) (calls : g.tells → (s : State) → HoldsAll g old s → Calls g old.store new.store s done (means s)) (plain : is_reset request ≡ false)
         (gave : g.tells → (s : State) → HoldsAll g old s → GaveAsHeld g old.store s.store done (means s))
@@ -166,11 +178,28 @@ module _ {B C : Type 0} (g : Ghosts B) (v : ValidatorGhosts C) (old new : PartsV
     block_meets means calls = call_meets same_tables live call means
         (λ told s holds. subst (λ (tables : Tables). Calls g old.store new.store (record s { tables = tables }) done (means s)) (holds.parts.tables ∙ sym (ap (λ (h : PartsView B C). h.tables) held)) (calls told s holds))
 
+-- ---- a registration
+
+some_is : (o : Option ℕ) → IsSome o → o ≡ Some (unwrap_or o 0)
+some_is None is = absurd (cc is)
+some_is (Some n) is = refl
+
+-- it leaves all pins, and each image has its table's size
+pub registers_keeps : (old new : Tables) (app : ℕ) → RegistersOne old new app → Keeps old new
+registers_keeps old new app (inl same) = subst (Keeps old) (sym same) (stays_keeps old)
+registers_keeps old new app (inr (plan, can, one)) = by one where
+  by : AtMostOne old new app plan → Keeps old new
+  by (inl same) = subst (Keeps old) (sym same) (stays_keeps old)
+  by (inr (options, first, sized, is)) =
+      subst (Keeps old) (sym is)
+      (add_keeps old (next_row old) (new_table plan.name app plan.size options plan.validator (next_handle old)) first (free_place old.rows (next_row old) (some_is (least_free old.rows) can.row)).1 refl sized)
+
 -- ---- the command that deletes a block
 
-pub deletes : (request : Request) (name : List ℕ) → read_command_in request ≡ Some (Ok (delete_cds name)) → (is_reset request ≡ false) × ((s : State) (given : Given) → effect_of s Ground request given ≡ Some (delete_cds_effect s name given.note))
+pub deletes : (request : Request) (name : List ℕ) → read_command_in request ≡ Some (Ok (delete_cds name)) → (is_reset request ≡ false) × ((n : ℕ) → asks_address n request ≡ false) × ((s : State) (given : Given) → effect_of s Ground request given ≡ Some (delete_cds_effect s name given.note))
 deletes (ask.Command bytes) name is = (
   refl,
+  λ n. refl,
   λ s given. ap (λ (r : Result GroundCommand Answer). Some (effect_by s r given.note)) (same_Some (command_in bytes.list) (Ok (delete_cds name)) is),
 )
 deletes request name is = absurd (cc is)

@@ -3,7 +3,7 @@ use Rattle.std.proofs.Common.{◌≡◌, ◌∙◌, ℕ, suc, List, [], true, fa
 use Rattle.tbl_kinds.specs.Notes.{untouched}
 use Rattle.tbl_kinds.specs.Blocks.{Store as Blocks}
 use Rattle.tbl_kinds.specs.StoreCalls.{StoreCall}
-use Rattle.tbl_model.specs.State.{State}
+use Rattle.tbl_model.specs.State.{State, Tables}
 use Rattle.tbl_model.specs.Effects as model
 use Rattle.tbl_model.specs.BankCounts.{HasCause}
 use Rattle.tbl_model.specs.Counts.{is_reset}
@@ -18,6 +18,9 @@ use Rattle.cds_store.specs.StoreBlocks.{StoreParts, StandsFor as HasBlocks}
 use Rattle.tbl_kinds.specs.declared.note.BankNote.{BankNote}
 use Rattle.tbl_kinds.specs.declared.request.Actor.{Actor}
 use Rattle.tbl_kinds.specs.declared.request.Request.{Request}
+use Rattle.tbl_kinds.specs.declared.status.Status.{Status}
+use Rattle.tbl_core.specs.Pins.{HaveImages, PinsGoOn}
+use Rattle.tbl_core.proofs.Pinning.{law_pins}
 use Rattle.tbl_outside.specs.declared.validator.KitEntry.{KitEntry}
 use Rattle.tbl_session.specs.Crashes.{DuringCalls, writes}
 use Rattle.tbl_outside.proofs.Moments.{leaves_among}
@@ -80,8 +83,16 @@ module _ {B C : Type 0} (g : Ghosts B) (v : ValidatorGhosts C) (bounds : Bounds)
   goes : new.ended ≡ false
   goes = sym left.3.ended ∙ (ordinary_left so_many fits).live (rw does.note refl)
 
-  pub table_makes : old.store.booted ≡ true → Makes g v bounds old new done
-  table_makes booted = record {
+  -- the pins that it leaves
+  pins : is_reset request ≡ false → HaveImages old.tables → HaveImages new.tables × PinsGoOn old.tables new.tables request done.answer.status
+  pins plain has =
+      let noted : IsNoteOf request left.0.calls [] done.note = subst (λ (note : BankNote). IsNoteOf request left.0.calls [] note) (sym does.note) (subst (λ (calls : List StoreCall). IsNoteOf request calls [] untouched) (sym left.2.calls) (may_be_untouched request [] plain)) in
+      subst (λ (tables : Tables). HaveImages tables × PinsGoOn old.tables tables request done.answer.status) left.3.tables
+      (subst (λ (status : Status). HaveImages left.0.next.tables × PinsGoOn old.tables left.0.next.tables request status) left.2.status
+      (law_pins (state_of old) so_many fits has actor request (given_of done) left.0 left.1 noted))
+
+  pub table_makes : old.store.booted ≡ true → is_reset request ≡ false → Makes g v bounds request old new done
+  table_makes booted plain = record {
     fit = λ n fit. fit_without (suc n) [] (state_of new) (subst (AreFit (suc n)) (state_is new [] left.0.next left.3) (ordinary_left n fit).fit);
     judged = (left.0.questions, judged_there v old.kit new.kit done.verdicts _ left.0 left.1 (does.judged (state_of old) (stands_in old)));
     two = does.two;
@@ -91,6 +102,7 @@ module _ {B C : Type 0} (g : Ghosts B) (v : ValidatorGhosts C) (bounds : Bounds)
     stopped = rw does.note (λ is. absurd (cc is));
     trouble = rw (does.store, does.note) (record { fault_count = omega arith; stop_count = omega arith; fault = inl (omega arith); stop = inl (omega arith); no_fault = λ none. refl; no_stop = λ none. refl });
     cause = rw (← left.2.status) (subst (OfEffect (λ e. HasCause e.status done.note)) left.1 (caused (state_of old) (given_of done) actor request));
+    pins = pins plain;
   }
 
   pub table_meets : (g.tells → (blocks : Blocks) → HasBlocks g.tells g.now old.store blocks → Leaving g old.store new.store (DuringCalls [] blocks))

@@ -1,6 +1,8 @@
 -- How much a request may tell, and which requests are no Reset.
 use Rattle.std.proofs.Common.{◌≡◌, ◌≤◌, ℕ, suc, true, false, Some, None, refl, arith}
 use Rattle.tbl_model.specs.Counts.{is_reset}
+use Rattle.tbl_model.specs.Whole.{asks_address}
+use Rattle.tbl_kinds.specs.declared.request.Actor.{Actor}
 use Rattle.tbl_kinds.specs.declared.request.Request.{Request}
 use Rattle.tbl_kinds.specs.declared.request.Request.TheVariants as ask
 use Rattle.tbl_model.specs.Commands.{ReadCommand}
@@ -11,9 +13,9 @@ use Rattle.tbl_outside.specs.declared.bank.Bank.{Ghosts}
 use Rattle.tbl_outside.specs.declared.validator.Validator.{Ghosts as ValidatorGhosts}
 
 -- no more is told than where more may be
-pub wider : {B C : Type 0} (g : Ghosts B) (v : ValidatorGhosts C) (least : ℕ) (bounds : Bounds) (old new : PartsView B C) (done : Effect) → least ≤ bounds.most
-    → Makes g v (events_alone least) old new done → Makes g v bounds old new done
-wider g v least bounds old new done more makes =
+pub wider : {B C : Type 0} (g : Ghosts B) (v : ValidatorGhosts C) (least : ℕ) (bounds : Bounds) (request : Request) (old new : PartsView B C) (done : Effect) → least ≤ bounds.most
+    → Makes g v (events_alone least) request old new done → Makes g v bounds request old new done
+wider g v least bounds request old new done more makes =
     let events = makes.within.events in let shown = makes.within.shown in record {
       fit = makes.fit;
       judged = makes.judged;
@@ -24,6 +26,7 @@ wider g v least bounds old new done more makes =
       stopped = makes.stopped;
       trouble = makes.trouble;
       cause = makes.cause;
+      pins = makes.pins;
     }
 
 -- the most events of a call that the owner of a table alone may make
@@ -61,3 +64,17 @@ owner_resets request handle is = refl
 pub no_reset : (request : Request) (command : ReadCommand) → asks_store request command ≡ false → is_reset request ≡ false
 no_reset (ask.Reset kind) command reaches = absurd (cc reaches)
 no_reset request command reaches = refl
+
+-- nor is one by which an image can go active, and it gets no address
+pub activates_no_reset : (request : Request) → activates request ≡ true → is_reset request ≡ false
+activates_no_reset (ask.Reset kind) can = absurd (cc can)
+activates_no_reset request can = refl
+
+pub activates_no_get : (request : Request) → activates request ≡ true → (n : ℕ) → asks_address n request ≡ false
+activates_no_get (ask.Get handle) can n = absurd (cc can)
+activates_no_get request can n = refl
+
+-- nor does a call of the store
+pub store_no_get : (request : Request) (command : ReadCommand) → asks_store request command ≡ true → (n : ℕ) → asks_address n request ≡ false
+store_no_get (ask.Get handle) command asks n = absurd (cc asks)
+store_no_get request command asks n = refl

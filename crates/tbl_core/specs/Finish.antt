@@ -24,4 +24,5 @@ pub record Reports (old new : Logged) (clock : Clock) (tables : Tables) (request
   pub packets : sent ≡ packets_by old.counts new.counts (told_at clock.seconds clock.sub tables request done)
   pub counts : new.counts ≡ counts_after old.counts (tally_of (told_at clock.seconds clock.sub tables request done))
   pub entries : new.entries ≡ old.entries
+  pub gets : new.gets ≡ old.gets
   pub spare : new.spare ≡ old.spare

@@ -8,10 +8,12 @@ use Rattle.tbl_kinds.specs.declared.request.Request.{Request}
 use Rattle.tbl_kinds.specs.declared.entry.Entry.{Entry}
 use Rattle.tbl_kinds.specs.declared.entry.Reply.{Reply}
 
--- the entries, what is counted over them, and room for so many entries more
+-- the entries, what is counted over them, for each handle the place of the call that got an address by it last, and room for so many
+-- entries more
 pub record Logged : Type 0 where
   pub entries : List Entry
   pub counts : Counts
+  pub gets : List ℕ
   pub spare : ℕ
 
 -- what an entry answers, and its packets

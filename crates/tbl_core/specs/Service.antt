@@ -1,8 +1,8 @@
 -- What the core keeps, and which histories it stands for.
-use Rattle.std.specs.Prelude.{◌≡◌, ◌⊎◌, ℕ, suc, ◌+◌, ◌*◌, ◌^◌, ◌<◌, List, [], ◌∷◌, ◌++◌, length, Bool, true, false, not, Option, Some, None, Result}
+use Rattle.std.specs.Prelude.{◌≡◌, ◌⊎◌, ℕ, suc, ◌+◌, ◌*◌, ◌^◌, ◌<◌, List, [], ◌∷◌, ◌++◌, length, Bool, true, false, not, Option, Some, None, Result, slice_get}
 use Rattle.std.specs.Option.{ForSome}
 use Rattle.std.proofs.Common.{ℤ}
-use Rattle.tbl_model.specs.State.{State, Tables, no_tables}
+use Rattle.tbl_model.specs.State.{State, Handle, Tables, no_tables}
 use Rattle.tbl_model.specs.Tables.{table_at}
 use Rattle.tbl_model.specs.Fit.{AreFit}
 use Rattle.tbl_kinds.specs.Blocks.{Store as Blocks, empty_store}
@@ -25,6 +25,10 @@ use Rattle.tbl_kinds.specs.declared.entry.Reply.{Reply}
 use Rattle.tbl_kinds.specs.declared.request.Actor.{Actor}
 use Rattle.tbl_kinds.specs.declared.request.Request.{Request}
 use Rattle.tbl_core.specs.Log.{Logged, entry_of}
+use Rattle.tbl_core.specs.Pins.{handle_limit, place_in, gets_after, gets_address, HaveImages, PinsGoOn, IsGetAt}
+use Rattle.tbl_model.specs.TableSteps.{handle_at}
+use Rattle.tbl_registry.specs.Lending.{pins_image, pinned_image}
+use Rattle.tbl_registry.specs.declared.pin.Pin.{Pin}
 use Rattle.tbl_model.specs.Telemetry.{Question}
 use Rattle.tbl_model.specs.BankCounts.{HasCause}
 use Rattle.tbl_model.specs.StoreNotes.{Boots, IsNoteOf}
@@ -76,11 +80,12 @@ pub record PartsView (B C : Type 0) : Type 0 where
   pub sub : ℕ
   pub ended : Bool
 
--- the history, the parts, and the running numbers of telemetry
+-- the history, the parts, the running numbers of telemetry, and for each handle the place of the call that got an address by it last
 pub record CoreView (B C : Type 0) : Type 0 where
   pub entries : List Entry
   pub state : PartsView B C
   pub counts : Counts
+  pub gets : List ℕ
 
 abbrev pub parts_view : {B C : Type 0} → Parts B C → PartsView B C
 parts_view parts = record {
@@ -97,7 +102,7 @@ parts_view parts = record {
 }
 
 abbrev pub view_of : {B C : Type 0} → Parts B C → CoreView B C
-view_of parts = record { entries = parts.log.entries; state = parts_view parts; counts = parts.log.counts }
+view_of parts = record { entries = parts.log.entries; state = parts_view parts; counts = parts.log.counts; gets = parts.log.gets }
 
 -- ---- what the parts stand for
 
@@ -157,11 +162,15 @@ abbrev pub AskedBelow : {C : Type 0} → (C → ℕ) → ℕ → List (Option (K
 AskedBelow asked most kit = (number : ℕ) → ForSome (entry_at kit number) (λ entry. asked entry.check < most)
 
 -- no table has had more images than there are entries, what is pending can be done, the store was booted unless the service has
--- ended, and no function was asked more than twice for each entry since it was given
+-- ended, and no function was asked more than twice for each entry since it was given. Each pin is of an image that is there, by the
+-- call at the place that is kept for its handle
 pub record IsReady {B C : Type 0} (v : ValidatorGhosts C) (core : CoreView B C) : Type 0 where
   pub fit : AreFit (length core.entries) (state_of core.state)
   pub booted : core.state.store.booted ≡ not core.state.ended
   pub kit : AskedBelow v.asked (2 ^ 62 + 2 * length core.entries) core.state.kit
+  pub images : HaveImages core.state.tables
+  pub places : length core.gets ≡ handle_limit
+  pub gets : (handle : ℕ) (h : Handle) (p : ℕ) → handle < handle_limit → handle_at core.state.tables handle ≡ Some h → h.pin ≡ Some p → IsGetAt core.entries (place_in core.gets handle) handle
 
 -- what each request may rely on
 pub record MayPlay {B C : Type 0} (v : ValidatorGhosts C) (held : PartsView B C) : Type 0 where
@@ -254,7 +263,7 @@ Has g v step s done note None = ⊥
 Has g v step s done note (Some e) = HasEffect g v step s done note e
 
 -- the request was made. This holds over a bank that doesn't tell its bytes too
-pub record Makes {B C : Type 0} (g : Ghosts B) (v : ValidatorGhosts C) (bounds : Bounds) (old new : PartsView B C) (done : Effect) : Type 0 where
+pub record Makes {B C : Type 0} (g : Ghosts B) (v : ValidatorGhosts C) (bounds : Bounds) (request : Request) (old new : PartsView B C) (done : Effect) : Type 0 where
   pub fit : (n : ℕ) → AreFit n (state_of old) → AreFit (suc n) (state_of new)
   pub judged : (questions : List Question) × Judged v old.kit new.kit questions done.verdicts
   pub two : length done.verdicts ≡ 2
@@ -264,6 +273,7 @@ pub record Makes {B C : Type 0} (g : Ghosts B) (v : ValidatorGhosts C) (bounds :
   pub stopped : done.note.outcome ≡ Stopped → (done.answer.status ≡ INFO_STOPPED) × NoBoot done.note
   pub trouble : Troubled g old.store.bank new.store.bank done.note
   pub cause : HasCause done.answer.status done.note
+  pub pins : HaveImages old.tables → HaveImages new.tables × PinsGoOn old.tables new.tables request done.answer.status
 
 -- and this where it tells them: with any note that a boot may have told more, this was its effect
 abbrev pub Meets : {B C : Type 0} → Ghosts B → ValidatorGhosts C → Step B C → (State → Given → Option model.Effect) → Effect → Type 0
@@ -298,6 +308,7 @@ pub record IsMade {B C : Type 0} (g : Ghosts B) (v : ValidatorGhosts C) (step : 
   pub ended : step.new.ended ≡ done.note.ended
   pub trouble : Troubled g step.old.store.bank step.new.store.bank done.note
   pub cause : HasCause done.answer.status done.note
+  pub pins : HaveImages step.old.tables → HaveImages step.new.tables × PinsGoOn step.old.tables step.new.tables step.request done.answer.status
 
 -- ---- one entry
 
@@ -310,6 +321,15 @@ pub record Finishes (old new : Logged) (clock : Clock) (tables : Tables) (actor 
   pub packets : reply.packets.list ≡ packets_by old.counts new.counts (told_at clock.seconds clock.sub tables request done)
   pub counts : new.counts ≡ counts_after old.counts (tally_of (told_at clock.seconds clock.sub tables request done))
   pub entries : new.entries ≡ old.entries ++ entry_of actor request reply (given_of done) ∷ []
+  pub gets : new.gets ≡ gets_after old.gets (length old.entries) (entry_of actor request reply (given_of done))
+
+-- whatever image a handle pins after an entry it pinned before, by the call at the same place, or the entry is that call; and by an
+-- entry that got an address its handle pins, from its place on
+pub record PinsOnward {B C : Type 0} (old new : CoreView B C) : Type 0 where
+  pub each : (handle : ℕ) (image : List ℕ) → handle < handle_limit → pinned_image handle new.state.tables ≡ Some image
+      → (place_in new.gets handle ≡ length old.entries) ⊎ ((place_in new.gets handle ≡ place_in old.gets handle) × (pinned_image handle old.state.tables ≡ Some image))
+  pub got : (handle : ℕ) (e : Entry) → slice_get new.entries (length old.entries) ≡ Some e → gets_address handle e.request e.reply.status ≡ true
+      → (pins_image handle new.state.tables ≡ true) × (handle < handle_limit → place_in new.gets handle ≡ length old.entries)
 
 -- one request was played: one entry more, answered rightly whatever run the core stood for
 pub record Plays {B C : Type 0} (g : Ghosts B) (v : ValidatorGhosts C) (old new : CoreView B C) (actor : Actor) (request : Request) (result : Result Unit StepFault) : Type 0 where
@@ -328,8 +348,15 @@ pub record Plays {B C : Type 0} (g : Ghosts B) (v : ValidatorGhosts C) (old new 
   pub trouble : Troubled g old.state.store.bank new.state.store.bank entry.note
   pub cause : HasCause entry.reply.status entry.note
   pub moments : g.tells → (r : Run) → Shows g old r → Leaving g old.state.store new.state.store (UnderWay r entry)
+  pub pins : PinsOnward old new
 
 -- ---- the core
+
+-- the pin was lent for an entry that got an address by its handle, and as long as the handle pins by that entry, the pin has its image
+pub record IsOfPin {B C : Type 0} (pin : Pin) (core : CoreView B C) : Type 0 where
+  pub within : pin.handle < handle_limit
+  pub got : IsGetAt core.entries pin.place pin.handle
+  pub image : (image : List ℕ) → pinned_image pin.handle core.state.tables ≡ Some image → place_in core.gets pin.handle ≡ pin.place → image ≡ pin.bytes
 
 -- one entry more, which has its causes: the counts of the bank moved as its note tells, and so where its answer tells of trouble
 pub record AddsOne {B C : Type 0} (g : Ghosts B) (old new : CoreView B C) (actor : Actor) (request : Request) (result : Result Unit StepFault) : Type 0 where

@@ -112,7 +112,7 @@ impl<B: Bank, C: Validator> Parts<B, C> {
     pub(crate) fn reset(&mut self, kind: ResetKind, empty: Bytes) -> Result<Effect, Memory>
         requires empty { empty.list ≡ [] }
         requires live { self.old.ended ≡ false }
-        ensures makes { IfOk result (Makes B.Bank C.Validator (events_alone 0) (parts_view self.old) (parts_view self.new)) }
+        ensures makes { IfOk result (Makes B.Bank C.Validator (events_alone 0) (ask.Reset kind) (parts_view self.old) (parts_view self.new)) }
         ensures meets { IfOk result (Meets B.Bank C.Validator (step_of (parts_view self.old) (parts_view self.new) (ask.Reset kind)) (λ s given. Some (reset_effect s kind given.note))) }
         ensures log { self.new.log ≡ self.old.log }
         ensures err { OnErr result (parts_view self.new ≡ parts_view self.old) }

@@ -1,6 +1,6 @@
 //! Which request is played by what.
 
-ghost use Rattle.std.specs.Prelude.{◌≡◌, [], length, true, false, None, Some, IsSome, vec_capacity, IfOk, OnErr};
+ghost use Rattle.std.specs.Prelude.{◌≡◌, [], length, true, false, None, Some, IsSome, vec_capacity, IfOk, IfSome, OnErr};
 ghost use Rattle.tbl_kinds.specs.Requests.{Fits};
 ghost use Rattle.tbl_model.specs.Fit.{AreFit};
 ghost use Rattle.tbl_model.specs.Tables.{table_at};
@@ -8,6 +8,7 @@ ghost use Rattle.tbl_model.specs.Commands.{read_command_in};
 ghost use Rattle.tbl_kinds.specs.declared.request.Actor.TheVariants as by;
 ghost use Rattle.tbl_model.specs.Dispatch.{ground_effect, app_effect, effect_of};
 ghost use Rattle.request_effects.specs.Requests.{command_view, asks_store, activates, owners_handle, most_owned_events, most_events};
+ghost use Rattle.tbl_core.specs.Pins.{MayBeLent};
 ghost use Rattle.tbl_core.specs.Service.{MayPlay, Does, DoesAndCopies, Makes, Meets, bounds_of, events_alone, parts_view, owned_in, state_of, step_of};
 
 use crate::parts::Parts;
@@ -171,7 +172,7 @@ impl<B: Bank, C: Validator> Parts<B, C> {
         requires no_events { events.items ≡ [] }
         requires room { vec_capacity events ≡ most_events request.now None }
         requires empty { empty.list ≡ [] }
-        ensures makes { IfOk result (Makes B.Bank C.Validator (events_alone (most_events request.now None)) (parts_view self.old) (parts_view self.new)) }
+        ensures makes { IfOk result (Makes B.Bank C.Validator (events_alone (most_events request.now None)) request.now (parts_view self.old) (parts_view self.new)) }
         ensures meets { IfOk result (Meets B.Bank C.Validator (step_of (parts_view self.old) (parts_view self.new) request.now) (λ s given. app_effect s app request.now given)) }
         ensures log { self.new.log ≡ self.old.log }
         ensures err { OnErr result (parts_view self.new ≡ parts_view self.old) }
@@ -185,11 +186,18 @@ impl<B: Bank, C: Validator> Parts<B, C> {
 
     /// Does what an application asks that doesn't take the owner of a table.
     #[tactic(auto, using(crate::proofs::Verdicts::none_judged))]
-    fn user(&mut self, app: u8, request: &Request, empty: Bytes) -> Result<Effect, Memory>
+    fn user(
+        &mut self,
+        app: u8,
+        request: &Request,
+        lent: Option<Bytes>,
+        empty: Bytes,
+    ) -> Result<Effect, Memory>
         requires users { owners_handle request.now ≡ None }
         requires no_call { asks_store request.now None ≡ false }
         requires fits { Fits (by.App app) request.now }
         requires ready { MayPlay C.Validator (parts_view self.old) }
+        requires lent { IfSome lent (λ slice. MayBeLent request.now self.old.tables slice.list) }
         requires empty { empty.list ≡ [] }
         ensures does { IfOk result (Does C.Validator (events_alone 0) (parts_view self.old) (parts_view self.new) (λ s given. app_effect s app request.now given)) }
         ensures log { self.new.log ≡ self.old.log }
@@ -213,7 +221,7 @@ impl<B: Bank, C: Validator> Parts<B, C> {
                 handle,
                 offset,
                 len,
-            } => read(tables, apps, app, *handle, *offset, *len, empty),
+            } => read(tables, apps, app, *handle, *offset, *len, lent, empty),
             Request::Release { handle } => {
                 let answer = release(tables, apps, app, *handle);
                 Ok(Effect::of(answer, empty))
@@ -240,7 +248,7 @@ impl<B: Bank, C: Validator> Parts<B, C> {
         requires booted { self.old.store.booted ≡ true }
         requires live { self.old.ended ≡ false }
         requires empty { empty.list ≡ [] }
-        ensures makes { IfOk result (Makes B.Bank C.Validator (events_alone 0) (parts_view self.old) (parts_view self.new)) }
+        ensures makes { IfOk result (Makes B.Bank C.Validator (events_alone 0) request.now (parts_view self.old) (parts_view self.new)) }
         ensures meets { IfOk result (Meets B.Bank C.Validator (step_of (parts_view self.old) (parts_view self.new) request.now) (λ s given. app_effect s app request.now given)) }
         ensures log { self.new.log ≡ self.old.log }
         ensures err { OnErr result (parts_view self.new ≡ parts_view self.old) }
@@ -293,7 +301,7 @@ impl<B: Bank, C: Validator> Parts<B, C> {
         requires booted { self.old.store.booted ≡ true }
         requires live { self.old.ended ≡ false }
         requires empty { empty.list ≡ [] }
-        ensures makes { IfOk result (Makes B.Bank C.Validator (events_alone 0) (parts_view self.old) (parts_view self.new)) }
+        ensures makes { IfOk result (Makes B.Bank C.Validator (events_alone 0) request.now (parts_view self.old) (parts_view self.new)) }
         ensures meets { IfOk result (Meets B.Bank C.Validator (step_of (parts_view self.old) (parts_view self.new) request.now) (λ s given. effect_of s actor request.now given)) }
         ensures log { self.new.log ≡ self.old.log }
         ensures err { OnErr result (parts_view self.new ≡ parts_view self.old) }
@@ -319,13 +327,15 @@ impl<B: Bank, C: Validator> Parts<B, C> {
         actor: Actor,
         request: &Request,
         command: &ReadCommand,
+        lent: Option<Bytes>,
     ) -> Result<Effect, Memory>
         requires fits { Fits actor request.now }
         requires command { command_view command.now ≡ read_command_in request.now }
+        requires lent { IfSome lent (λ slice. MayBeLent request.now self.old.tables slice.list) }
         requires ready { MayPlay C.Validator (parts_view self.old) }
         requires fit { AreFit (length self.old.log.entries) (state_of (parts_view self.old)) }
         requires live { self.old.ended ≡ false }
-        ensures makes { IfOk result (Makes B.Bank C.Validator (bounds_of request.now (command_view command.now)) (parts_view self.old) (parts_view self.new)) }
+        ensures makes { IfOk result (Makes B.Bank C.Validator (bounds_of request.now (command_view command.now)) request.now (parts_view self.old) (parts_view self.new)) }
         ensures meets { IfOk result (Meets B.Bank C.Validator (step_of (parts_view self.old) (parts_view self.new) request.now) (λ s given. effect_of s actor request.now given)) }
         ensures log { self.new.log ≡ self.old.log }
         ensures err { OnErr result (parts_view self.new ≡ parts_view self.old) }
@@ -339,7 +349,7 @@ impl<B: Bank, C: Validator> Parts<B, C> {
             Actor::Ground => self.ground(request, command, events, empty),
             Actor::App(app) => match owners_handle(request) {
                 Some(handle) => self.owner(app, handle, request, events, empty),
-                None => self.user(app, request, empty),
+                None => self.user(app, request, lent, empty),
             },
         }
     }

@@ -1,6 +1,7 @@
 //! The end of each request: what it did is told and counted, and entered into the history.
 
 ghost use Rattle.std.specs.Prelude.{◌≡◌, ◌+◌, ◌*◌, ◌<◌, ◌≤◌, [], length};
+ghost use Rattle.tbl_kinds.specs.Records.{record_limit};
 ghost use Rattle.tbl_model.specs.Commands.{read_command_in};
 ghost use Rattle.request_effects.specs.Requests.{command_view, asks_notice, shown_room, most_events};
 ghost use Rattle.tbl_model.specs.State.{no_tables};
@@ -52,6 +53,7 @@ impl<B: Bank, C: Validator> Parts<B, C> {
         requires command { command_view command.now ≡ read_command_in request.now }
         requires few { length effect.now.events.items ≤ 8 }
         ensures entries { self.new.log.entries ≡ self.old.log.entries }
+        ensures gets { self.new.log.gets ≡ self.old.log.gets }
         ensures room { self.new.log.spare ≡ self.old.log.spare }
         ensures counts { self.new.log.counts ≡ counts_after self.old.log.counts (tally_of (told_at clock.seconds clock.sub no_tables request.now effect.now)) }
         ensures stays { parts_view self.new ≡ parts_view self.old }
@@ -115,6 +117,7 @@ impl<B: Bank, C: Validator> Parts<B, C> {
         requires command { command_view command.now ≡ read_command_in request }
         requires within { IsWithin (most_events request (command_view command.now)) (shown_room (command_view command.now)) (asks_notice (command_view command.now)) effect }
         requires room { 0 < self.old.log.spare }
+        requires few { length self.old.log.entries < record_limit }
         requires no_packets { packets.list ≡ [] }
         requires packets { packets_room request (command_view command.now) ≤ packets.spare }
         ensures finishes { Finishes self.old.log self.new.log clock self.old.tables actor request effect }

@@ -1,23 +1,31 @@
-//! The history, and what telemetry counts over it.
+//! The history, what telemetry counts over it, and where in it addresses were got.
 
-ghost use Rattle.std.specs.Prelude.{◌≡◌, ◌<◌, ◌∷◌, [], ◌++◌, OnOk, All};
+ghost use Rattle.std.specs.Prelude.{◌≡◌, ◌<◌, ◌||◌, ◌==◌, ◌∷◌, [], ◌++◌, length, replicate, IfOk, OnOk, All, if◌then◌else◌, slice_set};
 ghost use Rattle.std.specs.Option.{option_copied};
 ghost use Rattle.tbl_model.specs.Counts.{no_counts};
 ghost use Rattle.tbl_model.specs.CountsAfter.{counts_after};
+ghost use Rattle.tbl_kinds.specs.Records.{record_limit};
+ghost use Rattle.tbl_model.specs.Whole.{is_done};
 ghost use Rattle.tbl_core.specs.Log.{IsSmall};
+ghost use Rattle.tbl_core.specs.Pins.{place_in, gets_after};
 
 use reply_packets::{Counters, Tally};
 use request_effects::Clock;
 use std::alloc::Global;
 use std::marker::Model;
-use tbl_kinds::{Entry, Memory, Name40, Name64};
+use tbl_kinds::{Entry, Memory, Name40, Name64, Request, Status};
 use tbl_model::TelemetryEvent;
+
+/// How many handles there can be (`CFE_PLATFORM_TBL_MAX_NUM_HANDLES`).
+const HANDLES: usize = 256;
 
 /// The entries in their order, the running numbers of telemetry, and reserved room for further entries.
 #[derive(Drop)]
 pub(crate) struct Log {
     entries: Vec<Entry>,
     counters: Counters,
+    /// For each handle the place of the latest entry that got an address by it.
+    gets: Vec<u32>,
 }
 
 impl Model for Log {
@@ -25,27 +33,65 @@ impl Model for Log {
 
     ghost Value = { Logged };
 
-    ghost use Rattle.std.specs.Prelude.{◌-◌, All, vec_len, vec_capacity};
+    ghost use Rattle.std.specs.Prelude.{◌≡◌, ◌-◌, All, length, vec_len, vec_capacity};
     ghost use Rattle.tbl_core.specs.Log.{IsSmall};
+    ghost use Rattle.tbl_core.specs.Pins.{handle_limit};
     ghost use Rattle.reply_packets.specs.Counters.{counts_view};
 
-    ghost view = { λ l. record { entries = l.entries.items; counts = counts_view l.counters; spare = vec_capacity l.entries - vec_len l.entries } };
+    ghost view = { λ l. record { entries = l.entries.items; counts = counts_view l.counters; gets = l.gets.items; spare = vec_capacity l.entries - vec_len l.entries } };
 
-    ghost invariant = { λ l. All IsSmall l.entries.items };
+    ghost invariant = { λ l. All IsSmall l.entries.items × (length l.gets.items ≡ handle_limit) };
+}
+
+/// Whether a call with this status did what was requested.
+fn is_done(status: Status) -> bool
+    ensures { result ≡ is_done status }
+{
+    status == Status::SUCCESS || status == Status::INFO_UPDATED
+}
+
+/// Keeps the place of a call that got an address by this handle.
+#[tactic(auto, using(crate::proofs::Places::past_end))]
+fn keep_at(gets: &mut [u32], handle: u16, place: u32)
+    ensures { gets.new ≡ slice_set gets.old handle place }
+{
+    let at = usize::from(handle);
+    if at < gets.len() {
+        gets[at] = place;
+    }
+}
+
+/// Keeps the place of an entry, if it got an address.
+fn keep_place(gets: &mut [u32], entry: &Entry, place: u32)
+    ensures { gets.new ≡ gets_after gets.old place entry.now }
+{
+    match &entry.request {
+        Request::Get { handle } if is_done(entry.reply.status) => keep_at(gets, *handle, place),
+        _ => {}
+    }
+}
+
+/// A place for each handle, of no call yet.
+fn no_places(alloc: Global) -> Result<Vec<u32>, Memory>
+    ensures { IfOk result (λ places. places.items ≡ replicate 256 0) }
+{
+    Ok(vec![in alloc; 0; HANDLES]?)
 }
 
 impl Log {
     ghost use Rattle.reply_packets.specs.Counters.{counts_view, tally_view};
 
     /// An empty history.
-    pub(crate) fn make(alloc: Global) -> Log
-        ensures entries { result.entries ≡ [] }
-        ensures counts { result.counts ≡ no_counts }
+    pub(crate) fn make(alloc: Global) -> Result<Log, Memory>
+        ensures entries { IfOk result (λ log. log.entries ≡ []) }
+        ensures counts { IfOk result (λ log. log.counts ≡ no_counts) }
+        ensures places { IfOk result (λ log. length log.gets ≡ 256) }
     {
-        Log {
+        Ok(Log {
             entries: Vec::new(alloc),
             counters: Counters::make(),
-        }
+            gets: no_places(alloc)?,
+        })
     }
 
     /// The entries.
@@ -63,9 +109,20 @@ impl Log {
         &self.counters
     }
 
+    /// The place of the latest entry that got an address by this handle, 0 where there is none.
+    pub(crate) fn place_of(&self, handle: u16) -> u32
+        ensures { result ≡ place_in self.now.gets handle }
+    {
+        match self.gets.get(usize::from(handle)) {
+            Some(place) => *place,
+            None => 0,
+        }
+    }
+
     /// Reserves room for one entry more.
     pub(crate) fn reserve(&mut self) -> Result<(), Memory>
         ensures entries { self.new.entries ≡ self.old.entries }
+        ensures gets { self.new.gets ≡ self.old.gets }
         ensures counts { self.new.counts ≡ self.old.counts }
         ensures room { OnOk result (0 < self.new.spare) }
     {
@@ -83,6 +140,7 @@ impl Log {
         loaded_file: Option<&Name64>,
     )
         ensures entries { self.new.entries ≡ self.old.entries }
+        ensures gets { self.new.gets ≡ self.old.gets }
         ensures room { self.new.spare ≡ self.old.spare }
         ensures counts { self.new.counts ≡ counts_after self.old.counts (tally_view tally clock events.now (option_copied loaded.entry) (option_copied loaded_file.entry)) }
     {
@@ -92,10 +150,13 @@ impl Log {
     /// Adds an entry, which was counted.
     pub(crate) fn enter(&mut self, entry: Entry)
         requires room { 0 < self.old.spare }
+        requires few { length self.old.entries < record_limit }
         requires small { IsSmall entry }
+        ensures gets { self.new.gets ≡ gets_after self.old.gets (length self.old.entries) entry }
         ensures entries { self.new.entries ≡ self.old.entries ++ entry ∷ [] }
         ensures counts { self.new.counts ≡ self.old.counts }
     {
+        keep_place(&mut self.gets, &entry, self.entries.len() as u32);
         self.entries.push_reserved(entry);
     }
 }

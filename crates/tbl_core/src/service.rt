@@ -1,6 +1,6 @@
 //! The core, and one step of it.
 
-ghost use Rattle.std.specs.Prelude.{◌≡◌, ◌≢◌, ℕ, false, ◌+◌, ◌^◌, ◌<◌, ◌≤◌, ◌↔◌, Option, List, [], ◌∷◌, ◌++◌, length, Err, IsTrue, OnOk, All, IfOk, IfErr};
+ghost use Rattle.std.specs.Prelude.{◌≡◌, ◌≢◌, ℕ, false, ◌+◌, ◌^◌, ◌<◌, ◌≤◌, ◌↔◌, Option, List, [], ◌∷◌, ◌++◌, length, Err, IsTrue, OnOk, All, IfOk, IfErr, IfSome, is_some};
 ghost use Rattle.tbl_model.specs.State.{State, first_state, no_tables};
 ghost use Rattle.tbl_model.specs.Vouched.{IsVouched};
 ghost use Rattle.tbl_model.specs.Whole.{IsWhole};
@@ -23,7 +23,9 @@ ghost use Rattle.tbl_model.specs.History.{begins_at, run_from};
 ghost use Rattle.validation.specs.Kits.{owners};
 ghost use Rattle.tbl_outside.specs.Counts.{Still};
 ghost use Rattle.tbl_outside.specs.declared.validator.KitEntry.{KitEntry as Function};
-ghost use Rattle.tbl_core.specs.Service.{FollowsFrom, Vouches, AskedBelow, AddsOne, start_fault, StartCounted};
+ghost use Rattle.tbl_registry.specs.Lending.{pins_image, lent_at};
+ghost use Rattle.tbl_core.specs.Pins.{place_in, IsSliceOf};
+ghost use Rattle.tbl_core.specs.Service.{FollowsFrom, Vouches, AskedBelow, AddsOne, PinsOnward, IsOfPin, start_fault, StartCounted};
 ghost use Rattle.tbl_core.specs.Verdicts.{Judged};
 ghost use Rattle.tbl_session.specs.Verdicts.{questions_in, KeepsToFunctions};
 ghost use Rattle.tbl_kinds.specs.declared.entry.Entry.{Entry};
@@ -32,8 +34,9 @@ use crate::parts::Parts;
 use cds_store::BankFault;
 use std::alloc::Global;
 use std::marker::Model;
-use tbl_kinds::{Actor, Admit, Entry, Request, ResetKind};
+use tbl_kinds::{Actor, Admit, Bytes, Entry, Memory, Request, ResetKind};
 use tbl_outside::{Back, Bank, Validator};
+use tbl_registry::Pin;
 use validation::Kit;
 
 /// Why a step played no request, or was the last one.
@@ -195,9 +198,80 @@ impl<B: Bank, C: Validator> Core<B, C> {
         // The bytes that it began with, and that a restore in it read, are some that a reset may have left.
         ensures left { OnPlayed result (B.tells_moments → (opening : State) → FollowsFrom B.Bank opening self.old
             → B.left_since self.new.state.store.bank (B.clock self.old.state.store.bank) (B.now self.old.state.store.bank)) }
+        // What a handle pins after it, it pinned before, or it got the address in it.
+        ensures pins { OnPlayed result (PinsOnward self.old self.new) }
         ensures live { OnOk result (self.new.state.ended ≡ false) }
         ensures err { result ≡ Err StepFault.Memory → self.new ≡ self.old }
     {
-        self.parts.play(actor, request)
+        self.parts.play(actor, request, None)
+    }
+
+    /// Plays a Read by a handle whose image was lent, like `step`, with the bytes that were taken of it before. Where the handle
+    /// still pins by the call that the pin was lent for, they are the answer, and no byte of the image is read here; else the Read
+    /// is played as by `step`.
+    pub fn step_read(
+        &mut self,
+        actor: Actor,
+        request: Request,
+        pin: &Pin,
+        slice: Bytes,
+    ) -> Result<(), StepFault>
+        requires fits { Fits actor request }
+        requires live { self.old.state.ended ≡ false }
+        requires room { length self.old.entries < record_limit }
+        requires pin { IsOfPin pin.now self.old }
+        requires slice { IsSliceOf pin.now request slice.list }
+        // One entry more, also where a boot in the request was the last; its note and its answer have their causes in the counts
+        // of the bank.
+        ensures adds { OnPlayed result (AddsOne B.Bank self.old self.new actor request result) }
+        ensures legal { OnPlayed result ((opening : State) → FollowsFrom B.Bank opening self.old → FollowsFrom B.Bank opening self.new) }
+        ensures whole { OnPlayed result (B.tells → (opening : State) → opening.tables ≡ no_tables → opening.pending ≡ [] → FollowsFrom B.Bank opening self.old → IsWhole opening self.new.entries) }
+        // Each critical table has its block in the store, and at most 32 are critical.
+        ensures backed { OnPlayed result (B.tells → (opening : State) → opening.tables ≡ no_tables → AreSingle opening.store → FollowsFrom B.Bank opening self.old
+            → AreBacked (run_from (begins_at opening) self.new.entries).state) }
+        // The functions were asked what the request asks, and the entry has their verdicts.
+        ensures judged { OnPlayed result ((e : Entry) × (self.new.entries ≡ self.old.entries ++ e ∷ []) × (B.tells → (opening : State) → FollowsFrom B.Bank opening self.old
+            → Judged C.Validator self.old.state.kit self.new.state.kit (questions_in (run_from (begins_at opening) self.old.entries) e) e.verdicts)) }
+        // No image went active that its table's function didn't answer for.
+        ensures vouched { OnPlayed result (B.tells → (opening : State) → opening.tables ≡ no_tables → opening.pending ≡ [] → FollowsFrom B.Bank opening self.old → IsVouched opening self.new.entries) }
+        // Whatever functions it was given at first, the history's verdicts are still theirs.
+        ensures verdicts { OnPlayed result ((opening : State) (given : List (Option (Function C))) → Vouches B.Bank C.verdict given opening self.old
+            → Vouches B.Bank C.verdict given opening self.new) }
+        // And so each verdict that is told of an image.
+        ensures kept { OnPlayed result (B.tells → (opening : State) (given : List (Option (Function C))) → Vouches B.Bank C.verdict given opening self.old
+            → KeepsToFunctions C.verdict given opening self.new.entries) }
+        // What a restore gave is what its block held in the bank as the step began.
+        ensures gave { OnPlayed result ((e : Entry) × (self.new.entries ≡ self.old.entries ++ e ∷ []) × (B.tells → (opening : State) → FollowsFrom B.Bank opening self.old
+            → RestoresHeld (B.now self.old.state.store.bank) (all_calls_in (run_from (begins_at opening) self.old.entries) e) (run_from (begins_at opening) self.old.entries).state.store e.note)) }
+        // A reset at any moment in it leaves the store as it was after the entries before, or what this request made of it so far.
+        ensures crash { OnPlayed result (B.tells_moments → (opening : State) → FollowsFrom B.Bank opening self.old
+            → LeavesOnly B.clock B.left_since self.old.state.store.bank self.new.state.store.bank (λ image. AfterCrash opening self.new.entries (length self.old.entries) (store_of image))) }
+        // A completed copy of an image stays, each moment, through a request that neither copies into its block nor deletes it and
+        // is no power-on.
+        ensures completed { OnPlayed result ((e : Entry) × (self.new.entries ≡ self.old.entries ++ e ∷ []) × (B.tells_moments → (opening : State) → FollowsFrom B.Bank opening self.old
+            → (slot : ℕ) (block : Block) (copied : List ℕ) → HasCompleted (run_from (begins_at opening) self.old.entries).state.store slot block copied
+            → LeaveAlone slot (calls_in (run_from (begins_at opening) self.old.entries) e) → request ≢ ask.Reset PowerOn
+            → LeavesOnly B.clock B.left_since self.old.state.store.bank self.new.state.store.bank (λ image. HasCompleted (store_of image) slot block copied))) }
+        // The bytes that it began with, and that a restore in it read, are some that a reset may have left.
+        ensures left { OnPlayed result (B.tells_moments → (opening : State) → FollowsFrom B.Bank opening self.old
+            → B.left_since self.new.state.store.bank (B.clock self.old.state.store.bank) (B.now self.old.state.store.bank)) }
+        // What a handle pins after it, it pinned before, or it got the address in it.
+        ensures pins { OnPlayed result (PinsOnward self.old self.new) }
+        ensures live { OnOk result (self.new.state.ended ≡ false) }
+        ensures err { result ≡ Err StepFault.Memory → self.new ≡ self.old }
+    {
+        let lent = self.parts.still_lent(pin, slice);
+        self.parts.play(actor, request, lent)
+    }
+
+    /// Lends the image that a handle pins, with the place of the call that got its address. None where the handle leads to no
+    /// table, or pins no image. No byte is copied, and no memory is taken; an Err means that the image has as many owners as can
+    /// be counted.
+    pub fn lend(&self, handle: u16) -> Result<Option<Pin>, Memory>
+        ensures lent { IfOk result (λ lent. lent ≡ lent_at handle (place_in self.now.gets handle) self.now.state.tables) }
+        ensures none { IfOk result (λ lent. is_some lent ≡ pins_image handle self.now.state.tables) }
+        ensures pin { IfOk result (λ lent. IfSome lent (λ pin. IsOfPin pin self.now)) }
+    {
+        self.parts.lend(handle)
     }
 }

@@ -1,9 +1,10 @@
-use Rattle.std.proofs.Common.{refl, subst}
+use Rattle.std.proofs.Common.{None, refl, subst}
 use Rattle.std.proofs.lemmas.Result.{IfOk-weaker}
 use Rattle.tbl_model.specs.Registration.{register_effect}
 use Rattle.tbl_model.specs.AppBlocks.{cds_register_effect, cds_copy_effect, cds_restore_effect, cds_delete_effect}
 use Rattle.store_requests.specs.Called.{with_boot, Calls}
-use Rattle.tbl_core.proofs.StoreRequests.{call_makes, call_meets, block_makes, block_meets}
+use Rattle.tbl_core.proofs.StoreRequests.{registers_keeps, call_makes, call_meets, block_makes, block_meets}
+use Rattle.tbl_core.proofs.Telling.{store_no_get}
 use Rattle.tbl_core.proofs.Restoring.{register_holds, copy_holds, restore_holds, delete_holds}
 use Rattle.tbl_core.specs.Service.{parts_view, state_of}
 use Rattle.store_requests.proofs.Both.{both, three}
@@ -12,7 +13,7 @@ use Rattle.tbl_core.proofs.parts.Parts.app_store_request.Goals as goal
 pub returns-in-CdsRegister-clause-makes : goal.returns-in-CdsRegister-clause-makes
 returns-in-CdsRegister-clause-makes g c =
     let b = g.B.Bank in
-    IfOk-weaker c.cds_register.result _ _ (λ done call. block_makes b g.C.Validator _ _ c.args.request.now done refl c.requires.live call) c.cds_register.ensures.call
+    IfOk-weaker c.cds_register.result _ _ (λ done call. block_makes b g.C.Validator _ _ c.args.request.now done refl c.requires.live call (store_no_get c.args.request.now None c.requires.calls)) c.cds_register.ensures.call
 
 pub returns-in-CdsRegister-clause-meets : goal.returns-in-CdsRegister-clause-meets
 returns-in-CdsRegister-clause-meets g c =
@@ -25,7 +26,7 @@ returns-in-CdsRegister-clause-meets g c =
 pub returns-in-CdsCopy-clause-makes : goal.returns-in-CdsCopy-clause-makes
 returns-in-CdsCopy-clause-makes g c =
     let b = g.B.Bank in
-    IfOk-weaker c.cds_copy.result _ _ (λ done call. block_makes b g.C.Validator _ _ c.args.request.now done refl c.requires.live call) c.cds_copy.ensures.call
+    IfOk-weaker c.cds_copy.result _ _ (λ done call. block_makes b g.C.Validator _ _ c.args.request.now done refl c.requires.live call (store_no_get c.args.request.now None c.requires.calls)) c.cds_copy.ensures.call
 
 pub returns-in-CdsCopy-clause-meets : goal.returns-in-CdsCopy-clause-meets
 returns-in-CdsCopy-clause-meets g c =
@@ -38,7 +39,7 @@ returns-in-CdsCopy-clause-meets g c =
 pub returns-in-CdsRestore-clause-makes : goal.returns-in-CdsRestore-clause-makes
 returns-in-CdsRestore-clause-makes g c =
     let b = g.B.Bank in
-    IfOk-weaker c.cds_restore.result _ _ (λ done call. block_makes b g.C.Validator _ _ c.args.request.now done refl c.requires.live call) c.cds_restore.ensures.call
+    IfOk-weaker c.cds_restore.result _ _ (λ done call. block_makes b g.C.Validator _ _ c.args.request.now done refl c.requires.live call (store_no_get c.args.request.now None c.requires.calls)) c.cds_restore.ensures.call
 
 pub returns-in-CdsRestore-clause-meets : goal.returns-in-CdsRestore-clause-meets
 returns-in-CdsRestore-clause-meets g c =
@@ -52,7 +53,7 @@ returns-in-CdsRestore-clause-meets g c =
 pub returns-in-CdsDelete-clause-makes : goal.returns-in-CdsDelete-clause-makes
 returns-in-CdsDelete-clause-makes g c =
     let b = g.B.Bank in
-    IfOk-weaker c.cds_delete.result _ _ (λ done call. block_makes b g.C.Validator _ _ c.args.request.now done refl c.requires.live call) c.cds_delete.ensures.call
+    IfOk-weaker c.cds_delete.result _ _ (λ done call. block_makes b g.C.Validator _ _ c.args.request.now done refl c.requires.live call (store_no_get c.args.request.now None c.requires.calls)) c.cds_delete.ensures.call
 
 pub returns-in-CdsDelete-clause-meets : goal.returns-in-CdsDelete-clause-meets
 returns-in-CdsDelete-clause-meets g c =
@@ -65,8 +66,8 @@ returns-in-CdsDelete-clause-meets g c =
 pub returns-in-Register-clause-makes : goal.returns-in-Register-clause-makes
 returns-in-Register-clause-makes g c =
     let b = g.B.Bank in
-    both c.register.result _ _ _ c.register.ensures.call c.register.ensures.fit (λ done call fit. call_makes b g.C.Validator _ _ c.args.request.now done refl c.requires.live call
-    (λ n was. fit (state_of (parts_view c.args.self.now)) n refl refl was))
+    three c.register.result _ _ _ _ c.register.ensures.call c.register.ensures.fit c.register.ensures.one (λ done call fit one. call_makes b g.C.Validator _ _ c.args.request.now done refl c.requires.live call
+    (λ n was. fit (state_of (parts_view c.args.self.now)) n refl refl was) (registers_keeps c.args.self.now.tables c.register.new.tables c.args.app one) (store_no_get c.args.request.now None c.requires.calls))
 
 pub returns-in-Register-clause-meets : goal.returns-in-Register-clause-meets
 returns-in-Register-clause-meets g c =

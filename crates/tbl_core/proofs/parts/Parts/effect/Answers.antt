@@ -10,12 +10,12 @@ use Rattle.tbl_core.proofs.parts.Parts.effect.Goals as goal
 pub returns-then-asks_store-clause-makes : goal.returns-then-asks_store-clause-makes
 returns-then-asks_store-clause-makes g c =
     let b = g.B.Bank in
-    IfOk-weaker c.store_request.result _ _ (λ done makes. wider b g.C.Validator 0 _ _ _ done (omega arith) makes) c.store_request.ensures.makes
+    IfOk-weaker c.store_request.result _ _ (λ done makes. wider b g.C.Validator 0 _ _ _ _ done (omega arith) makes) c.store_request.ensures.makes
 
 pub returns-in-Ground-clause-makes : goal.returns-in-Ground-clause-makes
 returns-in-Ground-clause-makes g c =
     let b = g.B.Bank in
-    IfOk-weaker c.ground.result _ _ (λ done does. table_makes b g.C.Validator _ _ _ Ground c.args.request.now done does c.requires.live _ c.requires.fit c.requires.ready.booted) c.ground.ensures.does
+    IfOk-weaker c.ground.result _ _ (λ done does. table_makes b g.C.Validator _ _ _ Ground c.args.request.now done does c.requires.live _ c.requires.fit c.requires.ready.booted (no_reset c.args.request.now (command_view c.args.command.now) (search rules))) c.ground.ensures.does
 
 pub returns-in-Ground-clause-meets : goal.returns-in-Ground-clause-meets
 returns-in-Ground-clause-meets g c =
@@ -26,7 +26,7 @@ returns-in-Ground-clause-meets g c =
 pub returns-in-Some-clause-makes : goal.returns-in-Some-clause-makes
 returns-in-Some-clause-makes g c =
     let b = g.B.Bank in
-    IfOk-weaker c.owner.result _ _ (λ done makes. wider b g.C.Validator (most_events c.args.request.now None) _ _ _ done (owners_events c.args.request.now (command_view c.args.command.now) c.in-Some.handle (search rules)) makes) c.owner.ensures.makes
+    IfOk-weaker c.owner.result _ _ (λ done makes. wider b g.C.Validator (most_events c.args.request.now None) _ _ _ _ done (owners_events c.args.request.now (command_view c.args.command.now) c.in-Some.handle (search rules)) makes) c.owner.ensures.makes
 
 pub returns-in-Some-clause-meets : goal.returns-in-Some-clause-meets
 returns-in-Some-clause-meets g c = rw c.in-App.is c.owner.ensures.meets
@@ -34,8 +34,8 @@ returns-in-Some-clause-meets g c = rw c.in-App.is c.owner.ensures.meets
 pub returns-in-None-clause-makes : goal.returns-in-None-clause-makes
 returns-in-None-clause-makes g c =
     let b = g.B.Bank in
-    IfOk-weaker c.user.result _ _ (λ done does. wider b g.C.Validator 0 _ _ _ done (omega arith)
-    (table_makes b g.C.Validator _ _ _ (App c.in-App.app) c.args.request.now done does c.requires.live _ c.requires.fit c.requires.ready.booted)) c.user.ensures.does
+    IfOk-weaker c.user.result _ _ (λ done does. wider b g.C.Validator 0 _ _ _ _ done (omega arith)
+    (table_makes b g.C.Validator _ _ _ (App c.in-App.app) c.args.request.now done does c.requires.live _ c.requires.fit c.requires.ready.booted (no_reset c.args.request.now (command_view c.args.command.now) (search rules)))) c.user.ensures.does
 
 pub returns-in-None-clause-meets : goal.returns-in-None-clause-meets
 returns-in-None-clause-meets g c =

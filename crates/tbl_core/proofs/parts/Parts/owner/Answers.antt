@@ -25,7 +25,7 @@ returns-in-Ok-clause-makes g c =
     let row = c.in-Ok.row in
     let t = some_is (table_at c.args.self.now.tables row) c.in-Ok.ensures.table in
     let can : activates r ≡ true = search rules in
-    IfOk-weaker c.owned_and_copied.result _ _ (λ done does. wider b g.C.Validator (suc (most_owned_events r)) (events_alone (most_events r None)) _ _ done (copied_fewer r can)
+    IfOk-weaker c.owned_and_copied.result _ _ (λ done does. wider b g.C.Validator (suc (most_owned_events r)) (events_alone (most_events r None)) r _ _ done (copied_fewer r can)
     (copies_makes b g.C.Validator _ _ (App c.args.app) r row done does can c.requires.live _ c.requires.fit
     (λ s stands given. taken s c.args.app c.args.handle given row t.0 (λ effect. c.in-Ok.ensures.ok s effect stands.tables stands.apps) (ap (λ (tables : Tables). table_at tables row) stands.tables ∙ t.1) r c.requires.owners
     ∙ is_copied r row given.note (owned_at (table_at s.tables row) s row r given) can))) c.owned_and_copied.ensures.does
@@ -50,10 +50,10 @@ returns-in-Ok-2-clause-makes g c =
     let row = c.in-Ok.row in
     let t = some_is (table_at c.args.self.now.tables row) c.in-Ok.ensures.table in
     let plain : activates r ≡ false = search rules in
-    IfOk-weaker c.owned.result _ _ (λ done does. wider b g.C.Validator (most_owned_events r) (events_alone (most_events r None)) _ _ done (owned_fewer r)
+    IfOk-weaker c.owned.result _ _ (λ done does. wider b g.C.Validator (most_owned_events r) (events_alone (most_events r None)) r _ _ done (owned_fewer r)
     (table_makes b g.C.Validator (events_alone (most_owned_events r)) _ _ (App c.args.app) r done (does_plainly g.C.Validator (events_alone (most_owned_events r)) _ _ c.args.app row r done
     (λ s stands given. taken s c.args.app c.args.handle given row t.0 (λ effect. c.in-Ok.ensures.ok s effect stands.tables stands.apps) (ap (λ (tables : Tables). table_at tables row) stands.tables ∙ t.1) r c.requires.owners) plain does)
-    c.requires.live _ c.requires.fit c.requires.ready.booted)) c.owned.ensures.does
+    c.requires.live _ c.requires.fit c.requires.ready.booted (owner_resets r c.args.handle c.requires.owners))) c.owned.ensures.does
 
 pub returns-in-Ok-2-clause-meets : goal.returns-in-Ok-2-clause-meets
 returns-in-Ok-2-clause-meets g c =
@@ -81,8 +81,8 @@ returns-in-Err g c =
       two = search rules;
       within = search rules;
     } in record {
-      makes = wider b g.C.Validator 0 (events_alone (most_events r None)) _ _ c.of.result (omega arith)
-          (table_makes b g.C.Validator (events_alone 0) _ _ (App c.args.app) r c.of.result does c.requires.live _ c.requires.fit c.requires.ready.booted);
+      makes = wider b g.C.Validator 0 (events_alone (most_events r None)) r _ _ c.of.result (omega arith)
+          (table_makes b g.C.Validator (events_alone 0) _ _ (App c.args.app) r c.of.result does c.requires.live _ c.requires.fit c.requires.ready.booted (owner_resets r c.args.handle c.requires.owners));
       meets = table_meets b g.C.Validator (events_alone 0) _ _ (App c.args.app) r c.of.result does c.requires.live _ c.requires.fit (λ told blocks stands. uncalled_leaves b g.met.B.Bank.leaves_only_now g.met.B.Bank.only_now c.args.self.now.store _ blocks does.store (stands.shows told)) (owner_resets r c.args.handle c.requires.owners);
       log = refl;
       err = tt;

@@ -34,8 +34,10 @@ returns-clause-plays g c =
       after = after;
       entries = ap (λ (l : Logged). l.entries) boot.ensures.log ∙ ap (λ (l : Logged). l.entries) c.effect.ensures.log ∙ c.room_for_entry.ensures.entries;
       counts = ap (λ (l : Logged). l.counts) boot.ensures.log ∙ ap (λ (l : Logged). l.counts) c.effect.ensures.log ∙ c.room_for_entry.ensures.counts;
+      kept = ap (λ (l : Logged). l.gets) boot.ensures.log ∙ ap (λ (l : Logged). l.gets) c.effect.ensures.log ∙ c.room_for_entry.ensures.gets;
       entered = refl;
       counted = refl;
+      placed = refl;
       finishes = subst (λ (h : PartsView _ _). Finishes before after clock h.tables c.args.actor c.args.request done) (sym c.finish.ensures.stays) c.finish.ensures.finishes;
     })
     c.session_end-end.result c.session_end-end.ensures)

@@ -5,6 +5,7 @@ use Rattle.cds_store.specs.StoreBlocks.{StandsFor as HasBlocks}
 use Rattle.cds_store.proofs.Recovered.{booted_alike}
 use Rattle.tbl_core.specs.Service.{parts_view, state_of, StartCounted}
 use Rattle.tbl_laws.proofs.Ordinary.{fit_at_first}
+use Rattle.tbl_core.proofs.Pinning.{no_images, no_handle}
 use Rattle.tbl_core.proofs.Starting.{stands_first, start_counted, start_leaves, stays_shown}
 use Rattle.tbl_core.proofs.service.Core.start.Goals as goal
 
@@ -15,6 +16,9 @@ invariant_of-result g c = record {
   kit = λ number entry there.
       let low = c.requires.asked number entry (subst (λ kit. entry_at kit number ≡ Some entry) c.in-Ok.ensures.kit there) in
       omega (arith, low);
+  images = no_images c.in-Ok.parts.tables c.in-Ok.ensures.tables;
+  places = c.in-Ok.ensures.places;
+  gets = λ handle h p within at pin. absurd (no_handle c.in-Ok.parts.tables handle h c.in-Ok.ensures.tables at);
 }
 
 pub returns-in-Ok-boot-clause-stands : goal.returns-in-Ok-boot-clause-stands

@@ -66,3 +66,6 @@ returns-clause-left g c =
     rw (← c.self.view_is) (on_played c.play.result (λ p moments opening stood.
     let step = moments_of b g.C.Validator _ _ c.args.actor c.args.request c.play.result p opening stood g.met.B.Bank.tells_both moments in
     step.keeps _ _ (omega arith) (g.met.B.Bank.counts_now _ _ _ moments (omega arith) (g.met.B.Bank.leaves_now _ moments))) c.play.ensures.plays)
+
+pub returns-clause-pins : goal.returns-clause-pins
+returns-clause-pins g c = rw (← c.self.view_is) (on_played c.play.result (λ p. p.pins) c.play.ensures.plays)

@@ -1,0 +1,61 @@
+-- Images that the core lends, and bytes that were taken of them.
+use Rattle.std.proofs.Common.{◌≡◌, ◌<◌, ℕ, List, ◌∷◌, [], ◌++◌, length, Option, Some, None, Result, Ok, refl, sym, ap, ◌∙◌, subst, inl, inr, arith}
+use Rattle.std.specs.Prelude.{slice_get, IfSome, OnSome}
+use Rattle.tbl_kinds.specs.Buffers.{Buffer}
+use Rattle.std.specs.Option.{option_map}
+use Rattle.std.proofs.lemmas.Option.{same_Some, slice_get_within}
+use Rattle.tbl_model.specs.TableSteps.{read}
+use Rattle.tbl_kinds.specs.Numbers.{piece}
+use Rattle.tbl_kinds.specs.declared.entry.Entry.{Entry}
+use Rattle.tbl_kinds.specs.declared.request.Request.{Request}
+use Rattle.tbl_kinds.specs.declared.request.Request.TheVariants as ask
+use Rattle.tbl_registry.specs.Lending.{pinned_image, name_by, lent_at}
+use Rattle.tbl_registry.specs.declared.pin.Pin.{Pin}
+use Rattle.tbl_core.specs.Pins.{handle_limit, place_in, MayBeLent, IsGetAt, IsSliceOf}
+use Rattle.tbl_core.specs.Service.{CoreView, IsReady, PinsOnward, IsOfPin}
+use Rattle.tbl_core.proofs.Pinning.{IsPinnedBy, pinned_by_handle}
+use Rattle.tbl_core.proofs.Places.{earlier_at, read_is_piece, IsPiece}
+use Rattle.tbl_outside.specs.declared.validator.Validator.{Ghosts as ValidatorGhosts}
+
+-- an image that is lent by a handle that pins it
+pub lent_is : {B C : Type 0} (v : ValidatorGhosts C) (core : CoreView B C) (handle : ℕ) (pin : Pin) → IsReady v core → handle < handle_limit → lent_at handle (place_in core.gets handle) core.state.tables ≡ Some pin → IsOfPin pin core
+lent_is v core handle pin ready within is = by (pinned_image handle core.state.tables) refl is where
+  by : (found : Option (List ℕ)) → pinned_image handle core.state.tables ≡ found → option_map (λ (image : List ℕ). let lent : Pin = record { bytes = image; handle = handle; place = place_in core.gets handle; name = name_by handle core.state.tables } in lent) found ≡ Some pin → IsOfPin pin core
+  by None at none = absurd (cc none)
+  by (Some image) at some =
+      let who : IsPinnedBy core.state.tables handle image = pinned_by_handle core.state.tables handle image at in
+      subst (λ (p : Pin). IsOfPin p core) (same_Some _ pin some) (record {
+        within = within;
+        got = ready.gets handle who.handle who.number within who.at who.pin;
+        image = λ other there by_it. same_Some other image (sym there ∙ at);
+      })
+
+-- bytes that were taken of it are what a read gives, where the handle still pins by the call that it was lent for
+pub slice_is : {B C : Type 0} (v : ValidatorGhosts C) (core : CoreView B C) (pin : Pin) (request : Request) (slice : List ℕ) → IsReady v core → IsOfPin pin core → place_in core.gets pin.handle ≡ pin.place → IsSliceOf pin request slice → MayBeLent request core.state.tables slice
+slice_is v core pin (ask.Read handle offset len) slice ready is same of = λ bytes gives.
+    let gives' : read pin.handle offset len core.state.tables ≡ Ok bytes = subst (λ (n : ℕ). read n offset len core.state.tables ≡ Ok bytes) of.0 gives in
+    let got : IsPiece core.state.tables pin.handle offset len bytes = read_is_piece core.state.tables ready.images pin.handle offset len bytes gives' in
+    of.1 ∙ ap (piece offset len) (sym (is.image got.0 got.1 same)) ∙ sym got.2
+slice_is v core pin request slice ready is same of = absurd of
+
+-- whatever of them is handed on
+pub may_be : {B C : Type 0} (v : ValidatorGhosts C) (core : CoreView B C) (pin : Pin) (request : Request) (slice : Buffer) (lent : Option Buffer) → IsReady v core → IsOfPin pin core → IsSliceOf pin request slice.list
+    → IfSome lent (λ (b : Buffer). (b ≡ slice) × (place_in core.gets pin.handle ≡ pin.place)) → IfSome lent (λ (b : Buffer). MayBeLent request core.state.tables b.list)
+may_be v core pin request slice None ready is of still = tt
+may_be v core pin request slice (Some b) ready is of still = slice_is v core pin request b.list ready is still.1 (subst (λ (x : Buffer). IsSliceOf pin request x.list) (sym still.0) of)
+
+-- each image that is lent
+pub lent_each : {B C : Type 0} (v : ValidatorGhosts C) (core : CoreView B C) (handle : ℕ) (lent : Option Pin) → IsReady v core → lent ≡ lent_at handle (place_in core.gets handle) core.state.tables → OnSome lent (handle < handle_limit) → IfSome lent (λ (pin : Pin). IsOfPin pin core)
+lent_each v core handle None ready is within = tt
+lent_each v core handle (Some pin) ready is within = lent_is v core handle pin ready within (sym is)
+
+-- what was lent stays so over one more entry
+pub pin_stays : {B C : Type 0} (old new : CoreView B C) (e : Entry) → new.entries ≡ old.entries ++ e ∷ [] → PinsOnward old new → (pin : Pin) → IsOfPin pin old → IsOfPin pin new
+pin_stays old new e added onward pin is = record {
+  within = is.within;
+  got = (is.got.0, ap (λ (es : List Entry). slice_get es pin.place) added ∙ earlier_at old.entries (e ∷ []) pin.place is.got.0 is.got.1, is.got.2);
+  image = λ image there at. elim (onward.each pin.handle image is.within there) [
+    | inl fresh ↦ let past : pin.place < length old.entries = slice_get_within old.entries pin.place is.got.0 is.got.1 in absurd (omega (arith, fresh, at, past))
+    | inr was ↦ is.image image was.1 (sym was.0 ∙ at)
+  ];
+}

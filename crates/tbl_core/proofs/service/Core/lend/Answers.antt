@@ -1,0 +1,7 @@
+use Rattle.std.proofs.Common.{refl}
+use Rattle.store_requests.proofs.Both.{both}
+use Rattle.tbl_core.proofs.Lending.{lent_each}
+use Rattle.tbl_core.proofs.service.Core.lend.Goals as goal
+
+pub returns-clause-pin : goal.returns-clause-pin
+returns-clause-pin g c = rw (← c.self.view_is) (both c.lend.result _ _ _ c.lend.ensures.lent c.lend.ensures.within (λ lent is within. lent_each g.C.Validator _ c.args.handle lent c.self.invariant is within))
