@@ -1,0 +1,7 @@
+//! Looks at the images of tables by their check words: the layer above may rely on it that each look is told beside the latest one at a table of that name, and that the report has a line for each.
+#![tactic(auto)]
+
+mod report;
+mod watch;
+
+pub use watch::{Seen, Watch};
