@@ -1,9 +1,9 @@
 //! The lock, and its five kinds of atomic step: take the turn, put the value back, make, split and join a seat.
 
-ghost use Rattle.std.specs.Prelude.{◌≡◌, ℕ, ◌+◌, ◌<◌, ◌≤◌, ◌/◌, List, [], ◌∷◌, ◌++◌, Option, Some, None, IfOk, IfErr, length, replicate, take, drop};
+ghost use Rattle.std.specs.Prelude.{◌≡◌, ℕ, ◌+◌, ◌-◌, ◌<◌, ◌≤◌, ◌/◌, List, [], ◌∷◌, ◌++◌, Option, Some, None, IfOk, IfErr, length, replicate, take, drop};
 ghost use Rattle.turn_lock.specs.Turns.{Since, Idle, Holds, Knows};
 
-use crate::rule::{Halve, Place, PutBack, TakeTurn, TurnRule, Turns, Unite, View};
+use crate::rule::{Halve, LastOff, Place, PutBack, TakeTurn, TurnRule, Turns, Unite, View};
 use atomic_table::{Refused, Table};
 use std::alloc::Global;
 use std::snapshot::Snapshot;
@@ -84,6 +84,17 @@ impl<T: Turns> TurnLock<T> {
         ensures right { Idle result.me (seat.old.me.0.from + length seat.old.me.0.seen / 2) (drop (length seat.old.me.0.seen / 2) seat.old.me.0.seen) }
     {
         self.table.shared.split_seat::<Halve>(seat)
+    }
+
+    /// Splits off the seat of the last actor.
+    pub fn split_last(&self, seat: &mut Place<T>) -> Place<T>
+        requires own { seat.old.table_id ≡ self.now.table.shared.table_id }
+        requires idle { Idle seat.old.me seat.old.me.0.from seat.old.me.0.seen }
+        ensures own { (seat.new.table_id ≡ seat.old.table_id) × (result.table_id ≡ seat.old.table_id) }
+        ensures left { Idle seat.new.me seat.old.me.0.from (take (length seat.old.me.0.seen - 1) seat.old.me.0.seen) }
+        ensures right { Idle result.me (seat.old.me.0.from + (length seat.old.me.0.seen - 1)) (drop (length seat.old.me.0.seen - 1) seat.old.me.0.seen) }
+    {
+        self.table.shared.split_seat::<LastOff>(seat)
     }
 
     /// Takes in the seat of the next actors.

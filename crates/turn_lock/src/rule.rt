@@ -68,6 +68,18 @@ impl<T> Split<View<T>> for Halve {
     ghost right = { λ v. upper (length v.seen / 2) v };
 }
 
+/// The last actor of a seat gets a seat of its own.
+pub(crate) struct LastOff;
+
+impl<T> Split<View<T>> for LastOff {
+    ghost use Rattle.turn_lock.specs.Turns.{lower, upper};
+    ghost use Rattle.std.specs.Prelude.{length, ◌-◌};
+
+    ghost left = { λ v. lower (length v.seen - 1) v };
+
+    ghost right = { λ v. upper (length v.seen - 1) v };
+}
+
 /// Two seats become one, which has the actors of both.
 pub(crate) struct Unite;
 
