@@ -4,3 +4,6 @@ pub mod HistoryLemmas
 pub mod RestLemmas
 pub mod MoveLemmas
 pub mod PushLemmas
+pub mod LendingLemmas
+pub mod WorkerLemmas
+pub mod WatchLemmas

@@ -1,11 +1,10 @@
 -- Turns under the lock: what they lead on to, and what a thread keeps knowing of its own actors.
-use Rattle.std.proofs.Common.{◌≡◌, ◌≢◌, ◌⊎◌, ℕ, zero, suc, ◌+◌, ◌-◌, ◌/◌, ◌<◌, ◌≤◌, List, [], ◌∷◌, ◌++◌, length, take, drop, Option, None, refl, sym, ap, ◌∙◌, subst, inl, inr, ⊎_elim, arith, ℤ}
-use Rattle.std.specs.Prelude.{slice_index, min, replicate}
-use Rattle.std.proofs.lemmas.List.{nil_from_length, length-replicate, length-take-le, length-drop}
+use Rattle.std.proofs.Common.{◌≡◌, ◌≢◌, ℕ, zero, suc, ◌+◌, ◌-◌, ◌/◌, ◌<◌, ◌≤◌, List, [], ◌∷◌, ◌++◌, length, take, drop, Option, refl, sym, ap, ◌∙◌, subst, ⊎_elim, arith, ℤ}
+use Rattle.std.specs.Prelude.{slice_index, replicate}
+use Rattle.std.proofs.lemmas.List.{length-replicate, length-take-le, length-drop}
 use mathlib.Core.Option.{some, some-ne-none}
 use lib.ListN.{get_elem?}
 use Rattle.tbl_outside.specs.declared.bank.Bank.{Ghosts}
-use Rattle.tbl_kinds.specs.declared.request.Request.{Request}
 use Rattle.atomic_table.specs.Table.{Me}
 use Rattle.turn_lock.specs.Turns.{Since, Beside, Knows, Idle, IsSeat, seat_view}
 use Rattle.turn_lock.specs.declared.rule.View.{View}
@@ -15,7 +14,6 @@ use Rattle.tbl_crew.specs.CrewView.{CrewView}
 use Rattle.tbl_crew.specs.Leading.{LeadsOn}
 use Rattle.tbl_crew.specs.Moves.{Moves, HasEnded, HaveEnded, HaveLeft}
 use Rattle.tbl_crew.specs.Scripts.{script_of}
-use Rattle.tbl_crew.specs.Turns.{PlaysNext}
 
 module _ {B C : Type 0} (g : Ghosts B) (verdict : C → List ℕ → ℤ) where
   abbrev Moved : CrewView B C → ℕ → CrewView B C → Type 0
@@ -45,38 +43,6 @@ module _ {B C : Type 0} (g : Ghosts B) (verdict : C → List ℕ → ℤ) where
       there_is [] i lt = absurd (omega (arith, lt))
       there_is (h ∷ l) zero lt = (h, refl)
       there_is (h ∷ l) (suc i) lt = there_is l i (omega (arith, lt))
-
-  -- a turn that played takes one from what its actor had left
-  pub one_less : (actor from : ℕ) (seen : List (CrewView B C)) (taken after : CrewView B C) (count nth : ℕ) → from ≡ actor → length seen ≡ 1 → Knows Moved from seen taken
-      → ((h : CrewView B C) → get_elem? seen 0 ≡ some h → length (script_of h.left actor) + nth ≡ count) → PlaysNext g taken after actor → length (script_of after.left actor) + (nth + 1) ≡ count
-  one_less actor from seen taken after count nth is one knows left plays =
-      let at = first_of seen one in
-      let here : from + 0 ≡ actor = omega (arith, is) in
-      let same = own_stays actor at.0 taken (subst (λ (n : ℕ). Beside Moved n at.0 taken) here (knows 0 at.0 at.1)) in
-      let before : length (script_of taken.left actor) ≡ suc (length (script_of after.left actor)) = ap length plays.takes.next in
-      omega (arith, left at.0 at.1, before, ap length same)
-    where
-      first_of : (l : List (CrewView B C)) → length l ≡ 1 → (h : CrewView B C) × (get_elem? l 0 ≡ some h)
-      first_of [] e = absurd (omega (arith, e))
-      first_of (h ∷ l) e = (h, refl)
-
--- ---- seats of one actor
-
-module _ {B C : Type 0} where
-  -- where its script is empty it has ended
-  pub none_left : (h : CrewView B C) (actor nth count : ℕ) → length (script_of h.left actor) + nth ≡ count → nth ≡ count → HasEnded h actor
-  none_left h actor nth count left all goes = nil_from_length (script_of h.left actor) (omega (arith, left, all))
-
-  pub single_ended : (actor : ℕ) (seen : List (CrewView B C)) → length seen ≡ 1 → ((h : CrewView B C) → get_elem? seen 0 ≡ some h → HasEnded h actor) → HaveEnded actor seen
-  single_ended actor seen one ended zero h at = let same : actor ≡ actor + 0 = omega arith in subst (λ (n : ℕ). HasEnded h n) same (ended h at)
-  single_ended actor seen one ended (suc i) h at = absurd (omega (arith, one, there seen (suc i) h at))
-
-  -- what it has left at first
-  pub first_left : (actor count : ℕ) (seen : List (CrewView B C)) → HaveLeft (λ _. count) actor seen → (h : CrewView B C) → get_elem? seen 0 ≡ some h → length (script_of h.left actor) + 0 ≡ count
-  first_left actor count seen left h at =
-      let here : actor + 0 ≡ actor = omega arith in
-      let is : length (script_of h.left actor) ≡ count = subst (λ (n : ℕ). length (script_of h.left n) ≡ count) here (left 0 h at) in
-      omega (arith, is)
 
 -- ---- seats that are split and joined
 

@@ -1,5 +1,5 @@
 -- What a turn leaves of the scripts, and of the kept fault.
-use Rattle.std.proofs.Common.{◌≡◌, ◌≢◌, ◌⊎◌, ℕ, suc, ◌+◌, ◌<◌, List, [], ◌∷◌, length, Bool, true, false, None, refl, sym, ap, subst, ◌∙◌, arith, inl, inr}
+use Rattle.std.proofs.Common.{◌≡◌, ◌≢◌, ◌⊎◌, ℕ, suc, ◌+◌, ◌<◌, List, [], ◌∷◌, length, Bool, true, false, None, refl, sym, ap, subst, ◌∙◌, arith, inl, inr, ℤ}
 use Rattle.std.specs.Prelude.{◌==◌}
 use mathlib.Core.Logic.{dite}
 use native.Mathlib.Decide.{ℕ_discrete}
@@ -9,11 +9,16 @@ use Rattle.std.proofs.lemmas.List.{get_or-set_other}
 use Rattle.tbl_kinds.specs.declared.request.Request.{Request}
 use Rattle.tbl_outside.specs.declared.bank.Bank.{Ghosts}
 use Rattle.tbl_crew.specs.CrewView.{CrewView}
-use Rattle.tbl_crew.specs.Moves.{HasEnded}
+use Rattle.tbl_crew.specs.Leading.{LeadsOn}
+use Rattle.tbl_crew.specs.Moves.{Grows, Moves, HasEnded, IsTurned}
 use Rattle.tbl_crew.specs.Scripts.{script_of}
-use Rattle.tbl_crew.specs.Turns.{Takes, Turns}
+use Rattle.tbl_crew.specs.Turns.{Takes, PlaysNext, Breaks, Turns}
+use Rattle.tbl_core.specs.Service.{CoreView, IsOfPin}
+use Rattle.tbl_core.specs.declared.service.StepFault.{StepFault}
+use Rattle.tbl_core.specs.declared.service.StepFault.TheVariants.{Memory, BootFault, BootStopped}
+use Rattle.tbl_registry.specs.declared.pin.Pin.{Pin}
 use Rattle.tbl_crew.specs.declared.held.Turn.{Turn}
-use Rattle.tbl_crew.specs.declared.held.Turn.TheVariants.{Played, Ended, Done}
+use Rattle.tbl_crew.specs.declared.held.Turn.TheVariants.{Played, Pinned, PinMemory, Ended, Done}
 
 module _ {B C : Type 0} (g : Ghosts B) (old new : CrewView B C) (actor : ℕ) where
   -- an empty script stays empty
@@ -27,6 +32,8 @@ module _ {B C : Type 0} (g : Ghosts B) (old new : CrewView B C) (actor : ℕ) wh
 
   pub stays_empty : (result : Turn) → Turns g old new actor result → (other : ℕ) → script_of old.left other ≡ [] → script_of new.left other ≡ []
   stays_empty Played turn other none = by_actor turn.request turn.takes other (other == actor) refl none
+  stays_empty (Pinned pin) turn other none = by_actor turn.request turn.takes other (other == actor) refl none
+  stays_empty PinMemory turn other none = by_actor turn.request turn.takes other (other == actor) refl none
   stays_empty Ended (inl now) other none = by_actor now.request now.takes other (other == actor) refl none
   stays_empty Ended (inr before) other none = ap (λ (h : CrewView B C). script_of h.left other) before.same ∙ none
   stays_empty Done turn other none = ap (λ (h : CrewView B C). script_of h.left other) turn.same ∙ none
@@ -34,6 +41,8 @@ module _ {B C : Type 0} (g : Ghosts B) (old new : CrewView B C) (actor : ℕ) wh
   -- a crew that goes on went on before
   pub went_on : (result : Turn) → Turns g old new actor result → new.fault ≡ None → old.fault ≡ None
   went_on Played turn goes = turn.went
+  went_on (Pinned pin) turn goes = turn.went
+  went_on PinMemory turn goes = turn.went
   went_on Ended (inl now) goes = now.went
   went_on Ended (inr before) goes = sym (ap (λ (h : CrewView B C). h.fault) before.same) ∙ goes
   went_on Done turn goes = turn.went
@@ -46,8 +55,8 @@ module _ {B C : Type 0} (g : Ghosts B) (old new : CrewView B C) (actor : ℕ) wh
   pub all_done : Turns g old new actor Done → script_of new.left actor ≡ []
   all_done turn = ap (λ (h : CrewView B C). script_of h.left actor) turn.same ∙ turn.none
 
-  pub one_fewer : Turns g old new actor Played → length (script_of new.left actor) < length (script_of old.left actor)
-  one_fewer turn = let is : length (script_of old.left actor) ≡ suc (length (script_of new.left actor)) = ap length turn.takes.next in omega (arith, is)
+  pub one_fewer : (turn : Turn) → PlaysNext g old new actor turn → length (script_of new.left actor) < length (script_of old.left actor)
+  one_fewer result turn = let is : length (script_of old.left actor) ≡ suc (length (script_of new.left actor)) = ap length turn.takes.next in omega (arith, is)
 
   -- it leaves what the others have still to ask
   took_own : (request : Request) → Takes old new actor request → (other : ℕ) → other ≢ actor → script_of new.left other ≡ script_of old.left other
@@ -55,15 +64,56 @@ module _ {B C : Type 0} (g : Ghosts B) (old new : CrewView B C) (actor : ℕ) wh
 
   pub others_stay : (result : Turn) → Turns g old new actor result → (other : ℕ) → other ≢ actor → script_of new.left other ≡ script_of old.left other
   others_stay Played turn other apart = took_own turn.request turn.takes other apart
+  others_stay (Pinned pin) turn other apart = took_own turn.request turn.takes other apart
+  others_stay PinMemory turn other apart = took_own turn.request turn.takes other apart
   others_stay Ended (inl now) other apart = took_own now.request now.takes other apart
   others_stay Ended (inr before) other apart = ap (λ (h : CrewView B C). script_of h.left other) before.same
   others_stay Done turn other apart = ap (λ (h : CrewView B C). script_of h.left other) turn.same
 
+  -- it adds one entry of its actor, or none
+  grew_broken : (request : Request) (fault : StepFault) → Breaks g old.core new.core actor request fault → Grows old.core.entries actor new.core.entries
+  grew_broken request Memory same = inl (ap (λ (c : CoreView B C). c.entries) same)
+  grew_broken request BootFault adds = inr (adds.entry, adds.added, adds.actor_is)
+  grew_broken request BootStopped adds = inr (adds.entry, adds.added, adds.actor_is)
+
+  grew : (result : Turn) → Turns g old new actor result → Grows old.core.entries actor new.core.entries
+  grew Played turn = inr (turn.adds.entry, turn.adds.added, turn.adds.actor_is)
+  grew (Pinned pin) turn = inr (turn.adds.entry, turn.adds.added, turn.adds.actor_is)
+  grew PinMemory turn = inr (turn.adds.entry, turn.adds.added, turn.adds.actor_is)
+  grew Ended (inl now) = grew_broken now.request now.fault now.breaks
+  grew Ended (inr before) = inl (ap (λ (h : CrewView B C). h.core.entries) before.same)
+  grew Done turn = inl (ap (λ (h : CrewView B C). h.core.entries) turn.same)
+
+  -- so it is one turn under the lock
+  pub moved_by : (verdict : C → List ℕ → ℤ) (result : Turn) → Turns g old new actor result → LeadsOn g verdict old new → ((pin : Pin) → IsOfPin pin old.core → IsOfPin pin new.core) → Moves g verdict old actor new
+  moved_by verdict result turn leads pins = record {
+    leads = leads;
+    others = others_stay result turn;
+    went = went_on result turn;
+    pins = pins;
+    grows = grew result turn;
+  }
+
   -- where it wasn't played, its actor has ended
   pub ended_now : (result : Turn) → Turns g old new actor result → (result ≡ Ended) ⊎ (result ≡ Done) → HasEnded new actor
   ended_now Played turn other = absurd (elim other [ inl is ↦ cc is | inr is ↦ cc is ])
+  ended_now (Pinned pin) turn other = absurd (elim other [ inl is ↦ cc is | inr is ↦ cc is ])
+  ended_now PinMemory turn other = absurd (elim other [ inl is ↦ cc is | inr is ↦ cc is ])
   ended_now Ended turn other = not_ended turn
   ended_now Done turn other = λ goes. all_done turn
+
+-- how many requests its actor has left after a turn
+pub is_turned : {B C : Type 0} (g : Ghosts B) (old new : CrewView B C) (actor count : ℕ) (result : Turn) → Turns g old new actor result → length (script_of old.left actor) ≡ count → IsTurned count actor result new
+is_turned g old new actor count result turn left = by result turn where
+  one_less : (request : Request) → Takes old new actor request → length (script_of new.left actor) + 1 ≡ count
+  one_less request takes = let is : length (script_of old.left actor) ≡ suc (length (script_of new.left actor)) = ap length takes.next in omega (arith, is, left)
+
+  by : (result : Turn) → Turns g old new actor result → IsTurned count actor result new
+  by Played turn = one_less turn.request turn.takes
+  by (Pinned pin) turn = (one_less turn.request turn.takes, turn.lends.pin_is)
+  by PinMemory turn = one_less turn.request turn.takes
+  by Ended turn = not_ended g old new actor turn
+  by Done turn = λ goes. all_done g old new actor turn
 
 -- one actor more has ended, and those before it still have
 pub ended_next : {B C : Type 0} (old new : CrewView B C) (actor : ℕ) → ((other : ℕ) → other < actor → HasEnded old other) → HasEnded new actor → (new.fault ≡ None → old.fault ≡ None)

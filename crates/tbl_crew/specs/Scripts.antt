@@ -1,5 +1,5 @@
 -- What each actor asks, in order: the scripts that a crew is given.
-use Rattle.std.specs.Prelude.{ℕ, List, [], ◌∷◌, ◌++◌, length, sum_by, All, slice_index_or, slice_set}
+use Rattle.std.specs.Prelude.{ℕ, List, [], ◌∷◌, ◌++◌, length, Option, Some, None, sum_by, All, slice_index_or, slice_set}
 use Rattle.tbl_kinds.specs.Records.{Pair, actor_number}
 use Rattle.tbl_kinds.specs.Requests.{Fits}
 use Rattle.tbl_session.specs.Actors.{actor_of}
@@ -8,6 +8,11 @@ use Rattle.tbl_kinds.specs.declared.request.Request.{Request}
 -- what this actor asks
 abbrev pub script_of : List (List Request) → ℕ → List Request
 script_of scripts actor = slice_index_or scripts actor []
+
+-- what it asks first
+abbrev pub first_of : List Request → Option Request
+first_of [] = None
+first_of (request ∷ requests) = Some request
 
 -- the same scripts but for this actor's
 abbrev pub with_script : List (List Request) → ℕ → List Request → List (List Request)

@@ -6,10 +6,11 @@ use Rattle.tbl_core.specs.declared.service.StepFault.{StepFault}
 use Rattle.tbl_core.specs.declared.service.StepFault.TheVariants.{Memory, BootFault, BootStopped}
 use Rattle.tbl_crew.specs.CrewView.{CrewView}
 use Rattle.tbl_session.specs.Actors.{actor_of}
+use Rattle.tbl_crew.specs.Reads.{Lends}
 use Rattle.tbl_crew.specs.Scripts.{script_of, with_script}
 use Rattle.tbl_kinds.specs.declared.request.Request.{Request}
 use Rattle.tbl_crew.specs.declared.held.Turn.{Turn}
-use Rattle.tbl_crew.specs.declared.held.Turn.TheVariants.{Played, Ended, Done}
+use Rattle.tbl_crew.specs.declared.held.Turn.TheVariants.{Played, Pinned, PinMemory, Ended, Done}
 
 -- the actor's next request left its script
 pub record Takes {B C : Type 0} (old new : CrewView B C) (actor : ℕ) (request : Request) : Type 0 where
@@ -37,13 +38,14 @@ pub record EndedBefore {B C : Type 0} (old new : CrewView B C) : Type 0 where
   pub kept : old.fault ≡ Some fault
   pub same : new ≡ old
 
--- the actor's next request was played, as one entry more
-pub record PlaysNext {B C : Type 0} (g : Ghosts B) (old new : CrewView B C) (actor : ℕ) : Type 0 where
+-- the actor's next request was played, as one entry more. Where it got an address, the image is lent
+pub record PlaysNext {B C : Type 0} (g : Ghosts B) (old new : CrewView B C) (actor : ℕ) (turn : Turn) : Type 0 where
   pub request : Request
   pub takes : Takes old new actor request
   pub went : old.fault ≡ None
   pub goes_on : new.fault ≡ None
   pub adds : AddsOne g old.core new.core (actor_of actor) request (Ok tt)
+  pub lends : Lends new.core turn
 
 -- all of its script was played before
 pub record HasDone {B C : Type 0} (old new : CrewView B C) (actor : ℕ) : Type 0 where
@@ -53,6 +55,8 @@ pub record HasDone {B C : Type 0} (old new : CrewView B C) (actor : ℕ) : Type 
 
 -- the one that the answer tells
 abbrev pub Turns : {B C : Type 0} → Ghosts B → CrewView B C → CrewView B C → ℕ → Turn → Type 0
-Turns g old new actor Played = PlaysNext g old new actor
+Turns g old new actor Played = PlaysNext g old new actor Played
+Turns g old new actor (Pinned pin) = PlaysNext g old new actor (Pinned pin)
+Turns g old new actor PinMemory = PlaysNext g old new actor PinMemory
 Turns g old new actor Ended = EndsNow g old new actor ⊎ EndedBefore old new
 Turns g old new actor Done = HasDone old new actor

@@ -8,24 +8,43 @@ ghost use Rattle.tbl_session.specs.Openings.{Opening};
 ghost use Rattle.tbl_history.specs.Serving.{Serves};
 ghost use Rattle.tbl_crew.specs.CrewView.{CrewView, MayGoOn};
 ghost use Rattle.tbl_crew.specs.Leading.{LeadsFrom, LeadsOn};
-ghost use Rattle.tbl_crew.specs.Scripts.{request_count, AllFit};
+ghost use Rattle.tbl_crew.specs.Scripts.{script_of, request_count, AllFit};
+ghost use Rattle.tbl_crew.specs.Reads.{plan_of, IsNextSlice, last_got, PinsLast, Lends};
+ghost use Rattle.table_watch.specs.Watching.{handle_got};
 ghost use Rattle.tbl_crew.specs.Turns.{Turns};
+ghost use Rattle.tbl_core.specs.Service.{IsOfPin};
+ghost use Rattle.tbl_model.specs.Whole.{is_done};
+ghost use Rattle.tbl_registry.specs.declared.pin.Pin.{Pin};
 
 use crate::scripts::Scripts;
 use std::marker::Model;
 use tbl_core::{Core, StepFault};
-use tbl_kinds::Actor;
+use tbl_kinds::{Actor, Bytes, Entry, Request, Status};
 use tbl_outside::{Bank, Validator};
+use tbl_registry::Pin;
 
 /// What came of a turn.
-#[derive(Clone, Copy, Debug, PartialEq, Eq)]
+#[derive(Drop)]
 pub enum Turn {
-    /// The actor's next request was played, and its entry added.
+    /// The actor's next request was played, and its entry added. It got no address.
     Played,
+    /// The actor's next request was played, and it got the address of a table, whose image is lent. The pin has the entry's place.
+    Pinned(Pin),
+    /// The actor's next request was played, and it got the address of a table. Its image couldn't be lent: it has as many owners as
+    /// can be counted.
+    PinMemory,
     /// A step answered a fault, in this turn or an earlier one, and no request is played any more.
     Ended,
     /// All requests of the actor were played before.
     Done,
+}
+
+/// The bytes that an actor's next request reads: of the image that the handle pins, so many from an offset on.
+#[derive(Clone, Copy, Debug, PartialEq, Eq)]
+pub struct ReadPlan {
+    pub handle: u16,
+    pub offset: u32,
+    pub len: u32,
 }
 
 /// The core, why it plays no further request, and what each actor still has to request.
@@ -98,8 +117,94 @@ impl<B: Bank, C: Validator> Crew<B, C> {
         ensures turns { Turns B.Bank self.old self.new actor result }
         // Whatever it stood for.
         ensures leads { LeadsOn B.Bank C.verdict self.old self.new }
+        // And whatever was lent.
+        ensures pins { (pin : Pin) → IsOfPin pin self.old.core → IsOfPin pin self.new.core }
     {
         turn_fields(&mut self.core, &mut self.fault, &mut self.left, actor)
+    }
+
+    /// The bytes that the actor's next request reads; None where it isn't a Read. Only the actor's own turns change the answer.
+    pub fn next_read(&self, actor: u8) -> Option<ReadPlan>
+        requires actor { actor < actor_count }
+        ensures { result ≡ plan_of (script_of self.now.left actor) }
+    {
+        match self.left.first(actor) {
+            Some(
+                Request::Read {
+                    handle,
+                    offset,
+                    len,
+                },
+            ) => Some(ReadPlan {
+                handle: *handle,
+                offset: *offset,
+                len: *len,
+            }),
+            _ => None,
+        }
+    }
+
+    /// Plays the actor's next request like `turn`, which is a Read by the handle of a lent image, with the bytes that were taken
+    /// of it before. Where the handle still pins by the call that the image was lent for, they are the answer.
+    pub fn turn_read(&mut self, actor: u8, pin: &Pin, slice: Bytes) -> Turn
+        requires actor { actor < actor_count }
+        requires pin { IsOfPin pin.now self.old.core }
+        requires slice { IsNextSlice pin.now (script_of self.old.left actor) slice.list }
+        ensures turns { Turns B.Bank self.old self.new actor result }
+        ensures leads { LeadsOn B.Bank C.verdict self.old self.new }
+        ensures pins { (other : Pin) → IsOfPin other self.old.core → IsOfPin other self.new.core }
+    {
+        read_fields(
+            &mut self.core,
+            &mut self.fault,
+            &mut self.left,
+            actor,
+            pin,
+            slice,
+        )
+    }
+}
+
+/// Whether a call with this status did what was requested.
+fn is_done(status: Status) -> bool
+    ensures { result ≡ is_done status }
+{
+    status == Status::SUCCESS || status == Status::INFO_UPDATED
+}
+
+/// The handle by which an entry got an address.
+fn got_address(entry: &Entry) -> Option<u16>
+    ensures { result ≡ handle_got entry.now }
+{
+    match &entry.request {
+        Request::Get { handle } if is_done(entry.reply.status) => Some(*handle),
+        _ => None,
+    }
+}
+
+/// The handle by which the last entry got an address.
+fn last_address(entries: &[Entry]) -> Option<u16>
+    ensures { result ≡ last_got entries.now }
+{
+    match entries.last() {
+        Some(entry) => got_address(entry),
+        None => None,
+    }
+}
+
+/// What came of a turn whose request was played. Where it got an address, the image is lent.
+#[tactic(auto, using(crate::proofs::LendingLemmas::lent_last))]
+fn played<B: Bank, C: Validator>(core: &Core<B, C>) -> Turn
+    requires pins { PinsLast core.now }
+    ensures { Lends core.now result }
+{
+    let Some(handle) = last_address(core.history()) else {
+        return Turn::Played;
+    };
+    match core.lend(handle) {
+        Ok(Some(pin)) => Turn::Pinned(pin),
+        Ok(None) => unreachable!(),
+        Err(_) => Turn::PinMemory,
     }
 }
 
@@ -126,6 +231,7 @@ fn turn_fields<B: Bank, C: Validator>(
     ensures goes_on { MayGoOn (record { core = core.new; fault = fault.new; left = left.new }) }
     ensures turns { Turns B.Bank (record { core = core.old; fault = fault.old; left = left.old }) (record { core = core.new; fault = fault.new; left = left.new }) actor result }
     ensures leads { LeadsOn B.Bank C.verdict (record { core = core.old; fault = fault.old; left = left.old }) (record { core = core.new; fault = fault.new; left = left.new }) }
+    ensures pins { (pin : Pin) → IsOfPin pin core.old → IsOfPin pin core.new }
 {
     if fault.is_some() {
         return Turn::Ended;
@@ -134,7 +240,40 @@ fn turn_fields<B: Bank, C: Validator>(
         return Turn::Done;
     };
     match core.step(actor_of(actor), request) {
-        Ok(()) => Turn::Played,
+        Ok(()) => played(core),
+        Err(cause) => {
+            *fault = Some(cause);
+            Turn::Ended
+        }
+    }
+}
+
+/// Plays the next request, a Read, with bytes that were taken of a lent image, and keeps the fault.
+fn read_fields<B: Bank, C: Validator>(
+    core: &mut Core<B, C>,
+    fault: &mut Option<StepFault>,
+    left: &mut Scripts,
+    actor: u8,
+    pin: &Pin,
+    slice: Bytes,
+) -> Turn
+    requires actor { actor < actor_count }
+    requires goes_on { MayGoOn (record { core = core.old; fault = fault.old; left = left.old }) }
+    requires pin { IsOfPin pin.now core.old }
+    requires slice { IsNextSlice pin.now (script_of left.old actor) slice.list }
+    ensures goes_on { MayGoOn (record { core = core.new; fault = fault.new; left = left.new }) }
+    ensures turns { Turns B.Bank (record { core = core.old; fault = fault.old; left = left.old }) (record { core = core.new; fault = fault.new; left = left.new }) actor result }
+    ensures leads { LeadsOn B.Bank C.verdict (record { core = core.old; fault = fault.old; left = left.old }) (record { core = core.new; fault = fault.new; left = left.new }) }
+    ensures pins { (other : Pin) → IsOfPin other core.old → IsOfPin other core.new }
+{
+    if fault.is_some() {
+        return Turn::Ended;
+    }
+    let Some(request) = left.next(actor) else {
+        return Turn::Done;
+    };
+    match core.step_read(actor_of(actor), request, pin, slice) {
+        Ok(()) => played(core),
         Err(cause) => {
             *fault = Some(cause);
             Turn::Ended

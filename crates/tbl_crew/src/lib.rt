@@ -3,7 +3,9 @@
 
 mod held;
 mod scripts;
+mod watching;
 pub mod workers;
 
-pub use held::{Crew, Turn};
+pub use held::{Crew, ReadPlan, Turn};
 pub use scripts::Scripts;
+pub use watching::{WatchEnd, crew_watched};

@@ -3,7 +3,8 @@
 ghost use Rattle.std.specs.Prelude.{◌≡◌, ℕ, ◌≤◌, ◌<◌, [], ◌∷◌, ◌++◌, length, replicate, min, slice_index, IfOk, OnOk, OnErr, MatchOption};
 ghost use Rattle.tbl_kinds.specs.Records.{actor_number, record_limit};
 ghost use Rattle.tbl_session.specs.Actors.{actor_count};
-ghost use Rattle.tbl_crew.specs.Scripts.{script_of, pushed, with_script};
+ghost use Rattle.std.specs.Option.{option_copied};
+ghost use Rattle.tbl_crew.specs.Scripts.{script_of, first_of, pushed, with_script};
 
 use std::alloc::Global;
 use std::collections::VecDeque;
@@ -55,6 +56,13 @@ impl Script {
     {
         self.requests.push_back(request)?;
         Ok(())
+    }
+
+    /// The first request.
+    fn first(&self) -> Option<&Request>
+        ensures { option_copied result ≡ first_of self.now }
+    {
+        self.requests.front()
     }
 
     /// Takes the first request away.
@@ -114,6 +122,14 @@ impl Scripts {
             counts[actor] = self.scripts[actor].len();
         }
         counts
+    }
+
+    /// The first request of an actor's script.
+    pub(crate) fn first(&self, actor: u8) -> Option<&Request>
+        requires { actor < actor_count }
+        ensures { option_copied result ≡ first_of (script_of self.now actor) }
+    {
+        self.scripts[usize::from(actor)].first()
     }
 
     /// Takes the first request of an actor's script away.

@@ -1,6 +1,6 @@
 //! A thread for each actor.
 
-ghost use Rattle.std.specs.Prelude.{◌≡◌, ℕ, ◌+◌, ◌-◌, ◌/◌, ◌<◌, ◌≤◌, List, [], length, replicate, slice_index, None, false};
+ghost use Rattle.std.specs.Prelude.{◌≡◌, ◌≢◌, ℕ, ◌+◌, ◌-◌, ◌/◌, ◌<◌, ◌≤◌, List, [], length, replicate, slice_index, Contains, IfSome, Some, None, false};
 ghost use Rattle.std.specs.Thread.{IsSync, IsSend};
 ghost use Rattle.tbl_kinds.specs.Records.{record_limit};
 ghost use Rattle.tbl_session.specs.Actors.{actor_count};
@@ -8,23 +8,169 @@ ghost use Rattle.tbl_session.specs.Openings.{Opening};
 ghost use Rattle.tbl_history.specs.Serving.{Serves};
 ghost use Rattle.tbl_crew.specs.Histories.{OneHistory};
 ghost use Rattle.tbl_crew.specs.Leading.{LeadsOn};
-ghost use Rattle.tbl_crew.specs.Moves.{HasEnded, HaveEnded, HaveLeft};
+ghost use Rattle.tbl_kinds.specs.Numbers.{piece};
+ghost use Rattle.tbl_crew.specs.Moves.{HasEnded, HaveEnded, HaveLeft, HaveTurned, AreKnown};
+ghost use Rattle.tbl_crew.specs.CrewView.{CrewView};
+ghost use Rattle.tbl_crew.specs.Reads.{Keeps};
+ghost use Rattle.tbl_crew.specs.Watching.{HasWatched};
+ghost use Rattle.table_watch.specs.Watching.{watcher};
+ghost use Rattle.table_watch.specs.declared.watch.Look.{Look};
 ghost use Rattle.tbl_crew.specs.Scripts.{script_of, request_count, AllFit};
 ghost use Rattle.turn_lock.specs.Turns.{Idle, IsSeat};
 
-use crate::held::{Crew, Turn};
+use crate::held::{Crew, ReadPlan, Turn};
 use crate::scripts::{ACTOR_COUNT, Scripts};
 use std::alloc::Global;
 use std::snapshot::Snapshot;
 use std::sync::Wait;
 use std::thread::{Threads, join};
 use tbl_core::{Core, StepFault};
+use tbl_kinds::Bytes;
 use tbl_outside::{Bank, Gate, Validator};
+use tbl_registry::Pin;
 use turn_lock::{Place, TurnLock};
+
+/// A turn by which the actor's next request is played, and the bytes that it reads after that.
+fn plain_turn<B: Bank, C: Validator, R: Wait>(
+    rt: &R,
+    lock: &TurnLock<Crew<B, C>>,
+    place: &mut Place<Crew<B, C>>,
+    actor: u8,
+    pins: &[Pin],
+) -> (Turn, Option<ReadPlan>)
+    requires actor { actor < actor_count }
+    requires own { place.old.table_id ≡ lock.now.table.shared.table_id }
+    requires seat { IsSeat place.old.me actor 1 }
+    requires known { AreKnown pins.now None actor place.old.me.0.seen }
+    ensures own { place.new.table_id ≡ place.old.table_id }
+    ensures seat { IsSeat place.new.me actor 1 }
+    ensures known { AreKnown pins.now result.1 actor place.new.me.0.seen }
+    ensures turned { HaveTurned B.Bank C.verdict actor result.0 place.old.me.0.seen place.new.me.0.seen }
+{
+    let mut crew = lock.take(rt, place);
+    let before = Snapshot::of(&crew);
+    let turn = crew.turn(actor);
+    let next = crew.next_read(actor);
+    lock.put_back(place, &before, crew);
+    (turn, next)
+}
+
+/// A turn by which a Read is played whose bytes were taken of a lent image, and the bytes that the actor reads after that.
+fn read_turn<B: Bank, C: Validator, R: Wait>(
+    rt: &R,
+    lock: &TurnLock<Crew<B, C>>,
+    place: &mut Place<Crew<B, C>>,
+    actor: u8,
+    pins: &[Pin],
+    plan: ReadPlan,
+    pin: &Pin,
+    slice: Bytes,
+) -> (Turn, Option<ReadPlan>)
+    requires actor { actor < actor_count }
+    requires own { place.old.table_id ≡ lock.now.table.shared.table_id }
+    requires seat { IsSeat place.old.me actor 1 }
+    requires known { AreKnown pins.now (Some plan) actor place.old.me.0.seen }
+    requires pin { Contains pins.now pin.now }
+    requires handle { plan.handle ≡ pin.now.handle }
+    requires slice { slice.list ≡ piece plan.offset plan.len pin.now.bytes }
+    ensures own { place.new.table_id ≡ place.old.table_id }
+    ensures seat { IsSeat place.new.me actor 1 }
+    ensures known { AreKnown pins.now result.1 actor place.new.me.0.seen }
+    ensures turned { HaveTurned B.Bank C.verdict actor result.0 place.old.me.0.seen place.new.me.0.seen }
+{
+    let _ = plan;
+    let mut crew = lock.take(rt, place);
+    let before = Snapshot::of(&crew);
+    let turn = crew.turn_read(actor, pin, slice);
+    let next = crew.next_read(actor);
+    lock.put_back(place, &before, crew);
+    (turn, next)
+}
+
+/// Where the pin of this handle is.
+fn place_of(pins: &[Pin], handle: u16) -> Option<usize>
+    ensures { IfSome result (λ n. n < length pins.now) }
+{
+    pins.iter().position(|pin| pin.handle() == handle)
+}
+
+/// The pin of this handle.
+fn pin_of(pins: &[Pin], handle: u16) -> Option<&Pin>
+    ensures contained { IfSome result (λ pin. Contains pins.now pin.now) }
+    ensures handle { IfSome result (λ pin. handle ≡ pin.now.handle) }
+{
+    let pin = &pins[place_of(pins, handle)?];
+    if pin.handle() == handle {
+        Some(pin)
+    } else {
+        None
+    }
+}
+
+/// Keeps the pin of a handle in the place of its earlier one. Where memory runs out it isn't kept.
+pub(crate) fn keep(pins: &mut Vec<Pin>, pin: Pin)
+    ensures { Keeps pins.old.items pins.new.items pin }
+{
+    match place_of(pins, pin.handle()) {
+        Some(n) => pins[n] = pin,
+        None => {
+            if pins.reserve(1).is_ok() {
+                pins.push_reserved(pin);
+            }
+        }
+    }
+}
+
+/// The bytes that are to be read, of the image; None where they don't lie inside it, or where memory runs out.
+fn slice_of(alloc: Global, pin: &Pin, plan: ReadPlan) -> Option<Bytes>
+    ensures { IfSome result (λ slice. slice.list ≡ piece plan.offset plan.len pin.now.bytes) }
+{
+    let bytes = pin.bytes();
+    let from = plan.offset as usize;
+    let to = from + plan.len as usize;
+    if to > bytes.len() {
+        return None;
+    }
+    let mut slice = Bytes::make(alloc, to - from).ok()?;
+    slice.append(&bytes[from..to]);
+    Some(slice)
+}
+
+/// One turn. What it reads of a lent image is taken before, without the lock.
+pub(crate) fn one_turn<B: Bank, C: Validator, G: Gate, R: Wait>(
+    rt: &R,
+    alloc: Global,
+    lock: &TurnLock<Crew<B, C>>,
+    gate: &G,
+    place: &mut Place<Crew<B, C>>,
+    actor: u8,
+    pins: &[Pin],
+    plan: Option<ReadPlan>,
+) -> (Turn, Option<ReadPlan>)
+    requires actor { actor < actor_count }
+    requires own { place.old.table_id ≡ lock.now.table.shared.table_id }
+    requires seat { IsSeat place.old.me actor 1 }
+    requires known { AreKnown pins.now plan actor place.old.me.0.seen }
+    ensures own { place.new.table_id ≡ place.old.table_id }
+    ensures seat { IsSeat place.new.me actor 1 }
+    ensures known { AreKnown pins.now result.1 actor place.new.me.0.seen }
+    ensures turned { HaveTurned B.Bank C.verdict actor result.0 place.old.me.0.seen place.new.me.0.seen }
+{
+    if let Some(read) = plan {
+        if let Some(pin) = pin_of(pins, read.handle) {
+            gate.reading(actor);
+            if let Some(slice) = slice_of(alloc, pin, read) {
+                return read_turn(rt, lock, place, actor, pins, read, pin, slice);
+            }
+        }
+    }
+    plain_turn(rt, lock, place, actor, pins)
+}
 
 /// Plays an actor's script from its seat, a turn each request: to its end, unless a step answers a fault.
 fn play_script<B: Bank, C: Validator, G: Gate, R: Wait>(
     rt: &R,
+    alloc: Global,
     lock: &TurnLock<Crew<B, C>>,
     gate: &G,
     count: u32,
@@ -39,16 +185,28 @@ fn play_script<B: Bank, C: Validator, G: Gate, R: Wait>(
     ensures seat { IsSeat result.me actor 1 }
     ensures ended { HaveEnded actor result.me.0.seen }
 {
+    // The images that were lent to the actor, and what it reads next: nobody else changes either.
+    let mut pins: Vec<Pin> = Vec::new(alloc);
+    let mut plan: Option<ReadPlan> = None;
     'turns: for nth in 0..count {
         gate.before(actor, nth);
-        let mut crew = lock.take(rt, &mut place);
-        let before = Snapshot::of(&crew);
-        let turn = crew.turn(actor);
-        lock.put_back(&mut place, &before, crew);
+        let (turn, next) = one_turn(
+            rt,
+            alloc,
+            lock,
+            gate,
+            &mut place,
+            actor,
+            pins.as_slice(),
+            plan,
+        );
+        plan = next;
         match turn {
-            Turn::Played => gate.after(actor, nth),
+            Turn::Pinned(pin) => keep(&mut pins, pin),
+            Turn::Played | Turn::PinMemory => {}
             Turn::Ended | Turn::Done => return place,
         }
+        gate.after(actor, nth);
     }
     place
 }
@@ -79,8 +237,14 @@ fn halve<B: Bank, C: Validator>(
 /// what it was for, after its own.
 #[cycle(halves)]
 #[tactic(auto, using(crate::proofs::MoveLemmas::one_left, crate::proofs::MoveLemmas::ended_both))]
-fn play_range<B: Bank + Send, C: Validator + Send, G: Gate + Sync, R: Threads + Wait + Sync>(
+pub(crate) fn play_range<
+    B: Bank + Send,
+    C: Validator + Send,
+    G: Gate + Sync,
+    R: Threads + Wait + Sync,
+>(
     rt: &R,
+    alloc: Global,
     lock: &TurnLock<Crew<B, C>>,
     gate: &G,
     counts: &[u32; ACTOR_COUNT],
@@ -100,7 +264,15 @@ fn play_range<B: Bank + Send, C: Validator + Send, G: Gate + Sync, R: Threads + 
         return place;
     }
     if count == 1 {
-        return play_script(rt, lock, gate, counts[usize::from(from)], place, from);
+        return play_script(
+            rt,
+            alloc,
+            lock,
+            gate,
+            counts[usize::from(from)],
+            place,
+            from,
+        );
     }
     // The actors are halved, and not taken one by one: so each thread starts at most five others, and waits for them.
     let low = count / 2;
@@ -111,12 +283,12 @@ fn play_range<B: Bank + Send, C: Validator + Send, G: Gate + Sync, R: Threads + 
         requires { IsSync R.row × IsSync G.row × IsSend B.row × IsSend C.row × (middle + high ≤ actor_count) × (other.table_id ≡ lock.now.table.shared.table_id) × IsSeat other.me middle high
             × HaveLeft (slice_index counts.now) middle other.me.0.seen }
         ensures { (result.table_id ≡ other.table_id) × IsSeat result.me middle high × HaveEnded middle result.me.0.seen }
-    { play_range(rt, lock, gate, counts, other, middle, high) };
+    { play_range(rt, alloc, lock, gate, counts, other, middle, high) };
     let lower = move || -> Place<Crew<B, C>>
         requires { IsSync R.row × IsSync G.row × IsSend B.row × IsSend C.row × (from + low ≤ actor_count) × (place.table_id ≡ lock.now.table.shared.table_id) × IsSeat place.me from low
             × HaveLeft (slice_index counts.now) from place.me.0.seen }
         ensures { (result.table_id ≡ place.table_id) × IsSeat result.me from low × HaveEnded from result.me.0.seen }
-    { play_range(rt, lock, gate, counts, place, from, low) };
+    { play_range(rt, alloc, lock, gate, counts, place, from, low) };
     let (other, mut place) = join(rt, upper, lower);
     lock.join(&mut place, other);
     place
@@ -125,6 +297,7 @@ fn play_range<B: Bank + Send, C: Validator + Send, G: Gate + Sync, R: Threads + 
 /// Plays each script in a thread of its own, to its end, unless a step answers a fault.
 fn play_beside<B: Bank + Send, C: Validator + Send, G: Gate + Sync, R: Threads + Wait + Sync>(
     rt: &R,
+    alloc: Global,
     lock: TurnLock<Crew<B, C>>,
     place: Place<Crew<B, C>>,
     counts: &[u32; ACTOR_COUNT],
@@ -136,32 +309,36 @@ fn play_beside<B: Bank + Send, C: Validator + Send, G: Gate + Sync, R: Threads +
     ensures leads { LeadsOn B.Bank C.verdict lock.table.shared.key.value result }
     ensures ended { (actor : ℕ) → actor < actor_count → HasEnded result actor }
 {
-    let place = play_range(rt, &lock, gate, counts, place, 0, ACTOR_COUNT as u8);
+    let place = play_range(rt, alloc, &lock, gate, counts, place, 0, ACTOR_COUNT as u8);
     lock.close(place)
 }
 
 /// Plays what is left to an actor.
-fn play_script_rest<B: Bank, C: Validator>(crew: &mut Crew<B, C>, actor: u8)
+pub(crate) fn play_script_rest<B: Bank, C: Validator>(crew: &mut Crew<B, C>, actor: u8)
     requires actor { actor < actor_count }
     ensures leads { LeadsOn B.Bank C.verdict crew.old crew.new }
     ensures ended { HasEnded crew.new actor }
     ensures went_on { crew.new.fault ≡ None → crew.old.fault ≡ None }
     ensures kept { (other : ℕ) → script_of crew.old.left other ≡ [] → script_of crew.new.left other ≡ [] }
+    // What the watcher has seen of it, if it is another one.
+    ensures watched { actor ≢ watcher → (first : CrewView B C) (looks : List Look) → HasWatched B.Bank C.verdict first looks crew.old → HasWatched B.Bank C.verdict first looks crew.new }
 {
     'requests: loop {
         match crew.turn(actor) {
-            Turn::Played => {}
+            Turn::Played | Turn::Pinned(_) | Turn::PinMemory => {}
             Turn::Ended | Turn::Done => return,
         }
     }
 }
 
-/// Plays what is left, in order of actors.
-fn play_rest<B: Bank, C: Validator>(crew: &mut Crew<B, C>)
+/// Plays what is left to so many actors, in their order.
+pub(crate) fn play_rest<B: Bank, C: Validator>(crew: &mut Crew<B, C>, count: u8)
+    requires within { count ≤ actor_count }
     ensures leads { LeadsOn B.Bank C.verdict crew.old crew.new }
-    ensures ended { (actor : ℕ) → actor < actor_count → HasEnded crew.new actor }
+    ensures ended { (actor : ℕ) → actor < count → HasEnded crew.new actor }
+    ensures watched { count ≤ watcher → (first : CrewView B C) (looks : List Look) → HasWatched B.Bank C.verdict first looks crew.old → HasWatched B.Bank C.verdict first looks crew.new }
 {
-    'actors: for actor in 0..ACTOR_COUNT as u8 {
+    'actors: for actor in 0..count {
         play_script_rest(crew, actor);
     }
 }
@@ -183,9 +360,9 @@ pub fn crew<B: Bank + Send, C: Validator + Send, G: Gate + Sync, R: Threads + Wa
 {
     let counts = scripts.counts();
     match TurnLock::make(alloc, Crew::open(core, scripts)) {
-        Ok((lock, place)) => play_beside(rt, lock, place, &counts, gate).end(),
+        Ok((lock, place)) => play_beside(rt, alloc, lock, place, &counts, gate).end(),
         Err(mut crew) => {
-            play_rest(&mut crew);
+            play_rest(&mut crew, ACTOR_COUNT as u8);
             crew.end()
         }
     }

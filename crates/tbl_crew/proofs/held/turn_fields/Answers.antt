@@ -2,6 +2,8 @@ use Rattle.std.proofs.Common.{Some, refl, sym, ◌∙◌, Ok}
 use Rattle.tbl_crew.specs.CrewView.{CrewView}
 use Rattle.tbl_crew.specs.Turns.{Takes}
 use Rattle.tbl_crew.proofs.TurnLemmas.{may_fit, goes_on_with, goes_on_broken, was_none, goes_live, leads_on, leads_broken}
+use Rattle.tbl_core.proofs.Lending.{pin_stays}
+use Rattle.tbl_crew.proofs.LendingLemmas.{pins_last, plays_next, pins_broken}
 use Rattle.tbl_history.proofs.Laws.{Laws}
 use Rattle.tbl_crew.proofs.held.turn_fields.Goals as goal
 
@@ -32,6 +34,24 @@ returns-in-Ok-clause-leads g c =
     leads_on b laws g.C.Validator.verdict
     old new c.args.actor c.in-Some.request c.requires.goes_on c.requires.actor takes went
     went (rw (← c.actor_of.ensures) c.in-Ok.ensures.adds) c.in-Ok.ensures.legal c.in-Ok.ensures.verdicts c.in-Ok.ensures.crash c.in-Ok.ensures.gave
+
+pub played-requires : goal.played-requires
+played-requires g c = record { pins = pins_last c.args.core.now c.step.new.self c.in-Ok.ensures.adds.entry c.in-Ok.ensures.adds.added c.in-Ok.ensures.pins }
+
+pub returns-in-Ok-clause-turns : goal.returns-in-Ok-clause-turns
+returns-in-Ok-clause-turns g c =
+    let b = g.B.Bank in
+    let old : CrewView g.row.B.Denot g.row.C.Denot = record { core = c.args.core.now; fault = c.args.fault.now; left = c.args.left.now } in
+    let new : CrewView g.row.B.Denot g.row.C.Denot = record { core = c.step.new.self; fault = c.args.fault.now; left = c.next.new.self } in
+    let takes : Takes old new c.args.actor c.in-Some.request = record { next = c.in-Some.ensures.0; others = c.in-Some.ensures.1 } in
+    let went = was_none c.args.fault.now (sym c.is_some.ensures ∙ c.if-is_some.false) in
+    plays_next b old new c.args.actor c.played.result c.in-Some.request takes went went (rw (← c.actor_of.ensures) c.in-Ok.ensures.adds) c.played.ensures
+
+pub returns-in-Ok-clause-pins : goal.returns-in-Ok-clause-pins
+returns-in-Ok-clause-pins g c = λ pin is. pin_stays c.args.core.now c.step.new.self c.in-Ok.ensures.adds.entry c.in-Ok.ensures.adds.added c.in-Ok.ensures.pins pin is
+
+pub returns-in-Err-clause-pins : goal.returns-in-Err-clause-pins
+returns-in-Err-clause-pins g c = λ pin is. pins_broken g.B.Bank c.args.core.now c.step.new.self c.args.actor c.in-Some.request c.in-Err.cause (rw (← c.actor_of.ensures) c.in-Err.ensures.adds) c.in-Err.ensures.pins c.in-Err.ensures.err pin is
 
 pub returns-in-Err-clause-goes_on : goal.returns-in-Err-clause-goes_on
 returns-in-Err-clause-goes_on g c =

@@ -1,9 +1,4 @@
-use Rattle.std.proofs.Common.{◌≡◌, ◌/◌, length, take, drop, ap, sym, subst, ◌∙◌, arith}
 use Rattle.std.specs.Prelude.{slice_index}
-use Rattle.std.proofs.lemmas.List.{length-take-le, length-drop}
-use Rattle.std.proofs.Math.Nat.{div-le_self}
-use Rattle.turn_lock.specs.Turns.{IsSeat, Idle}
-use Rattle.tbl_crew.specs.Moves.{HaveLeft}
 use Rattle.tbl_crew.proofs.MoveLemmas.{low_seat, high_seat, low_left, high_left}
 use Rattle.tbl_crew.proofs.workers.halve.Goals as goal
 

@@ -1,4 +1,3 @@
-use Rattle.std.proofs.Common.{ap, sym, subst, ◌∙◌, refl}
 use Rattle.tbl_crew.proofs.MoveLemmas.{since_leads, all_ended}
 use Rattle.tbl_crew.proofs.workers.play_beside.Goals as goal
 

@@ -1,3 +1,4 @@
+use Rattle.std.proofs.Common.{arith}
 use Rattle.tbl_crew.proofs.RestLemmas.{ended_next}
 use Rattle.tbl_crew.proofs.workers.play_rest.Goals as goal
 
@@ -8,4 +9,5 @@ actors-preserved g c =
     record {
       leads = λ o scripts led. played.leads o scripts (was.leads o scripts led);
       ended = ended_next c.actors.crew c.play_script_rest.new.crew c.actors.actor was.ended played.ended played.went_on played.kept;
+      watched = λ few first looks had. played.watched (λ same. omega (arith, few, same, c.actors-test.true)) first looks (was.watched few first looks had);
     }

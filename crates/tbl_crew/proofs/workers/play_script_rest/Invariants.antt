@@ -1,4 +1,8 @@
-use Rattle.std.proofs.Common.{◌≡◌, ℕ, [], length, None}
+use Rattle.std.proofs.Common.{◌≡◌, ◌≢◌, ℕ, List, [], length, None}
+use Rattle.table_watch.specs.Watching.{watcher}
+use Rattle.table_watch.specs.declared.watch.Look.{Look}
+use Rattle.tbl_crew.specs.CrewView.{CrewView}
+use Rattle.tbl_crew.specs.Watching.{HasWatched}
 use Rattle.tbl_crew.specs.Leading.{LeadsOn}
 use Rattle.tbl_crew.specs.Scripts.{script_of}
 use Rattle.tbl_crew.proofs.workers.play_script_rest.Given as goal
@@ -8,6 +12,7 @@ invariant-requests g l = record {
   leads : LeadsOn g.B.Bank g.C.Validator.verdict l.fn.crew l.crew;
   went_on : l.crew.fault ≡ None → l.fn.crew.fault ≡ None;
   kept : (other : ℕ) → script_of l.fn.crew.left other ≡ [] → script_of l.crew.left other ≡ [];
+  watched : l.actor ≢ watcher → (first : CrewView g.row.B.Denot g.row.C.Denot) (looks : List Look) → HasWatched g.B.Bank g.C.Validator.verdict first looks l.fn.crew → HasWatched g.B.Bank g.C.Validator.verdict first looks l.crew;
 }
 
 abbrev pub decreases-requests : goal.decreases-requests

@@ -1,0 +1,299 @@
+-- What the watcher has seen, from turn to turn.
+use Rattle.std.proofs.Common.{◌≡◌, ◌≢◌, ℕ, zero, suc, ◌+◌, ◌<◌, List, [], ◌∷◌, ◌++◌, length, length-append, take, drop, replicate, ◌-◌, ◌≤◌, ◌⊎◌, Bool, true, false, Option, Some, None, Result, Ok, Err, refl, sym, ap, ◌∙◌, subst, inl, inr, arith, ℤ}
+use Rattle.std.specs.Prelude.{if◌then◌else◌, OnOk}
+use Rattle.std.specs.Option.{unwrap_or}
+use Rattle.std.proofs.lemmas.Bool.Decides.{nat_tests}
+use Rattle.std.proofs.lemmas.List.Sums.{fold_push}
+use lib.ListN.{get_elem?}
+use Rattle.turn_lock.specs.Turns.{Beside, Knows, Idle, IsSeat, seat_view}
+use Rattle.turn_lock.proofs.Lists.{in_drop}
+use Rattle.turn_lock.proofs.Paths.{carried}
+use Rattle.tbl_kinds.specs.Check.{check16}
+use Rattle.tbl_kinds.specs.declared.entry.Entry.{Entry}
+use Rattle.tbl_kinds.specs.declared.request.Request.{Request}
+use Rattle.tbl_model.specs.History.{Run, begins_at, onward, run_from}
+use Rattle.tbl_model.specs.State.{State, Tables}
+use Rattle.tbl_model.specs.Whole.{is_by}
+use Rattle.tbl_outside.specs.declared.bank.Bank.{Ghosts}
+use Rattle.tbl_registry.specs.Lending.{pinned_image, name_by}
+use Rattle.tbl_session.specs.Actors.{actor_count, actor_of}
+use Rattle.tbl_session.specs.Openings.{Opening}
+use Rattle.table_watch.specs.Looks.{looked}
+use Rattle.table_watch.specs.Watching.{watcher, handle_got, handle_watched, look_by, Watched, watch_entry, watch_on, unwatched, watched_by}
+use Rattle.table_watch.specs.declared.watch.Look.{Look}
+use Rattle.tbl_crew.specs.CrewView.{CrewView, MayGoOn, TellsFault}
+use Rattle.tbl_crew.specs.Leading.{IsPlayed, LeadsFrom, LeadsOn}
+use Rattle.tbl_crew.specs.Moves.{Grows, Moves, HasTurned, HaveTurned, HasEnded, HaveEnded, HaveLeft}
+use Rattle.tbl_crew.specs.Turns.{Turns}
+use Rattle.tbl_crew.specs.Watching.{looks_after, HasWatched, HaveWatched, CutShort, IsWatched, end_of}
+use Rattle.tbl_crew.proofs.LendingLemmas.{last_of}
+use Rattle.tbl_crew.proofs.HistoryLemmas.{one_history}
+use Rattle.tbl_crew.proofs.MoveLemmas.{left_low, left_high, all_left, ended_both, all_ended}
+use Rattle.tbl_crew.proofs.RestLemmas.{ended_next}
+use Rattle.atomic_table.specs.Table.{Me}
+use Rattle.std.proofs.Math.Seq.{drop-append_seam}
+use Rattle.std.proofs.lemmas.List.{length-take-le, length-drop, length-replicate}
+use Rattle.std.specs.Result.{is_err}
+use Rattle.std.specs.Prelude.{slice_index}
+use Rattle.tbl_core.specs.declared.service.StepFault.{StepFault}
+use Rattle.tbl_core.specs.declared.service.StepFault.TheVariants as why
+use Rattle.tbl_history.proofs.ServingLemmas.{served_of}
+use Rattle.tbl_kinds.specs.Transcript.{pairs_of}
+use Rattle.tbl_registry.specs.declared.pin.Pin.{Pin}
+use Rattle.tbl_session.specs.Actors.{part}
+use Rattle.tbl_crew.specs.Histories.{HasPlayed, OneHistory}
+use Rattle.tbl_crew.specs.Scripts.{script_of}
+use Rattle.turn_lock.specs.declared.rule.View.{View}
+use Rattle.tbl_crew.specs.declared.held.Turn.{Turn}
+use Rattle.tbl_crew.specs.declared.held.Turn.TheVariants.{Played, Pinned, PinMemory, Ended, Done}
+
+-- ---- the looks of one entry more
+
+place_on : (w : Watched) (entries : List Entry) → (watch_on w entries).place ≡ w.place + length entries
+place_on w [] = omega arith
+place_on w (e ∷ entries) = let more : (w.place + 1) + length entries ≡ w.place + suc (length entries) = omega arith in place_on (watch_entry w e) entries ∙ more
+
+run_on : (w : Watched) (entries : List Entry) → (watch_on w entries).run ≡ run_from w.run entries
+run_on w [] = refl
+run_on w (e ∷ entries) = run_on (watch_entry w e) entries
+
+abbrev tables_after : State → List Entry → Tables
+tables_after opening entries = (run_from (begins_at opening) entries).state.tables
+
+watched_push : (opening : State) (entries : List Entry) (e : Entry)
+    → watched_by opening (entries ++ e ∷ []) ≡ look_by (tables_after opening (entries ++ e ∷ [])) (length entries) (watched_by opening entries) (handle_watched e)
+watched_push opening entries e =
+    let w = watch_on (unwatched opening) entries in
+    let place : w.place ≡ length entries = (let begun : 0 + length entries ≡ length entries = omega arith in place_on (unwatched opening) entries ∙ begun) in
+    let run : onward w.run e ≡ run_from (begins_at opening) (entries ++ e ∷ []) = ap (λ (r : Run). onward r e) (run_on (unwatched opening) entries) ∙ sym (fold_push onward (begins_at opening) entries e) in
+    ap (λ (x : Watched). x.looks) (fold_push watch_entry (unwatched opening) entries e) ∙ (λ i. look_by (run i).state.tables (place i) w.looks (handle_watched e))
+
+-- an entry of another actor
+by_other : (actor : ℕ) (e : Entry) → actor ≢ watcher → e.actor ≡ actor_of actor → handle_watched e ≡ None
+by_other actor e apart is = ap (λ (b : Bool). if b then handle_got e else None) (ap (is_by watcher) is ∙ other actor apart) where
+  other : (n : ℕ) → n ≢ watcher → is_by watcher (actor_of n) ≡ false
+  other zero apart = refl
+  other (suc n) apart = grind (arith, nat_tests, apart)
+
+-- one of the watcher
+by_watcher : (e : Entry) → e.actor ≡ actor_of watcher → handle_watched e ≡ handle_got e
+by_watcher e is = ap (λ (b : Bool). if b then handle_got e else None) (ap (is_by watcher) is)
+
+-- one that got no address
+none_got : (e : Entry) → handle_got e ≡ None → handle_watched e ≡ None
+none_got e none = by (is_by watcher e.actor) where
+  by : (b : Bool) → (if b then handle_got e else None) ≡ None
+  by true = none
+  by false = refl
+
+-- it leaves the looks
+same_looks : (opening : State) (old new : List Entry) (e : Entry) → new ≡ old ++ e ∷ [] → handle_watched e ≡ None → watched_by opening old ≡ watched_by opening new
+same_looks opening old new e added none =
+    sym (ap (watched_by opening) added ∙ watched_push opening old e ∙ ap (look_by (tables_after opening (old ++ e ∷ [])) (length old) (watched_by opening old)) none)
+
+module _ {B C : Type 0} (g : Ghosts B) (verdict : C → List ℕ → ℤ) (first : CrewView B C) (looks : List Look) where
+  abbrev Has : CrewView B C → Type 0
+  Has h = HasWatched g verdict first looks h
+
+  -- ---- a turn of another actor
+
+  pub watched_other : (y z : CrewView B C) (actor : ℕ) → actor ≢ watcher → Has y → Moves g verdict y actor z → Has z
+  watched_other y z actor apart had m o scripts from =
+      let was = had o scripts from in
+      (m.leads o scripts was.0, λ goes tells. was.1 (m.went goes) tells ∙ same m.grows)
+    where
+      same : Grows y.core.entries actor z.core.entries → watched_by o.state y.core.entries ≡ watched_by o.state z.core.entries
+      same (inl is) = ap (watched_by o.state) (sym is)
+      same (inr more) = same_looks o.state y.core.entries z.core.entries more.0 more.1 (by_other actor more.0 apart more.2)
+
+  pub watched_beside : (seen now : CrewView B C) → Beside (Moves g verdict) watcher seen now → Has seen → Has now
+  watched_beside seen now beside had = carried (Moves g verdict) (λ other. other ≢ watcher) Has (λ y z a apart was m. watched_other y z a apart was m) seen now beside had
+
+  -- ---- a turn of the watcher
+
+  watched_own : (y z : CrewView B C) (turn : Turn) → turn ≢ PinMemory → Has y → Turns g y z watcher turn → Moves g verdict y watcher z → HasWatched g verdict first (looks_after looks turn) z
+  watched_own y z Played ne had turned m o scripts from =
+      let was = had o scripts from in
+      let none = sym (last_of y.core.entries z.core.entries turned.adds.entry turned.adds.added) ∙ turned.lends in
+      (m.leads o scripts was.0, λ goes tells. was.1 (m.went goes) tells ∙ same_looks o.state y.core.entries z.core.entries turned.adds.entry turned.adds.added (none_got turned.adds.entry none))
+  watched_own y z (Pinned pin) ne had turned m o scripts from =
+      let was = had o scripts from in
+      let leads = m.leads o scripts was.0 in
+      let e = turned.adds.entry in
+      let added = turned.adds.added in
+      let lent = turned.lends in
+      let got : handle_watched e ≡ Some pin.handle = by_watcher e turned.adds.actor_is ∙ sym (last_of y.core.entries z.core.entries e added) ∙ lent.handle in
+      let long : length z.core.entries ≡ length y.core.entries + 1 = ap length added ∙ omega (arith, length-append y.core.entries (e ∷ [])) in
+      let place : pin.place ≡ length y.core.entries = omega (arith, long, lent.place) in
+      let after : List Entry = y.core.entries ++ e ∷ [] in (
+        leads,
+        λ goes tells.
+            let tables : tables_after o.state after ≡ z.core.state.tables = ap (tables_after o.state) (sym added) ∙ (leads.serves.vouches.stands.shows tells).state.parts.tables in
+            let name : pin.name ≡ name_by pin.handle (tables_after o.state after) = sym (ap (name_by pin.handle) tables ∙ lent.name) in
+            let bytes : pin.bytes ≡ unwrap_or (pinned_image pin.handle (tables_after o.state after)) [] = sym (ap (λ (t : Tables). unwrap_or (pinned_image pin.handle t) []) tables ∙ ap (λ (image : Option (List ℕ)). unwrap_or image []) lent.image) in
+            let were = was.1 (m.went goes) tells in
+            (λ i. looked (were i) (place i) (name i) (check16 (bytes i)))
+            ∙ sym (ap (watched_by o.state) added ∙ watched_push o.state y.core.entries e ∙ ap (look_by (tables_after o.state after) (length y.core.entries) (watched_by o.state y.core.entries)) got),
+      )
+  watched_own y z PinMemory ne had turned m o scripts from = absurd (ne refl)
+  watched_own y z Ended ne had (inl now) m o scripts from = (m.leads o scripts (had o scripts from).0, λ goes tells. absurd (let is = now.keeps in cc (is, goes)))
+  watched_own y z Ended ne had (inr before) m o scripts from = (m.leads o scripts (had o scripts from).0, λ goes tells. absurd (let is = before.kept in let went = m.went goes in cc (is, went)))
+  watched_own y z Done ne had turned m o scripts from =
+      let was = had o scripts from in
+      (m.leads o scripts was.0, λ goes tells. was.1 (m.went goes) tells ∙ ap (λ (h : CrewView B C). watched_by o.state h.core.entries) (sym turned.same))
+
+  -- by what it saw last
+  watched_turned : (turn : Turn) (olds news : List (CrewView B C)) → turn ≢ PinMemory → HaveWatched g verdict first looks olds → HaveTurned g verdict watcher turn olds news → HaveWatched g verdict first (looks_after looks turn) news
+  watched_turned turn [] news ne had t = absurd had
+  watched_turned turn (x ∷ xs) [] ne had t = absurd t
+  watched_turned turn (x ∷ xs) (z ∷ zs) ne had t = watched_own t.taken z turn ne (watched_beside x t.taken t.beside had) t.turns t.moves
+
+  module _ (turn : Turn) (olds news : List (CrewView B C)) (had : HaveWatched g verdict first looks olds) (turned : HaveTurned g verdict watcher turn olds news) where
+    -- where the turn got no address, the looks are as they were
+    pub watched_played : turn ≡ Played → HaveWatched g verdict first looks news
+    watched_played is = subst (λ (t : Turn). HaveWatched g verdict first (looks_after looks t) news) is (watched_turned turn olds news (λ e. cc (is, e)) had turned)
+
+    -- where it got one, there is one look more
+    pub watched_pinned : (pin : Pin) (after : List Look) → turn ≡ Pinned pin → after ≡ looked looks pin.place pin.name (check16 pin.bytes) → HaveWatched g verdict first after news
+    watched_pinned pin after is more =
+        let now : HaveWatched g verdict first (looked looks pin.place pin.name (check16 pin.bytes)) news = subst (λ (t : Turn). HaveWatched g verdict first (looks_after looks t) news) is (watched_turned turn olds news (λ e. cc (is, e)) had turned) in
+        subst (λ (l : List Look). HaveWatched g verdict first l news) (sym more) now
+
+    -- and where nothing was played
+    pub watched_over : (turn ≡ Ended) ⊎ (turn ≡ Done) → HaveWatched g verdict first looks news
+    watched_over (inl is) = subst (λ (t : Turn). HaveWatched g verdict first (looks_after looks t) news) is (watched_turned turn olds news (λ e. cc (is, e)) had turned)
+    watched_over (inr is) = subst (λ (t : Turn). HaveWatched g verdict first (looks_after looks t) news) is (watched_turned turn olds news (λ e. cc (is, e)) had turned)
+
+  -- ---- the beginning and the end
+
+  pub watched_first : looks ≡ [] → first.core.entries ≡ [] → Has first
+  watched_first nothing empty o scripts from = (from, λ goes tells. nothing ∙ sym (ap (watched_by o.state) empty))
+
+  pub watched_begin : looks ≡ [] → first.core.entries ≡ [] → (seen : List (CrewView B C)) → seen ≡ replicate actor_count first → HaveWatched g verdict first looks (drop watcher seen)
+  watched_begin nothing empty seen is = subst (λ (l : List (CrewView B C)). HaveWatched g verdict first looks (drop watcher l)) (sym is) (watched_first nothing empty)
+
+  pub watched_close : (seen : List (CrewView B C)) (now : CrewView B C) → HaveWatched g verdict first looks (drop watcher seen) → Knows (Moves g verdict) 0 seen now → Has now
+  watched_close seen now had knows = by (drop watcher seen) refl had where
+    by : (l : List (CrewView B C)) → drop watcher seen ≡ l → HaveWatched g verdict first looks l → Has now
+    by [] at had = absurd had
+    by (x ∷ xs) at had = watched_beside x now (knows watcher x (in_drop watcher seen 0 x (ap (λ (l : List (CrewView B C)). get_elem? l 0) at))) had
+
+-- without the lock
+pub own_turn : {B C : Type 0} (g : Ghosts B) (verdict : C → List ℕ → ℤ) (y z : CrewView B C) (turn : Turn) → Turns g y z watcher turn → Moves g verdict y watcher z → HasTurned g verdict watcher turn y z
+own_turn g verdict y z turn turned moves = record { taken = y; beside = ([], refl); turns = turned; moves = moves }
+
+-- a look for which memory didn't run out
+pub was_ok : {T E : Type 0} {P : Type 0} (r : Result T E) → is_err r ≡ false → OnOk r P → P
+was_ok (Ok x) is p = p
+was_ok (Err e) is p = absurd (cc is)
+
+-- ---- the seats of the watcher and of the others
+
+abbrev Seat' : Type 0 → Type 0 → Type 0
+Seat' B C = Me (Option (CrewView B C)) (View (CrewView B C))
+
+module _ {B C : Type 0} where
+  module _ (m m' : Seat' B C) (is : IsSeat m 0 actor_count) where
+    seen_is : (from : ℕ) (seen : List (CrewView B C)) → Idle m' from seen → m'.0.seen ≡ seen
+    seen_is from seen idle = ap (λ (x : Seat' B C). x.0.seen) idle
+
+    fewer : length m.0.seen - 1 ≡ watcher
+    fewer = ap (λ (n : ℕ). n - 1) is.1
+
+    from_is : m.0.from ≡ 0
+    from_is = ap (λ (x : Seat' B C). x.0.from) is.0
+
+    pub others_seat : Idle m' m.0.from (take (length m.0.seen - 1) m.0.seen) → IsSeat m' 0 watcher
+    others_seat split =
+        let seen = seen_is m.0.from _ split in
+        let within : watcher ≤ length m.0.seen = omega (arith, is.1) in
+        let long : length m'.0.seen ≡ watcher = ap length seen ∙ ap (λ (n : ℕ). length (take n m.0.seen)) fewer ∙ length-take-le watcher m.0.seen within in
+        (split ∙ (λ i. (seat_view (from_is i) (sym seen i), [])), long)
+
+    pub others_left : (count : ℕ → ℕ) → Idle m' m.0.from (take (length m.0.seen - 1) m.0.seen) → HaveLeft count 0 m.0.seen → HaveLeft count 0 m'.0.seen
+    others_left count split left = subst (λ (l : List (CrewView B C)). HaveLeft count 0 l) (sym (seen_is m.0.from _ split)) (left_low count 0 (length m.0.seen - 1) m.0.seen left)
+
+    pub watcher_seen : Idle m' (m.0.from + (length m.0.seen - 1)) (drop (length m.0.seen - 1) m.0.seen) → m'.0.seen ≡ drop watcher m.0.seen
+    watcher_seen split = seen_is _ _ split ∙ ap (λ (n : ℕ). drop n m.0.seen) fewer
+
+    pub watcher_seat : Idle m' (m.0.from + (length m.0.seen - 1)) (drop (length m.0.seen - 1) m.0.seen) → IsSeat m' watcher 1
+    watcher_seat split =
+        let seen = seen_is _ _ split in
+        let from : m.0.from + (length m.0.seen - 1) ≡ watcher = λ i. from_is i + fewer i in
+        let dropped : length (drop watcher m.0.seen) ≡ length m.0.seen - watcher = length-drop watcher m.0.seen in
+        let long : length m'.0.seen ≡ 1 = ap length (watcher_seen split) ∙ omega (arith, dropped, is.1) in
+        (split ∙ (λ i. (seat_view (from i) (sym seen i), [])), long)
+
+    pub watcher_left : (count : ℕ → ℕ) → Idle m' (m.0.from + (length m.0.seen - 1)) (drop (length m.0.seen - 1) m.0.seen) → HaveLeft count 0 m.0.seen → HaveLeft count watcher m'.0.seen
+    watcher_left count split left = subst (λ (l : List (CrewView B C)). HaveLeft count watcher l) (sym (watcher_seen split)) (left_high count 0 watcher m.0.seen left)
+
+    pub watcher_watched : (g : Ghosts B) (verdict : C → List ℕ → ℤ) (first : CrewView B C) (looks : List Look) → Idle m' (m.0.from + (length m.0.seen - 1)) (drop (length m.0.seen - 1) m.0.seen)
+        → HaveWatched g verdict first looks (drop watcher m.0.seen) → HaveWatched g verdict first looks m'.0.seen
+    watcher_watched g verdict first looks split had = subst (HaveWatched g verdict first looks) (sym (watcher_seen split)) had
+
+  -- the first seat
+  pub first_seat : (m : Seat' B C) (first : CrewView B C) → Idle m 0 (replicate actor_count first) → IsSeat m 0 actor_count
+  first_seat m first idle =
+      let seen = ap (λ (x : Seat' B C). x.0.seen) idle in
+      (idle ∙ (λ i. (seat_view 0 (sym seen i), [])), ap length seen ∙ length-replicate actor_count first)
+
+  pub first_left : (m : Seat' B C) (first : CrewView B C) → Idle m 0 (replicate actor_count first) → (counts : List ℕ) → ((actor : ℕ) → actor < actor_count → length (script_of first.left actor) ≡ slice_index counts actor) → HaveLeft (slice_index counts) 0 m.0.seen
+  first_left m first idle counts left = subst (λ (l : List (CrewView B C)). HaveLeft (slice_index counts) 0 l) (sym (ap (λ (x : Seat' B C). x.0.seen) idle)) (all_left first actor_count counts left)
+
+  -- both again
+  pub all_seen : (low last m : Seat' B C) → IsSeat low 0 watcher → Idle m low.0.from (low.0.seen ++ last.0.seen) → drop watcher m.0.seen ≡ last.0.seen
+  all_seen low last m is joined =
+      ap (λ (x : Seat' B C). drop watcher x.0.seen) joined ∙ ap (λ (n : ℕ). drop n (low.0.seen ++ last.0.seen)) (sym is.1) ∙ drop-append_seam low.0.seen last.0.seen
+
+  pub both_ended : {T E : Type 0} (result : Result T E) (low last m : Seat' B C) → IsSeat low 0 watcher → Idle m low.0.from (low.0.seen ++ last.0.seen) → HaveEnded 0 low.0.seen → OnOk result (HaveEnded watcher last.0.seen) → OnOk result (HaveEnded 0 m.0.seen)
+  both_ended (Err e) low last m is joined ended more = tt
+  both_ended (Ok x) low last m is joined ended more =
+      let meet : watcher ≡ 0 + length low.0.seen = omega (arith, is.1) in
+      subst (λ (l : List (CrewView B C)). HaveEnded 0 l) (sym (ap (λ (x : Seat' B C). x.0.seen) joined)) (ended_both 0 watcher low.0.seen last.0.seen meet ended more)
+
+  pub last_watched : {T E : Type 0} (g : Ghosts B) (verdict : C → List ℕ → ℤ) (first : CrewView B C) (looks : List Look) (result : Result T E) (low last m : Seat' B C) → IsSeat low 0 watcher → Idle m low.0.from (low.0.seen ++ last.0.seen)
+      → OnOk result (HaveWatched g verdict first looks last.0.seen) → OnOk result (HaveWatched g verdict first looks (drop watcher m.0.seen))
+  last_watched g verdict first looks (Err e) low last m is joined had = tt
+  last_watched g verdict first looks (Ok x) low last m is joined had = subst (HaveWatched g verdict first looks) (sym (all_seen low last m is joined)) had
+
+-- ---- how it ends
+
+-- the watcher is the last one
+pub rest_ended : {B C T E : Type 0} (result : Result T E) (mid now : CrewView B C) → ((actor : ℕ) → actor < watcher → HasEnded mid actor) → OnOk result (HasEnded now watcher) → (now.fault ≡ None → mid.fault ≡ None)
+    → ((other : ℕ) → script_of mid.left other ≡ [] → script_of now.left other ≡ []) → OnOk result ((actor : ℕ) → actor < actor_count → HasEnded now actor)
+rest_ended (Err e) mid now before ended went kept = tt
+rest_ended (Ok x) mid now before ended went kept = λ actor within. ended_next mid now watcher before ended went kept actor within
+
+module _ {B C : Type 0} (g : Ghosts B) (verdict : C → List ℕ → ℤ) where
+  -- so it is of the value that comes out of the lock
+  pub close_ended : {T E : Type 0} (result : Result T E) (seen : List (CrewView B C)) (now : CrewView B C) → length seen ≡ actor_count → Knows (Moves g verdict) 0 seen now → OnOk result (HaveEnded 0 seen) → OnOk result ((actor : ℕ) → actor < actor_count → HasEnded now actor)
+  close_ended (Err e) seen now long knows ended = tt
+  close_ended (Ok x) seen now long knows ended = all_ended g verdict seen now actor_count long knows ended
+
+  pub close_watched : {T E : Type 0} (first : CrewView B C) (looks : List Look) (result : Result T E) (seen : List (CrewView B C)) (now : CrewView B C) → Knows (Moves g verdict) 0 seen now
+      → OnOk result (HaveWatched g verdict first looks (drop watcher seen)) → OnOk result (HasWatched g verdict first looks now)
+  close_watched first looks (Err e) seen now knows had = tt
+  close_watched first looks (Ok x) seen now knows had = watched_close g verdict first looks seen now had knows
+
+  -- of a crew whose watcher ended before the others
+  cut_short : (o : Opening B C) (scripts : List (List Request)) (h : CrewView B C) → MayGoOn h → h.fault ≡ None → LeadsFrom g verdict o scripts h → CutShort g verdict o scripts h.core
+  cut_short o scripts h goes_on none leads = record {
+    served = served_of g verdict o h.core leads.serves;
+    played = record { parts = λ actor. begun (part actor (pairs_of h.core.entries)) (script_of h.left actor) h.fault (script_of scripts actor) none (leads.played actor); actors = leads.actors };
+    few = omega (arith, goes_on.few);
+    caused = leads.serves.caused;
+    live = subst (λ (f : Option StepFault). TellsFault f h.core) none goes_on.fault;
+  } where
+    begun : (played left : List Request) (f : Option StepFault) (script : List Request) → f ≡ None → IsPlayed f script played left → HasPlayed (Some why.Memory) script played
+    begun played left None script is was = (left, was)
+    begun played left (Some cause) script is was = absurd (cc is)
+
+  pub is_watched : {M : Type 0} (first h : CrewView B C) (looks : List Look) (fault : Option StepFault) (looked : Result Unit M) → h.fault ≡ fault → MayGoOn h → OnOk looked ((actor : ℕ) → actor < actor_count → HasEnded h actor)
+      → LeadsOn g verdict first h → OnOk looked (HasWatched g verdict first looks h) → (o : Opening B C) (scripts : List (List Request)) → LeadsFrom g verdict o scripts first → IsWatched g verdict o scripts (end_of fault looked) looks h.core
+  is_watched first h looks (Some cause) looked is goes_on ended leads had o scripts from =
+      subst (λ (f : Option StepFault). OneHistory g verdict o scripts f h.core) is (one_history g verdict o scripts h goes_on (λ actor within goes. absurd (cc (is, goes))) (leads o scripts from))
+  is_watched first h looks None (Ok done) is goes_on ended leads had o scripts from = (
+    subst (λ (f : Option StepFault). OneHistory g verdict o scripts f h.core) is (one_history g verdict o scripts h goes_on ended (leads o scripts from)),
+    (had o scripts from).1 is,
+  )
+  is_watched first h looks None (Err memory) is goes_on ended leads had o scripts from = cut_short o scripts h goes_on is (leads o scripts from)

@@ -1,0 +1,7 @@
+use Rattle.tbl_crew.proofs.WatchLemmas.{last_watched}
+use Rattle.tbl_crew.proofs.watching.watch_range.Goals as goal
+
+pub returns-clause-watched : goal.returns-clause-watched
+returns-clause-watched g c =
+    let joined = c.join-place in
+    last_watched g.B.Bank g.C.Validator.verdict c.args.lock.now.table.shared.key.value joined.result.1.1 joined.result.1.2 joined.result.0.me joined.result.1.0.me c.join.new.seat.me joined.ensures.first.1 c.join.ensures.idle joined.ensures.second.3

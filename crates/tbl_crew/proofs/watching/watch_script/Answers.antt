@@ -1,0 +1,66 @@
+use Rattle.std.proofs.Common.{◌≡◌, ◌+◌, ◌-◌, ℕ, List, sym, subst, ◌∙◌, refl, rules, arith}
+use Rattle.table_watch.specs.Watching.{watcher}
+use Rattle.tbl_registry.specs.declared.pin.Pin.{Pin}
+use Rattle.tbl_crew.specs.Moves.{AreKnown, AreTurned}
+use Rattle.tbl_crew.specs.declared.held.Turn.{Turn}
+use Rattle.tbl_crew.proofs.WatchLemmas.{watched_played, watched_pinned, watched_over, was_ok}
+use Rattle.tbl_crew.proofs.WorkerLemmas.{turned_of, known_kept, known_first, left_first, left_after, ended_after, ended_none}
+use Rattle.tbl_crew.proofs.watching.watch_script.Goals.{in-Pinned+else-is_err, in-Played}
+use Rattle.tbl_crew.proofs.watching.watch_script.Goals as goal
+
+pub turns-init : goal.turns-init
+turns-init g c = record {
+  own = refl;
+  seat = c.requires.seat;
+  known = known_first _ watcher c.args.place.me.0.seen (search rules) c.requires.seat.1;
+  left = left_first watcher c.args.count c.args.place.me.0.seen c.requires.left;
+  watched = c.requires.watched;
+}
+
+pub turns-preserved : goal.turns-preserved
+turns-preserved g c =
+    let e = c.one_turn-turn.ensures in
+    let turn = c.one_turn-turn.result.0 in
+    let old = c.turns.place.me.0.seen in
+    let seen = c.one_turn-turn.new.place.me.0.seen in
+    let plan = c.one_turn-turn.result.1 in
+    let many : ℕ = c.args.count - c.turns.nth in
+    let all : many + c.turns.nth ≡ c.args.count = omega (arith, c.turns-test.true) in
+    let turned = λ (count' : ℕ). turned_of g.B.Bank g.C.Validator.verdict watcher count' turn old seen e.turned in
+    let known : AreKnown c.turns.pins.items plan watcher seen = subst (λ (l : List Pin). AreKnown l plan watcher seen) c.as_slice.ensures.value e.known in
+    let first = c.args.lock.now.table.shared.key.value in
+    record {
+      own = e.own ∙ c.turns.invariant.own;
+      seat = e.seat;
+      known = elim c.match-turn.branch [
+        | in-Pinned+else-is_err w ↦ known_kept c.turns.pins.items c.match-turn.pins.items w.in-Pinned.pin plan watcher many seen (rw w.pins-is w.look_and_keep.ensures.keeps) known
+            (subst (λ (t : Turn). AreTurned many watcher t seen) w.in-Pinned.is (turned many (c.turns.invariant.left many all)))
+        | in-Played w ↦ rw w.pins-is known
+      ];
+      left = λ count is. left_after watcher count turn seen e.seat.1 (turned (count + 1) (c.turns.invariant.left (count + 1) (omega (arith, is))))
+          (λ same. elim c.match-turn.branch [ in-Pinned+else-is_err w ↦ cc (w.in-Pinned.is, same) | in-Played w ↦ cc (w.in-Played.is, same) ])
+          (λ same. elim c.match-turn.branch [ in-Pinned+else-is_err w ↦ cc (w.in-Pinned.is, same) | in-Played w ↦ cc (w.in-Played.is, same) ]);
+      watched = elim c.match-turn.branch [
+        | in-Pinned+else-is_err w ↦ watched_pinned g.B.Bank g.C.Validator.verdict first c.turns.watch turn old seen c.turns.invariant.watched e.turned w.in-Pinned.pin c.match-turn.watch w.in-Pinned.is
+            (w.watch-is ∙ was_ok w.look_and_keep.result (sym w.is_err.ensures.value ∙ w.if-is_err.false) w.look_and_keep.ensures.looked)
+        | in-Played w ↦ rw w.watch-is (watched_played g.B.Bank g.C.Validator.verdict first c.turns.watch turn old seen c.turns.invariant.watched e.turned w.in-Played.is)
+      ];
+    }
+
+pub returns-in-Ended-clause-ended : goal.returns-in-Ended-clause-ended
+returns-in-Ended-clause-ended g c =
+    let e = c.one_turn-turn.ensures in
+    let many : ℕ = c.args.count - c.turns.nth in
+    let all : many + c.turns.nth ≡ c.args.count = omega (arith, c.turns-test.true) in
+    let turned = turned_of g.B.Bank g.C.Validator.verdict watcher many c.one_turn-turn.result.0 c.turns.place.me.0.seen c.one_turn-turn.new.place.me.0.seen e.turned in
+    ended_after watcher many c.one_turn-turn.result.0 c.one_turn-turn.new.place.me.0.seen e.seat.1 (turned (c.turns.invariant.left many all)) c.in-Ended.is
+
+pub returns-in-Ended-clause-watched : goal.returns-in-Ended-clause-watched
+returns-in-Ended-clause-watched g c =
+    watched_over g.B.Bank g.C.Validator.verdict c.args.lock.now.table.shared.key.value c.turns.watch c.one_turn-turn.result.0 c.turns.place.me.0.seen c.one_turn-turn.new.place.me.0.seen c.turns.invariant.watched c.one_turn-turn.ensures.turned c.in-Ended.is
+
+pub returns-clause-ended : goal.returns-clause-ended
+returns-clause-ended g c = ended_none watcher c.turns.place.me.0.seen (c.turns.invariant.left 0 (omega (arith, c.turns-test.false, c.turns.auto.nth-end)))
+
+pub returns-clause-watched : goal.returns-clause-watched
+returns-clause-watched g c = c.turns.invariant.watched

@@ -1,0 +1,66 @@
+use Rattle.std.proofs.Common.{[], ◌∷◌}
+use Rattle.table_watch.specs.Watching.{watcher}
+use Rattle.tbl_crew.proofs.RestLemmas.{stays_empty, went_on, ended_now, moved_by}
+use Rattle.tbl_crew.proofs.WatchLemmas.{own_turn, watched_played, watched_pinned, watched_over}
+use Rattle.tbl_crew.proofs.watching.watch_script_rest.Goals as goal
+
+pub requests-preserved : goal.requests-preserved
+requests-preserved g c =
+    let b = g.B.Bank in
+    let was = c.requests.invariant in
+    let turned = c.turn.ensures.turns in
+    let moved = moved_by b c.requests.crew c.turn.new.self watcher g.C.Validator.verdict c.turn.result turned c.turn.ensures.leads c.turn.ensures.pins in
+    let own = own_turn b g.C.Validator.verdict c.requests.crew c.turn.new.self c.turn.result turned moved in
+    record {
+      leads = λ o scripts led. c.turn.ensures.leads o scripts (was.leads o scripts led);
+      went_on = λ goes. was.went_on (went_on b c.requests.crew c.turn.new.self watcher c.turn.result turned goes);
+      kept = λ other none. stays_empty b c.requests.crew c.turn.new.self watcher c.turn.result turned other (was.kept other none);
+      watched = λ first had. watched_played b g.C.Validator.verdict first c.requests.watch c.turn.result (c.requests.crew ∷ []) (c.turn.new.self ∷ []) (was.watched first had) own c.in-Played.is;
+    }
+
+pub requests-preserved-in-Pinned : goal.requests-preserved-in-Pinned
+requests-preserved-in-Pinned g c =
+    let b = g.B.Bank in
+    let was = c.requests.invariant in
+    let turned = c.turn.ensures.turns in
+    let moved = moved_by b c.requests.crew c.turn.new.self watcher g.C.Validator.verdict c.turn.result turned c.turn.ensures.leads c.turn.ensures.pins in
+    let own = own_turn b g.C.Validator.verdict c.requests.crew c.turn.new.self c.turn.result turned moved in
+    record {
+      leads = λ o scripts led. c.turn.ensures.leads o scripts (was.leads o scripts led);
+      went_on = λ goes. was.went_on (went_on b c.requests.crew c.turn.new.self watcher c.turn.result turned goes);
+      kept = λ other none. stays_empty b c.requests.crew c.turn.new.self watcher c.turn.result turned other (was.kept other none);
+      watched = λ first had. watched_pinned b g.C.Validator.verdict first c.requests.watch c.turn.result (c.requests.crew ∷ []) (c.turn.new.self ∷ []) (was.watched first had) own c.in-Pinned.pin c.look.new.self c.in-Pinned.is c.in_ok-look-in-Pinned.ensures.look;
+    }
+
+pub returns-in-Ended : goal.returns-in-Ended
+returns-in-Ended g c =
+    let b = g.B.Bank in
+    let was = c.requests.invariant in
+    let turned = c.turn.ensures.turns in
+    let moved = moved_by b c.requests.crew c.turn.new.self watcher g.C.Validator.verdict c.turn.result turned c.turn.ensures.leads c.turn.ensures.pins in
+    let own = own_turn b g.C.Validator.verdict c.requests.crew c.turn.new.self c.turn.result turned moved in
+    record {
+      leads = λ o scripts led. c.turn.ensures.leads o scripts (was.leads o scripts led);
+      went_on = λ goes. was.went_on (went_on b c.requests.crew c.turn.new.self watcher c.turn.result turned goes);
+      kept = λ other none. stays_empty b c.requests.crew c.turn.new.self watcher c.turn.result turned other (was.kept other none);
+      ended = ended_now b c.requests.crew c.turn.new.self watcher c.turn.result turned c.in-Ended.is;
+      watched = λ first had. watched_over b g.C.Validator.verdict first c.requests.watch c.turn.result (c.requests.crew ∷ []) (c.turn.new.self ∷ []) (was.watched first had) own c.in-Ended.is;
+    }
+
+pub returns-in_err-look-in-Pinned-clause-leads : goal.returns-in_err-look-in-Pinned-clause-leads
+returns-in_err-look-in-Pinned-clause-leads g c = λ o scripts led. c.turn.ensures.leads o scripts (c.requests.invariant.leads o scripts led)
+
+pub returns-in_err-look-in-Pinned-clause-went_on : goal.returns-in_err-look-in-Pinned-clause-went_on
+returns-in_err-look-in-Pinned-clause-went_on g c = λ goes. c.requests.invariant.went_on (went_on g.B.Bank c.requests.crew c.turn.new.self watcher c.turn.result c.turn.ensures.turns goes)
+
+pub returns-in_err-look-in-Pinned-clause-kept : goal.returns-in_err-look-in-Pinned-clause-kept
+returns-in_err-look-in-Pinned-clause-kept g c = λ other none. stays_empty g.B.Bank c.requests.crew c.turn.new.self watcher c.turn.result c.turn.ensures.turns other (c.requests.invariant.kept other none)
+
+pub returns-in-PinMemory-clause-leads : goal.returns-in-PinMemory-clause-leads
+returns-in-PinMemory-clause-leads g c = λ o scripts led. c.turn.ensures.leads o scripts (c.requests.invariant.leads o scripts led)
+
+pub returns-in-PinMemory-clause-went_on : goal.returns-in-PinMemory-clause-went_on
+returns-in-PinMemory-clause-went_on g c = λ goes. c.requests.invariant.went_on (went_on g.B.Bank c.requests.crew c.turn.new.self watcher c.turn.result c.turn.ensures.turns goes)
+
+pub returns-in-PinMemory-clause-kept : goal.returns-in-PinMemory-clause-kept
+returns-in-PinMemory-clause-kept g c = λ other none. stays_empty g.B.Bank c.requests.crew c.turn.new.self watcher c.turn.result c.turn.ensures.turns other (c.requests.invariant.kept other none)
