@@ -24,6 +24,17 @@ impl Gate for OpenGate {
 /// How often a thread looks whether the other one has come as far.
 const LOOKS: u32 = 1 << 24;
 
+/// Looks until the other thread has come as far, or notes that it never did.
+fn look_for(other: &AtomicBool, missed: &AtomicBool) {
+    for _ in 0..LOOKS {
+        if other.load(Ordering::SeqCst) {
+            return;
+        }
+        thread::yield_now();
+    }
+    missed.store(true, Ordering::SeqCst);
+}
+
 /// Applications 1 and 2 each wait before their first record until the other one's thread has come as far. The records that
 /// threads played are counted.
 #[derive(Drop)]
@@ -47,13 +58,7 @@ impl MeetingGate {
 
     fn meet(&self, mine: &AtomicBool, other: &AtomicBool) {
         mine.store(true, Ordering::SeqCst);
-        for _ in 0..LOOKS {
-            if other.load(Ordering::SeqCst) {
-                return;
-            }
-            thread::yield_now();
-        }
-        self.missed.store(true, Ordering::SeqCst);
+        look_for(other, &self.missed);
     }
 
     /// Whether both threads came while the other one waited.
@@ -83,6 +88,62 @@ impl Gate for MeetingGate {
     }
 
     fn reading(&self, _actor: u8) {}
+}
+
+/// Application 1 waits, as it takes the bytes of a pinned image, until application 2 has played its first record; and application 2
+/// waits before that until application 1 takes bytes. So both come on only if no turn is held meanwhile.
+#[derive(Drop)]
+pub struct ReadingGate {
+    reading: AtomicBool,
+    after: AtomicBool,
+    missed: AtomicBool,
+    played: AtomicU32,
+}
+
+impl ReadingGate {
+    /// Nobody has come yet.
+    pub fn make() -> ReadingGate {
+        ReadingGate {
+            reading: AtomicBool::new(false),
+            after: AtomicBool::new(false),
+            missed: AtomicBool::new(false),
+            played: AtomicU32::new(0),
+        }
+    }
+
+    /// Whether application 2 played its first record while application 1 took bytes.
+    pub fn met(&self) -> bool {
+        self.reading.load(Ordering::SeqCst)
+            && self.after.load(Ordering::SeqCst)
+            && !self.missed.load(Ordering::SeqCst)
+    }
+
+    /// How many records threads played.
+    pub fn played(&self) -> u32 {
+        self.played.load(Ordering::SeqCst)
+    }
+}
+
+impl Gate for ReadingGate {
+    fn before(&self, actor: u8, nth: u32) {
+        if actor == 2 && nth == 0 {
+            look_for(&self.reading, &self.missed);
+        }
+    }
+
+    fn after(&self, actor: u8, nth: u32) {
+        self.played.fetch_add(1, Ordering::SeqCst);
+        if actor == 2 && nth == 0 {
+            self.after.store(true, Ordering::SeqCst);
+        }
+    }
+
+    fn reading(&self, actor: u8) {
+        if actor == 1 {
+            self.reading.store(true, Ordering::SeqCst);
+            look_for(&self.after, &self.missed);
+        }
+    }
 }
 
 /// What a gate was told of the records of one actor.

@@ -16,7 +16,7 @@ mod troubles;
 
 pub use calm::{CalmSink, CalmSource};
 pub use calm_bank::CalmBank;
-pub use gates::{CountingGate, MeetingGate, OpenGate, OrderedGate, Told};
+pub use gates::{CountingGate, MeetingGate, OpenGate, OrderedGate, ReadingGate, Told};
 pub use mem_bank::MemBank;
 pub use mem_sink::MemSink;
 pub use mem_source::MemSource;
