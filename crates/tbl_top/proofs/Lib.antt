@@ -10,6 +10,7 @@ pub mod SessionLemmas
 pub mod CompletenessLemmas
 pub mod RecoveredLaws
 pub mod CrewLemmas
+pub mod WatchingLemmas
 pub mod SummaryLemmas
 pub mod ListingLemmas
 pub mod DrillLemmas

@@ -1,5 +1,5 @@
 -- What the words of the command line spell, and that they ask for one thing.
-use Rattle.std.proofs.Common.{◌≡◌, ◌≢◌, ◌↔◌, ◌+◌, ◌<◌, ◌≤◌, List, ℕ, [], ◌∷◌, length, get_or, map, Option, Some, None, true, refl, sym, ap, subst, ◌∙◌, arith}
+use Rattle.std.proofs.Common.{◌≡◌, ◌↔◌, ◌+◌, ◌<◌, ◌≤◌, List, ℕ, [], ◌∷◌, length, get_or, map, Option, Some, None, true, refl, sym, ap, subst, ◌∙◌, arith}
 use Rattle.std.specs.Prelude.{codes, Result, Ok, Err, IfErr}
 use Rattle.tbl_kinds.specs.Buffers.{Buffer}
 use Rattle.tbl_kinds.specs.Admitted.{Admitted, all_admitted}
@@ -8,14 +8,17 @@ use Rattle.tbl_maker.specs.Shapes.{is_shape, shape_word}
 use Rattle.tbl_maker.specs.Words.{IsNoShape}
 use Rattle.tbl_maker.specs.declared.form.Form.{Form}
 use Rattle.tbl_maker.proofs.Shapes.{shape_unique}
-use Rattle.tbl_top.specs.Words.{SpellsSession, Spells, Asks, AsksWithShape, given_bytes}
+use Rattle.tbl_top.specs.Words.{SpellsSession, Spells, Asks, AsksWithShape, HasThreads, given_bytes}
 use Rattle.tbl_top.specs.declared.words.Word.{Word}
-use Rattle.tbl_top.specs.declared.words.Word.TheVariants.{Play, Crew, Store, Drill, Make, Describe}
+use Rattle.tbl_top.specs.declared.words.Word.TheVariants.{Play, Crew, Watch, Store, Drill, Make, Describe}
+use Rattle.tbl_top.specs.declared.words.Telling.{Telling}
+use Rattle.tbl_top.specs.declared.words.Telling.TheVariants.{Transcript, Report}
 
 -- one word names no list
 one_admits_all : (word : List ℕ) (requested : Word) (admit : Admitted) → Spells (word ∷ []) requested admit → admit ≡ all_admitted
 one_admits_all word Play admit spells = spells.1
 one_admits_all word Crew admit spells = spells.1
+one_admits_all word Watch admit spells = spells.1
 one_admits_all word Store admit spells = spells.1
 one_admits_all word (Drill seed rounds) admit spells = spells.3
 one_admits_all word Make admit spells = spells.1
@@ -25,6 +28,7 @@ one_admits_all word (Describe shape) admit spells = spells.2
 three_admit_all : (first second third : List ℕ) (requested : Word) (admit : Admitted) → Spells (first ∷ second ∷ third ∷ []) requested admit → admit ≡ all_admitted
 three_admit_all first second third Play admit spells = absurd spells
 three_admit_all first second third Crew admit spells = absurd spells
+three_admit_all first second third Watch admit spells = spells.1
 three_admit_all first second third Store admit spells = spells.1
 three_admit_all first second third (Drill seed rounds) admit spells = spells.3
 three_admit_all first second third Make admit spells = spells.1
@@ -77,6 +81,7 @@ module _ (word more spacecraft processors : List ℕ) (lists : Admitted) (found 
     back : (requested : Word) (admit : Admitted) → Spells (word ∷ more ∷ spacecraft ∷ processors ∷ []) requested admit → ◌≡◌ {A = Option CommandWord} (Some (Play, lists)) (Some (requested, admit))
     back Play admit spells = ap (with_lists_of Play) (found_only admit spells.2)
     back Crew admit spells = let first : 0x70 ≡ 0x63 = ap (λ (bytes : List ℕ). get_or bytes 0 0) (sym play ∙ spells.0) in absurd (omega (arith, first))
+    back Watch admit spells = let lengths = ap length spells.0 in absurd (omega (arith, lengths))
     back Store admit spells = let lengths = ap length spells.0 in absurd (omega (arith, lengths))
     back (Drill seed rounds) admit spells = let lengths = ap length spells.0 in absurd (omega (arith, lengths))
     back Make admit spells = let lengths = ap length spells.0 in absurd (omega (arith, lengths))
@@ -87,6 +92,7 @@ module _ (word more spacecraft processors : List ℕ) (lists : Admitted) (found 
     back : (requested : Word) (admit : Admitted) → Spells (word ∷ more ∷ spacecraft ∷ processors ∷ []) requested admit → ◌≡◌ {A = Option CommandWord} (Some (Crew, lists)) (Some (requested, admit))
     back Play admit spells = let first : 0x63 ≡ 0x70 = ap (λ (bytes : List ℕ). get_or bytes 0 0) (sym crew ∙ spells.0) in absurd (omega (arith, first))
     back Crew admit spells = ap (with_lists_of Crew) (found_only admit spells.2)
+    back Watch admit spells = let lengths = ap length spells.0 in absurd (omega (arith, lengths))
     back Store admit spells = let lengths = ap length spells.0 in absurd (omega (arith, lengths))
     back (Drill seed rounds) admit spells = let lengths = ap length spells.0 in absurd (omega (arith, lengths))
     back Make admit spells = let lengths = ap length spells.0 in absurd (omega (arith, lengths))
@@ -97,6 +103,7 @@ pub of_no_lists : (word more spacecraft processors : List ℕ) (found : Option A
     → (requested : Word) (admit : Admitted) → Spells (word ∷ more ∷ spacecraft ∷ processors ∷ []) requested admit → ◌≡◌ {A = Option CommandWord} None (Some (requested, admit))
 of_no_lists word more spacecraft processors found is spelled Play admit spells = absurd (cc (is, (spelled admit).1 spells.2))
 of_no_lists word more spacecraft processors found is spelled Crew admit spells = absurd (cc (is, (spelled admit).1 spells.2))
+of_no_lists word more spacecraft processors found is spelled Watch admit spells = let lengths = ap length spells.0 in absurd (omega (arith, lengths))
 of_no_lists word more spacecraft processors found is spelled Store admit spells = let lengths = ap length spells.0 in absurd (omega (arith, lengths))
 of_no_lists word more spacecraft processors found is spelled (Drill seed rounds) admit spells = let lengths = ap length spells.0 in absurd (omega (arith, lengths))
 of_no_lists word more spacecraft processors found is spelled Make admit spells = let lengths = ap length spells.0 in absurd (omega (arith, lengths))
@@ -109,6 +116,7 @@ pub two_spell : (first second : List ℕ) (requested : Word) (admit : Admitted) 
     → (first ≡ codes "describe") × (shape : List Form) × (requested ≡ Describe shape) × (is_shape shape ≡ true) × (second ≡ shape_word shape) × (admit ≡ all_admitted)
 two_spell first second Play admit spells = absurd spells
 two_spell first second Crew admit spells = absurd spells
+two_spell first second Watch admit spells = let lengths = ap length spells.0 in absurd (omega (arith, lengths))
 two_spell first second Store admit spells = let lengths = ap length spells.0 in absurd (omega (arith, lengths))
 two_spell first second (Drill seed rounds) admit spells = let lengths = ap length spells.0 in absurd (omega (arith, lengths))
 two_spell first second Make admit spells = let lengths = ap length spells.0 in absurd (omega (arith, lengths))
@@ -211,36 +219,81 @@ session_letter name (word ∷ []) admit spells = ap (λ (bytes : List ℕ). get_
 session_letter name (word ∷ more ∷ spacecraft ∷ processors ∷ []) admit spells = ap (λ (bytes : List ℕ). get_or bytes 0 0) spells.0
 session_letter name words admit spells = absurd spells
 
+abbrev first_letter : Word → ℕ
+first_letter Play = 0x70
+first_letter Crew = 0x63
+first_letter Watch = 0x77
+first_letter Store = 0x73
+first_letter (Drill seed rounds) = 0x64
+first_letter Make = 0x6d
+first_letter (Describe shape) = 0x64
+
+spelled_letter : (words : List (List ℕ)) (word : Word) (admit : Admitted) → Spells words word admit → letter_of words ≡ first_letter word
+spelled_letter words Play admit spells = session_letter (codes "play") words admit spells
+spelled_letter words Crew admit spells = session_letter (codes "crew") words admit spells
+spelled_letter words Watch admit spells = ap letter_of spells.0
+spelled_letter words Store admit spells = ap letter_of spells.0
+spelled_letter words (Drill seed rounds) admit spells = ap letter_of spells.0
+spelled_letter words Make admit spells = ap letter_of spells.0
+spelled_letter words (Describe shape) admit spells = ap letter_of spells.0
+
+-- no other word has these letters
+crew_by_letter : (word : Word) → first_letter word ≡ 0x63 → word ≡ Crew
+crew_by_letter Play is = absurd (omega (arith, is))
+crew_by_letter Crew is = refl
+crew_by_letter Watch is = absurd (omega (arith, is))
+crew_by_letter Store is = absurd (omega (arith, is))
+crew_by_letter (Drill seed rounds) is = absurd (omega (arith, is))
+crew_by_letter Make is = absurd (omega (arith, is))
+crew_by_letter (Describe shape) is = absurd (omega (arith, is))
+
+watch_by_letter : (word : Word) → first_letter word ≡ 0x77 → word ≡ Watch
+watch_by_letter Play is = absurd (omega (arith, is))
+watch_by_letter Crew is = absurd (omega (arith, is))
+watch_by_letter Watch is = refl
+watch_by_letter Store is = absurd (omega (arith, is))
+watch_by_letter (Drill seed rounds) is = absurd (omega (arith, is))
+watch_by_letter Make is = absurd (omega (arith, is))
+watch_by_letter (Describe shape) is = absurd (omega (arith, is))
+
 -- where the words ask for one, they ask for nothing else
-pub crew_alone : (words : List (List ℕ)) (lists : Admitted) → Spells words Crew lists → (word : Word) (admit : Admitted) → Spells words word admit → word ≡ Crew
-crew_alone words lists crew word admit spells = by word spells where
-  letter : letter_of words ≡ 0x63
-  letter = session_letter (codes "crew") words lists crew
+pub threads_alone : (words : List (List ℕ)) (named : Word) (lists : Admitted) → HasThreads named → Spells words named lists → (word : Word) (admit : Admitted) → Spells words word admit → word ≡ named
+threads_alone words Crew lists threads crew word admit spells = crew_by_letter word (sym (spelled_letter words word admit spells) ∙ spelled_letter words Crew lists crew)
+threads_alone words Watch lists threads watch word admit spells = watch_by_letter word (sym (spelled_letter words word admit spells) ∙ spelled_letter words Watch lists watch)
+threads_alone words Play lists threads named word admit spells = absurd threads
+threads_alone words Store lists threads named word admit spells = absurd threads
+threads_alone words (Drill seed rounds) lists threads named word admit spells = absurd threads
+threads_alone words Make lists threads named word admit spells = absurd threads
+threads_alone words (Describe shape) lists threads named word admit spells = absurd threads
 
-  by : (word : Word) → Spells words word admit → word ≡ Crew
-  by Play spells = let other : letter_of words ≡ 0x70 = session_letter (codes "play") words admit spells in absurd (omega (arith, letter, other))
-  by Crew spells = refl
-  by Store spells = let other : letter_of words ≡ 0x73 = ap letter_of spells.0 in absurd (omega (arith, letter, other))
-  by (Drill seed rounds) spells = let other : letter_of words ≡ 0x64 = ap letter_of spells.0 in absurd (omega (arith, letter, other))
-  by Make spells = let other : letter_of words ≡ 0x6d = ap letter_of spells.0 in absurd (omega (arith, letter, other))
-  by (Describe shape) spells = let other : letter_of words ≡ 0x64 = ap letter_of spells.0 in absurd (omega (arith, letter, other))
+abbrev pub Told : Type 0
+Told = Telling × Admitted
 
--- these are the lists of a session with a thread for each actor, so all that is asked for is that one
-module _ (words : List Buffer) (found : Option Admitted) (lists : Admitted) (is : found ≡ Some lists) (told : (admit : Admitted) → (found ≡ Some admit) ↔ Asks words Crew admit) where
-  pub crew_asked : Asks words Crew lists
-  crew_asked = (told lists).0 is
+-- this is told of such a session under these lists, so all that is asked for is that one
+module _ (words : List Buffer) (named : Word) (threads : HasThreads named) (telling : Telling) (found : Option Told) (lists : Admitted) (is : ◌≡◌ {A = Option Told} found (Some (telling, lists)))
+    (told : (admit : Admitted) → (◌≡◌ {A = Option Told} found (Some (telling, admit))) ↔ Asks words named admit) where
+  pub threads_asked : Asks words named lists
+  threads_asked = (told lists).0 is
 
-  are_lists : (admit : Admitted) → Asks words Crew admit → lists ≡ admit
+  are_told : (admit : Admitted) → Asks words named admit → lists ≡ admit
   unfolding there_or
-  are_lists admit asks = ap (there_or lists) (sym is ∙ (told admit).1 asks)
+  are_told admit asks = ap (λ (o : Option Told). (there_or (telling, lists) o).1) (sym is ∙ (told admit).1 asks)
 
   -- what holds of it holds of what is asked for
-  pub of_crew_lists : (P : Word → Admitted → Type 0) (word : Word) (admit : Admitted) → Asks words word admit → P Crew lists → P word admit
-  of_crew_lists P word admit asks holds =
-      let same : word ≡ Crew = crew_alone (map given_bytes words) lists crew_asked word admit asks in
-      let crew : Asks words Crew admit = subst (λ (w : Word). Asks words w admit) same asks in
-      subst (λ (w : Word). P w admit) (sym same) (subst (P Crew) (are_lists admit crew) holds)
+  pub of_threads : (P : Word → Admitted → Type 0) (word : Word) (admit : Admitted) → Asks words word admit → P named lists → P word admit
+  of_threads P word admit asks holds =
+      let same : word ≡ named = threads_alone (map given_bytes words) named lists threads threads_asked word admit asks in
+      let also : Asks words named admit = subst (λ (w : Word). Asks words w admit) same asks in
+      subst (λ (w : Word). P w admit) (sym same) (subst (P named) (are_told admit also) holds)
 
--- there are no such lists, so it isn't asked for
-pub no_crew : (words : List Buffer) (found : Option Admitted) → found ≡ None → ((admit : Admitted) → (found ≡ Some admit) ↔ Asks words Crew admit) → (word : Word) (admit : Admitted) → Asks words word admit → word ≢ Crew
-no_crew words found none told word admit asks is = let some = (told admit).1 (subst (λ (w : Word). Asks words w admit) is asks) in absurd (cc (none, some))
+-- nothing is told of one, so none is asked for
+pub no_threads : (words : List Buffer) (found : Option Told) → found ≡ None
+    → ((admit : Admitted) → (◌≡◌ {A = Option Told} found (Some (Transcript, admit))) ↔ Asks words Crew admit) → ((admit : Admitted) → (◌≡◌ {A = Option Told} found (Some (Report, admit))) ↔ Asks words Watch admit)
+    → (word : Word) (admit : Admitted) → Asks words word admit → ¬ HasThreads word
+no_threads words found none crew watch Crew admit asks threads = let some = (crew admit).1 asks in absurd (cc (none, some))
+no_threads words found none crew watch Watch admit asks threads = let some = (watch admit).1 asks in absurd (cc (none, some))
+no_threads words found none crew watch Play admit asks threads = threads
+no_threads words found none crew watch Store admit asks threads = threads
+no_threads words found none crew watch (Drill seed rounds) admit asks threads = threads
+no_threads words found none crew watch Make admit asks threads = threads
+no_threads words found none crew watch (Describe shape) admit asks threads = threads

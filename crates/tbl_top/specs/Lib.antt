@@ -1,4 +1,5 @@
 pub mod Maker
+pub mod Watching
 pub mod Words
 pub mod Playing
 pub mod Standing

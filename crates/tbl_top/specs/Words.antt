@@ -13,8 +13,9 @@ use Rattle.tbl_top.specs.Drilling.{Drills, DrillsThrough}
 use Rattle.tbl_maker.specs.Shapes.{is_shape, shape_word}
 use Rattle.tbl_top.specs.Listing.{ListsStore, ListsThrough}
 use Rattle.tbl_top.specs.Maker.{MakesFile, DescribesFile, MakesAlways, DescribesAlways}
+use Rattle.tbl_top.specs.Watching.{Watches}
 use Rattle.tbl_top.specs.declared.words.Word.{Word}
-use Rattle.tbl_top.specs.declared.words.Word.TheVariants.{Play, Crew, Store, Drill, Make, Describe}
+use Rattle.tbl_top.specs.declared.words.Word.TheVariants.{Play, Crew, Watch, Store, Drill, Make, Describe}
 
 -- so that the session has at most as many records as one may have
 abbrev pub most_rounds : ℕ
@@ -31,6 +32,7 @@ SpellsSession name words admit = ⊥
 abbrev pub Spells : List (List ℕ) → Word → Admitted → Type 0
 Spells words Play admit = SpellsSession (codes "play") words admit
 Spells words Crew admit = SpellsSession (codes "crew") words admit
+Spells words Watch admit = (words ≡ codes "watch" ∷ []) × (admit ≡ all_admitted)
 Spells words Store admit = (words ≡ codes "store" ∷ []) × (admit ≡ all_admitted)
 Spells words (Drill seed rounds) admit = (words ≡ codes "drill" ∷ decimal seed ∷ decimal rounds ∷ []) × (seed < 2 ^ 64) × (rounds ≤ most_rounds) × (admit ≡ all_admitted)
 Spells words Make admit = (words ≡ codes "make" ∷ []) × (admit ≡ all_admitted)
@@ -51,11 +53,12 @@ abbrev pub IsUnknown : List Buffer → ℕ → Type 0
 IsUnknown words status = (status ≡ 2) ⊎ ((status ≡ 1) × AsksWithShape words)
 
 -- What it does. `play` plays the records in order, as they come in; `crew` with a thread for each actor, once all of them were read;
--- `store` writes the store as text; `drill` plays the session of a seed, and writes a line that sums it up; `make` makes the table file
+-- `watch` does so too, and writes a report of the images that application 16 got; `store` writes the store as text; `drill` plays the session of a seed, and writes a line that sums it up; `make` makes the table file
 -- of a description, and `describe` describes one by a shape
 abbrev pub Outcome : {B C : Type 0} → Word → Ghosts B → (C → List ℕ → ℤ) → Opening B C → Ran B → Type 0
 Outcome Play g verdict o r = Session InOrder g verdict o r
 Outcome Crew g verdict o r = Session ByActor g verdict o r
+Outcome Watch g verdict o r = Watches g verdict o r
 Outcome Store g verdict o r = ListsStore g o.bank r.bank_then r.status (r.taken, r.unwritten) (r.taken_then, r.unwritten_then)
 Outcome (Drill seed rounds) g verdict o r = Drills seed rounds g verdict o r
 Outcome Make g verdict o r = MakesFile o.bank r
@@ -65,6 +68,7 @@ Outcome (Describe shape) g verdict o r = DescribesFile shape o.bank r
 abbrev pub Completes : {B : Type 0} → Word → Ghosts B → B → Ran B → Type 0
 Completes Play g bank r = IsComplete g bank r
 Completes Crew g bank r = IsComplete g bank r
+Completes Watch g bank r = IsComplete g bank r
 Completes Store g bank r = ListsThrough g bank r.bank_then r.status r.unwritten r.unwritten_then
 Completes (Drill seed rounds) g bank r = DrillsThrough g bank r
 Completes Make g bank r = MakesAlways r
@@ -75,3 +79,9 @@ abbrev pub ReadsNothing : Word → Type 0
 ReadsNothing Store = Unit {0}
 ReadsNothing (Drill seed rounds) = Unit {0}
 ReadsNothing _ = ⊥
+
+-- it is played with a thread for each actor, and threads wait for their turns
+abbrev pub HasThreads : Word → Type 0
+HasThreads Crew = Unit {0}
+HasThreads Watch = Unit {0}
+HasThreads _ = ⊥

@@ -28,7 +28,7 @@ use tbl_kinds::Admit;
 use tbl_outside::{Back, Bank, Gate, KitEntry, Sink, Source, Validator};
 
 /// How a session stands after what its crew played.
-fn standing_behind(fault: Option<StepFault>, read: Standing) -> Standing
+pub(crate) fn standing_behind(fault: Option<StepFault>, read: Standing) -> Standing
     ensures { result ≡ standing_behind fault read }
 {
     match fault {

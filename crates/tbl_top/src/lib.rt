@@ -15,6 +15,7 @@ mod session;
 mod stepping;
 mod summary;
 mod twice;
+mod watching;
 mod words;
 mod writing;
 

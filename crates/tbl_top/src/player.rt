@@ -264,6 +264,18 @@ fn complete<B: Bank, C: Validator, K: Sink>(
     }
 }
 
+/// Drops so many bytes at the front. Where that is all of them, as mostly it is, none is moved.
+fn drop_front(kept: &mut Vec<u8>, count: usize)
+    requires { count ≤ length kept.old.items }
+    ensures { kept.new.items ≡ drop count kept.old.items }
+{
+    if count == kept.len() {
+        kept.clear();
+    } else {
+        kept.drain(..count);
+    }
+}
+
 /// Plays what is whole of the kept bytes, and drops it.
 fn play_kept<B: Bank, C: Validator, K: Sink>(
     playback: &mut Playback<B, C>,
@@ -283,7 +295,7 @@ fn play_kept<B: Bank, C: Validator, K: Sink>(
 {
     let mut used = 0;
     let standing = playback.play_whole(kept.as_slice(), &mut used, sink);
-    kept.drain(..used);
+    drop_front(kept, used);
     standing
 }
 

@@ -10,7 +10,8 @@ ghost use Rattle.tbl_top.specs.declared.words.Word.{Word as CommandWord};
 
 use crate::crewing::run_crew;
 use crate::session::run_in_order;
-use crate::words::crew_lists;
+use crate::watching::run_watch;
+use crate::words::{Telling, threads_of};
 use std::alloc::Global;
 use std::sync::Wait;
 use std::thread::Threads;
@@ -19,7 +20,8 @@ use tbl_outside::{Bank, Gate, KitEntry, Sink, Source, Validator};
 
 /// Does what the words ask for. `play` and `crew` boot over the bank as after a reset of the processor, read session records from
 /// the source, play them, and write the transcript to the sink: with `play` in order, as they come in, with `crew` with a thread
-/// for each actor, once all of them were read. Table files may come from the spacecraft and processors that the words admit. `store` reads the bank alone, and writes the text of its store.
+/// for each actor, once all of them were read. Table files may come from the spacecraft and processors that the words admit. `watch`
+/// plays as `crew` does, and writes in place of the transcript a report of the images that application 16 got. `store` reads the bank alone, and writes the text of its store.
 /// `make` reads a description from the source and writes its table file, and `describe` reads a table file and writes its
 /// description; neither reads nor writes the bank. The applications have the validation functions of the kit, which are numbered from
 /// 0; these may be boxes or of any one type. The gate is told of each turn of a thread. The status, which docs/FORMATS.md lists,
@@ -63,8 +65,13 @@ pub fn run<
     // The bank that comes back has room for a further call.
     ensures room { bank_size ≤ B.size result.1 }
 {
-    match crew_lists(words) {
-        Some(admit) => run_crew(rt, alloc, source, sink, bank, kit, admit, gate),
+    match threads_of(words) {
+        Some((Telling::Transcript, admit)) => {
+            run_crew(rt, alloc, source, sink, bank, kit, admit, gate)
+        }
+        Some((Telling::Report, admit)) => {
+            run_watch(rt, alloc, source, sink, bank, kit, admit, gate)
+        }
         None => run_in_order(alloc, words, source, sink, bank, kit),
     }
 }

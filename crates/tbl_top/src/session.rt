@@ -15,10 +15,10 @@ ghost use Rattle.tbl_session.specs.Orders.{InOrder};
 ghost use Rattle.tbl_session.specs.Session.{Session, opening_of, ran};
 ghost use Rattle.tbl_history.specs.Serving.{Serves};
 ghost use Rattle.tbl_top.specs.Playing.{bytes_fed, IsSession};
-ghost use Rattle.tbl_top.specs.Words.{Asks, IsUnknown, Outcome, Completes, ReadsNothing};
+ghost use Rattle.tbl_top.specs.Words.{Asks, HasThreads, IsUnknown, Outcome, Completes, ReadsNothing};
 ghost use Rattle.tbl_top.specs.declared.playback.Standing.TheVariants.{Open};
 ghost use Rattle.tbl_top.specs.declared.words.Word.{Word as CommandWord};
-ghost use Rattle.tbl_top.specs.declared.words.Word.TheVariants.{Crew, Drill};
+ghost use Rattle.tbl_top.specs.declared.words.Word.TheVariants.{Drill};
 
 use crate::drilling::run_drill;
 use crate::finishing::{NO_MEMORY, finish_unbegun};
@@ -134,7 +134,7 @@ pub(crate) fn play_in_order<S: Source, K: Sink, B: Bank, C: Validator>(
     }
 }
 
-/// Does what one of the words asks for, but for `crew`, which is usage to it.
+/// Does what one of the words asks for, but for those that need threads, which are usage to it.
 fn do_word<S: Source, K: Sink, B: Bank, C: Validator>(
     alloc: Global,
     word: Word,
@@ -147,11 +147,11 @@ fn do_word<S: Source, K: Sink, B: Bank, C: Validator>(
     requires room { bank_size ≤ B.size bank }
     requires asked { All (λ (e : Entry C). C.asked e.check < 2 ^ 62) kit.items }
     requires few { (seed rounds : ℕ) → word ≡ Drill seed rounds → 9 + rounds ≤ record_limit }
-    ensures usage { result.0 ≡ 2 → word ≡ Crew }
-    ensures crew { word ≡ Crew → (result.0 ≡ 2) × (source.new ≡ source.old) × (sink.new ≡ sink.old) × (result.1 ≡ bank) }
+    ensures usage { result.0 ≡ 2 → HasThreads word }
+    ensures threads { HasThreads word → (result.0 ≡ 2) × (source.new ≡ source.old) × (sink.new ≡ sink.old) × (result.1 ≡ bank) }
     ensures unread { ReadsNothing word → source.new ≡ source.old }
-    ensures outcome { word ≢ Crew → Outcome word B.Bank C.verdict (opening_of B.Bank bank kit.items admit) (ran S.Source K.Sink (source.old, sink.old) (source.new, sink.new) result) }
-    ensures complete { word ≢ Crew → Completes word B.Bank bank (ran S.Source K.Sink (source.old, sink.old) (source.new, sink.new) result) }
+    ensures outcome { ¬ HasThreads word → Outcome word B.Bank C.verdict (opening_of B.Bank bank kit.items admit) (ran S.Source K.Sink (source.old, sink.old) (source.new, sink.new) result) }
+    ensures complete { ¬ HasThreads word → Completes word B.Bank bank (ran S.Source K.Sink (source.old, sink.old) (source.new, sink.new) result) }
     ensures room { bank_size ≤ B.size result.1 }
 {
     match word {
@@ -165,10 +165,11 @@ fn do_word<S: Source, K: Sink, B: Bank, C: Validator>(
         Word::Make => (make_input(alloc, source, sink), bank),
         Word::Describe { shape } => (describe_input(alloc, &shape, source, sink), bank),
         Word::Crew => (USAGE, bank),
+        Word::Watch => (USAGE, bank),
     }
 }
 
-/// Does what `run` does with each word but `crew`, which is usage to it. It takes no handle for waiting.
+/// Does what `run` does with each word but `crew` and `watch`, which are usage to it. It takes no handle for waiting.
 pub fn run_in_order<S: Source, K: Sink, B: Bank, C: Validator>(
     alloc: Global,
     words: &[Bytes],
@@ -179,13 +180,13 @@ pub fn run_in_order<S: Source, K: Sink, B: Bank, C: Validator>(
 ) -> (u8, B)
     requires room { bank_size ≤ B.size bank }
     requires asked { All (λ (e : Entry C). C.asked e.check < 2 ^ 62) kit.items }
-    ensures usage { result.0 ≡ 2 → (word : CommandWord) (admit : Admitted) → Asks words.now word admit → word ≡ Crew }
-    ensures unknown { ((word : CommandWord) (admit : Admitted) → Asks words.now word admit → word ≡ Crew) → IsUnknown words.now result.0 }
-    ensures untouched { ((word : CommandWord) (admit : Admitted) → Asks words.now word admit → word ≡ Crew) → (source.new ≡ source.old) × (sink.new ≡ sink.old) × (result.1 ≡ bank) }
+    ensures usage { result.0 ≡ 2 → (word : CommandWord) (admit : Admitted) → Asks words.now word admit → HasThreads word }
+    ensures unknown { ((word : CommandWord) (admit : Admitted) → Asks words.now word admit → HasThreads word) → IsUnknown words.now result.0 }
+    ensures untouched { ((word : CommandWord) (admit : Admitted) → Asks words.now word admit → HasThreads word) → (source.new ≡ source.old) × (sink.new ≡ sink.old) × (result.1 ≡ bank) }
     ensures unread { (word : CommandWord) (admit : Admitted) → Asks words.now word admit → ReadsNothing word → source.new ≡ source.old }
-    ensures outcome { (word : CommandWord) (admit : Admitted) → Asks words.now word admit → word ≢ Crew
+    ensures outcome { (word : CommandWord) (admit : Admitted) → Asks words.now word admit → ¬ HasThreads word
         → Outcome word B.Bank C.verdict (opening_of B.Bank bank kit.items admit) (ran S.Source K.Sink (source.old, sink.old) (source.new, sink.new) result) }
-    ensures complete { (word : CommandWord) (admit : Admitted) → Asks words.now word admit → word ≢ Crew
+    ensures complete { (word : CommandWord) (admit : Admitted) → Asks words.now word admit → ¬ HasThreads word
         → Completes word B.Bank bank (ran S.Source K.Sink (source.old, sink.old) (source.new, sink.new) result) }
     ensures room { bank_size ≤ B.size result.1 }
 {

@@ -2,9 +2,10 @@
 
 ghost use Rattle.std.specs.Prelude.{◌≡◌, ◌↔◌, Some, ◌∷◌, [], codes, IfOk, IfErr};
 ghost use Rattle.tbl_kinds.specs.Admitted.{Admitted, all_admitted};
-ghost use Rattle.tbl_top.specs.Words.{Asks, AsksWithShape, Spells};
+ghost use Rattle.tbl_top.specs.Words.{Asks, AsksWithShape, HasThreads, Spells};
 ghost use Rattle.tbl_top.specs.declared.words.Word.{Word as CommandWord};
-ghost use Rattle.tbl_top.specs.declared.words.Word.TheVariants.{Crew};
+ghost use Rattle.tbl_top.specs.declared.words.Word.TheVariants.{Crew, Watch};
+ghost use Rattle.tbl_top.specs.declared.words.Telling.TheVariants.{Report, Transcript};
 
 use admit_lists::read_admit;
 use plain_text::read_decimal;
@@ -22,6 +23,8 @@ pub enum Word {
     Play,
     /// `crew`: plays them with a thread for each actor, once all of them were read.
     Crew,
+    /// `watch`: plays them like `crew`, and writes a report of the images that application 16 got.
+    Watch,
     /// `store`: writes the store as text, a line for each block.
     Store,
     /// `drill SEED ROUNDS`: plays a session that the seed decides, and writes a line that sums it up.
@@ -40,6 +43,8 @@ fn lone_word(word: &[u8]) -> Option<Word>
         Some(Word::Play)
     } else if word == b"crew".as_slice() {
         Some(Word::Crew)
+    } else if word == b"watch".as_slice() {
+        Some(Word::Watch)
     } else if word == b"store".as_slice() {
         Some(Word::Store)
     } else if word == b"make".as_slice() {
@@ -141,13 +146,24 @@ pub(crate) fn word_of(alloc: Global, words: &[Bytes]) -> Result<Option<(Word, Ad
     }
 }
 
-/// The lists of a session with a thread for each actor, where this is one.
-fn lists_of_crew(given: Option<(Word, Admit)>) -> Option<Admit>
-    ensures { (admit : Admitted) → (result ≡ Some admit) ↔ (given ≡ Some (Crew, admit)) }
+/// What is told of a session with a thread for each actor.
+#[derive(Clone, Copy)]
+pub(crate) enum Telling {
+    /// `crew`: its transcript.
+    Transcript,
+    /// `watch`: the report of the images that application 16 got.
+    Report,
+}
+
+/// What is told of a session with a thread for each actor, and its lists, where this is one.
+fn telling_of(given: Option<(Word, Admit)>) -> Option<(Telling, Admit)>
+    ensures crew { (admit : Admitted) → (result ≡ Some (Transcript, admit)) ↔ (given ≡ Some (Crew, admit)) }
+    ensures watch { (admit : Admitted) → (result ≡ Some (Report, admit)) ↔ (given ≡ Some (Watch, admit)) }
 {
     let (word, admit) = given?;
     match word {
-        Word::Crew => Some(admit),
+        Word::Crew => Some((Telling::Transcript, admit)),
+        Word::Watch => Some((Telling::Report, admit)),
         Word::Play => None,
         Word::Store => None,
         Word::Drill { .. } => None,
@@ -158,7 +174,7 @@ fn lists_of_crew(given: Option<(Word, Admit)>) -> Option<Admit>
 
 /// What the words ask for, where it is a session.
 fn session_word(words: &[Bytes]) -> Option<(Word, Admit)>
-    ensures { (admit : Admitted) → (result ≡ Some (Crew, admit)) ↔ Asks words.now Crew admit }
+    ensures { (given : CommandWord) (admit : Admitted) → HasThreads given → (result ≡ Some (given, admit)) ↔ Asks words.now given admit }
 {
     match words {
         [word] => one_word(word.bytes()),
@@ -172,9 +188,10 @@ fn session_word(words: &[Bytes]) -> Option<(Word, Admit)>
     }
 }
 
-/// The lists of a session with a thread for each actor, where the words ask for one.
-pub(crate) fn crew_lists(words: &[Bytes]) -> Option<Admit>
-    ensures { (admit : Admitted) → (result ≡ Some admit) ↔ Asks words.now Crew admit }
+/// What is told of a session with a thread for each actor, and its lists, where the words ask for one.
+pub(crate) fn threads_of(words: &[Bytes]) -> Option<(Telling, Admit)>
+    ensures crew { (admit : Admitted) → (result ≡ Some (Transcript, admit)) ↔ Asks words.now Crew admit }
+    ensures watch { (admit : Admitted) → (result ≡ Some (Report, admit)) ↔ Asks words.now Watch admit }
 {
-    lists_of_crew(session_word(words))
+    telling_of(session_word(words))
 }

@@ -7,7 +7,7 @@ use Rattle.tbl_session.specs.Session.{Session, opening_of, ran}
 use Rattle.tbl_top.specs.declared.words.Word.TheVariants.{Play}
 use Rattle.handed_kit.specs.Handed.{verdict_of}
 use Rattle.handed_kit.specs.declared.handed.Handed.{Handed}
-use Rattle.tbl_c.proofs.Beginnings.{asks_play, not_crew, few_asked}
+use Rattle.tbl_c.proofs.Beginnings.{asks_play, without_threads, few_asked}
 use Rattle.tbl_c.proofs.playing.play.Goals as goal
 
 abbrev texts : List Buffer → List (List ℕ)
@@ -22,7 +22,7 @@ returns-clause-session g c =
     let r = ran g.S.Source g.K.Sink (c.args.source.now, c.args.sink.now) (c.run_in_order.new.source, c.run_in_order.new.sink) c.run_in_order.result in
     let asks = asks_play c.deref.result.now (ap texts c.deref.ensures.value ∙ c.in_ok-words.ensures) in
     subst (λ (entries : List (KitEntry Handed)). Session InOrder b verdict_of (opening_of b c.args.bank entries all_admitted) r) c.in_ok-kit.ensures.entries
-    (c.run_in_order.ensures.outcome Play all_admitted asks not_crew)
+    (c.run_in_order.ensures.outcome Play all_admitted asks without_threads)
 
 pub returns-clause-complete : goal.returns-clause-complete
-returns-clause-complete g c = c.run_in_order.ensures.complete Play all_admitted (asks_play c.deref.result.now (ap texts c.deref.ensures.value ∙ c.in_ok-words.ensures)) not_crew
+returns-clause-complete g c = c.run_in_order.ensures.complete Play all_admitted (asks_play c.deref.result.now (ap texts c.deref.ensures.value ∙ c.in_ok-words.ensures)) without_threads

@@ -1,42 +1,94 @@
+use Rattle.std.proofs.Common.{◌≡◌, Option, Some, ap, ◌∙◌}
 use Rattle.tbl_session.specs.Orders.{ByActor}
 use Rattle.tbl_session.specs.Session.{opening_of, ran}
+use Rattle.tbl_top.specs.Watching.{Watched, but_for_sink}
 use Rattle.tbl_top.specs.Words.{Completes, Outcome, ReadsNothing}
-use Rattle.tbl_top.specs.declared.words.Word.TheVariants.{Crew}
+use Rattle.tbl_top.specs.declared.words.Telling.{Telling}
+use Rattle.tbl_top.specs.declared.words.Telling.TheVariants.{Transcript, Report}
+use Rattle.tbl_top.specs.declared.words.Word.TheVariants.{Crew, Watch}
 use Rattle.tbl_top.proofs.CompletenessLemmas.{complete}
-use Rattle.tbl_top.proofs.WordsLemmas.{crew_asked, of_crew_lists, no_crew}
+use Rattle.tbl_top.proofs.WordsLemmas.{Told, threads_asked, of_threads, no_threads}
 use Rattle.tbl_top.proofs.running.run.Goals as goal
 
-pub returns-in-Some-clause-usage : goal.returns-in-Some-clause-usage
-returns-in-Some-clause-usage g c two = absurd (c.run_crew.ensures.not_usage two)
+-- ---- crew
 
-pub returns-in-Some-clause-unknown : goal.returns-in-Some-clause-unknown
-returns-in-Some-clause-unknown g c none = absurd (none Crew c.in-Some.admit (crew_asked c.args.words.now c.crew_lists.result c.in-Some.admit c.in-Some.is c.crew_lists.ensures))
+pub returns-in-Some-Transcript-default-clause-usage : goal.returns-in-Some-Transcript-default-clause-usage
+returns-in-Some-Transcript-default-clause-usage g c two = absurd (c.run_crew.ensures.not_usage two)
 
-pub returns-in-Some-clause-untouched : goal.returns-in-Some-clause-untouched
-returns-in-Some-clause-untouched g c none = absurd (none Crew c.in-Some.admit (crew_asked c.args.words.now c.crew_lists.result c.in-Some.admit c.in-Some.is c.crew_lists.ensures))
+pub returns-in-Some-Transcript-default-clause-unknown : goal.returns-in-Some-Transcript-default-clause-unknown
+returns-in-Some-Transcript-default-clause-unknown g c none =
+    let is : ◌≡◌ {A = Option Told} c.threads_of.result (Some (Transcript, c.in-Some-Transcript-default.admit)) = c.in-Some-Transcript-default.is ∙ ap (λ (telling : Telling). Some (telling, c.in-Some-Transcript-default.admit)) c.in-Some-Transcript-default.field-0-0-is in
+    absurd (none Crew c.in-Some-Transcript-default.admit (threads_asked c.args.words.now Crew tt Transcript c.threads_of.result c.in-Some-Transcript-default.admit is c.threads_of.ensures.crew))
 
--- a session needs its records
-pub returns-in-Some-clause-unread : goal.returns-in-Some-clause-unread
-returns-in-Some-clause-unread g c word admit asks reads =
-    absurd (of_crew_lists c.args.words.now c.crew_lists.result c.in-Some.admit c.in-Some.is c.crew_lists.ensures (λ w lists. ReadsNothing w → ⊥) word admit asks (λ none. none) reads)
+pub returns-in-Some-Transcript-default-clause-untouched : goal.returns-in-Some-Transcript-default-clause-untouched
+returns-in-Some-Transcript-default-clause-untouched g c none =
+    let is : ◌≡◌ {A = Option Told} c.threads_of.result (Some (Transcript, c.in-Some-Transcript-default.admit)) = c.in-Some-Transcript-default.is ∙ ap (λ (telling : Telling). Some (telling, c.in-Some-Transcript-default.admit)) c.in-Some-Transcript-default.field-0-0-is in
+    absurd (none Crew c.in-Some-Transcript-default.admit (threads_asked c.args.words.now Crew tt Transcript c.threads_of.result c.in-Some-Transcript-default.admit is c.threads_of.ensures.crew))
 
-pub returns-in-Some-clause-outcome : goal.returns-in-Some-clause-outcome
-returns-in-Some-clause-outcome g c word admit asks =
+pub returns-in-Some-Transcript-default-clause-unread : goal.returns-in-Some-Transcript-default-clause-unread
+returns-in-Some-Transcript-default-clause-unread g c word admit asks reads =
+    let is : ◌≡◌ {A = Option Told} c.threads_of.result (Some (Transcript, c.in-Some-Transcript-default.admit)) = c.in-Some-Transcript-default.is ∙ ap (λ (telling : Telling). Some (telling, c.in-Some-Transcript-default.admit)) c.in-Some-Transcript-default.field-0-0-is in
+    absurd (of_threads c.args.words.now Crew tt Transcript c.threads_of.result c.in-Some-Transcript-default.admit is c.threads_of.ensures.crew (λ w lists. ReadsNothing w → ⊥) word admit asks (λ none. none) reads)
+
+pub returns-in-Some-Transcript-default-clause-outcome : goal.returns-in-Some-Transcript-default-clause-outcome
+returns-in-Some-Transcript-default-clause-outcome g c word admit asks =
+    let is : ◌≡◌ {A = Option Told} c.threads_of.result (Some (Transcript, c.in-Some-Transcript-default.admit)) = c.in-Some-Transcript-default.is ∙ ap (λ (telling : Telling). Some (telling, c.in-Some-Transcript-default.admit)) c.in-Some-Transcript-default.field-0-0-is in
     let b = g.B.Bank in
     let r = ran g.S.Source g.K.Sink (c.args.source.now, c.args.sink.now) (c.run_crew.new.source, c.run_crew.new.sink) c.run_crew.result in
-    of_crew_lists c.args.words.now c.crew_lists.result c.in-Some.admit c.in-Some.is c.crew_lists.ensures (λ w lists. Outcome w b g.C.Validator.verdict (opening_of b c.args.bank c.args.kit.items lists) r) word admit asks
+    of_threads c.args.words.now Crew tt Transcript c.threads_of.result c.in-Some-Transcript-default.admit is c.threads_of.ensures.crew (λ w lists. Outcome w b g.C.Validator.verdict (opening_of b c.args.bank c.args.kit.items lists) r) word admit asks
     c.run_crew.ensures.session
 
-pub returns-in-Some-clause-complete : goal.returns-in-Some-clause-complete
-returns-in-Some-clause-complete g c word admit asks =
+pub returns-in-Some-Transcript-default-clause-complete : goal.returns-in-Some-Transcript-default-clause-complete
+returns-in-Some-Transcript-default-clause-complete g c word admit asks =
+    let is : ◌≡◌ {A = Option Told} c.threads_of.result (Some (Transcript, c.in-Some-Transcript-default.admit)) = c.in-Some-Transcript-default.is ∙ ap (λ (telling : Telling). Some (telling, c.in-Some-Transcript-default.admit)) c.in-Some-Transcript-default.field-0-0-is in
     let b = g.B.Bank in
     let r = ran g.S.Source g.K.Sink (c.args.source.now, c.args.sink.now) (c.run_crew.new.source, c.run_crew.new.sink) c.run_crew.result in
-    of_crew_lists c.args.words.now c.crew_lists.result c.in-Some.admit c.in-Some.is c.crew_lists.ensures (λ w lists. Completes w b c.args.bank r) word admit asks
-    (complete ByActor b g.C.Validator.verdict (opening_of b c.args.bank c.args.kit.items c.in-Some.admit) r c.run_crew.ensures.session)
+    of_threads c.args.words.now Crew tt Transcript c.threads_of.result c.in-Some-Transcript-default.admit is c.threads_of.ensures.crew (λ w lists. Completes w b c.args.bank r) word admit asks
+    (complete ByActor b g.C.Validator.verdict (opening_of b c.args.bank c.args.kit.items c.in-Some-Transcript-default.admit) r c.run_crew.ensures.session)
+
+-- ---- watch
+
+pub returns-in-Some-Report-default-clause-usage : goal.returns-in-Some-Report-default-clause-usage
+returns-in-Some-Report-default-clause-usage g c two = absurd (c.run_watch.ensures.not_usage two)
+
+pub returns-in-Some-Report-default-clause-unknown : goal.returns-in-Some-Report-default-clause-unknown
+returns-in-Some-Report-default-clause-unknown g c none =
+    let is : ◌≡◌ {A = Option Told} c.threads_of.result (Some (Report, c.in-Some-Report-default.admit)) = c.in-Some-Report-default.is ∙ ap (λ (telling : Telling). Some (telling, c.in-Some-Report-default.admit)) c.in-Some-Report-default.field-0-0-is in
+    absurd (none Watch c.in-Some-Report-default.admit (threads_asked c.args.words.now Watch tt Report c.threads_of.result c.in-Some-Report-default.admit is c.threads_of.ensures.watch))
+
+pub returns-in-Some-Report-default-clause-untouched : goal.returns-in-Some-Report-default-clause-untouched
+returns-in-Some-Report-default-clause-untouched g c none =
+    let is : ◌≡◌ {A = Option Told} c.threads_of.result (Some (Report, c.in-Some-Report-default.admit)) = c.in-Some-Report-default.is ∙ ap (λ (telling : Telling). Some (telling, c.in-Some-Report-default.admit)) c.in-Some-Report-default.field-0-0-is in
+    absurd (none Watch c.in-Some-Report-default.admit (threads_asked c.args.words.now Watch tt Report c.threads_of.result c.in-Some-Report-default.admit is c.threads_of.ensures.watch))
+
+pub returns-in-Some-Report-default-clause-unread : goal.returns-in-Some-Report-default-clause-unread
+returns-in-Some-Report-default-clause-unread g c word admit asks reads =
+    let is : ◌≡◌ {A = Option Told} c.threads_of.result (Some (Report, c.in-Some-Report-default.admit)) = c.in-Some-Report-default.is ∙ ap (λ (telling : Telling). Some (telling, c.in-Some-Report-default.admit)) c.in-Some-Report-default.field-0-0-is in
+    absurd (of_threads c.args.words.now Watch tt Report c.threads_of.result c.in-Some-Report-default.admit is c.threads_of.ensures.watch (λ w lists. ReadsNothing w → ⊥) word admit asks (λ none. none) reads)
+
+pub returns-in-Some-Report-default-clause-outcome : goal.returns-in-Some-Report-default-clause-outcome
+returns-in-Some-Report-default-clause-outcome g c word admit asks =
+    let is : ◌≡◌ {A = Option Told} c.threads_of.result (Some (Report, c.in-Some-Report-default.admit)) = c.in-Some-Report-default.is ∙ ap (λ (telling : Telling). Some (telling, c.in-Some-Report-default.admit)) c.in-Some-Report-default.field-0-0-is in
+    let b = g.B.Bank in
+    let r = ran g.S.Source g.K.Sink (c.args.source.now, c.args.sink.now) (c.run_watch.new.source, c.run_watch.new.sink) c.run_watch.result in
+    of_threads c.args.words.now Watch tt Report c.threads_of.result c.in-Some-Report-default.admit is c.threads_of.ensures.watch (λ w lists. Outcome w b g.C.Validator.verdict (opening_of b c.args.bank c.args.kit.items lists) r) word admit asks
+    c.run_watch.ensures.watches
+
+pub returns-in-Some-Report-default-clause-complete : goal.returns-in-Some-Report-default-clause-complete
+returns-in-Some-Report-default-clause-complete g c word admit asks =
+    let is : ◌≡◌ {A = Option Told} c.threads_of.result (Some (Report, c.in-Some-Report-default.admit)) = c.in-Some-Report-default.is ∙ ap (λ (telling : Telling). Some (telling, c.in-Some-Report-default.admit)) c.in-Some-Report-default.field-0-0-is in
+    let b = g.B.Bank in
+    let r = ran g.S.Source g.K.Sink (c.args.source.now, c.args.sink.now) (c.run_watch.new.source, c.run_watch.new.sink) c.run_watch.result in
+    of_threads c.args.words.now Watch tt Report c.threads_of.result c.in-Some-Report-default.admit is c.threads_of.ensures.watch (λ w lists. Completes w b c.args.bank r) word admit asks
+    (let told = c.run_watch.ensures.watches in
+    let o = opening_of b c.args.bank c.args.kit.items c.in-Some-Report-default.admit in
+    complete (Watched b o told.looks) b g.C.Validator.verdict o (but_for_sink r) told.session)
+
+-- ---- any other word
 
 pub returns-in-None-clause-usage : goal.returns-in-None-clause-usage
 returns-in-None-clause-usage g c two word admit asks =
-    no_crew c.args.words.now c.crew_lists.result c.in-None.is c.crew_lists.ensures word admit asks (c.run_in_order.ensures.usage two word admit asks)
+    no_threads c.args.words.now c.threads_of.result c.in-None.is c.threads_of.ensures.crew c.threads_of.ensures.watch word admit asks (c.run_in_order.ensures.usage two word admit asks)
 
 pub returns-in-None-clause-unknown : goal.returns-in-None-clause-unknown
 returns-in-None-clause-unknown g c none = c.run_in_order.ensures.unknown (λ word admit asks. absurd (none word admit asks))
@@ -46,8 +98,8 @@ returns-in-None-clause-untouched g c none = c.run_in_order.ensures.untouched (λ
 
 pub returns-in-None-clause-outcome : goal.returns-in-None-clause-outcome
 returns-in-None-clause-outcome g c word admit asks =
-    c.run_in_order.ensures.outcome word admit asks (no_crew c.args.words.now c.crew_lists.result c.in-None.is c.crew_lists.ensures word admit asks)
+    c.run_in_order.ensures.outcome word admit asks (no_threads c.args.words.now c.threads_of.result c.in-None.is c.threads_of.ensures.crew c.threads_of.ensures.watch word admit asks)
 
 pub returns-in-None-clause-complete : goal.returns-in-None-clause-complete
 returns-in-None-clause-complete g c word admit asks =
-    c.run_in_order.ensures.complete word admit asks (no_crew c.args.words.now c.crew_lists.result c.in-None.is c.crew_lists.ensures word admit asks)
+    c.run_in_order.ensures.complete word admit asks (no_threads c.args.words.now c.threads_of.result c.in-None.is c.threads_of.ensures.crew c.threads_of.ensures.watch word admit asks)

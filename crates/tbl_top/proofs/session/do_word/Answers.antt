@@ -1,10 +1,9 @@
-use Rattle.std.proofs.Common.{◌≡◌, None, refl, sym, subst, ◌∙◌}
+use Rattle.std.proofs.Common.{None, refl, sym, subst}
 use Rattle.tbl_session.specs.Orders.{InOrder}
 use Rattle.tbl_session.specs.Session.{opening_of, ran}
 use Rattle.maker_words.proofs.Answering.{makes_not_usage, describes_not_usage}
-use Rattle.tbl_top.specs.Words.{Completes, Outcome}
+use Rattle.tbl_top.specs.Words.{Completes, HasThreads, Outcome}
 use Rattle.tbl_top.specs.declared.words.Word.{Word}
-use Rattle.tbl_top.specs.declared.words.Word.TheVariants.{Play, Crew, Store, Drill, Make, Describe}
 use Rattle.tbl_top.proofs.CompletenessLemmas.{complete}
 use Rattle.tbl_top.proofs.DrillLemmas.{drills_not_usage, drills_through}
 use Rattle.tbl_top.proofs.ListingLemmas.{lists_not_usage, lists_through}
@@ -15,8 +14,8 @@ use Rattle.tbl_top.proofs.session.do_word.Goals as goal
 pub returns-in-Play-clause-usage : goal.returns-in-Play-clause-usage
 returns-in-Play-clause-usage g c two = absurd (c.play_in_order.ensures.not_usage two)
 
-pub returns-in-Play-clause-crew : goal.returns-in-Play-clause-crew
-returns-in-Play-clause-crew g c crew = let both : Play ≡ Crew = sym c.in-Play.is ∙ crew in absurd (cc)
+pub returns-in-Play-clause-threads : goal.returns-in-Play-clause-threads
+returns-in-Play-clause-threads g c threads = absurd (subst HasThreads c.in-Play.is threads)
 
 pub returns-in-Play-clause-outcome : goal.returns-in-Play-clause-outcome
 returns-in-Play-clause-outcome g c other =
@@ -36,8 +35,8 @@ returns-in-Play-clause-complete g c other =
 pub returns-in-Store-clause-usage : goal.returns-in-Store-clause-usage
 returns-in-Store-clause-usage g c two = absurd (lists_not_usage g.B.Bank _ _ _ _ _ c.list_store-status.ensures.listing two)
 
-pub returns-in-Store-clause-crew : goal.returns-in-Store-clause-crew
-returns-in-Store-clause-crew g c crew = let both : Store ≡ Crew = sym c.in-Store.is ∙ crew in absurd (cc)
+pub returns-in-Store-clause-threads : goal.returns-in-Store-clause-threads
+returns-in-Store-clause-threads g c threads = absurd (subst HasThreads c.in-Store.is threads)
 
 pub returns-in-Store-clause-outcome : goal.returns-in-Store-clause-outcome
 returns-in-Store-clause-outcome g c other =
@@ -61,8 +60,8 @@ returns-in-Drill-clause-usage g c two =
     let o = opening_of g.B.Bank c.args.bank c.args.kit.items c.args.admit in
     absurd (drills_not_usage c.in-Drill.seed c.in-Drill.rounds g.B.Bank g.C.Validator.verdict o _ (c.run_drill.ensures.drill None 0) two)
 
-pub returns-in-Drill-clause-crew : goal.returns-in-Drill-clause-crew
-returns-in-Drill-clause-crew g c crew = let both : Drill c.in-Drill.seed c.in-Drill.rounds ≡ Crew = sym c.in-Drill.is ∙ crew in absurd (cc)
+pub returns-in-Drill-clause-threads : goal.returns-in-Drill-clause-threads
+returns-in-Drill-clause-threads g c threads = absurd (subst HasThreads c.in-Drill.is threads)
 
 pub returns-in-Drill-clause-outcome : goal.returns-in-Drill-clause-outcome
 returns-in-Drill-clause-outcome g c other =
@@ -84,8 +83,8 @@ returns-in-Drill-clause-complete g c other =
 pub returns-in-Make-clause-usage : goal.returns-in-Make-clause-usage
 returns-in-Make-clause-usage g c two = absurd (makes_not_usage _ _ _ _ _ c.make_input.ensures.answers two)
 
-pub returns-in-Make-clause-crew : goal.returns-in-Make-clause-crew
-returns-in-Make-clause-crew g c crew = let both : Make ≡ Crew = sym c.in-Make.is ∙ crew in absurd (cc)
+pub returns-in-Make-clause-threads : goal.returns-in-Make-clause-threads
+returns-in-Make-clause-threads g c threads = absurd (subst HasThreads c.in-Make.is threads)
 
 pub returns-in-Make-clause-outcome : goal.returns-in-Make-clause-outcome
 returns-in-Make-clause-outcome g c other =
@@ -105,8 +104,8 @@ returns-in-Make-clause-complete g c other =
 pub returns-in-Describe-clause-usage : goal.returns-in-Describe-clause-usage
 returns-in-Describe-clause-usage g c two = absurd (describes_not_usage c.in-Describe.shape _ _ _ _ _ c.describe_input.ensures.answers two)
 
-pub returns-in-Describe-clause-crew : goal.returns-in-Describe-clause-crew
-returns-in-Describe-clause-crew g c crew = let both : Describe c.in-Describe.shape ≡ Crew = sym c.in-Describe.is ∙ crew in absurd (cc)
+pub returns-in-Describe-clause-threads : goal.returns-in-Describe-clause-threads
+returns-in-Describe-clause-threads g c threads = absurd (subst HasThreads c.in-Describe.is threads)
 
 pub returns-in-Describe-clause-outcome : goal.returns-in-Describe-clause-outcome
 returns-in-Describe-clause-outcome g c other =
@@ -120,3 +119,23 @@ returns-in-Describe-clause-complete g c other =
     let b = g.B.Bank in
     let r = ran g.S.Source g.K.Sink (c.args.source.now, c.args.sink.now) (c.describe_input.new.source, c.describe_input.new.sink) (c.describe_input.result, c.args.bank) in
     subst (λ (w : Word). Completes w b c.args.bank r) (sym c.in-Describe.is) c.describe_input.ensures.complete
+
+-- ---- crew and watch
+
+pub returns-in-Crew-clause-usage : goal.returns-in-Crew-clause-usage
+returns-in-Crew-clause-usage g c two = subst HasThreads (sym c.in-Crew.is) tt
+
+pub returns-in-Crew-clause-outcome : goal.returns-in-Crew-clause-outcome
+returns-in-Crew-clause-outcome g c other = absurd (other (subst HasThreads (sym c.in-Crew.is) tt))
+
+pub returns-in-Crew-clause-complete : goal.returns-in-Crew-clause-complete
+returns-in-Crew-clause-complete g c other = absurd (other (subst HasThreads (sym c.in-Crew.is) tt))
+
+pub returns-in-Watch-clause-usage : goal.returns-in-Watch-clause-usage
+returns-in-Watch-clause-usage g c two = subst HasThreads (sym c.in-Watch.is) tt
+
+pub returns-in-Watch-clause-outcome : goal.returns-in-Watch-clause-outcome
+returns-in-Watch-clause-outcome g c other = absurd (other (subst HasThreads (sym c.in-Watch.is) tt))
+
+pub returns-in-Watch-clause-complete : goal.returns-in-Watch-clause-complete
+returns-in-Watch-clause-complete g c other = absurd (other (subst HasThreads (sym c.in-Watch.is) tt))

@@ -1,7 +1,6 @@
-use Rattle.std.proofs.Common.{◌≡◌, ◌≢◌, inl, inr, refl}
+use Rattle.std.proofs.Common.{◌≡◌, inl, inr, refl}
 use Rattle.tbl_session.specs.Session.{opening_of, ran}
-use Rattle.tbl_top.specs.Words.{Completes, Outcome, ReadsNothing}
-use Rattle.tbl_top.specs.declared.words.Word.TheVariants.{Crew}
+use Rattle.tbl_top.specs.Words.{Completes, HasThreads, Outcome, ReadsNothing}
 use Rattle.tbl_top.proofs.MakerLemmas.{starved, starved_through}
 use Rattle.tbl_top.proofs.WordsLemmas.{drill_rounds, of_found, found_asked}
 use Rattle.tbl_top.proofs.session.run_in_order.Goals as goal
@@ -31,17 +30,17 @@ do_word-requires-clause-few g c seed rounds is =
 
 pub returns-in-Some-clause-usage : goal.returns-in-Some-clause-usage
 returns-in-Some-clause-usage g c two word admit asks =
-    of_found c.args.words.now c.in-Some.word c.in-Some.admit c.in-Ok.found c.in-Some.is c.in-Ok.ensures.told (λ w lists. w ≡ Crew) word admit asks (c.do_word.ensures.usage two)
+    of_found c.args.words.now c.in-Some.word c.in-Some.admit c.in-Ok.found c.in-Some.is c.in-Ok.ensures.told (λ w lists. HasThreads w) word admit asks (c.do_word.ensures.usage two)
 
 pub returns-in-Some-clause-unknown : goal.returns-in-Some-clause-unknown
 returns-in-Some-clause-unknown g c alone =
     let asked = found_asked c.args.words.now c.in-Some.word c.in-Some.admit c.in-Ok.found c.in-Some.is c.in-Ok.ensures.told in
-    inl (c.do_word.ensures.crew (alone c.in-Some.word c.in-Some.admit asked)).0
+    inl (c.do_word.ensures.threads (alone c.in-Some.word c.in-Some.admit asked)).0
 
 pub returns-in-Some-clause-untouched : goal.returns-in-Some-clause-untouched
 returns-in-Some-clause-untouched g c alone =
     let asked = found_asked c.args.words.now c.in-Some.word c.in-Some.admit c.in-Ok.found c.in-Some.is c.in-Ok.ensures.told in
-    let same = c.do_word.ensures.crew (alone c.in-Some.word c.in-Some.admit asked) in
+    let same = c.do_word.ensures.threads (alone c.in-Some.word c.in-Some.admit asked) in
     (same.1, same.2, same.3)
 
 pub returns-in-Some-clause-unread : goal.returns-in-Some-clause-unread
@@ -54,12 +53,12 @@ returns-in-Some-clause-outcome g c word admit asks =
     let b = g.B.Bank in
     let r = ran g.S.Source g.K.Sink (c.args.source.now, c.args.sink.now) (c.do_word.new.source, c.do_word.new.sink) c.do_word.result in
     of_found c.args.words.now c.in-Some.word c.in-Some.admit c.in-Ok.found c.in-Some.is c.in-Ok.ensures.told
-    (λ w lists. w ≢ Crew → Outcome w b g.C.Validator.verdict (opening_of b c.args.bank c.args.kit.items lists) r) word admit asks
+    (λ w lists. ¬ HasThreads w → Outcome w b g.C.Validator.verdict (opening_of b c.args.bank c.args.kit.items lists) r) word admit asks
     c.do_word.ensures.outcome
 
 pub returns-in-Some-clause-complete : goal.returns-in-Some-clause-complete
 returns-in-Some-clause-complete g c word admit asks =
     let b = g.B.Bank in
     let r = ran g.S.Source g.K.Sink (c.args.source.now, c.args.sink.now) (c.do_word.new.source, c.do_word.new.sink) c.do_word.result in
-    of_found c.args.words.now c.in-Some.word c.in-Some.admit c.in-Ok.found c.in-Some.is c.in-Ok.ensures.told (λ w lists. w ≢ Crew → Completes w b c.args.bank r) word admit asks
+    of_found c.args.words.now c.in-Some.word c.in-Some.admit c.in-Ok.found c.in-Some.is c.in-Ok.ensures.told (λ w lists. ¬ HasThreads w → Completes w b c.args.bank r) word admit asks
     c.do_word.ensures.complete

@@ -1,0 +1,222 @@
+-- From what a watched crew played to the report that was told.
+use Rattle.std.proofs.Common.{◌≡◌, ◌≢◌, ◌≤◌, ◌⊎◌, ℕ, ℤ, eqb, Bool, true, List, [], length, Option, Some, None, refl, sym, ap, subst, ◌∙◌, arith, inl, inr}
+use Rattle.std.specs.Io.KnownBytes.{prepend_known, IsAtEnd}
+use Rattle.tbl_kinds.specs.Records.{Pair}
+use Rattle.tbl_kinds.specs.StoreSteps.{Shows}
+use Rattle.cds_layout.specs.Images.{store_of}
+use Rattle.table_watch.specs.Report.{report}
+use Rattle.table_watch.specs.Watching.{watched_by}
+use Rattle.table_watch.specs.declared.watch.Look.{Look}
+use Rattle.tbl_outside.specs.Bank.{LeavesOnly}
+use Rattle.tbl_outside.specs.Counts.{Rose}
+use Rattle.tbl_outside.specs.declared.bank.Bank.{Ghosts}
+use Rattle.tbl_model.specs.State.{State}
+use Rattle.tbl_core.specs.Service.{CoreView, StartCounted}
+use Rattle.tbl_core.specs.declared.service.StepFault.TheVariants.{Memory as NoMemory, BootFault as Faulted, BootStopped as Stopped}
+use Rattle.tbl_core.specs.declared.service.StartFault.{StartFault}
+use Rattle.tbl_core.specs.declared.service.StartFault.TheVariants.{Memory as NoStart, BootFault as FirstFault, BootStopped as FirstStopped}
+use Rattle.tbl_crew.specs.CrewView.{TellsFault}
+use Rattle.tbl_crew.specs.Histories.{HavePlayed}
+use Rattle.tbl_crew.specs.Scripts.{script_of}
+use Rattle.tbl_crew.specs.Watching.{IsWatched}
+use Rattle.tbl_crew.specs.declared.watching.WatchEnd.{WatchEnd}
+use Rattle.tbl_crew.specs.declared.watching.WatchEnd.TheVariants.{Step, Memory as NoLook}
+use Rattle.tbl_history.specs.Trouble.{IsCaused}
+use Rattle.tbl_history.proofs.Laws.{Laws}
+use Rattle.tbl_session.specs.Actors.{part}
+use Rattle.tbl_session.specs.Openings.{Opening, IsFirst}
+use Rattle.tbl_session.specs.Served.{IsServed}
+use Rattle.tbl_session.specs.Session.{Ran, Session}
+use Rattle.tbl_top.specs.Finishing.{Taken, Finishes, FinishesUnbegun, status_of, unbegun_status}
+use Rattle.tbl_top.specs.Listing.{TellsText}
+use Rattle.tbl_top.specs.Reading.{HasRead}
+use Rattle.tbl_top.specs.Standing.{IsOfInput, StandsBehind, TellsBoot, TellsCause, TellsWritten, standing_behind}
+use Rattle.tbl_top.specs.Watching.{ReportsAs, Watched, Watches, but_for_sink, fault_of}
+use Rattle.tbl_top.specs.declared.playback.Standing.{Standing}
+use Rattle.tbl_top.specs.declared.playback.Standing.TheVariants.{Open, Bad, Full, BootFault, BootStopped, SinkFailed, Memory, Unwritten}
+use Rattle.tbl_top.proofs.CrewLemmas.{behind_boot, behind_cause, by_actor, none_behind, nothing_requested, read_behind}
+use Rattle.tbl_top.proofs.SessionLemmas.{session_of, unbegun}
+use Rattle.tbl_top.proofs.StatusLemmas.{known_not_usage, status_is}
+use Rattle.tbl_kinds.specs.declared.entry.Entry.{Entry}
+use Rattle.tbl_kinds.specs.declared.request.Request.{Request}
+
+-- ---- what was played, whatever ended it
+
+module _ {B C : Type 0} (g : Ghosts B) (verdict : C → List ℕ → ℤ) (o : Opening B C) (scripts : List (List Request)) (core : CoreView B C) where
+  served : (end : Option WatchEnd) (looks : List Look) → IsWatched g verdict o scripts end looks core → IsServed g verdict o core.state.store.bank core.entries
+  served None looks is = is.0.served
+  served (Some (Step cause)) looks is = is.served
+  served (Some NoLook) looks is = is.served
+
+  have_played : (end : Option WatchEnd) (looks : List Look) → IsWatched g verdict o scripts end looks core → HavePlayed (fault_of end) scripts core.entries
+  have_played None looks is = is.0.played
+  have_played (Some (Step cause)) looks is = is.played
+  have_played (Some NoLook) looks is = is.played
+
+  caused : (end : Option WatchEnd) (looks : List Look) → IsWatched g verdict o scripts end looks core → IsCaused g o.bank core
+  caused None looks is = is.0.caused
+  caused (Some (Step cause)) looks is = is.caused
+  caused (Some NoLook) looks is = is.caused
+
+  tells_fault : (end : Option WatchEnd) (looks : List Look) → IsWatched g verdict o scripts end looks core → TellsFault (fault_of end) core
+  tells_fault None looks is = is.0.ended
+  tells_fault (Some (Step cause)) looks is = is.ended
+  tells_fault (Some NoLook) looks is = is.live
+
+-- the looks of the report: those of the watch, unless something ended the crew
+abbrev looks_told : Option WatchEnd → List Look → List Look → List Look
+looks_told None watched all = watched
+looks_told (Some why) watched all = all
+
+module _ {B C : Type 0} (g : Ghosts B) (verdict : C → List ℕ → ℤ) (o : Opening B C) (scripts : List (List Request)) (core : CoreView B C) where
+  looks_are : (end : Option WatchEnd) (looks : List Look) → IsWatched g verdict o scripts end looks core → g.tells → looks_told end looks (watched_by o.state core.entries) ≡ watched_by o.state core.entries
+  looks_are None looks is tells = is.1 tells
+  looks_are (Some why) looks is tells = refl
+
+-- what ended a crew leaves no report
+fault_status : (why : WatchEnd) (read : Standing) (failed whole : Bool) → (status_of (standing_behind (fault_of (Some why)) read) failed whole ≢ 0) × (status_of (standing_behind (fault_of (Some why)) read) failed whole ≢ 4)
+fault_status (Step NoMemory) read failed whole = (λ e. omega (arith, e), λ e. omega (arith, e))
+fault_status (Step Faulted) read failed whole = (λ e. omega (arith, e), λ e. omega (arith, e))
+fault_status (Step Stopped) read failed whole = (λ e. omega (arith, e), λ e. omega (arith, e))
+fault_status NoLook read failed whole = (λ e. omega (arith, e), λ e. omega (arith, e))
+
+-- nor after a status with which nothing was to be written
+no_report : (status result : ℕ) → ReportsAs status result → (status ≢ 0) → (status ≢ 4) → (result ≢ 0) × (result ≢ 4)
+no_report status result (inl same) not_zero not_four = (λ e. not_zero (sym same ∙ e), λ e. not_four (sym same ∙ e))
+no_report status result (inr broken) not_zero not_four = absurd (not_zero broken.0)
+
+text_told : (end : Option WatchEnd) (watched all : List Look) (read : Standing) (failed whole : Bool) (result : ℕ) (before after : Taken) → ReportsAs (status_of (standing_behind (fault_of end) read) failed whole) result
+    → TellsText result (report watched) before after → TellsText result (report (looks_told end watched all)) before after
+text_told None watched all read failed whole result before after ends told = told
+text_told (Some why) watched all read failed whole result before after ends told =
+    let status = fault_status why read failed whole in
+    let no = no_report _ result ends status.0 status.1 in
+    record { whole = λ zero. absurd (no.0 zero); broken = λ four. absurd (no.1 four); silent = told.silent }
+
+-- ---- beside a sink that doesn't tell what it took
+
+untold : (s : Standing) (entries : List Entry) → TellsWritten s None entries None
+untold Open entries = refl
+untold Bad entries = refl
+untold Full entries = refl
+untold BootFault entries = refl
+untold BootStopped entries = refl
+untold Memory entries = refl
+untold SinkFailed entries = record { count = 0; grown = refl }
+untold Unwritten entries = record { count = 0; grown = refl }
+
+finishes : (s : Standing) (failed whole : Bool) (result : ℕ) (entries : List Entry) (faults faults_then : ℕ) → result ≡ status_of s failed whole → Finishes s (status_of s failed whole) result entries (None, faults) (None, faults_then)
+finishes Open failed whole result entries faults faults_then is = inl (is, refl)
+finishes Bad failed whole result entries faults faults_then is = inl (is, refl)
+finishes Full failed whole result entries faults faults_then is = inl (is, refl)
+finishes BootFault failed whole result entries faults faults_then is = inl (is, refl)
+finishes BootStopped failed whole result entries faults faults_then is = inl (is, refl)
+finishes Memory failed whole result entries faults faults_then is = inl (is, refl)
+finishes SinkFailed failed whole result entries faults faults_then is = (is, refl)
+finishes Unwritten failed whole result entries faults faults_then is = (is, refl)
+
+-- the sink failed
+breaks : (s : Standing) (failed whole : Bool) (result : ℕ) (entries : List Entry) (faults faults_then : ℕ) → status_of s failed whole ≡ 0 → result ≡ 4 → Rose faults faults_then
+    → Finishes s (status_of s failed whole) result entries (None, faults) (None, faults_then)
+breaks Open failed whole result entries faults faults_then zero four rose = inr (four, record { count = 0; grown = refl }, rose)
+breaks Bad failed whole result entries faults faults_then zero four rose = absurd (omega (arith, zero))
+breaks Full failed whole result entries faults faults_then zero four rose = absurd (omega (arith, zero))
+breaks BootFault failed whole result entries faults faults_then zero four rose = absurd (omega (arith, zero))
+breaks BootStopped failed whole result entries faults faults_then zero four rose = absurd (omega (arith, zero))
+breaks Memory failed whole result entries faults faults_then zero four rose = absurd (omega (arith, zero))
+breaks SinkFailed failed whole result entries faults faults_then zero four rose = absurd (omega (arith, zero))
+breaks Unwritten failed whole result entries faults faults_then zero four rose = absurd (omega (arith, zero))
+
+-- ---- the session
+
+module _ {B C : Type 0} (g : Ghosts B) (verdict : C → List ℕ → ℤ) (o : Opening B C) (scripts : List (List Request)) (core : CoreView B C) (end : Option WatchEnd) (looks : List Look)
+    (is : IsWatched g verdict o scripts end looks core) (read : Standing) (pairs : List Pair) (kept bytes : List ℕ) (failed : Bool) (r : Ran B)
+    (bank_is : r.bank_then ≡ core.state.store.bank) (came : r.left ≡ prepend_known bytes r.left_then) (same : (actor : ℕ) → script_of scripts actor ≡ part actor pairs)
+    (has : HasRead read pairs kept bytes failed (IsAtEnd r.left_then)) (input : IsOfInput read) (cause : failed ≡ true → Rose r.unread r.unread_then) (up : r.unwritten ≤ r.unwritten_then) where
+  abbrev Looks : List Look
+  Looks = looks_told end looks (watched_by o.state core.entries)
+
+  abbrev Stands : Standing
+  Stands = standing_behind (fault_of end) read
+
+  abbrev status_at : Standing → ℕ
+  status_at s = status_of s failed (eqb (length kept) 0)
+
+  session_at : (s : Standing) → StandsBehind (fault_of end) read s → TellsBoot s core → TellsCause s r.unwritten r.unwritten → Finishes s (status_at s) r.status core.entries (None, r.unwritten) (None, r.unwritten_then)
+      → Session (Watched g o Looks) g verdict o (but_for_sink r)
+  session_at s behind boot why ending =
+      session_of (Watched g o Looks) g verdict o core s pairs kept bytes failed (but_for_sink r) None r.unwritten bank_is came
+      (served g verdict o scripts core end looks is) (caused g verdict o scripts core end looks is)
+      (λ all. (
+        by_actor r.status (fault_of end) scripts pairs core.entries same (λ ended. none_behind (fault_of end) read s behind (all ended)) (have_played g verdict o scripts core end looks is),
+        looks_are g verdict o scripts core end looks is,
+      ))
+      (read_behind read pairs kept bytes failed (IsAtEnd r.left_then) has (fault_of end) s behind)
+      cause boot (omega arith) (untold s core.entries) why up ending
+
+  stands_boot : TellsBoot Stands core
+  stands_boot = behind_boot (fault_of end) read core input (tells_fault g verdict o scripts core end looks is)
+
+  stands_cause : TellsCause Stands r.unwritten r.unwritten
+  stands_cause = behind_cause (fault_of end) read r.unwritten r.unwritten input
+
+  session_by : ReportsAs (status_at Stands) r.status → (r.status ≡ 4 → Rose r.unwritten r.unwritten_then) → Session (Watched g o Looks) g verdict o (but_for_sink r)
+  session_by (inl status) rose = session_at Stands (inl refl) stands_boot stands_cause (finishes Stands failed (eqb (length kept) 0) r.status core.entries r.unwritten r.unwritten_then status)
+  session_by (inr (zero, inl one)) rose = session_at Unwritten (inr tt) tt tt (one, refl)
+  session_by (inr (zero, inr four)) rose = session_at Stands (inl refl) stands_boot stands_cause (breaks Stands failed (eqb (length kept) 0) r.status core.entries r.unwritten r.unwritten_then zero four (rose four))
+
+  pub watches : ReportsAs (status_at Stands) r.status → TellsText r.status (report looks) (r.taken, r.unwritten) (r.taken_then, r.unwritten_then) → Watches g verdict o r
+  watches ends told = record {
+    looks = Looks;
+    session = session_by ends (λ four. (told.broken four).1);
+    told = text_told end looks (watched_by o.state core.entries) read failed (eqb (length kept) 0) r.status (r.taken, r.unwritten) (r.taken_then, r.unwritten_then) ends told;
+  }
+
+pub ends_not_usage : (s : Standing) (failed whole : Bool) (result : ℕ) → ReportsAs (status_of s failed whole) result → result ≢ 2
+ends_not_usage s failed whole result (inl same) two = known_not_usage (status_of s failed whole) (status_is s failed whole) (sym same ∙ two)
+ends_not_usage s failed whole result (inr (zero, inl one)) two = omega (arith, one, two)
+ends_not_usage s failed whole result (inr (zero, inr four)) two = omega (arith, four, two)
+
+-- a session stands by no failure of the sink before anything is written
+pub not_sink_failed : (end : Option WatchEnd) (read : Standing) → IsOfInput read → standing_behind (fault_of end) read ≢ SinkFailed
+not_sink_failed None Open is e = absurd (cc)
+not_sink_failed None Bad is e = absurd (cc)
+not_sink_failed None Full is e = absurd (cc)
+not_sink_failed None Memory is e = absurd (cc)
+not_sink_failed None BootFault is e = absurd is
+not_sink_failed None BootStopped is e = absurd is
+not_sink_failed None SinkFailed is e = absurd is
+not_sink_failed None Unwritten is e = absurd is
+not_sink_failed (Some (Step NoMemory)) read is e = absurd (cc)
+not_sink_failed (Some (Step Faulted)) read is e = absurd (cc)
+not_sink_failed (Some (Step Stopped)) read is e = absurd (cc)
+not_sink_failed (Some NoLook) read is e = absurd (cc)
+
+-- ---- where the service didn't begin
+
+unbegun_finishes : (fault : StartFault) (result faults faults_then : ℕ) → result ≡ unbegun_status fault → FinishesUnbegun fault result (None, faults) (None, faults_then)
+unbegun_finishes NoStart result faults faults_then is = (is, refl)
+unbegun_finishes FirstFault result faults faults_then is = inl (inl (is, refl))
+unbegun_finishes FirstStopped result faults faults_then is = inl (inl (is, refl))
+
+unbegun_silent : (fault : StartFault) → (unbegun_status fault ≢ 0) × (unbegun_status fault ≢ 4)
+unbegun_silent NoStart = (λ e. omega (arith, e), λ e. omega (arith, e))
+unbegun_silent FirstFault = (λ e. omega (arith, e), λ e. omega (arith, e))
+unbegun_silent FirstStopped = (λ e. omega (arith, e), λ e. omega (arith, e))
+
+pub unbegun_not_usage : (fault : StartFault) → unbegun_status fault ≢ 2
+unbegun_not_usage NoStart = λ e. omega (arith, e)
+unbegun_not_usage FirstFault = λ e. omega (arith, e)
+unbegun_not_usage FirstStopped = λ e. omega (arith, e)
+
+pub unwatched : {B C : Type 0} (g : Ghosts B) (laws : Laws g) (verdict : C → List ℕ → ℤ) (o : Opening B C) (first : IsFirst o.state) (r : Ran B) → r.left_then ≡ r.left
+    → (g.tells_moments → LeavesOnly g.clock g.left_since o.bank r.bank_then (λ image. Shows o.state.store (store_of image))) → r.taken_then ≡ r.taken
+    → (fault : StartFault) → StartCounted g o.bank r.bank_then fault → r.status ≡ unbegun_status fault → Watches g verdict o r
+unwatched g laws verdict o first r same crash nothing fault counted status =
+    let none = watched_by o.state [] in
+    let no = unbegun_silent fault in
+    record {
+      looks = none;
+      session = unbegun (Watched g o none) g laws verdict o first (but_for_sink r) same crash (nothing_requested r.status, λ _. refl) fault counted (unbegun_finishes fault r.status r.unwritten r.unwritten_then status);
+      told = record { whole = λ zero. absurd (no.0 (sym status ∙ zero)); broken = λ four. absurd (no.1 (sym status ∙ four)); silent = inr (inr nothing) };
+    }
