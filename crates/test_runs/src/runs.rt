@@ -4,7 +4,7 @@ use crate::crews::{try_free, try_ordered};
 use crate::cuts::try_cuts;
 use crate::ending::{status_of, try_ending, try_front};
 use crate::feeding::try_lengths;
-use crate::meeting::try_meeting;
+use crate::meeting::{try_meeting, try_reading};
 use crate::second_runs::try_again;
 use crate::sessions::try_session;
 use crate::turns::try_turns;
@@ -13,6 +13,12 @@ use std::thread::Threads;
 use tbl_fakes::{CalmSink, CalmSource};
 use tbl_kinds::Bytes;
 use test_tables::{CaseFault, Row, RowCases, count_of, one_word};
+
+/// The application that reads while another thread has its turn.
+const READER: u8 = 1;
+
+/// The application whose images `watch` looks at.
+const WATCHER: u8 = 16;
 
 /// Tries runs.
 #[derive(Drop)]
@@ -78,8 +84,8 @@ impl RowCases for Runs {
     ///
     /// `play | NAME | INPUT | BANK | BREAKS | BAD READS | STATUS | OUTPUT | WRITES | BANK` is a session over a bank in memory:
     /// what the bank holds before it, which of its writes break off and which of its reads fail, and then how it ends, with the
-    /// ranges of all writes and the bank after it. With `crew` in the place of `play` it is played with a thread for each
-    /// actor, with `store` or `drill SEED ROUNDS` there is no input, and with `make` or `describe SHAPE` it is a description or a
+    /// ranges of all writes and the bank after it. With `crew` or `watch` in the place of `play` it is played with a thread for
+    /// each actor, with `store` or `drill SEED ROUNDS` there is no input, and with `make` or `describe SHAPE` it is a description or a
     /// table file.
     ///
     /// `again | WORD | NAME | INPUT | INPUT | BREAKS | STATUS | OUTPUT
@@ -96,7 +102,9 @@ impl RowCases for Runs {
     /// threads have their turns in the order of the entries in the output, and that is what comes.
     ///
     /// `meet | INPUT | STATUS | OUTPUT | OUTPUT | PLAYED` is a session in threads, of which those of applications 1 and 2 wait
-    /// for each other: the two outputs that may come, and how many records the threads play. `turns | WHAT CAME` are two turns
+    /// for each other: the two outputs that may come, and how many records the threads play. `beside | INPUT | STATUS | OUTPUT |
+    /// PLAYED` is one in which application 1 takes the bytes of a pinned image while application 2 has its first turn, and with
+    /// `watched` application 16 makes a check word meanwhile. `turns | WHAT CAME` are two turns
     /// of application 1 without a thread, of two applications that ask to start: what each comes to, how many entries stand
     /// after them, and whether the crew ends well.
     fn try_row<R: Threads + Wait + Sync>(&mut self, rt: &R, row: &Row) -> Result<u32, CaseFault> {
@@ -106,7 +114,7 @@ impl RowCases for Runs {
             ("rooms", 10) => try_rooms(rt, row),
             ("calm", 5) => try_calm(rt, row),
             ("fed", 8) => try_lengths(row),
-            ("play" | "crew" | "store" | "make", 10) => try_session(rt, row),
+            ("play" | "crew" | "watch" | "store" | "make", 10) => try_session(rt, row),
             (words, 10) if words.starts_with("drill ") || words.starts_with("describe ") => {
                 try_session(rt, row)
             }
@@ -115,6 +123,8 @@ impl RowCases for Runs {
             ("free", 9) => try_free(rt, row),
             ("ordered", 8) => try_ordered(rt, row),
             ("meet", 6) => try_meeting(rt, row),
+            ("beside", 5) => try_reading(rt, row, "crew", READER),
+            ("watched", 5) => try_reading(rt, row, "watch", WATCHER),
             ("turns", 2) => try_turns(row),
             _ => Err(CaseFault::Unreadable),
         }

@@ -66,10 +66,25 @@ fn two_starts(alloc: Global) -> Result<Scripts, Memory>
     Ok(scripts)
 }
 
+/// The word for what came of a turn.
+fn word_of(turn: &Turn) -> &'static str {
+    match turn {
+        Turn::Played => "Played",
+        Turn::Pinned(_) => "Pinned",
+        Turn::PinMemory => "PinMemory",
+        Turn::Ended => "Ended",
+        Turn::Done => "Done",
+    }
+}
+
 /// What two turns of application 1 come to, and how many entries stand after them.
-fn two_turns<B: Bank, C: Validator>(crew: &mut Crew<B, C>) -> ([Turn; 2], usize) {
-    let turns = [crew.turn(1), crew.turn(1)];
-    (turns, crew.core().history().len())
+fn two_turns<B: Bank, C: Validator>(crew: &mut Crew<B, C>) -> ([&'static str; 2], usize) {
+    let first = crew.turn(1);
+    let second = crew.turn(1);
+    (
+        [word_of(&first), word_of(&second)],
+        crew.core().history().len(),
+    )
 }
 
 /// Whether a crew ends without a fault over a live service, whose one entry is of application 1.
@@ -82,7 +97,10 @@ fn ends_well<B: Bank, C: Validator>(crew: Crew<B, C>) -> bool {
 }
 
 /// Two turns of application 1: what they come to, how many entries stand after them, and whether the crew ends well.
-fn play_turns<B: Bank, C: Validator>(core: Core<B, C>, scripts: Scripts) -> ([Turn; 2], usize, bool)
+fn play_turns<B: Bank, C: Validator>(
+    core: Core<B, C>,
+    scripts: Scripts,
+) -> ([&'static str; 2], usize, bool)
     requires live { core.state.ended ≡ false }
     requires empty { core.entries ≡ [] }
     requires fits { AllFit scripts }
@@ -97,8 +115,8 @@ fn play_turns<B: Bank, C: Validator>(core: Core<B, C>, scripts: Scripts) -> ([Tu
 pub(crate) fn try_turns(row: &Row) -> Result<u32, CaseFault> {
     let scripts = two_starts(row.alloc())?;
     let core = service(row.alloc())?;
-    let (turns, count, is_well) = play_turns(core, scripts);
-    let told = format!(in row.alloc(); "{turns:?} {count} {is_well}")?;
+    let ([first, second], count, is_well) = play_turns(core, scripts);
+    let told = format!(in row.alloc(); "[{first}, {second}] {count} {is_well}")?;
     same_text(told, row.text(1)?)?;
     Ok(1)
 }
