@@ -21,13 +21,15 @@ PROVED = os.path.join(TOP, "crates", "tbl_main", "out", "tbl_main")
 # How often a session is timed, and how often its memory is measured.
 RUNS = 20
 WEIGHINGS = 9
+# Of the memory of the largest run of a session, so much has one that did the same work.
+WHOLE = 0.9
 # Between two looks at a program that is to wait.
 PAUSE = 0.001
 
 
-def run(words, source=None, folder=None, sink=subprocess.PIPE):
+def run(words, source=None, folder=None):
     """Runs a program that has to succeed, in a folder, and gives what it writes."""
-    done = subprocess.run(words, stdin=source, stdout=sink, stderr=subprocess.PIPE, cwd=folder, check=False)
+    done = subprocess.run(words, stdin=source, stdout=subprocess.PIPE, stderr=subprocess.PIPE, cwd=folder, check=False)
     if done.returncode:
         why = done.stderr.decode(errors="replace").strip()
         raise OSError(f"{' '.join(words)} ended with status {done.returncode}\n{why}")
@@ -95,24 +97,38 @@ def functions(program, work):
 # ---- time
 
 
-def milliseconds(way, source):
-    """How long a program takes by its words for the session in a file, over a new store file."""
+def timed(way, source):
+    """How many milliseconds a program takes by its words for the session in a file, over a new store file, and how many bytes it
+    has at most."""
     source.seek(0)
-    with tempfile.TemporaryDirectory() as folder:
+    with tempfile.TemporaryDirectory() as folder, tempfile.TemporaryFile() as said:
         begun = time.perf_counter()
-        run(way, source, folder, subprocess.DEVNULL)
-        return 1_000 * (time.perf_counter() - begun)
+        started = subprocess.Popen(way, stdin=source, stdout=subprocess.DEVNULL, stderr=said, cwd=folder)
+        _, status, used = os.wait4(started.pid, 0)
+        took = 1_000 * (time.perf_counter() - begun)
+        started.returncode = os.waitstatus_to_exitcode(status)
+        if started.returncode:
+            said.seek(0)
+            raise OSError(f"{' '.join(way)} ended with status {started.returncode}\n{said.read().decode(errors='replace').strip()}")
+        return took, 1_024 * used.ru_maxrss
+
+
+def least(runs):
+    """The least time of those runs that did the whole work. Of a crew an application may have to do without its handle, so that its
+    requests are refused: the history is smaller then."""
+    most = max(memory for _, memory in runs)
+    return min(took for took, memory in runs if memory > WHOLE * most)
 
 
 def least_times(ways, *sessions):
     """How long each way takes for each session, the least of a few runs in turns: a list for each session."""
     sources = [file_of(it) for it in sessions]
     try:
-        runs = [[[milliseconds(way, source) for way in ways] for source in sources] for _ in range(RUNS)]
+        runs = [[[timed(way, source) for way in ways] for source in sources] for _ in range(RUNS)]
     finally:
         for source in sources:
             source.close()
-    return [[min(of_one) for of_one in zip(*of_session)] for of_session in zip(*runs)]
+    return [[least(of_one) for of_one in zip(*of_session)] for of_session in zip(*runs)]
 
 
 def output_of(way, session):

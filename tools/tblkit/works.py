@@ -175,8 +175,12 @@ def request_in(state, name):
 
 # ---- crews
 
-# How many applications a crew has.
+# How many applications a crew has, and how many of them read.
 ACTORS = (1, 2, 4, 16)
+READERS = (1, 2, 4)
+# How often an application tries to get the handle of its number, and how many reads a crew makes.
+TRIES = 10
+READS = 8_192
 
 
 def first_lines(actor, size):
@@ -195,7 +199,28 @@ def loads_by_all_handles(actor, actors):
     return first_lines(actor, 16_384) + 3_072 // actors // actors * loads
 
 
-CREWS = {"registry records of 16 bytes": own_registry_records, "loads of 16,384 bytes": loads_by_all_handles}
+def with_own_handle(actor, actors, options):
+    """An application of a few starts, and gets a table by the handle of its number less one, in whatever order the turns come.
+
+    A new table has the least handle that is free. So the application registers as many tables as there are applications, and
+    gives back each handle but that one. Another application may have it for a moment: so it does this a few times.
+    """
+    own = actor - 1
+    tables = [f"app {actor} register T{it} {options}" for it in range(actors)]
+    others = [f"app {actor} unregister {handle}" for handle in range(actors * actors) if handle != own]
+    return [f"app {actor} start A{actor}"] + TRIES * (tables + others)
+
+
+def reads_by_own_handle(actor, actors):
+    """An application gets the address of its own image, and reads the whole of it again and again."""
+    own = actor - 1
+    lines = with_own_handle(actor, actors, "size 16384") + [f"app {actor} load {own} fill 5A 16384", f"app {actor} get {own}"]
+    return lines + READS // actors * [f"app {actor} read {own} at 0 length 16384"]
+
+
+# The sessions by their names: what makes the lines of an application, and how many of them there are.
+CREWS = {"registry records of 16 bytes": (own_registry_records, ACTORS), "loads of 16,384 bytes": (loads_by_all_handles, ACTORS),
+         "reads of 16,384 bytes": (reads_by_own_handle, READERS)}
 
 
 def in_turn(make, actors):

@@ -2,6 +2,7 @@
 peak memory of a program. What callgrind itself counts isn't tried here."""
 import io
 import os
+import random
 import stat
 import sys
 import tempfile
@@ -107,11 +108,49 @@ class Works(unittest.TestCase):
                 self.assertEqual(state.place.bit_length(), last.bit_length())
 
     def test_crews_take_turns(self):
-        for make in works.CREWS.values():
-            for actors in works.ACTORS:
+        for make, counts in works.CREWS.values():
+            for actors in counts:
                 found = works.in_turn(make, actors)
                 self.assertEqual([it[1] for it in found[:actors]], list(range(1, actors + 1)))
                 self.assertLessEqual(len(found), records.MOST_RECORDS)
+
+    def test_readers_get_their_handles_in_any_order(self):
+        for actors in works.READERS:
+            scripts = {it: works.with_own_handle(it, actors, "size 4") for it in range(1, actors + 1)}
+            in_turn = [it for of_each in zip(*([it] * len(scripts[it]) for it in scripts)) for it in of_each]
+            for order in (in_turn, sorted(in_turn), sorted(in_turn, reverse=True), *map(shuffled, 100 * [in_turn])):
+                self.assertEqual(handles_after(scripts, order), {it - 1: it for it in scripts})
+
+
+CHANCE = random.Random(1)
+
+
+def shuffled(actors):
+    return CHANCE.sample(actors, len(actors))
+
+
+def handles_after(scripts, order):
+    """Who has each handle after registrations and ends of tables in an order of turns: a new table has the least free handle."""
+    left, handles = {it: iter(script) for it, script in scripts.items()}, {}
+    for actor in order:
+        _, _, word, *rest = next(left[actor]).split()
+        if word == "register" and (actor, rest[0]) not in handles.values():
+            handles[next(it for it in range(256) if it not in handles)] = (actor, rest[0])
+        elif word == "unregister" and handles.get(int(rest[0]), (None,))[0] == actor:
+            del handles[int(rest[0])]
+    return {handle: actor for handle, (actor, _) in handles.items()}
+
+
+class Times(unittest.TestCase):
+    def test_a_run_that_did_less_is_left_out(self):
+        self.assertEqual(measured.least([(9.0, 1_000), (2.0, 700), (8.0, 990), (8.5, 1_010)]), 8.0)
+
+    def test_a_program_that_fails(self):
+        with tempfile.TemporaryFile() as source:
+            took, memory = measured.timed((sys.executable, "-c", "print(1)"), source)
+            self.assertGreater(min(took, memory), 0)
+            with self.assertRaisesRegex(OSError, "ended with status 3\nno room"):
+                measured.timed((sys.executable, "-c", "import sys; print('no room', file=sys.stderr); sys.exit(3)"), source)
 
 
 class Callgrind(unittest.TestCase):
