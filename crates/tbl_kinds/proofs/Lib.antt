@@ -5,3 +5,4 @@ pub mod FreeLaws
 pub mod RecordLaws
 pub mod TranscriptLaws
 pub mod Tries
+pub mod PlainNotes

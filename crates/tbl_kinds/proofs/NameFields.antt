@@ -1,13 +1,16 @@
 -- Fields that hold a name and then zeros.
-use Rattle.std.proofs.Common.{◌≡◌, ℕ, zero, suc, ◌-◌, ◌<◌, Bool, true, false, not, ◌&&◌, List, [], ◌∷◌, ◌++◌, length, get_or, take, drop, refl, sym, ap, ◌∙◌, arith}
+use Rattle.std.proofs.Common.{◌≡◌, ℕ, zero, suc, ◌-◌, ◌<◌, ◌≤◌, Bool, true, false, not, ◌&&◌, List, [], ◌∷◌, ◌++◌, length, get_or, take, drop, refl, sym, ap, ◌∙◌, arith}
 use Rattle.std.specs.Prelude.{replicate}
 use Rattle.std.specs.List.{list_all, position_or_len}
 use Rattle.std.proofs.lemmas.Bool.{eq-eqb, eqb-true}
-use Rattle.std.proofs.lemmas.List.{get_or_append_left, get_or-append_right, get_or-replicate, length-append, length-drop, length-replicate, length-take, take-append-drop}
+use Rattle.std.proofs.lemmas.Slice.Eq.{bytes_eq-Decides}
+use Rattle.std.proofs.lemmas.List.{drop-replicate, get_or_append_left, get_or-append_right, get_or-replicate, length-append, length-drop, length-replicate, length-take, take-append-drop}
 use Rattle.std.proofs.lemmas.List.Sums.{position_or_len_is, prefix_len-le-length, fails_before_first}
 use Rattle.std.proofs.Math.Seq.{take-append_seam, drop-append_seam}
-use Rattle.tbl_kinds.specs.Names.{is_zero, name_in, name_field, HasNoZero}
+use Rattle.std.specs.Str.{bytes_eq}
+use Rattle.tbl_kinds.specs.Names.{is_zero, name_in, name_field, HasNoZero, HoldsName}
 use Rattle.tbl_kinds.specs.Records.{FitsField}
+use Rattle.tbl_kinds.proofs.Names.{reads_itself}
 use Rattle.tbl_kinds.specs.Heads.{is_name_field}
 
 pub length-name_field : (width : ℕ) (name : List ℕ) → FitsField width name → length (name_field width name) ≡ width
@@ -73,3 +76,63 @@ name_field-name_in field is =
 pub written_again : (width : ℕ) (field name : List ℕ) → name ≡ name_in field → length field ≡ width → list_all is_zero (drop (length name) field) ≡ true → name_field width name ≡ field
 written_again width field name name-is len zeros =
     rw (sym len, name-is) (name_field-name_in field (ap (λ (s : List ℕ). list_all is_zero (drop (length s) field)) (sym name-is) ∙ zeros))
+
+-- ---- names as they are kept
+
+-- a name in front of zeros
+pub before_zeros : (width : ℕ) (name : List ℕ) → length name ≤ width → HasNoZero name → HoldsName width (length name) (name ++ drop (length name) (replicate {A = ℕ} width 0))
+before_zeros width name within none =
+    let front : take (length name) (name_field width name) ≡ name = take-append_seam name (replicate (width - length name) 0) in
+    rw (drop-replicate {X = ℕ} (length name) width 0) (record {
+      within = within;
+      no_zero = rw front none;
+      written = ap (name_field width) front;
+    })
+
+-- a field that reads as a name with zeros after it
+pub whole_field : (width : ℕ) (field name : List ℕ) → name ≡ name_in field → length field ≡ width → list_all is_zero (drop (length name) field) ≡ true → HoldsName width (length name) field
+whole_field width field name name-is len zeros =
+    let first : length name ≡ position_or_len is_zero field =
+    omega (arith, ap (λ (s : List ℕ). length s) name-is, length-take (position_or_len is_zero field) field, prefix_len-le-length (λ b. not (is_zero b)) field) in
+    let front : take (length name) field ≡ name = ap (λ (n : ℕ). take n field) first ∙ sym name-is in
+    record {
+      within = omega (arith, len, first, prefix_len-le-length (λ b. not (is_zero b)) field);
+      no_zero = rw (front, name-is) (reads_itself field);
+      written = ap (name_field width) front ∙ written_again width field name name-is len zeros;
+    }
+
+fits_field : (width len : ℕ) (field : List ℕ) → HoldsName width len field → FitsField width (take len field)
+fits_field width len field holds = record { within = omega (arith, holds.within, length-take len field); no_zero = holds.no_zero }
+
+read_back : (width len : ℕ) (field : List ℕ) → HoldsName width len field → name_in field ≡ take len field
+read_back width len field holds = ap name_in (sym holds.written) ∙ name_in-name_field width (take len field) (fits_field width len field holds)
+
+same_truth : (a b : Bool) → (a ≡ true → b ≡ true) → (b ≡ true → a ≡ true) → a ≡ b
+same_truth true b there back = sym (there refl)
+same_truth false true there back = back refl
+same_truth false false there back = refl
+
+-- two names are the same where their fields are
+pub same_fields : (width n m : ℕ) (f g : List ℕ) → HoldsName width n f → HoldsName width m g → bytes_eq f g ≡ bytes_eq (take n f) (take m g)
+same_fields width n m f g one other =
+    let fields = bytes_eq-Decides f g in
+    let names = bytes_eq-Decides (take n f) (take m g) in
+    same_truth (bytes_eq f g) (bytes_eq (take n f) (take m g))
+    (λ e. names.1 (sym (read_back width n f one) ∙ ap name_in (fields.0 e) ∙ read_back width m g other))
+    (λ e. fields.1 (sym one.written ∙ ap (name_field width) (names.0 e) ∙ other.written))
+
+-- ---- a field and what follows it
+
+pub read_again : (bytes : List ℕ) → 64 ≤ length bytes → is_name_field (take 64 bytes) ≡ true → name_field 64 (name_in (take 64 bytes)) ≡ take 64 bytes
+read_again bytes long is =
+    let len : length (take 64 bytes) ≡ 64 = omega (arith, length-take 64 bytes, long) in
+    written_again 64 (take 64 bytes) (name_in (take 64 bytes)) refl len is
+
+pub spelled : (width : ℕ) (bytes : List ℕ) → name_field width (name_in (take width bytes)) ≡ take width bytes → bytes ≡ name_field width (name_in (take width bytes)) ++ drop width bytes
+spelled width bytes is = sym (ap (λ (s : List ℕ). s ++ drop width bytes) is ∙ take-append-drop width bytes)
+
+pub read_fits : (width : ℕ) (bytes : List ℕ) → FitsField width (name_in (take width bytes))
+read_fits width bytes = record {
+  within = omega (arith, length-take (position_or_len is_zero (take width bytes)) (take width bytes), length-take width bytes);
+  no_zero = reads_itself (take width bytes);
+}

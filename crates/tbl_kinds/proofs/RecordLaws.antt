@@ -50,14 +50,14 @@ good_head : (actor : Actor) (request : Request) → Fits actor request → IsSiz
     → is_good_head (kind_of request) (actor_number actor) (length (body_of request)) ≡ true
 unfolding is_good_head
 good_head Ground (ask.Command bytes) fits sized within = rw (le-leb (length bytes.list) 32832 within, le-leb 0 (length bytes.list) (omega arith)) refl
-good_head Ground (ask.File name bytes) fits sized within =
-    let len = length-file name bytes.list sized in
-    rw (le-leb (length (body_of (ask.File name bytes))) 32832 within, le-leb 64 (length (body_of (ask.File name bytes))) (omega (arith, len))) refl
+good_head Ground (ask.File file) fits sized within =
+    let len = length-file file.name file.bytes sized in
+    rw (le-leb (length (body_of (ask.File file))) 32832 within, le-leb 64 (length (body_of (ask.File file))) (omega (arith, len))) refl
 good_head Ground (ask.Time seconds sub) fits sized within = refl
 good_head Ground (ask.Reset kind) fits sized within = refl
 good_head Ground request fits sized within = absurd fits
 good_head (App number) (ask.Command bytes) fits sized within = absurd (fits.2 tt)
-good_head (App number) (ask.File name bytes) fits sized within = absurd (fits.2 tt)
+good_head (App number) (ask.File file) fits sized within = absurd (fits.2 tt)
 good_head (App number) (ask.Time seconds sub) fits sized within = absurd (fits.2 tt)
 good_head (App number) (ask.Reset kind) fits sized within = absurd (fits.2 tt)
 good_head (App number) (ask.Start name) fits sized within =
@@ -105,7 +105,7 @@ has_name_first width name more body fits e =
 right_body : (request : Request) → IsSized request → is_right_body (kind_of request) (body_of request) ≡ true
 unfolding is_right_body
 right_body (ask.Command bytes) sized = refl
-right_body (ask.File name bytes) sized = rw (has_name_first 64 name bytes.list (name_field 64 name ++ bytes.list) sized refl) refl
+right_body (ask.File file) sized = rw (has_name_first 64 file.name file.bytes (name_field 64 file.name ++ file.bytes) sized refl) refl
 right_body (ask.Time seconds sub) sized = refl
 right_body (ask.Reset Processor) sized = refl
 right_body (ask.Reset PowerOn) sized = refl
@@ -235,7 +235,7 @@ handle_request kind handle =
 request_in : ℕ → List ℕ → Request
 request_in kind body =
     if kind == 0x01 then ask.Command (record { list = body; spare = 0 }) else
-    (if kind == 0x02 then ask.File (name_in (take 64 body)) (record { list = drop 64 body; spare = 0 }) else
+    (if kind == 0x02 then ask.File (record { name = name_in (take 64 body); bytes = drop 64 body }) else
     (if kind == 0x03 then ask.Time (four_at 0 body) (two_at 4 body) else
     (if kind == 0x04 then ask.Reset (if byte_at 0 body == 1 then Processor else PowerOn) else
     (if kind == 0x10 then ask.Start (name_in body) else
@@ -260,9 +260,9 @@ register_again name size flags validator fits s f v =
 request_again : (request : Request) → IsSized request → HasNoValidator255 request → request_in (kind_of request) (body_of request) ≡ without_room request
 unfolding request_in handle_request
 request_again (ask.Command bytes) sized v = refl
-request_again (ask.File name bytes) sized v =
-    let len = length-name_field 64 name sized in
-    rw (take_at (name_field 64 name) bytes.list 64 len, drop_at (name_field 64 name) bytes.list 64 len, name_in-name_field 64 name sized) refl
+request_again (ask.File file) sized v =
+    let len = length-name_field 64 file.name sized in
+    rw (take_at (name_field 64 file.name) file.bytes 64 len, drop_at (name_field 64 file.name) file.bytes 64 len, name_in-name_field 64 file.name sized) refl
 request_again (ask.Time seconds sub) sized v = rw (from_be_bytes-to_be_bytes_4 seconds sized.0, from_be_bytes-to_be_bytes_2 sub sized.1) refl
 request_again (ask.Reset Processor) sized v = refl
 request_again (ask.Reset PowerOn) sized v = refl

@@ -2,6 +2,7 @@ pub mod Buffers
 pub mod Items
 pub mod Limits
 pub mod Names
+pub mod Uplinks
 pub mod Numbers
 pub mod Statuses
 pub mod Requests
@@ -22,5 +23,8 @@ pub mod StoreSteps
 pub mod StoreCalls
 pub mod Drawer
 pub mod Notes
+pub mod KeptNotes
+pub mod Given
+pub mod KeptGiven
 pub mod Check
 pub mod Vectors

@@ -1,5 +1,5 @@
 -- What a name is, and what a field of bytes reads as.
-use Rattle.std.specs.Prelude.{◌≡◌, ℕ, ◌-◌, ◌==◌, List, ◌++◌, length, replicate, Bool, nat_lt, nat_le, ◌&&◌}
+use Rattle.std.specs.Prelude.{◌≡◌, ℕ, ◌-◌, ◌==◌, ◌≤◌, List, ◌++◌, length, take, replicate, Bool, nat_lt, nat_le, ◌&&◌}
 use Rattle.std.specs.List.{list_all, before_first}
 
 -- a byte from 0x21 to 0x7E
@@ -24,3 +24,9 @@ HasNoZero bytes = name_in bytes ≡ bytes
 -- a written field: the name, and then zeros
 abbrev pub name_field : ℕ → List ℕ → List ℕ
 name_field width name = name ++ replicate (width - length name) 0
+
+-- a field that was written for a name of so many bytes
+pub record HoldsName (width len : ℕ) (field : List ℕ) : Type 0 where
+  pub within : len ≤ width
+  pub no_zero : HasNoZero (take len field)
+  pub written : name_field width (take len field) ≡ field

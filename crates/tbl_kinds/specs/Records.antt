@@ -20,7 +20,7 @@ pub record Pair : Type 0 where
 
 abbrev pub kind_of : Request → ℕ
 kind_of (ask.Command bytes) = 0x01
-kind_of (ask.File name bytes) = 0x02
+kind_of (ask.File file) = 0x02
 kind_of (ask.Time seconds sub) = 0x03
 kind_of (ask.Reset kind) = 0x04
 kind_of (ask.Start name) = 0x10
@@ -61,7 +61,7 @@ validator_number (Some number) = number
 
 abbrev pub body_of : Request → List ℕ
 body_of (ask.Command bytes) = bytes.list
-body_of (ask.File name bytes) = name_field 64 name ++ bytes.list
+body_of (ask.File file) = name_field 64 file.name ++ file.bytes
 body_of (ask.Time seconds sub) = four seconds ++ two sub
 body_of (ask.Reset kind) = reset_number kind ∷ []
 body_of (ask.Start name) = name_field 20 name
@@ -100,7 +100,6 @@ spelling p = head_of p ++ body_of p.request
 -- the request, whatever room is reserved after its bytes
 abbrev pub without_room : Request → Request
 without_room (ask.Command bytes) = ask.Command (record { list = bytes.list; spare = 0 })
-without_room (ask.File name bytes) = ask.File name (record { list = bytes.list; spare = 0 })
 without_room (ask.LoadImage handle image) = ask.LoadImage handle (record { list = image.list; spare = 0 })
 without_room (ask.Edit handle offset bytes) = ask.Edit handle offset (record { list = bytes.list; spare = 0 })
 without_room (ask.CdsCopy slot image) = ask.CdsCopy slot (record { list = image.list; spare = 0 })
@@ -114,7 +113,7 @@ pub record FitsField (width : ℕ) (name : List ℕ) : Type 0 where
 -- each name and each number fits its field in the body
 abbrev pub IsSized : Request → Type 0
 IsSized (ask.Command bytes) = Unit {0}
-IsSized (ask.File name bytes) = FitsField 64 name
+IsSized (ask.File file) = FitsField 64 file.name
 IsSized (ask.Time seconds sub) = (seconds < 2 ^ 32) × (sub < 2 ^ 16)
 IsSized (ask.Reset kind) = Unit {0}
 IsSized (ask.Start name) = FitsField 20 name

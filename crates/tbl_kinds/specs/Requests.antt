@@ -8,7 +8,7 @@ use Rattle.tbl_kinds.specs.declared.request.Request.TheVariants as ask
 -- the requests of the ground
 abbrev pub IsFromGround : Request → Type 0
 IsFromGround (ask.Command bytes) = Unit {0}
-IsFromGround (ask.File name bytes) = Unit {0}
+IsFromGround (ask.File file) = Unit {0}
 IsFromGround (ask.Time seconds sub) = Unit {0}
 IsFromGround (ask.Reset kind) = Unit {0}
 IsFromGround _ = ⊥

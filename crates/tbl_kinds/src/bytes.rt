@@ -1,8 +1,11 @@
-ghost use Rattle.std.specs.Prelude.{◌≡◌, ℕ, ◌+◌, ◌≤◌, [], ◌++◌, length, take, drop, vec_capacity, IfOk, OnOk, OnErr};
+ghost use Rattle.std.specs.Prelude.{◌≡◌, ◌+◌, ◌≤◌, [], ◌++◌, length, vec_capacity, IfOk, OnOk, OnErr, IfSome, IfNone};
+ghost use Rattle.std.specs.Arc.{arc_value};
 
 use crate::inline::{INLINE_LIMIT, InlineBytes};
 use std::alloc::{AllocError, AllocFailed, Global};
 use std::marker::Model;
+use std::mem;
+use std::sync::Arc;
 
 /// Memory ran out. Nothing was changed.
 #[derive(Clone, Copy, Debug, PartialEq, Eq)]
@@ -20,11 +23,13 @@ impl<T: Drop> From<AllocFailed<T>> for Memory {
     }
 }
 
-/// Where bytes stand: few of them in the value itself, more of them in memory of their own.
+/// Where bytes stand: few of them in the value itself, more of them in memory of their own, or in memory that others have
+/// too and that nobody changes.
 #[derive(Drop)]
 enum Items {
     Inline(InlineBytes),
     Allocated(Vec<u8>),
+    Shared(Arc<Vec<u8>, Global>),
 }
 
 /// Bytes in memory, with reserved room after them.
@@ -58,6 +63,30 @@ impl Bytes {
         Ok(Bytes { alloc, items })
     }
 
+    /// These bytes. Few stand in the value itself, and more in memory that others can have too.
+    pub fn of(alloc: Global, bytes: &[u8]) -> Result<Bytes, Memory>
+        ensures { IfOk result (λ b. b.list ≡ bytes.now) }
+    {
+        let items = if bytes.len() <= INLINE_LIMIT {
+            let mut inline = InlineBytes::make(bytes.len());
+            inline.append(bytes);
+            Items::Inline(inline)
+        } else {
+            Items::Allocated(Vec::from_slice(alloc, bytes)?)
+        };
+        Ok(Bytes { alloc, items })
+    }
+
+    /// Bytes that others have too.
+    pub fn from_shared(alloc: Global, shared: Arc<Vec<u8>, Global>) -> Bytes
+        ensures { result.list ≡ (arc_value shared).items }
+    {
+        Bytes {
+            alloc,
+            items: Items::Shared(shared),
+        }
+    }
+
     /// The bytes.
     pub fn bytes(&self) -> &[u8]
         ensures { result.now ≡ self.now.list }
@@ -65,6 +94,7 @@ impl Bytes {
         match &self.items {
             Items::Inline(inline) => inline.bytes(),
             Items::Allocated(allocated) => allocated.as_slice(),
+            Items::Shared(shared) => shared.as_slice(),
         }
     }
 
@@ -73,7 +103,52 @@ impl Bytes {
         self.alloc
     }
 
-    /// The same bytes in memory of their own.
+    /// A further owner of the bytes, which nobody changes from now on. None where they stand in the value itself.
+    pub fn share(&mut self) -> Result<Option<Arc<Vec<u8>, Global>>, Memory>
+        ensures same { self.new ≡ self.old }
+        ensures shared { IfOk result (λ owner. IfSome owner (λ shared. (arc_value shared).items ≡ self.old.list)) }
+        ensures few { IfOk result (λ owner. IfNone owner (length self.old.list ≤ 24)) }
+    {
+        match &mut self.items {
+            Items::Inline(inline) => {
+                let _bytes = inline.bytes();
+                Ok(None)
+            }
+            Items::Shared(shared) => Ok(Some(Arc::try_clone(shared)?)),
+            // Room that is reserved after the bytes stays with them, and others get a copy.
+            Items::Allocated(allocated) if allocated.capacity() > allocated.len() => {
+                let copy = copy_of(self.alloc, allocated.as_slice(), 0)?;
+                Ok(Some(Arc::new(self.alloc, copy)?))
+            }
+            Items::Allocated(allocated) => {
+                let allocated = mem::replace(allocated, Vec::new(self.alloc));
+                match Arc::new(self.alloc, allocated) {
+                    Ok(shared) => {
+                        let owner = Arc::try_clone(&shared);
+                        self.items = Items::Shared(shared);
+                        Ok(Some(owner?))
+                    }
+                    Err(failed) => {
+                        self.items = Items::Allocated(failed.value);
+                        Err(Memory)
+                    }
+                }
+            }
+        }
+    }
+
+    /// The same bytes once more: a copy where they stand in the value itself, else a further owner.
+    pub fn again(&mut self) -> Result<Bytes, Memory>
+        ensures same { self.new ≡ self.old }
+        ensures copy { IfOk result (λ b. b.list ≡ self.old.list) }
+    {
+        match self.share()? {
+            Some(shared) => Ok(Bytes::from_shared(self.alloc, shared)),
+            None => self.copy(),
+        }
+    }
+
+    /// The same bytes in memory of their own, or in the same memory where others have them already.
     pub fn copy(&self) -> Result<Bytes, Memory>
         ensures { IfOk result (λ b. b.list ≡ self.now.list) }
     {
@@ -84,6 +159,7 @@ impl Bytes {
                 allocated.as_slice(),
                 0,
             )?),
+            Items::Shared(shared) => Items::Shared(Arc::try_clone(shared)?),
         };
         Ok(Bytes {
             alloc: self.alloc,
@@ -92,6 +168,7 @@ impl Bytes {
     }
 
     /// Puts the bytes of a piece last, into reserved room.
+    #[inline]
     pub fn append(&mut self, piece: &[u8])
         requires { length piece.now ≤ self.old.spare }
         ensures bytes { self.new.list ≡ self.old.list ++ piece.now }
@@ -102,47 +179,48 @@ impl Bytes {
             Items::Allocated(allocated) => {
                 let _ = allocated.extend_from_slice(piece);
             }
-        }
-    }
-
-    /// Writes a piece over the bytes from a place on.
-    pub fn write_over(&mut self, at: usize, piece: &[u8])
-        requires { at + length piece.now ≤ length self.old.list }
-        ensures bytes { self.new.list ≡ take at self.old.list ++ piece.now ++ drop (at + length piece.now) self.old.list }
-        ensures room { self.new.spare ≡ self.old.spare }
-    {
-        match &mut self.items {
-            Items::Inline(inline) => inline.write_over(at, piece),
-            Items::Allocated(allocated) => allocated[at..at + piece.len()].copy_from_slice(piece),
+            Items::Shared(_) => {}
         }
     }
 
     /// Reserves room for this many further bytes.
+    #[inline]
     pub fn reserve(&mut self, more: usize) -> Result<(), Memory>
         ensures bytes { self.new.list ≡ self.old.list }
         ensures room { OnOk result (more ≤ self.new.spare) }
         ensures err { OnErr result (self.new ≡ self.old) }
     {
-        match &mut self.items {
-            Items::Inline(inline) => {
-                if !inline.reserve(more) {
-                    let allocated = copy_of(self.alloc, inline.bytes(), more)?;
-                    self.items = Items::Allocated(allocated);
-                }
+        if let Items::Inline(inline) = &mut self.items {
+            if inline.reserve(more) {
+                return Ok(());
             }
+        }
+        self.grow(more)
+    }
+
+    /// Reserves room for this many further bytes in memory of their own.
+    #[inline(never)]
+    fn grow(&mut self, more: usize) -> Result<(), Memory>
+        ensures bytes { self.new.list ≡ self.old.list }
+        ensures room { OnOk result (more ≤ self.new.spare) }
+        ensures err { OnErr result (self.new ≡ self.old) }
+    {
+        match &mut self.items {
             Items::Allocated(allocated) => allocated.reserve(more)?,
+            Items::Shared(_) if more == 0 => {}
+            _ => self.items = Items::Allocated(copy_of(self.alloc, self.bytes(), more)?),
         }
         Ok(())
     }
 
-    /// Takes all bytes away. The room stays.
+    /// Takes all bytes away. The room stays, but not that of bytes that others have too.
     pub fn clear(&mut self)
-        ensures bytes { self.new.list ≡ [] }
-        ensures room { self.old.spare + length self.old.list ≤ self.new.spare }
+        ensures { self.new.list ≡ [] }
     {
         match &mut self.items {
             Items::Inline(inline) => inline.clear(),
             Items::Allocated(allocated) => allocated.clear(),
+            Items::Shared(_) => self.items = Items::Inline(InlineBytes::make(0)),
         }
     }
 }

@@ -1,7 +1,7 @@
 ghost use Rattle.std.specs.Prelude.{◌≡◌};
 
 use crate::bytes::Bytes;
-use crate::note::Note;
+use crate::given::Given;
 use crate::request::{Actor, Request};
 use crate::status::Status;
 
@@ -23,9 +23,7 @@ pub struct Entry {
     pub actor: Actor,
     pub request: Request,
     pub reply: Reply,
-    pub note: Note,
-    /// The verdicts that validation functions gave in this request, in their order.
-    pub verdicts: [Option<i32>; 2],
+    pub given: Given,
 }
 
 /// A status with its detail.

@@ -1,9 +1,9 @@
-ghost use Rattle.std.specs.Prelude.{◌≡◌, ◌+◌, ◌≤◌, [], ◌++◌, length, take, drop, false, IsTrue};
+ghost use Rattle.std.specs.Prelude.{◌≡◌, ◌+◌, ◌≤◌, [], ◌++◌, length, false, IsTrue};
 
 use std::marker::Model;
 
 /// How many bytes stand in a value itself, at most: those of an event's packet.
-pub(crate) const INLINE_LIMIT: usize = 24;
+pub const INLINE_LIMIT: usize = 24;
 
 /// Up to 24 bytes in the value itself, with reserved room after them.
 #[derive(Drop)]
@@ -69,16 +69,6 @@ impl InlineBytes {
         let end = len + piece.len();
         self.bytes[len..end].copy_from_slice(piece);
         self.len = end as u8;
-    }
-
-    /// Writes a piece over the bytes from a place on.
-    pub(crate) fn write_over(&mut self, at: usize, piece: &[u8])
-        requires { at + length piece.now ≤ length self.old.list }
-        ensures bytes { self.new.list ≡ take at self.old.list ++ piece.now ++ drop (at + length piece.now) self.old.list }
-        ensures room { self.new.spare ≡ self.old.spare }
-    {
-        let bytes = &mut self.bytes[..usize::from(self.len)];
-        bytes[at..at + piece.len()].copy_from_slice(piece);
     }
 
     /// Reserves room for this many further bytes, as far as they fit into the value.

@@ -1,30 +1,61 @@
-ghost use Rattle.std.specs.Prelude.{◌≡◌, ◌+◌, ◌≤◌, ◌++◌, length, IfSome, is_some};
+ghost use Rattle.std.specs.Prelude.{◌≡◌, ◌+◌, ◌<◌, ◌≤◌, ◌++◌, length, IfSome, is_some};
 ghost use Rattle.std.specs.List.{list_all, position_or_len};
+ghost use Rattle.std.specs.Str.{bytes_eq};
+ghost use Rattle.std.specs.Cmp.{partial_equiv_from_equiv};
+ghost use Rattle.std.specs.Cmp.Lexicographic.{nat_list_eq_equiv};
+ghost use Rattle.std.specs.Cmp.Rules.{hashing};
+ghost use Rattle.std.specs.Hash as fed;
+ghost use Rattle.std.proofs.Common.{rules};
 ghost use Rattle.tbl_kinds.specs.Names.{is_zero, name_in, name_field, is_printable_byte, is_name, HasNoZero};
 ghost use Rattle.tbl_kinds.specs.Records.{FitsField};
 ghost use Rattle.tbl_kinds.specs.Heads.{is_name_field};
 
 use crate::bytes::Bytes;
-use arrayvec::ArrayVec;
+use std::hash::{Hash, Hasher};
 use std::marker::Model;
 
-/// A name of at most `N` bytes, none of them zero, as a field of `N` bytes holds it.
-#[derive(PartialEq, Eq, Hash, Drop)]
+/// A name of at most `N` bytes, none of them zero, as a field of `N` bytes holds it: with zeros after it.
+#[derive(Drop)]
 pub struct Name<const N: usize> {
-    items: ArrayVec<u8, N>,
+    field: [u8; N],
+    len: u8,
 }
 
 impl<const N: usize> Model for Name<N> {
-    ghost use Rattle.std.specs.Prelude.{ℕ, List};
-    ghost use Rattle.tbl_kinds.specs.Names.{HasNoZero};
+    ghost use Rattle.std.specs.Prelude.{ℕ, List, take};
+    ghost use Rattle.tbl_kinds.specs.Names.{HoldsName};
 
     ghost Value = { List ℕ };
 
-    ghost view = { λ n. n.items.items };
+    ghost view = { λ n. take n.len n.field };
 
-    ghost invariant = { λ n. HasNoZero n.items.items };
+    ghost invariant = { λ n. HoldsName N n.len n.field };
+}
 
-    ghost inverse = { λ xs. record { items = record { items = xs } } };
+/// Two names are the same where their fields are.
+impl<const N: usize> PartialEq for Name<N> {
+    ghost eq = { λ a b. bytes_eq a b };
+
+    ghost laws = { partial_equiv_from_equiv nat_list_eq_equiv };
+
+    #[tactic(auto, using(crate::proofs::NameFields::same_fields))]
+    fn eq(&self, other: &Name<N>) -> bool {
+        self.field == other.field
+    }
+}
+
+impl<const N: usize> Eq for Name<N> {
+    ghost laws = { nat_list_eq_equiv };
+}
+
+impl<const N: usize> Hash for Name<N> {
+    ghost hash_input = { λ n. fed.slice fed.u8 n };
+
+    ghost respects_eq = { Prim.search (hashing, rules) };
+
+    fn hash<H: Hasher>(&self, state: &mut H) {
+        self.bytes().hash(state);
+    }
 }
 
 /// The short name of a table or a block.
@@ -51,10 +82,28 @@ fn first_zero(field: &[u8]) -> usize
     field.len()
 }
 
+/// The bytes before the first zero byte, or all of them.
+#[tactic(auto, using(crate::proofs::Names::reads_itself))]
+fn read_name(field: &[u8]) -> &[u8]
+    ensures name { result.now ≡ name_in field.now }
+    ensures within { length result.now ≤ length field.now }
+    ensures no_zero { HasNoZero result.now }
+{
+    &field[..first_zero(field)]
+}
+
 fn are_zeros(bytes: &[u8]) -> bool
     ensures { result ≡ list_all is_zero bytes.now }
 {
     bytes.iter().all(|byte| *byte == 0)
+}
+
+/// Whether a field was written for a name: after its first zero byte all bytes are zero.
+pub fn is_name_field(field: &[u8]) -> bool
+    ensures { result ≡ is_name_field field.now }
+{
+    let (_, behind) = field.split_at(read_name(field).len());
+    are_zeros(behind)
 }
 
 fn is_printable(byte: u8) -> bool
@@ -71,31 +120,42 @@ fn all_printable(bytes: &[u8]) -> bool
 
 impl<const N: usize> Name<N> {
     /// The bytes before the first zero byte of a field of `N` bytes, or all of them.
-    #[tactic(auto, using(crate::proofs::Names::reads_itself))]
+    #[tactic(auto, using(crate::proofs::NameFields::before_zeros))]
     pub fn of(field: &[u8]) -> Name<N>
-        requires { length field.now ≤ N }
+        requires small { N < 256 }
+        requires within { length field.now ≤ N }
         ensures { result ≡ name_in field.now }
     {
-        let mut items = ArrayVec::new();
-        let _ = items.try_extend_from_slice(&field[..first_zero(field)]);
-        Name { items }
+        let name = read_name(field);
+        let mut own = [0; N];
+        own[..name.len()].copy_from_slice(name);
+        Name {
+            field: own,
+            len: name.len() as u8,
+        }
     }
 
     /// The name that a field of `N` bytes is written for. None where a byte after the field's first zero byte isn't zero.
-    #[tactic(auto, using(crate::proofs::NameFields::written_again))]
+    #[tactic(auto, using(crate::proofs::NameFields::whole_field, crate::proofs::NameFields::written_again))]
     pub fn exact(field: &[u8]) -> Option<Name<N>>
-        requires { length field.now ≡ N }
+        requires small { N < 256 }
+        requires len { length field.now ≡ N }
         ensures right { is_some result ≡ is_name_field field.now }
         ensures name { IfSome result (λ name. name ≡ name_in field.now) }
         ensures field { IfSome result (λ name. name_field N name ≡ field.now) }
         ensures fits { IfSome result (λ name. FitsField N name) }
     {
-        let name = Name::<N>::of(field);
-        let (_, behind) = field.split_at(name.bytes().len());
+        let len = read_name(field).len();
+        let (_, behind) = field.split_at(len);
         if !are_zeros(behind) {
             return None;
         }
-        Some(name)
+        let mut own = [0; N];
+        own.copy_from_slice(field);
+        Some(Name {
+            field: own,
+            len: len as u8,
+        })
     }
 
     /// How many bytes the field of this name has: `N`.
@@ -113,10 +173,7 @@ impl<const N: usize> Name<N> {
         ensures len { length (name_field N self.now) ≡ N }
         ensures fits { FitsField N self.now }
     {
-        let bytes = self.bytes();
-        let mut field = [0; N];
-        field[..bytes.len()].copy_from_slice(bytes);
-        field
+        self.field
     }
 
     /// Appends the field of this name.
@@ -126,7 +183,7 @@ impl<const N: usize> Name<N> {
         ensures room { out.old.spare ≤ out.new.spare + length (name_field N self.now) }
         ensures fits { FitsField N self.now }
     {
-        out.append(&self.field());
+        out.append(&self.field);
     }
 
     /// The bytes, at most `N`.
@@ -135,14 +192,17 @@ impl<const N: usize> Name<N> {
         ensures within { length result.now ≤ N }
         ensures no_zero { HasNoZero result.now }
     {
-        self.items.as_slice()
+        &self.field[..usize::from(self.len)]
     }
 
     /// The same name once more. It takes no memory.
     pub fn copy(&self) -> Name<N>
         ensures { result ≡ self.now }
     {
-        Name::of(self.bytes())
+        Name {
+            field: self.field,
+            len: self.len,
+        }
     }
 
     /// Whether it is a name: one byte or more, each from 0x21 to 0x7E.

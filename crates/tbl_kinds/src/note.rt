@@ -1,5 +1,6 @@
 ghost use Rattle.std.specs.Prelude.{◌≡◌, IfSome, IfNone};
-ghost use Rattle.tbl_kinds.specs.Notes.{untouched};
+ghost use Rattle.tbl_kinds.specs.Notes.{untouched, all_done, IsPlain};
+ghost use Rattle.tbl_kinds.specs.KeptNotes.{note_in};
 
 use crate::bytes::Bytes;
 use crate::slots::Slots;
@@ -59,10 +60,28 @@ impl BankNote {
     }
 }
 
-/// The note of an entry. Nearly every request makes no call of the store, and its note takes no memory of its own.
+/// What came from outside in a request: what it did to the Critical Data Store, and the verdicts that validation functions gave
+/// in it, in their order.
+#[derive(Drop)]
+pub struct Outside {
+    pub note: BankNote,
+    pub verdicts: [Option<i32>; 2],
+}
+
+/// What a note keeps.
+#[derive(Drop)]
+pub(crate) enum Kept {
+    Untouched,
+    /// So many calls of the store were done, and nothing else is to be told of them.
+    Done(u8),
+    Whole(Box<Outside>),
+}
+
+/// A note of a request. Nearly every request makes no call of the store, or calls that were all done, and its note takes no memory
+/// of its own. Where it takes some, that has room for verdicts too, which the note leaves alone.
 #[derive(Drop)]
 pub struct Note {
-    touched: Option<Box<BankNote>>,
+    kept: Kept,
 }
 
 impl Model for Note {
@@ -70,9 +89,9 @@ impl Model for Note {
 
     ghost Value = { BankNote };
 
-    ghost use Rattle.tbl_kinds.specs.Notes.{note_in};
+    ghost use Rattle.tbl_kinds.specs.KeptNotes.{note_in};
 
-    ghost view = { λ n. note_in n.touched };
+    ghost view = { λ n. note_in n.kept };
 }
 
 impl Note {
@@ -80,47 +99,69 @@ impl Note {
     pub fn untouched() -> Note
         ensures { result ≡ untouched }
     {
-        Note { touched: None }
-    }
-
-    /// Any note, in memory that was taken before.
-    pub fn of(note: Box<BankNote>) -> Note
-        ensures { result ≡ note.value }
-    {
         Note {
-            touched: Some(note),
+            kept: Kept::Untouched,
         }
     }
 
-    /// The whole note in its memory, to be told more; none where it says that nothing was done.
-    pub fn taken(self) -> Option<Box<BankNote>>
-        ensures some { IfSome result (λ note. note.value ≡ self) }
-        ensures none { IfNone result (self ≡ untouched) }
+    /// So many calls of the store were done, and nothing else is to be told of them.
+    pub fn done(count: u8) -> Note
+        ensures { result ≡ all_done count }
     {
-        self.touched
+        Note {
+            kept: Kept::Done(count),
+        }
+    }
+
+    /// Any note, in memory that was taken before.
+    pub fn of(outside: Box<Outside>) -> Note
+        ensures { result ≡ outside.value.note }
+    {
+        Note {
+            kept: Kept::Whole(outside),
+        }
+    }
+
+    /// The whole note in its memory, to be told more; none where it takes no memory.
+    pub fn taken(self) -> Option<Box<Outside>>
+        ensures some { IfSome result (λ outside. outside.value.note ≡ self) }
+        ensures none { IfNone result (IsPlain self) }
+    {
+        match self.kept {
+            Kept::Whole(outside) => Some(outside),
+            _ => None,
+        }
     }
 
     /// How the calls of the store went.
     pub fn outcome(&self) -> Outcome
         ensures { result ≡ self.now.outcome }
     {
-        match &self.touched {
-            None => Outcome::Untouched,
-            Some(note) => note.outcome,
+        match &self.kept {
+            Kept::Untouched => Outcome::Untouched,
+            Kept::Done(_) => Outcome::Done,
+            Kept::Whole(outside) => outside.note.outcome,
         }
     }
 
-    /// The whole note; none where it says that nothing was done.
+    /// The whole note; none where it takes no memory.
     pub fn touched(&self) -> Option<&BankNote>
         ensures some { IfSome result (λ note. note.now ≡ self.now) }
-        ensures none { IfNone result (self.now ≡ untouched) }
+        ensures none { IfNone result (IsPlain self.now) }
     {
-        match &self.touched {
-            None => None,
-            Some(note) => {
-                let note: &BankNote = note;
-                Some(note)
+        match &self.kept {
+            Kept::Whole(outside) => {
+                let outside: &Outside = outside;
+                Some(&outside.note)
             }
+            _ => None,
         }
+    }
+
+    /// What is kept of it.
+    pub(crate) fn kept(self) -> Kept
+        ensures { note_in result ≡ self }
+    {
+        self.kept
     }
 }

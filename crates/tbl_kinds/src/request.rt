@@ -3,7 +3,8 @@ ghost use Rattle.tbl_kinds.specs.Records.{actor_number};
 ghost use Rattle.tbl_kinds.specs.Requests.{Fits};
 
 use crate::bytes::Bytes;
-use crate::name::{Name16, Name20, Name40, Name64};
+use crate::name::{Name16, Name20, Name40};
+use crate::uplink::{FileName, Uplink};
 
 /// Who makes a request.
 #[derive(Clone, Copy, PartialEq, Eq)]
@@ -44,8 +45,7 @@ pub enum Request {
     },
     /// An uplinked file.
     File {
-        name: Name64,
-        bytes: Bytes,
+        file: Uplink,
     },
     /// Sets the spacecraft's time.
     Time {
@@ -83,7 +83,7 @@ pub enum Request {
     /// `CFE_TBL_Load` with `CFE_TBL_SRC_FILE`.
     LoadFile {
         handle: u16,
-        name: Name64,
+        name: FileName,
     },
     /// `CFE_TBL_Update`.
     Update {
