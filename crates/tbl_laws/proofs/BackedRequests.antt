@@ -198,7 +198,7 @@ module _ (s : State) (backed : AreBacked s) (given : Given) where
 
   pub backs : (actor : Actor) (request : Request) → OfEffect (λ e. IsNoteOf request e.calls s.store given.note → AreBacked e.next) (effect_of s actor request given)
   backs Ground (ask.Command bytes) = λ noted. by_command s given.note Backs refused commands bytes.list
-  backs Ground (ask.File name bytes) = λ noted. by_file s Backs refused name bytes.list (same _ refl refl)
+  backs Ground (ask.File file) = λ noted. by_file s Backs refused file.name file.bytes (same _ refl refl)
   backs Ground (ask.Time seconds sub) = λ noted. same _ refl refl
   backs Ground (ask.Reset kind) = λ noted. boot_backed kind given.note s backed.single
   backs Ground request = tt

@@ -130,7 +130,7 @@ module _ (s : State) (given : Given) where
   pub caused : (actor : Actor) (request : Request) → OfEffect (λ e. HasCause e.status given.note) (effect_of s actor request given)
   unfolding Caused
   caused Ground (ask.Command bytes) = by_command s given.note Caused refused commands bytes.list
-  caused Ground (ask.File name bytes) = by_file s Caused refused name bytes.list (harmless _ _ refl)
+  caused Ground (ask.File file) = by_file s Caused refused file.name file.bytes (harmless _ _ refl)
   caused Ground (ask.Time seconds sub) = harmless SUCCESS given.note refl
   caused Ground (ask.Reset kind) = reset_caused given.note
   caused Ground _ = tt

@@ -262,9 +262,9 @@ module _ (s : State) (n : ℕ) (fit : AreFit n s) where
 
   pub request_fair : AreLoaded s.tables.rows → (actor : Actor) (request : Request) (given : Given) → OfEffect (Goes actor request given.note) (effect_of s actor request given)
   request_fair loaded Ground (ask.Command bytes) given = λ noted. by_command s given.note (Fair s Ground (ask.Command bytes)) (fair_refused s Ground (ask.Command bytes) refl) (commands bytes given.note) bytes.list
-  request_fair loaded Ground (ask.File name bytes) given = λ noted.
-      let request : Request = ask.File name bytes in
-      by_file s (Fair s Ground request) (fair_refused s Ground request refl) name bytes.list (fair_plain s Ground request (plain_of request (λ k. refl) (λ k. refl) (λ k. refl) refl refl) _ (stays_keeps s.tables) refl)
+  request_fair loaded Ground (ask.File file) given = λ noted.
+      let request : Request = ask.File file in
+      by_file s (Fair s Ground request) (fair_refused s Ground request refl) file.name file.bytes (fair_plain s Ground request (plain_of request (λ k. refl) (λ k. refl) (λ k. refl) refl refl) _ (stays_keeps s.tables) refl)
   request_fair loaded Ground (ask.Time seconds sub) given = λ noted.
       let request : Request = ask.Time seconds sub in
       fair_plain s Ground request (plain_of request (λ k. refl) (λ k. refl) (λ k. refl) refl refl) _ (stays_keeps s.tables) refl

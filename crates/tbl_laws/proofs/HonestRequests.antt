@@ -448,7 +448,7 @@ module _ (s : State) (n : ℕ) (fit : AreFit n s) where
 
   pub honest : (actor : Actor) (request : Request) (given : Given) → OfEffect (IsHonest s) (effect_of s actor request given)
   honest Ground (ask.Command bytes) given = by_command s given.note (IsHonest s) refused (commands given.note) bytes.list
-  honest Ground (ask.File name bytes) given = by_file s (IsHonest s) refused name bytes.list (same_tables _ refl refl)
+  honest Ground (ask.File file) given = by_file s (IsHonest s) refused file.name file.bytes (same_tables _ refl refl)
   honest Ground (ask.Time seconds sub) given = same_tables _ refl refl
   honest Ground (ask.Reset kind) given = anew _ refl refl
   honest Ground _ given = tt

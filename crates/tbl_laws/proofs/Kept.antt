@@ -282,7 +282,7 @@ module _ (s : State) (given : Given) where
 
   pub kept : (actor : Actor) (request : Request) → OfEffect (IsKept s given) (effect_of s actor request given)
   kept Ground (ask.Command bytes) = by_command s given.note (IsKept s given) refused commands bytes.list
-  kept Ground (ask.File name bytes) = by_file s (IsKept s given) refused name bytes.list (nothing_told)
+  kept Ground (ask.File file) = by_file s (IsKept s given) refused file.name file.bytes (nothing_told)
   kept Ground (ask.Time seconds sub) = nothing_told
   kept Ground (ask.Reset kind) = nothing_told
   kept Ground _ = tt

@@ -212,7 +212,7 @@ module _ (s : State) (n : ℕ) (lives : s.ended ≡ false) (fit : AreFit n s) (g
 
   of_request : (actor : Actor) (request : Request) → OfEffect (IsOrdinary n given.note) (effect_of s actor request given)
   of_request Ground (ask.Command bytes) = by_command s given.note (IsOrdinary n given.note) refused commands bytes.list
-  of_request Ground (ask.File name bytes) = by_file s (IsOrdinary n given.note) refused name bytes.list (record { fit = elsewhere _ refl refl refl; live = live })
+  of_request Ground (ask.File file) = by_file s (IsOrdinary n given.note) refused file.name file.bytes (record { fit = elsewhere _ refl refl refl; live = live })
   of_request Ground (ask.Time seconds sub) = record { fit = elsewhere _ refl refl refl; live = live }
   of_request Ground (ask.Reset kind) = record { fit = fit_at_first (suc n) (boot kind given.note s) refl refl; live = λ goes. goes }
   of_request Ground request = tt

@@ -12,7 +12,7 @@ use Rattle.tbl_model.specs.Tables.{is_critical, critical_count}
 use Rattle.tbl_model.specs.TableSteps.{find, new_table}
 use Rattle.tbl_model.specs.Effects.{Effect, answered}
 use Rattle.tbl_model.specs.Given.{Given}
-use Rattle.tbl_model.specs.History.{Run, effect_in, given_in}
+use Rattle.tbl_model.specs.History.{Run, effect_in}
 use Rattle.tbl_session.specs.Crashes.{writes, calls_in}
 use Rattle.tbl_model.specs.CriticalTables.{critical_limit, registered, not_kept, recovered, instead, kept_effect}
 use Rattle.tbl_model.specs.Registration.{new_effect}
@@ -93,7 +93,7 @@ module _ (s : State) (single : AreSingle s.store) (given : Given) where
 
   pub suits : (actor : Actor) (request : Request) → OfEffect (λ e. SuitAll s.tables (writes e.calls) s.store) (effect_of s actor request given)
   suits Ground (ask.Command bytes) = by_command s given.note Suited refused commands bytes.list
-  suits Ground (ask.File name bytes) = by_file s Suited refused name bytes.list tt
+  suits Ground (ask.File file) = by_file s Suited refused file.name file.bytes tt
   suits Ground (ask.Time seconds sub) = tt
   suits Ground (ask.Reset kind) = tt
   suits Ground request = tt
@@ -128,7 +128,7 @@ module _ (s : State) (single : AreSingle s.store) (given : Given) where
 
 -- so do those of an entry
 pub calls_suit : (r : Run) (e : Entry) → AreSingle r.state.store → SuitAll r.state.tables (calls_in r e) r.state.store
-calls_suit r e single = by (effect_in r e) (suits r.state single (given_in e) e.actor e.request) where
+calls_suit r e single = by (effect_in r e) (suits r.state single e.given e.actor e.request) where
   by : (found : Option Effect) → OfEffect (λ effect. SuitAll r.state.tables (writes effect.calls) r.state.store) found → SuitAll r.state.tables (option_map_or (λ (effect : Effect). writes effect.calls) found []) r.state.store
   by None suit = tt
   by (Some effect) suit = suit

@@ -8,7 +8,7 @@ use Rattle.tbl_model.specs.State.{State, Load, Table, no_tables}
 use Rattle.tbl_model.specs.Tables.{table_at}
 use Rattle.tbl_model.specs.Effects.{Effect}
 use Rattle.tbl_model.specs.Counts.{Told}
-use Rattle.tbl_model.specs.History.{Run, begins_at, onward_by, run_from, given_in, effect_in, told, IsAnswered, AreAnswered, IsLegal}
+use Rattle.tbl_model.specs.History.{Run, begins_at, onward_by, run_from, effect_in, told, IsAnswered, AreAnswered, IsLegal}
 use Rattle.tbl_model.specs.Vouched.{Passes, PassedBefore, table_before, IsVouchedEntry, IsVouched}
 use Rattle.tbl_model.proofs.HistoryLaws.{run_push}
 use Rattle.tbl_kinds.specs.declared.entry.Entry.{Entry}
@@ -47,7 +47,7 @@ all_more p (y ∷ ys) x all last =
     rw (parts.0, all_more p ys x parts.1 last) refl
 
 -- one entry more, with this effect
-module _ (past : List Told) (entries : List Entry) (e : Entry) (s : State) (effect : Effect) (holds : Invariant past entries s) (honest_of : IsHonest s effect) (left : IsOrdinary (length entries) e.note effect) where
+module _ (past : List Told) (entries : List Entry) (e : Entry) (s : State) (effect : Effect) (holds : Invariant past entries s) (honest_of : IsHonest s effect) (left : IsOrdinary (length entries) e.given.note effect) where
   it : Told
   it = told s e.actor e.request effect
 
@@ -99,10 +99,10 @@ module _ (opening : State) where
 
   module _ (entries : List Entry) (e : Entry) (holds : HoldsAt entries) (is : IsAnswered (run_at entries) e) where
     honest_effect : IsHonest (run_at entries).state is.effect
-    honest_effect = subst (OfEffect (IsHonest (run_at entries).state)) is.effect_is (honest (run_at entries).state (length entries) holds.fit e.actor e.request (given_in e))
+    honest_effect = subst (OfEffect (IsHonest (run_at entries).state)) is.effect_is (honest (run_at entries).state (length entries) holds.fit e.actor e.request e.given)
 
-    left : IsOrdinary (length entries) e.note is.effect
-    left = subst (OfEffect (IsOrdinary (length entries) e.note)) is.effect_is (ordinary (run_at entries).state (length entries) is.live holds.fit e.actor e.request (given_in e))
+    left : IsOrdinary (length entries) e.given.note is.effect
+    left = subst (OfEffect (IsOrdinary (length entries) e.given.note)) is.effect_is (ordinary (run_at entries).state (length entries) is.live holds.fit e.actor e.request e.given)
 
     entry_is : VouchedAt entries e
     unfolding it

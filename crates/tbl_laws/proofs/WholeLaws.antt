@@ -14,7 +14,7 @@ use Rattle.tbl_model.specs.Given.{Given}
 use Rattle.tbl_model.specs.StoreNotes.{IsNoteOf}
 use Rattle.tbl_model.specs.Dispatch.{effect_of}
 use Rattle.tbl_model.specs.Addresses.{read_effect}
-use Rattle.tbl_model.specs.History.{Run, begins_at, onward_by, run_from, given_in, IsAnswered, AreAnswered, IsLegal}
+use Rattle.tbl_model.specs.History.{Run, begins_at, onward_by, run_from, IsAnswered, AreAnswered, IsLegal}
 use Rattle.tbl_model.specs.Whole.{is_get, ends_pin, IsWholeRead, IsWholeBy, IsWholeEntry, IsWhole}
 use Rattle.tbl_model.proofs.HistoryLaws.{run_push}
 use Rattle.tbl_kinds.specs.declared.entry.Entry.{Entry}
@@ -90,7 +90,7 @@ whole_on opening entries app n same offset len image e no_get no_end whole = let
 
 -- one more entry, answered with this effect
 module _ (opening : State) (entries : List Entry) (e : Entry) (s : State) (effect : Effect) (here : (run_from (begins_at opening) entries).state.tables ≡ s.tables) (holds : Invariant opening entries s)
-    (status : e.reply.status ≡ effect.status) (fair : Fair s e.actor e.request effect) (ordinary_left : IsOrdinary (length entries) e.note effect) where
+    (status : e.reply.status ≡ effect.status) (fair : Fair s e.actor e.request effect) (ordinary_left : IsOrdinary (length entries) e.given.note effect) where
   -- a handle that stays leads to the same image, and the call that pinned it is still the latest
   stays_pinned : (n : ℕ) (h : Handle) (p : ℕ) → h.pin ≡ Some p → Stays s.tables effect.next.tables e.actor e.request effect.status n h p → Pinned opening (entries ++ e ∷ []) effect.next.tables n h p
   stays_pinned n h p pin stays =
@@ -191,15 +191,15 @@ module _ (opening : State) where
   -- the next entry, where it is a read
   whole_entry : (entries : List Entry) (e : Entry) → HoldsAt entries → IsAnswered (run_at entries) e → IsWholeEntry opening entries e
   whole_entry entries e holds is ok =
-      let by = subst (OfEffect (λ (f : Effect). f.status ≡ SUCCESS → IsWholeBy opening entries e.actor e.request f.bytes)) is.effect_is (whole_by opening entries (run_at entries).state holds e.actor e.request (given_in e)) in
+      let by = subst (OfEffect (λ (f : Effect). f.status ≡ SUCCESS → IsWholeBy opening entries e.actor e.request f.bytes)) is.effect_is (whole_by opening entries (run_at entries).state holds e.actor e.request e.given) in
       subst (IsWholeBy opening entries e.actor e.request) (sym is.bytes) (by (sym is.status ∙ ok))
 
   -- the pins after the next entry
   holds_after : (entries : List Entry) (e : Entry) → HoldsAt entries → IsAnswered (run_at entries) e → HoldsAt (entries ++ e ∷ [])
   holds_after entries e holds is =
       let s : State = (run_at entries).state in
-      let fair : Fair s e.actor e.request is.effect = (subst (OfEffect (λ (f : Effect). IsNoteOf e.request f.calls s.store e.note → Fair s e.actor e.request f)) is.effect_is (request_fair s (length entries) holds.fit holds.loaded e.actor e.request (given_in e))) is.given.note in
-      let left : IsOrdinary (length entries) e.note is.effect = subst (OfEffect (IsOrdinary (length entries) e.note)) is.effect_is (ordinary s (length entries) is.live holds.fit e.actor e.request (given_in e)) in
+      let fair : Fair s e.actor e.request is.effect = (subst (OfEffect (λ (f : Effect). IsNoteOf e.request f.calls s.store e.given.note → Fair s e.actor e.request f)) is.effect_is (request_fair s (length entries) holds.fit holds.loaded e.actor e.request e.given)) is.given.note in
+      let left : IsOrdinary (length entries) e.given.note is.effect = subst (OfEffect (IsOrdinary (length entries) e.given.note)) is.effect_is (ordinary s (length entries) is.live holds.fit e.actor e.request e.given) in
       let on : Invariant opening (entries ++ e ∷ []) is.effect.next = holds_on opening entries e s is.effect refl holds is.status fair left in
       subst (λ (r : Run). Invariant opening (entries ++ e ∷ []) r.state) (sym (run_push (begins_at opening) entries e))
       (subst (λ (found : Option Effect). Invariant opening (entries ++ e ∷ []) (onward_by (run_at entries) e found).state) (sym is.effect_is) on)

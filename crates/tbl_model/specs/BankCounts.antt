@@ -35,10 +35,10 @@ abbrev pub stops_in : BankNote → ℕ
 stops_in note = stopped_once note.outcome + (if note.ended && note.stopped then 1 else 0)
 
 abbrev pub fault_count : List Entry → ℕ
-fault_count entries = sum_by (λ (e : Entry). faults_in e.note) entries
+fault_count entries = sum_by (λ (e : Entry). faults_in e.given.note) entries
 
 abbrev pub stop_count : List Entry → ℕ
-stop_count entries = sum_by (λ (e : Entry). stops_in e.note) entries
+stop_count entries = sum_by (λ (e : Entry). stops_in e.given.note) entries
 
 -- ---- causes
 

@@ -24,7 +24,7 @@ use Rattle.tbl_kinds.specs.declared.request.Request.TheVariants as ask
 -- the ground makes no other
 abbrev pub ground_effect : State → Request → Given → Option Effect
 ground_effect s (ask.Command bytes) given = Some (command_effect s bytes.list given.note)
-ground_effect s (ask.File name bytes) given = Some (file_effect s name bytes.list)
+ground_effect s (ask.File file) given = Some (file_effect s file.name file.bytes)
 ground_effect s (ask.Time seconds sub) given = Some (time_effect s seconds sub)
 ground_effect s (ask.Reset kind) given = Some (reset_effect s kind given.note)
 ground_effect s _ given = None

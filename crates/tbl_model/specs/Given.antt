@@ -5,21 +5,12 @@ use Rattle.tbl_model.specs.State.{State}
 use Rattle.tbl_model.specs.Telemetry.{Question}
 use Rattle.tbl_model.specs.Effects.{Effect}
 use Rattle.tbl_model.specs.StoreNotes.{IsNoteOf}
-use Rattle.tbl_kinds.specs.declared.note.BankNote.{BankNote}
-use Rattle.tbl_kinds.specs.Notes.{untouched}
+pub use Rattle.tbl_kinds.specs.Given.{Given, nothing_given}
 use Rattle.tbl_kinds.specs.declared.request.Request.{Request}
-
--- how the calls of the store went, and the verdicts of validation functions
-pub record Given : Type 0 where
-  pub note : BankNote
-  pub verdicts : List (Option ℤ)
 
 -- the verdict at this place
 abbrev pub verdict_at : ℕ → Given → ℤ
 verdict_at n given = unwrap_or (slice_index_or given.verdicts n None) (pos 0)
-
-abbrev pub nothing_given : Given
-nothing_given = record { note = untouched; verdicts = None ∷ None ∷ [] }
 
 -- a verdict for each question, in order, and then none: a request asks two at most
 abbrev pub AnswersEach : List Question → List (Option ℤ) → Type 0

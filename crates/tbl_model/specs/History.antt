@@ -5,7 +5,7 @@ use Rattle.tbl_model.specs.State.{State}
 use Rattle.tbl_kinds.specs.Requests.{Fits}
 use Rattle.tbl_kinds.specs.Records.{Pair, actor_number}
 use Rattle.tbl_model.specs.Effects.{Effect}
-use Rattle.tbl_model.specs.Given.{Given, MayBeGiven}
+use Rattle.tbl_model.specs.Given.{MayBeGiven}
 use Rattle.tbl_model.specs.Dispatch.{effect_of}
 use Rattle.tbl_model.specs.Counts.{Told}
 use Rattle.tbl_model.specs.Replies.{packets_of}
@@ -25,12 +25,9 @@ begins_at opening = record { state = opening; past = [] }
 abbrev pub told : State → Actor → Request → Effect → Told
 told s actor request effect = record { actor = actor; request = request; before = s; effect = effect }
 
-abbrev pub given_in : Entry → Given
-given_in e = record { note = e.note; verdicts = e.verdicts }
-
 -- what the sequential service does in an entry's request
 abbrev pub effect_in : Run → Entry → Option Effect
-effect_in r e = effect_of r.state e.actor e.request (given_in e)
+effect_in r e = effect_of r.state e.actor e.request e.given
 
 abbrev pub onward_by : Run → Entry → Option Effect → Run
 onward_by r e None = r
@@ -48,7 +45,7 @@ pub record IsAnswered (r : Run) (e : Entry) : Type 0 where
   pub fits : Fits e.actor e.request
   pub effect : Effect
   pub effect_is : effect_in r e ≡ Some effect
-  pub given : MayBeGiven r.state e.request effect (given_in e)
+  pub given : MayBeGiven r.state e.request effect e.given
   pub status : e.reply.status ≡ effect.status
   pub detail : e.reply.detail ≡ effect.detail
   pub bytes : e.reply.bytes.list ≡ effect.bytes

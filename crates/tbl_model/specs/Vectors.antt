@@ -1,5 +1,5 @@
 -- What the definitions say of sessions that are written out: each line is computed by the checker.
-use Rattle.std.specs.Prelude.{◌≡◌, ℕ, List, [], ◌∷◌, ◌++◌, take, replicate, None, refl, codes}
+use Rattle.std.specs.Prelude.{◌≡◌, ℕ, List, [], ◌∷◌, ◌++◌, take, replicate, refl, codes}
 use Rattle.std.proofs.Common.{sym}
 use Rattle.tbl_kinds.specs.Admitted.{all_admitted}
 use Rattle.tbl_kinds.specs.Headers.{file_header}
@@ -24,6 +24,7 @@ use Rattle.tbl_model.specs.StoreNotes.{IsNoteOf}
 use Rattle.tbl_model.specs.Counts.{Told, counts_of}
 use Rattle.tbl_model.specs.Replies.{head_at, packets_of}
 use Rattle.tbl_kinds.specs.Notes.{untouched}
+use Rattle.tbl_kinds.specs.Given.{nothing_given}
 use Rattle.tbl_model.specs.History.{Run, begins_at, onward, run_from, IsAnswered, IsLegal, told}
 
 -- ---- a session of the two commands
@@ -36,8 +37,7 @@ entry bytes packets = record {
   actor = Ground;
   request = command bytes;
   reply = record { status = SUCCESS; detail = 0; bytes = record { list = []; spare = 0 }; packets = record { list = packets; spare = 0 } };
-  note = untouched;
-  verdicts = None ∷ None ∷ [];
+  given = nothing_given;
 }
 
 -- event 1 with status 0, no row and detail 0, at time 0

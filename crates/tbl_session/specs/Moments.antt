@@ -21,7 +21,7 @@ pub record InLastBoot (opening : State) (entries : List Entry) (image : List ℕ
   pub before : List Entry
   pub last : Entry
   pub parts : entries ≡ before ++ last ∷ []
-  pub ended : last.note.ended ≡ true
+  pub ended : last.given.note.ended ≡ true
   pub crash : AfterCrash opening entries (length before) (store_of image)
 
 -- or one after all entries
@@ -33,7 +33,7 @@ pub record GaveLeft (IsLeft : List ℕ → Type 0) (r : Run) (e : Entry) : Type 
   pub bytes : List ℕ
   pub left : IsLeft bytes
   pub shows : Shows r.state.store (store_of bytes)
-  pub held : RestoresHeld bytes (all_calls_in r e) r.state.store e.note
+  pub held : RestoresHeld bytes (all_calls_in r e) r.state.store e.given.note
 
 -- so is it of each entry
 abbrev pub AllGaveLeft : (List ℕ → Type 0) → State → List Entry → Type 0

@@ -30,7 +30,7 @@ use Rattle.tbl_session.specs.Session.{given_of, state_from}
 pub record Asks (e : Entry) (r : Registration) : Type 0 where
   pub actor : e.actor ≡ App r.app
   pub request : e.request ≡ request_of r
-  pub note : e.note ≡ r.note
+  pub note : e.given.note ≡ r.note
 
 -- at this place of a history over the blocks that a reset left, a critical table of this full name is registered
 pub record RegistersAt (left : Store) (opening : State) (entries : List Entry) (place : ℕ) (e : Entry) (name : List ℕ) (r : Registration) : Type 0 where

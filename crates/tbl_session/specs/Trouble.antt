@@ -13,8 +13,8 @@ pub record Rises {B : Type 0} (g : Ghosts B) (bank bank_then : B) (entries : Lis
 
 -- each answer that tells of trouble has its cause in its note
 abbrev pub HaveCauses : List Entry → Type 0
-HaveCauses entries = AllByRecursion (λ (e : Entry). HasCause e.reply.status e.note) entries
+HaveCauses entries = AllByRecursion (λ (e : Entry). HasCause e.reply.status e.given.note) entries
 
 -- the last entry tells that a boot ended the service: the bank failed in it, or a reset came into it
 abbrev pub EndsInBoot : Bool → List Entry → Type 0
-EndsInBoot stopped entries = (before : List Entry) × (last : Entry) × (entries ≡ before ++ last ∷ []) × (last.note.ended ≡ true) × (last.note.stopped ≡ stopped)
+EndsInBoot stopped entries = (before : List Entry) × (last : Entry) × (entries ≡ before ++ last ∷ []) × (last.given.note.ended ≡ true) × (last.given.note.stopped ≡ stopped)

@@ -21,7 +21,7 @@ questions_in r e = option_map_or (λ (effect : model.Effect). effect.questions) 
 -- the verdicts of the entries, which follow this run, are those that these functions give
 abbrev pub AreGiven : {C : Type 0} → (C → List ℕ → ℤ) → List (Option (KitEntry C)) → Run → List Entry → Type 0
 AreGiven verdict given r [] = Unit {0}
-AreGiven verdict given r (e ∷ es) = GivesEach verdict given (questions_in r e) e.verdicts × AreGiven verdict given (onward r e) es
+AreGiven verdict given r (e ∷ es) = GivesEach verdict given (questions_in r e) e.given.verdicts × AreGiven verdict given (onward r e) es
 
 -- a function with the same verdicts stood there at first
 abbrev pub IsOf : {C : Type 0} → (C → List ℕ → ℤ) → Option (KitEntry C) → Option (KitEntry C) → Type 0
