@@ -65,7 +65,7 @@ handle_len kind number len e good = of_each HasTwoBytes kind handle_kinds each_t
 sender_fits : (number len : ℕ) (request : Request) → HasNoValidator255 request → is_good_head (kind_of request) number len ≡ true → Fits (actor_at number) request
 unfolding is_good_head
 sender_fits number len (ask.Command bytes) none good = let ground : number ≡ 0 = grind (arith, nat_tests) in rw ground tt
-sender_fits number len (ask.File name bytes) none good = let ground : number ≡ 0 = grind (arith, nat_tests) in rw ground tt
+sender_fits number len (ask.File file) none good = let ground : number ≡ 0 = grind (arith, nat_tests) in rw ground tt
 sender_fits number len (ask.Time seconds sub) none good = let ground : number ≡ 0 = grind (arith, nat_tests) in rw ground tt
 sender_fits number len (ask.Reset kind) none good = let ground : number ≡ 0 = grind (arith, nat_tests) in rw ground tt
 sender_fits number len (ask.Start name) none good = app_may number len 20 20 (ask.Start name) (λ no. no) none good

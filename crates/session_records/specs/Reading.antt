@@ -22,9 +22,9 @@ handle_kinds = 0x13 ∷ 0x16 ∷ 0x17 ∷ 0x18 ∷ 0x19 ∷ 0x1B ∷ 0x1D ∷ 0x
 abbrev pub is_handle_kind : ℕ → Bool
 is_handle_kind number = list_any (λ kind. number == kind) handle_kinds
 
--- the kinds whose requests keep bytes of the body
+-- the kinds whose requests keep bytes of the body, or a long name
 abbrev pub bytes_kinds : List ℕ
-bytes_kinds = 0x01 ∷ 0x02 ∷ 0x14 ∷ 0x1A ∷ 0x31 ∷ []
+bytes_kinds = 0x01 ∷ 0x02 ∷ 0x14 ∷ 0x15 ∷ 0x1A ∷ 0x31 ∷ []
 
 abbrev pub keeps_bytes : ℕ → Bool
 keeps_bytes number = list_any (λ kind. number == kind) bytes_kinds

@@ -7,7 +7,10 @@ ghost use Rattle.session_records.specs.Reading.{IfItem, IsReadAs, is_handle_kind
 use crate::fields::{read_four, read_two, read_validator};
 use crate::head::{HEAD_LEN, Head, actor_of};
 use std::alloc::Global;
-use tbl_kinds::{Actor, Bytes, Memory, Name, Request, ResetKind};
+use tbl_kinds::{
+    Actor, Bytes, FILE_NAME_LENGTH, FileName, Memory, Name, Request, ResetKind, Uplink,
+    is_name_field,
+};
 
 /// What stands at the front of an input.
 #[derive(Drop)]
@@ -61,12 +64,12 @@ fn file(alloc: Global, head: Head, body: &[u8]) -> Result<Next, Memory>
     ensures item { IfOk result (IsReadAs 0x02 head body.now) }
     ensures memory { OnErr result (IsTrue (is_right_body 0x02 body.now)) }
 {
-    let (field, contents) = body.split_at(64);
-    let Some(name) = Name::<64>::exact(field) else {
+    let (field, _) = body.split_at(FILE_NAME_LENGTH);
+    if !is_name_field(field) {
         return Ok(Next::Bad);
-    };
-    let bytes = copy_of(alloc, contents)?;
-    Ok(record!(head, body, Request::File { name, bytes }))
+    }
+    let file = Uplink::of(copy_of(alloc, body)?);
+    Ok(record!(head, body, Request::File { file }))
 }
 
 #[tactic(auto, unfolding(tbl_kinds::specs::Heads::is_right_body))]
@@ -150,15 +153,17 @@ fn load_image(alloc: Global, head: Head, body: &[u8]) -> Result<Next, Memory>
 }
 
 #[tactic(auto, unfolding(tbl_kinds::specs::Heads::is_right_body))]
-fn load_file(head: Head, body: &[u8]) -> Next
+fn load_file(alloc: Global, head: Head, body: &[u8]) -> Result<Next, Memory>
     requires { length body.now ≡ 66 }
-    ensures { IsReadAs 0x15 head body.now result }
+    ensures item { IfOk result (IsReadAs 0x15 head body.now) }
+    ensures memory { OnErr result (IsTrue (is_right_body 0x15 body.now)) }
 {
     let (handle, field) = read_two(body);
     let Some(name) = Name::<64>::exact(field) else {
-        return Next::Bad;
+        return Ok(Next::Bad);
     };
-    record!(head, body, Request::LoadFile { handle, name })
+    let name = FileName::of(alloc, name)?;
+    Ok(record!(head, body, Request::LoadFile { handle, name }))
 }
 
 #[tactic(auto, unfolding(tbl_kinds::specs::Heads::is_right_body))]
@@ -311,7 +316,6 @@ fn plain_record(head: Head, body: &[u8]) -> Next
         0x10 => start(head, body),
         0x11 => register(head, body),
         0x12 => share(head, body),
-        0x15 => load_file(head, body),
         0x1C => read(head, body),
         0x1F => get_info(head, body),
         0x20 => notify(head, body),
@@ -335,6 +339,7 @@ fn record_of(alloc: Global, head: Head, body: &[u8]) -> Result<Next, Memory>
         0x01 => command(alloc, head, body),
         0x02 => file(alloc, head, body),
         0x14 => load_image(alloc, head, body),
+        0x15 => load_file(alloc, head, body),
         0x1A => edit(alloc, head, body),
         0x31 => cds_copy(alloc, head, body),
         _ => Ok(plain_record(head, body)),

@@ -8,7 +8,7 @@ ghost use Rattle.session_records.specs.Writing.{BeginsWithHandle};
 
 use crate::fields::{append_four, append_two, append_validator};
 use crate::head::HEAD_LEN;
-use tbl_kinds::{Actor, Bytes, Memory, Name16, Name64, Request, ResetKind};
+use tbl_kinds::{Actor, Bytes, Memory, Name16, Name64, Request, ResetKind, Uplink};
 
 fn kind_of(request: &Request) -> u8
     ensures { result ≡ records.kind_of request.now }
@@ -50,7 +50,7 @@ pub fn body_len(request: &Request) -> usize
 {
     match request {
         Request::Command { bytes } => bytes.bytes().len(),
-        Request::File { name, bytes } => name.field_len() + bytes.bytes().len(),
+        Request::File { file } => file.spelling().len(),
         Request::Time { .. } => 6,
         Request::Reset { .. } => 1,
         Request::Start { name } => name.field_len(),
@@ -59,7 +59,7 @@ pub fn body_len(request: &Request) -> usize
         Request::LoadImage { image, .. } | Request::CdsCopy { image, .. } => {
             2 + image.bytes().len()
         }
-        Request::LoadFile { name, .. } => 2 + name.field_len(),
+        Request::LoadFile { name, .. } => 2 + name.name().field_len(),
         Request::Edit { bytes, .. } => 6 + bytes.bytes().len(),
         Request::Read { .. } | Request::Notify { .. } => 10,
         Request::Exit => 0,
@@ -77,13 +77,12 @@ pub fn body_len(request: &Request) -> usize
     }
 }
 
-fn append_file(out: &mut Bytes, name: &Name64, bytes: &Bytes)
-    requires { length (body_of (ask.File name.now bytes.now)) ≤ out.old.spare }
-    ensures bytes { out.new.list ≡ out.old.list ++ body_of (ask.File name.now bytes.now) }
-    ensures sized { IsSized (ask.File name.now bytes.now) }
+fn append_file(out: &mut Bytes, file: &Uplink)
+    requires { length (body_of (ask.File file.now)) ≤ out.old.spare }
+    ensures bytes { out.new.list ≡ out.old.list ++ body_of (ask.File file.now) }
+    ensures sized { IsSized (ask.File file.now) }
 {
-    name.append_field(out);
-    out.append(bytes.bytes());
+    out.append(file.spelling());
 }
 
 fn append_time(out: &mut Bytes, seconds: u32, sub: u16)
@@ -185,7 +184,7 @@ fn append_handle_body(out: &mut Bytes, request: &Request)
     match request {
         Request::LoadImage { handle, image } => append_image(out, *handle, image),
         Request::CdsCopy { slot, image } => append_image(out, *slot, image),
-        Request::LoadFile { handle, name } => append_load_file(out, *handle, name),
+        Request::LoadFile { handle, name } => append_load_file(out, *handle, name.name()),
         Request::Edit {
             handle,
             offset,
@@ -222,7 +221,7 @@ fn append_body(out: &mut Bytes, request: &Request)
 {
     match request {
         Request::Command { bytes } => out.append(bytes.bytes()),
-        Request::File { name, bytes } => append_file(out, name, bytes),
+        Request::File { file } => append_file(out, file),
         Request::Time { seconds, sub } => append_time(out, *seconds, *sub),
         Request::Reset { kind } => append_reset(out, *kind),
         Request::Start { name } => name.append_field(out),

@@ -20,13 +20,11 @@ use Rattle.tbl_drill.specs.Drill.{just, ground, app, size, file_name, roomless, 
 -- the room makes no difference
 fits_with_room : (actor : Actor) (request : Request) → Fits actor (without_room request) → Fits actor request
 fits_with_room Ground (ask.Command bytes) fits = fits
-fits_with_room Ground (ask.File name bytes) fits = fits
 fits_with_room Ground (ask.LoadImage handle image) fits = fits
 fits_with_room Ground (ask.Edit handle offset bytes) fits = fits
 fits_with_room Ground (ask.CdsCopy slot image) fits = fits
 fits_with_room Ground _ fits = fits
 fits_with_room (App number) (ask.Command bytes) fits = fits
-fits_with_room (App number) (ask.File name bytes) fits = fits
 fits_with_room (App number) (ask.LoadImage handle image) fits = fits
 fits_with_room (App number) (ask.Edit handle offset bytes) fits = fits
 fits_with_room (App number) (ask.CdsCopy slot image) fits = fits
@@ -34,7 +32,6 @@ fits_with_room (App number) _ fits = fits
 
 with_room : (actor : Actor) (request : Request) → IsRecord (record { actor = actor; request = without_room request }) → IsRecord (record { actor = actor; request = request })
 with_room actor (ask.Command bytes) r = record { fits = fits_with_room actor (ask.Command bytes) r.fits; sized = r.sized; within = r.within }
-with_room actor (ask.File name bytes) r = record { fits = fits_with_room actor (ask.File name bytes) r.fits; sized = r.sized; within = r.within }
 with_room actor (ask.LoadImage handle image) r = record { fits = fits_with_room actor (ask.LoadImage handle image) r.fits; sized = r.sized; within = r.within }
 with_room actor (ask.Edit handle offset bytes) r = record { fits = fits_with_room actor (ask.Edit handle offset bytes) r.fits; sized = r.sized; within = r.within }
 with_room actor (ask.CdsCopy slot image) r = record { fits = fits_with_room actor (ask.CdsCopy slot image) r.fits; sized = r.sized; within = r.within }
@@ -77,7 +74,7 @@ command_record c few = record { fits = tt; sized = tt; within = omega (arith, fe
 image_record : (h b : ℕ) → h < 3 → IsRecord (app 1 (ask.LoadImage h (just (replicate size b))))
 image_record h b lt = record { fits = (lit≤ tt, lit≤ tt, λ none. none, tt); sized = omega arith; within = omega arith }
 
-file_record : (h b : ℕ) → IsRecord (ground (ask.File file_name (just (file_for h b))))
+file_record : (h b : ℕ) → IsRecord (ground (ask.File (record { name = file_name; bytes = file_for h b })))
 file_record h b = record {
   fits = tt;
   sized = record { within = lit≤ tt; no_zero = refl };

@@ -80,7 +80,7 @@ command c = ask.Command (just (command_bytes 0 c))
 abbrev pub requested : ℕ → ℕ → ℕ → Pair
 requested k h b =
     if k == 0 then app 1 (ask.LoadImage h (just (replicate size b)))
-    else (if k == 1 then ground (ask.File file_name (just (file_for h b)))
+    else (if k == 1 then ground (ask.File (record { name = file_name; bytes = file_for h b }))
     else (if k == 2 then ground (command (load file_name))
     else (if k == 3 then ground (command (validate 0 (table_name h)))
     else (if k == 4 then ground (command (activate (table_name h)))

@@ -19,7 +19,7 @@ use cfe_headers::{FileHeader, HEADER_LENGTH, write_cmd};
 use std::alloc::Global;
 use table_files::{IMAGE_PLACE, TABLE_SUBTYPE, TableFile, write_table_file};
 use tbl_kinds::fields::put;
-use tbl_kinds::{Bytes, Memory, Name, Name40, Name64, Request};
+use tbl_kinds::{Bytes, FILE_NAME_LENGTH, Memory, Name, Name40, Name64, Request, Uplink};
 
 /// How many bytes a file of a drill loads.
 const PIECE: usize = 32;
@@ -75,18 +75,18 @@ fn file_header() -> FileHeader
 #[tactic(auto, unfolding(crate::specs::Drill::file_for))]
 fn file(alloc: Global, table: u16, byte: u8) -> Result<Request, Memory>
     requires { table < 3 }
-    ensures { IfOk result (λ request. without_room request ≡ ask.File file_name (just (file_for table byte))) }
+    ensures { IfOk result (λ request. request ≡ ask.File (record { name = file_name; bytes = file_for table byte })) }
 {
-    let mut bytes = Bytes::make(alloc, IMAGE_PLACE + PIECE)?;
+    let mut spelling = Bytes::make(alloc, FILE_NAME_LENGTH + IMAGE_PLACE + PIECE)?;
+    drill_file().append_field(&mut spelling);
     let file = TableFile {
         offset: u32::from(byte % 32),
         count: PIECE as u32,
         name: table_name_of(table),
     };
-    write_table_file(&mut bytes, &file_header(), &file, &[byte; PIECE]);
+    write_table_file(&mut spelling, &file_header(), &file, &[byte; PIECE]);
     Ok(Request::File {
-        name: drill_file(),
-        bytes,
+        file: Uplink::of(spelling),
     })
 }
 

@@ -1,6 +1,6 @@
 //! Packets read: the value whose packet bytes are, and none where they are no packet of its kind.
 
-ghost use Rattle.std.specs.Prelude.{◌≡◌, ◌+◌, ◌≤◌, length, IfSome, Some, is_some};
+ghost use Rattle.std.specs.Prelude.{◌≡◌, ◌+◌, ◌<◌, ◌≤◌, length, IfSome, Some, is_some};
 ghost use Rattle.tbl_kinds.specs.Heads.{has_name};
 ghost use Rattle.tlm_packets.specs.Reading.{has_head, body_in, name_at, event_in, is_housekeeping, housekeeping_in, is_row, row_in};
 ghost use Rattle.tlm_packets.specs.Spellings.{SpellsEvent, SpellsHousekeeping, SpellsRow};
@@ -36,7 +36,8 @@ fn body_of(bytes: &[u8], id: u16, len: usize) -> Option<&[u8]>
 
 /// The name of the field of this width at a place.
 fn name_of<const WIDTH: usize>(body: &[u8], place: usize) -> Option<Name<WIDTH>>
-    requires { place + WIDTH ≤ length body.now }
+    requires within { place + WIDTH ≤ length body.now }
+    requires narrow { WIDTH < 256 }
     ensures right { is_some result ≡ has_name place WIDTH body.now }
     ensures name { IfSome result (λ name. name ≡ name_at place WIDTH body.now) }
 {
