@@ -4,14 +4,14 @@ ghost use Rattle.tbl_kinds.specs.Numbers.{piece, patched};
 
 use std::alloc::Global;
 use std::marker::Model;
-use tbl_kinds::{Bytes, Memory};
+use tbl_kinds::Memory;
 use tbl_outside::{Bank, Failed, Written};
 
 /// Preserved memory that never fails and is never stopped. It keeps no record, so it tells its bytes, and
 /// neither its moments nor its calls.
 #[derive(Drop)]
 pub struct CalmBank {
-    bytes: Bytes,
+    bytes: Vec<u8>,
 }
 
 impl Model for CalmBank {
@@ -19,16 +19,16 @@ impl Model for CalmBank {
 
     ghost Value = { List ℕ };
 
-    ghost view = { λ b. b.bytes.list };
+    ghost view = { λ b. b.bytes.items };
 
-    ghost invariant = { λ b. length b.bytes.list < 2 ^ 32 };
+    ghost invariant = { λ b. length b.bytes.items < 2 ^ 32 };
 }
 
 impl CalmBank {
     /// A bank of these bytes.
-    pub fn make(bytes: Bytes) -> CalmBank
-        requires { length bytes.list < 2 ^ 32 }
-        ensures { result ≡ bytes.list }
+    pub fn make(bytes: Vec<u8>) -> CalmBank
+        requires { length bytes.items < 2 ^ 32 }
+        ensures { result ≡ bytes.items }
     {
         CalmBank { bytes }
     }
@@ -37,17 +37,16 @@ impl CalmBank {
     pub fn of_zeros(alloc: Global, size: u32) -> Result<CalmBank, Memory>
         ensures { IfOk result (λ b. b ≡ replicate size 0) }
     {
-        let zeros = vec![in alloc; 0; size as usize]?;
-        let mut bytes = Bytes::make(alloc, zeros.len())?;
-        bytes.append(&zeros);
-        Ok(CalmBank { bytes })
+        Ok(CalmBank {
+            bytes: vec![in alloc; 0; size as usize]?,
+        })
     }
 
     /// Its bytes.
     pub fn bytes(&self) -> &[u8]
         ensures { result.now ≡ self.now }
     {
-        self.bytes.bytes()
+        self.bytes.as_slice()
     }
 }
 
@@ -89,7 +88,7 @@ impl Bank for CalmBank {
     fn size(&self) -> u32
         ensures { result ≡ length self.now }
     {
-        self.bytes.bytes().len() as u32
+        self.bytes.len() as u32
     }
 
     fn read_at(&mut self, at: u32, into: &mut [u8]) -> Result<(), Failed>
@@ -99,7 +98,7 @@ impl Bank for CalmBank {
         ensures kept { self.new ≡ self.old }
     {
         let from = at as usize;
-        into.copy_from_slice(&self.bytes.bytes()[from..from + into.len()]);
+        into.copy_from_slice(&self.bytes[from..from + into.len()]);
         Ok(())
     }
 
@@ -108,7 +107,8 @@ impl Bank for CalmBank {
         ensures done { result ≡ Written.Done }
         ensures stands { self.new ≡ patched self.old at bytes.now }
     {
-        self.bytes.write_over(at as usize, bytes);
+        let from = at as usize;
+        self.bytes[from..from + bytes.len()].copy_from_slice(bytes);
         Written::Done
     }
 }

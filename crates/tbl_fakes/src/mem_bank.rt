@@ -1,5 +1,5 @@
 // A bank in memory.
-ghost use Rattle.std.specs.Prelude.{◌≡◌, ◌+◌, ◌-◌, ◌<◌, ◌≤◌, ◌^◌, [], ◌∷◌, ◌++◌, List, ℕ, ⊤, IsTrue, IfOk, OnOk, OnErr, false, is_err, length, map, refl};
+ghost use Rattle.std.specs.Prelude.{◌≡◌, ◌+◌, ◌-◌, ◌<◌, ◌≤◌, ◌^◌, [], ◌∷◌, ◌++◌, List, ℕ, ⊤, IsTrue, IfOk, OnOk, OnErr, false, is_err, length, map, take, drop, refl};
 ghost use Rattle.std.proofs.Common.{inl};
 ghost use Rattle.tbl_kinds.specs.Numbers.{piece, patched};
 ghost use Rattle.tbl_outside.specs.Bank.{Torn, LeavesOnly};
@@ -15,17 +15,25 @@ use crate::past::{Past, Span};
 use crate::troubles::{Break, Troubles, reach};
 use std::alloc::Global;
 use std::marker::Model;
-use tbl_kinds::{Bytes, Memory};
+use tbl_kinds::Memory;
 use tbl_outside::{Bank, Failed, Written};
 
 /// For how many reads a bank in memory has room in its record.
 const READS_NOTED: usize = 4_096;
 
+/// Writes a piece over bytes from a place on.
+fn write_over(bytes: &mut Vec<u8>, at: usize, piece: &[u8])
+    requires { at + length piece.now ≤ length bytes.old.items }
+    ensures bytes { bytes.new.items ≡ take at bytes.old.items ++ piece.now ++ drop (at + length piece.now) bytes.old.items }
+{
+    bytes[at..at + piece.len()].copy_from_slice(piece);
+}
+
 /// Preserved memory whose writes break off, and whose reads fail, where their number says so. It keeps a record of its
 /// writes with what stood before them, from which its moments are told, and one of the calls that it got.
 #[derive(Drop)]
 pub struct MemBank {
-    bytes: Bytes,
+    bytes: Vec<u8>,
     past: Past,
     notes: Notes,
     troubles: Troubles,
@@ -39,15 +47,15 @@ impl Model for MemBank {
     ghost Value = { Banking };
 
     ghost view = { λ b. record {
-      bytes = b.bytes.list;
-      past = passed b.past.spans b.past.olds b.bytes.list;
+      bytes = b.bytes.items;
+      past = passed b.past.spans b.past.olds b.bytes.items;
       writes_left = b.past.writes;
       room = b.past.room;
       notes = b.notes;
       trouble = b.troubles;
     } };
 
-    ghost invariant = { λ b. length b.bytes.list < 2 ^ 32 };
+    ghost invariant = { λ b. length b.bytes.items < 2 ^ 32 };
 }
 
 impl MemBank {
@@ -55,14 +63,14 @@ impl MemBank {
     /// Writes and reads are numbered from 1. All memory that it needs is taken here.
     pub fn make(
         alloc: Global,
-        bytes: Bytes,
+        bytes: Vec<u8>,
         breaks: &[Break],
         bad_reads: &[u32],
         writes: u32,
         room: u32,
     ) -> Result<MemBank, Memory>
-        requires { length bytes.list < 2 ^ 32 }
-        ensures bytes { IfOk result (λ b. b.bytes ≡ bytes.list) }
+        requires { length bytes.items < 2 ^ 32 }
+        ensures bytes { IfOk result (λ b. b.bytes ≡ bytes.items) }
         ensures past { IfOk result (λ b. b.past ≡ []) }
         ensures writes_left { IfOk result (λ b. b.writes_left ≡ writes) }
         ensures room { IfOk result (λ b. b.room ≡ room) }
@@ -81,7 +89,7 @@ impl MemBank {
     pub fn bytes(&self) -> &[u8]
         ensures { result.now ≡ self.now.bytes }
     {
-        self.bytes.bytes()
+        self.bytes.as_slice()
     }
 
     /// How often it failed.
@@ -151,7 +159,7 @@ impl Bank for MemBank {
     fn size(&self) -> u32
         ensures { result ≡ length self.now.bytes }
     {
-        self.bytes.bytes().len() as u32
+        self.bytes.len() as u32
     }
 
     fn read_at(&mut self, at: u32, into: &mut [u8]) -> Result<(), Failed>
@@ -186,7 +194,7 @@ impl Bank for MemBank {
             return Err(Failed);
         }
         let from = at as usize;
-        into.copy_from_slice(&self.bytes.bytes()[from..from + into.len()]);
+        into.copy_from_slice(&self.bytes[from..from + into.len()]);
         Ok(())
     }
 
@@ -239,8 +247,8 @@ impl Bank for MemBank {
         let from = at as usize;
         let reach = reach(planned, bytes.len());
         self.past
-            .keep(at, &self.bytes.bytes()[from..from + bytes.len()]);
-        self.bytes.write_over(from, &bytes[..reach]);
+            .keep(at, &self.bytes.as_slice()[from..from + bytes.len()]);
+        write_over(&mut self.bytes, from, &bytes[..reach]);
         self.troubles.end_write(planned)
     }
 }

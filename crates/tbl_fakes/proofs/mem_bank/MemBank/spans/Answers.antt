@@ -8,5 +8,5 @@ pub returns : goal.returns
 returns c =
     let b = c.self.inside in
     c.spans.ensures
-    ∙ sym (map-passed b.past.spans b.past.olds b.bytes.list)
+    ∙ sym (map-passed b.past.spans b.past.olds b.bytes.items)
     ∙ ap (λ (bank : Banking). map (λ (write : Passed). write.span) bank.past) c.self.view_is
