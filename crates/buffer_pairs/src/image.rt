@@ -5,7 +5,7 @@ ghost use Rattle.tbl_kinds.specs.Numbers.{patched};
 use std::alloc::{AllocError, Global};
 use std::marker::Model;
 use std::sync::Arc;
-use tbl_kinds::Memory;
+use tbl_kinds::{Bytes, Memory};
 
 /// An image of a table: bytes with one owner or several, in any threads. Once it has a second owner, nobody can change it.
 #[derive(Drop)]
@@ -53,6 +53,17 @@ impl Image {
         })
     }
 
+    /// An image of these bytes. Where they have memory of their own it stands in that too, and no byte is copied.
+    pub fn of_bytes(alloc: Global, bytes: &mut Bytes) -> Result<Image, Memory>
+        ensures image { IfOk result (λ image. image ≡ bytes.old.list) }
+        ensures same { bytes.new ≡ bytes.old }
+    {
+        match bytes.share()? {
+            Some(shared) => Ok(Image::from_shared(shared)),
+            None => Image::of(alloc, bytes.bytes()),
+        }
+    }
+
     /// An image of as many zeros.
     pub fn zeros(alloc: Global, size: u32) -> Result<Image, Memory>
         ensures { IfOk result (λ image. image ≡ replicate size 0) }
@@ -70,12 +81,16 @@ impl Image {
         Image { bytes }
     }
 
-    /// A new image of the base's bytes, with other bytes over them from an offset on.
+    /// A new image of the base's bytes, with other bytes over them from an offset on. Bytes over the whole base are the image.
+    #[tactic(auto, using(crate::proofs::Whole::whole_over))]
     pub fn patched(alloc: Global, base: &[u8], offset: u32, bytes: &[u8]) -> Result<Image, Memory>
         requires { offset + length bytes.now ≤ length base.now }
         ensures image { IfOk result (λ image. image ≡ patched base.now offset bytes.now) }
         ensures size { IfOk result (λ image. length image ≡ length base.now) }
     {
+        if bytes.len() == base.len() {
+            return Image::of(alloc, bytes);
+        }
         let bytes = joined(alloc, base, offset as usize, bytes)?;
         Ok(Image {
             bytes: Arc::new(alloc, bytes)?,
@@ -97,6 +112,13 @@ impl Image {
         Ok(Image {
             bytes: Arc::try_clone(&self.bytes)?,
         })
+    }
+
+    /// The memory that its bytes stand in, for a further owner.
+    pub fn shared(&self) -> Result<Arc<Vec<u8>, Global>, Memory>
+        ensures { IfOk result (λ shared. (arc_value shared).items ≡ self.now) }
+    {
+        Ok(Arc::try_clone(&self.bytes)?)
     }
 
     /// Writes bytes over the image in place, from an offset on. Where it has another owner, it is left as it is and the

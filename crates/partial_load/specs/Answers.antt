@@ -4,13 +4,10 @@ use Rattle.std.proofs.Common.{ℤ}
 use Rattle.tbl_kinds.specs.Statuses.{is_success}
 use Rattle.tbl_model.specs.State.{State, Table, Tables}
 use Rattle.tbl_model.specs.Tables.{in_use}
-use Rattle.tbl_model.specs.TableSteps.{Access, set_time}
+use Rattle.tbl_model.specs.TableSteps.{set_time}
 use Rattle.tbl_model.specs.Effects.{Effect, answered}
 use Rattle.tbl_model.specs.Telemetry.{is_good, verdict_bits}
-use Rattle.tbl_kinds.specs.TableFiles.{TableFile}
-use Rattle.tbl_model.specs.Given.{Given}
-use Rattle.tbl_model.specs.Refusals.{by_answer, closed_refusal}
-use Rattle.tbl_model.specs.AppLoads.{activate_effect, with_verdict, from_file, file_image, load_image_of, load_file_of}
+use Rattle.tbl_model.specs.AppLoads.{activate_effect, with_verdict, from_file}
 use Rattle.tbl_model.specs.declared.telemetry.Named.{Named}
 use Rattle.tbl_kinds.specs.declared.entry.Answer.{Answer}
 use Rattle.tbl_kinds.specs.declared.status.TheConstants.Status.{SUCCESS, ERR_NO_BUFFER_AVAIL, ERR_VALIDATION_FAILED}
@@ -55,14 +52,3 @@ image_answered s row t image loaded tables = owner_answered s row t image loaded
 -- and of the image that a file of this name makes. The tables lack the name of the file too
 abbrev pub file_answered : State → List ℕ → ℕ → Table → List ℕ → Loaded → Tables → Effect
 file_answered s name row t image loaded tables = owner_answered s row t image loaded tables (from_file row name (active_in s row t image tables))
-
--- ---- both in one call
-
--- what the owner of a handle's table does with an image of the whole table, or with a table file of this name
-abbrev pub app_load_of : State → List ℕ → Given → Access → List ℕ → Option TableFile → Effect
-app_load_of s name given a image None = load_image_of s image given a.row a.table
-app_load_of s name given a image (Some file) = by_answer s (closed_refusal a.table) (load_file_of s name given a.row a.table file)
-
-abbrev pub app_load_answered : State → List ℕ → Access → List ℕ → Option TableFile → Loaded → Tables → Effect
-app_load_answered s name a image None loaded tables = image_answered s a.row a.table image loaded tables
-app_load_answered s name a image (Some file) loaded tables = file_answered s name a.row a.table (file_image a.table file) loaded tables

@@ -1,27 +1,25 @@
 //! Images and files that the owners of tables load.
 
 ghost use Rattle.std.specs.Prelude.{◌≡◌, ◌<◌, ◌-◌, ◌^◌, ℕ, List, [], ◌∷◌, length, false, true, Some, None, IsSome, is_some, IfOk, OnOk, OnErr};
-ghost use Rattle.std.specs.Option.{ForSome, option_map};
-ghost use Rattle.std.specs.Borrow.{Bor};
+ghost use Rattle.std.specs.Option.{ForSome};
 ghost use Rattle.tbl_kinds.specs.Numbers.{patched};
 ghost use Rattle.tbl_kinds.specs.Statuses.{is_success};
 ghost use Rattle.tbl_model.specs.State.{State};
 ghost use Rattle.tbl_model.specs.Tables.{table_at};
-ghost use Rattle.tbl_model.specs.TableSteps.{put, locker, access_of};
+ghost use Rattle.tbl_model.specs.TableSteps.{put, locker};
 ghost use Rattle.tbl_model.specs.Given.{Given};
 ghost use Rattle.tbl_model.specs.Refusals.{closed_refusal, file_refusal};
 ghost use Rattle.tbl_model.specs.AppLoads.{load_image_of, load_file_of, file_image};
 ghost use Rattle.table_files.specs.Files.{with_image};
 ghost use Rattle.validation.specs.Kits.{MayAsk};
 ghost use Rattle.validation.specs.Asked.{WasAsked, asks};
-ghost use Rattle.partial_load.specs.Answers.{verdict_answer, image_answered, file_answered, app_load_of, app_load_answered};
-ghost use Rattle.table_files.specs.declared.reading.TableFile.{TableFile as File};
+ghost use Rattle.partial_load.specs.Answers.{verdict_answer, image_answered, file_answered};
 
-use crate::refusals::{closed_refusal, file_refusal, image_refusal};
+use crate::refusals::{file_refusal, image_refusal};
 use buffer_pairs::Image;
 use std::alloc::Global;
 use table_files::TableFile;
-use tbl_kinds::{Answer, Memory, Status};
+use tbl_kinds::{Answer, Bytes, Memory, Status};
 use tbl_outside::Validator;
 use tbl_registry::Tables;
 use validation::Kit;
@@ -104,24 +102,25 @@ pub fn load_image<C: Validator>(
     tables: &mut Tables,
     kit: &mut Kit<C>,
     row: u8,
-    image: &[u8],
+    image: &mut Bytes,
 ) -> Result<Loaded, Memory>
     requires table { IsSome (table_at tables.old row) }
     requires few { ForSome (table_at tables.old row) (λ t. t.count < 2 ^ 32 - 1) }
     requires kit { ForSome (table_at tables.old row) (λ t. ForSome t.validator (MayAsk C.asked 1 kit.old)) }
     ensures effect { IfOk result (λ loaded. (s : State) (given : Given) → s.tables ≡ tables.old → given.verdicts ≡ loaded.verdict ∷ None ∷ []
-        → ForSome (table_at tables.old row) (λ t. load_image_of s image.now given row t ≡ image_answered s row t image.now loaded tables.new)) }
+        → ForSome (table_at tables.old row) (λ t. load_image_of s image.old.list given row t ≡ image_answered s row t image.old.list loaded tables.new)) }
     ensures asked { IfOk result (λ loaded. (s : State) (given : Given) → s.tables ≡ tables.old → given.verdicts ≡ loaded.verdict ∷ None ∷ []
-        → ForSome (table_at tables.old row) (λ t. WasAsked C.verdict C.asked kit.old kit.new (load_image_of s image.now given row t).questions (loaded.verdict ∷ None ∷ []))) }
+        → ForSome (table_at tables.old row) (λ t. WasAsked C.verdict C.asked kit.old kit.new (load_image_of s image.old.list given row t).questions (loaded.verdict ∷ None ∷ []))) }
     ensures refused { IfOk result (λ loaded. is_success loaded.answer.status ≡ false → tables.new ≡ tables.old) }
     ensures table { OnOk result (IsSome (table_at tables.new row)) }
+    ensures same { image.new ≡ image.old }
     ensures err { OnErr result (tables.new ≡ tables.old) }
     ensures not_asked { OnErr result (kit.new ≡ kit.old) }
 {
-    if let Some(answer) = image_refusal(tables, row, image.len()) {
+    if let Some(answer) = image_refusal(tables, row, image.bytes().len()) {
         return Ok(refused(answer));
     }
-    let image = Image::of(alloc, image)?;
+    let image = Image::of_bytes(alloc, image)?;
     Ok(admit(tables, kit, row, image))
 }
 
@@ -160,55 +159,4 @@ pub fn load_part<C: Validator>(
     }
     let image = tables.patched(alloc, row, parsed.offset, image)?;
     Ok(admit(tables, kit, row, image))
-}
-
-/// The row of a handle's table.
-fn row_of(tables: &Tables, handle: u16) -> u8
-    requires { IsSome (access_of tables.now handle) }
-    ensures row { ForSome (access_of tables.now handle) (λ a. a.row ≡ result) }
-    ensures table { ForSome (access_of tables.now handle) (λ a. table_at tables.now result ≡ Some a.table) }
-    ensures there { IsSome (table_at tables.now result) }
-{
-    let Some(view) = tables.handle(handle) else {
-        unreachable!();
-    };
-    let Some(row) = view.row else {
-        unreachable!();
-    };
-    row
-}
-
-/// What the owner of a handle's table loads (`CFE_TBL_Load`): an image of the whole table where `parsed` is None, else the
-/// bytes of that file. As `load_image`, or as `closed_refusal` and then `load_part`. Who has the row of the table calls these.
-pub fn app_load<C: Validator>(
-    alloc: Global,
-    tables: &mut Tables,
-    kit: &mut Kit<C>,
-    handle: u16,
-    parsed: Option<&TableFile>,
-    image: &[u8],
-) -> Result<Loaded, Memory>
-    requires table { IsSome (access_of tables.old handle) }
-    requires count { ForSome parsed (λ file. length image.now ≡ file.now.count) }
-    requires few { ForSome (access_of tables.old handle) (λ a. a.table.count < 2 ^ 32 - 1) }
-    requires kit { ForSome (access_of tables.old handle) (λ a. ForSome a.table.validator (MayAsk C.asked 1 kit.old)) }
-    ensures effect { IfOk result (λ loaded. let file = option_map (λ (file : Bor File). with_image file.now image.now) parsed.entry in (s : State) (name : List ℕ) (given : Given)
-        → s.tables ≡ tables.old → given.verdicts ≡ loaded.verdict ∷ None ∷ []
-        → ForSome (access_of tables.old handle) (λ a. app_load_of s name given a image.now file ≡ app_load_answered s name a image.now file loaded tables.new)) }
-    ensures asked { IfOk result (λ loaded. let file = option_map (λ (file : Bor File). with_image file.now image.now) parsed.entry in (s : State) (name : List ℕ) (given : Given)
-        → s.tables ≡ tables.old → given.verdicts ≡ loaded.verdict ∷ None ∷ []
-        → ForSome (access_of tables.old handle) (λ a. WasAsked C.verdict C.asked kit.old kit.new (app_load_of s name given a image.now file).questions (loaded.verdict ∷ None ∷ []))) }
-    ensures err { OnErr result (tables.new ≡ tables.old) }
-    ensures not_asked { OnErr result (kit.new ≡ kit.old) }
-{
-    let row = row_of(tables, handle);
-    let Some(parsed) = parsed else {
-        let loaded = load_image(alloc, tables, kit, row, image)?;
-        return Ok(loaded);
-    };
-    if let Some(answer) = closed_refusal(tables, row) {
-        return Ok(refused(answer));
-    }
-    let loaded = load_part(alloc, tables, kit, row, parsed, image)?;
-    Ok(loaded)
 }

@@ -9,5 +9,5 @@ mod refusals;
 
 pub use aborting::abort;
 pub use ground::{ground_load, load_into};
-pub use images::{Loaded, app_load, load_image, load_part};
+pub use images::{Loaded, load_image, load_part};
 pub use refusals::closed_refusal;
