@@ -1,15 +1,14 @@
 -- What an application does that runs, whatever its name.
-use Rattle.std.proofs.Common.{◌≡◌, ◌∙◌, ℕ, List, Bool, true, false, not, Option, Some, None, IsSome, IsNone, is_some, ◌↔◌, refl, sym, ap}
-use Rattle.std.specs.Option.{ForSome, option_map}
+use Rattle.std.proofs.Common.{◌≡◌, ◌∙◌, ℕ, List, Bool, true, false, not, Option, Some, None, IsNone, is_some, ◌↔◌, refl, sym, ap}
+use Rattle.std.specs.Option.{option_map}
 use Rattle.tbl_kinds.specs.Telemetry.{registry_record}
 use Rattle.tbl_kinds.specs.declared.status.TheConstants.Status.{SUCCESS, ERR_INVALID_NAME, ERR_INVALID_HANDLE, ERR_NO_ACCESS}
-use Rattle.tbl_kinds.specs.declared.telemetry.RegistryRow.{RegistryRow}
 use Rattle.tbl_model.specs.State.{State, Table, Handle, Tables}
 use Rattle.tbl_model.specs.Tables.{table_at}
 use Rattle.tbl_model.specs.TableSteps.{find, handle_at}
 use Rattle.tbl_model.specs.Registry.{registry_row}
 use Rattle.tbl_model.specs.Effects.{Effect, answered}
-use Rattle.tbl_model.specs.Subjects.{by_app, if_running, by_table}
+use Rattle.tbl_model.specs.Subjects.{by_app, if_running}
 use Rattle.tbl_model.specs.Sharing.{is_handle_of, share_found, share_effect, info_of, info_effect, give_up, unregister_by, unregister_effect, without_handles_of, ended_app, exit_effect}
 use Rattle.sharing.specs.Apps.{app_name}
 
@@ -59,13 +58,5 @@ of_this s app number None is = absurd (cc is)
 of_this s app number (Some h) is = rw is refl
 
 -- the record of the table that is there
-pub record_of : (s : State) (tables : Tables) (row : ℕ) (told : RegistryRow) → s.tables ≡ tables → IsSome (table_at tables row) → ForSome (table_at tables row) (λ t. told ≡ registry_row t)
-    → info_of s (Some row) ≡ record (answered s SUCCESS 0) { bytes = registry_record told }
-record_of s tables row told kept there is = ap (λ (t : Tables). of (table_at t row)) kept ∙ by (table_at tables row) there is
-  where
-    of : Option Table → Effect
-    of found = by_table s ERR_INVALID_NAME found (λ t. record (answered s SUCCESS 0) { bytes = registry_record (registry_row t) })
-
-    by : (found : Option Table) → IsSome found → ForSome found (λ t. told ≡ registry_row t) → of found ≡ record (answered s SUCCESS 0) { bytes = registry_record told }
-    by None some is = absurd (cc some)
-    by (Some t) some is = rw (is t refl) refl
+pub record_of : (s : State) (tables : Tables) (row : ℕ) (t : Table) → s.tables ≡ tables → table_at tables row ≡ Some t → info_of s (Some row) ≡ record (answered s SUCCESS 0) { bytes = registry_record (registry_row t) }
+record_of s tables row t kept there = rw (kept, there) refl

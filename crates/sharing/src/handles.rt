@@ -1,15 +1,17 @@
 //! Further handles on registered tables, and what their registration tells.
 
 ghost use Rattle.std.specs.Prelude.{◌≡◌, ◌<◌, ◌-◌, IsSome, IfOk, IfErr};
+ghost use Rattle.std.specs.Option.{ForSome};
 ghost use Rattle.tbl_kinds.specs.Free.{least_free};
 ghost use Rattle.tbl_kinds.specs.Telemetry.{registry_record};
 ghost use Rattle.tbl_model.specs.State.{State};
 ghost use Rattle.tbl_model.specs.Tables.{table_at};
 ghost use Rattle.tbl_model.specs.Effects.{answered, answered_with};
+ghost use Rattle.tbl_model.specs.Registry.{registry_row};
 ghost use Rattle.tbl_model.specs.Sharing.{share_by, share_effect, is_notice, noticed_effect, info_effect};
 
 use crate::apps::Apps;
-use tbl_kinds::{Answer, Name40, RegistryRow, Status};
+use tbl_kinds::{Answer, Name40, Status};
 use tbl_model::Notice;
 use tbl_registry::Tables;
 
@@ -43,18 +45,20 @@ pub fn share(tables: &mut Tables, apps: &Apps, app: u8, name: &Name40) -> Answer
     }
 }
 
-/// The record of the table of this full name in the registry (`CFE_TBL_GetInfo`), for any application that runs.
-/// `ERR_BAD_APP`: the application doesn't run; `ERR_INVALID_NAME`: no table has this name.
+/// The row of the table of this full name, of whose record any application that runs may ask (`CFE_TBL_GetInfo`): the
+/// bytes that `Tables::write_info` writes. `ERR_BAD_APP`: the application doesn't run; `ERR_INVALID_NAME`: no table has this name.
 #[tactic(auto, unfolding(tbl_model::specs::Sharing::info_effect))]
-pub fn info(tables: &Tables, apps: &Apps, app: u8, name: &Name40) -> Result<RegistryRow, Status>
-    ensures ok { IfOk result (λ row. (s : State) → s.tables ≡ tables.now → s.apps ≡ apps.now → info_effect s app name.now ≡ record (answered s Status.SUCCESS 0) { bytes = registry_record row }) }
+pub fn row_of(tables: &Tables, apps: &Apps, app: u8, name: &Name40) -> Result<u8, Status>
+    ensures ok { IfOk result (λ row. (s : State) → s.tables ≡ tables.now → s.apps ≡ apps.now
+        → ForSome (table_at tables.now row) (λ t. info_effect s app name.now ≡ record (answered s Status.SUCCESS 0) { bytes = registry_record (registry_row t) })) }
+    ensures table { IfOk result (λ row. IsSome (table_at tables.now row)) }
     ensures err { IfErr result (λ status. (s : State) → s.tables ≡ tables.now → s.apps ≡ apps.now → info_effect s app name.now ≡ answered s status 0) }
 {
     if apps.name(app).is_none() {
         return Err(Status::ERR_BAD_APP);
     }
     match tables.find(name.bytes()) {
-        Some(row) => Ok(tables.info(row)),
+        Some(row) => Ok(row),
         None => Err(Status::ERR_INVALID_NAME),
     }
 }

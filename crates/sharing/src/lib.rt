@@ -7,6 +7,6 @@ mod leaving;
 mod registering;
 
 pub use apps::{Apps, plan_name};
-pub use handles::{info, notify, share};
+pub use handles::{notify, row_of, share};
 pub use leaving::{app_exit, unregister};
 pub use registering::{plan_table, register, register_plain, register_uncritical};

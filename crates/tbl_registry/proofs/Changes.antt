@@ -25,6 +25,11 @@ use Rattle.tbl_registry.proofs.Lent.{lent_settled, settled_same, its_buffer}
 pub other_option : (options bit : ℕ) → bit_and 0xFFF7 bit ≡ bit → has_option bit (bit_and options 0xFFF7) ≡ has_option bit options
 other_option options bit stays = rw (and_assoc bit options 0xFFF7, stays) refl
 
+-- a change of what stands opens nothing
+pub same_open : {X Y : Type 0} (f : X → Y) (o : Option X) → is_some (option_map f o) ≡ is_some o
+same_open f None = refl
+same_open f (Some x) = refl
+
 -- this table stands in the row, in what the registry keeps
 pub record FoundRow (rows : List (Option Table)) (handles : List (Option HandleView)) (buffers : List (Option LentBuffer)) (n : ℕ) (t : Table) : Type 0 where
   pub there : slice_index_or rows n None ≡ Some t
@@ -97,6 +102,10 @@ module _ {rows : List (Option Table)} {handles : List (Option HandleView)} {buff
     by true = rw (some_is t.load loaded) refl
     by false = refl
 
+  pub write_open : IsSome t.load → (written : Bool) (image : List ℕ) → is_some (cond written (unchecked image) t.load) ≡ is_some t.load
+  write_open loaded true image = some_is t.load loaded
+  write_open loaded false image = refl
+
   pub write_seen : (written : Bool) (offset : ℕ) (bytes : List ℕ) → tables_of (slice_set rows n (Some (record t { load = cond written (unchecked (patched (base t) offset bytes)) t.load }))) handles ≡ cond written (patch n offset bytes (tables_of rows handles)) (tables_of rows handles)
   write_seen true offset bytes = row_seen (record t { load = unchecked (patched (base t) offset bytes) }) refl ∙ rw there refl
   write_seen false offset bytes = rw (← there, set-get_or rows n None) refl
@@ -121,10 +130,6 @@ module _ {rows : List (Option Table)} {handles : List (Option HandleView)} {buff
   }) settled
 
   -- ---- the mark of a load
-
-  same_open : {X Y : Type 0} (f : X → Y) (o : Option X) → is_some (option_map f o) ≡ is_some o
-  same_open f None = refl
-  same_open f (Some x) = refl
 
   pub checked_sound : (checked : Bool) → IsSound (slice_set rows n (Some (record t { load = option_map (λ (load : Load). record load { checked = checked }) t.load }))) handles buffers
   checked_sound checked = quiet_sound _ refl refl refl (λ none. rw none refl) (rw (same_open (λ (load : Load). record load { checked = checked }) t.load) refl)

@@ -1,6 +1,8 @@
 pub mod Add
+pub mod Ascending
 pub mod Start
 pub mod Changes
+pub mod Counted
 pub mod Ends
 pub mod InUse
 pub mod Lent

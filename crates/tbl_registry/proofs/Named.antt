@@ -83,6 +83,13 @@ named_there : (name : List ℕ) (row : Option Table) → has_name name row ≡ t
 named_there name None is = absurd (cc is)
 named_there name (Some t) is = refl
 
+-- whose row it is looked for in first
+pub named_hit : (name : List ℕ) (rows : List (Option Table)) (row : ℕ) → AreNamed rows → has_name name (slice_index_or rows row None) ≡ true → position (has_name name) rows ≡ Some row
+named_hit name rows row named is = by (slice_index_or rows row None) refl is where
+  by : (o : Option Table) → slice_index_or rows row None ≡ o → has_name name o ≡ true → position (has_name name) rows ≡ Some row
+  by None at is = absurd (cc is)
+  by (Some t) at is = let same : t.name ≡ name = (bytes_eq-Decides t.name name).0 is in rw (← same) (named row t at)
+
 -- a table stands in the row that is found
 pub named_row : (name : List ℕ) (rows : List (Option Table)) (row : ℕ) → position (has_name name) rows ≡ Some row → IsSome (slice_index_or rows row None)
 named_row name rows row found = named_there name _ (position-Some (has_name name) rows row None found).1

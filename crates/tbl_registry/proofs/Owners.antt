@@ -1,11 +1,11 @@
 -- The application's name in a full name.
-use Rattle.std.proofs.Common.{◌≡◌, ℕ, ◌<◌, ◌≤◌, List, length, take, Bool, false, position, Some, None, ap, sym, ◌∙◌, arith}
+use Rattle.std.proofs.Common.{◌≡◌, ℕ, ◌<◌, ◌≤◌, List, ◌++◌, length, take, drop, replicate, Bool, false, position, Some, None, ap, sym, ◌∙◌, arith}
 use Rattle.std.specs.List.{position_or_len}
-use Rattle.std.proofs.lemmas.List.{get_or-take, length-take}
+use Rattle.std.proofs.lemmas.List.{get_or-take, length-take, drop-replicate}
 use Rattle.std.proofs.lemmas.List.Quantifiers.{position-Some}
 use Rattle.std.proofs.lemmas.List.Sums.{position_or_len_is, fails_before_first}
 use Rattle.std.proofs.Math.Seq.{take-length}
-use Rattle.tbl_kinds.specs.Names.{is_zero, name_in, HasNoZero}
+use Rattle.tbl_kinds.specs.Names.{is_zero, name_in, name_field, HasNoZero}
 use Rattle.tbl_kinds.proofs.PositionLaws.{position-None}
 
 pub found_first : (p : ℕ → Bool) (xs : List ℕ) (n : ℕ) → position p xs ≡ Some n → n ≡ position_or_len p xs
@@ -26,3 +26,7 @@ taken_no_zero n xs none =
     rw (get_or-take n xs k 0 lt) (fails_before_first is_zero xs k 0 (omega (arith, long, length-take n xs, h))))
     (λ h. absurd (omega (arith, h))) in
     ap (λ (k : ℕ). take k (take n xs)) all ∙ take-length (take n xs)
+
+-- a name in front of zeros
+pub in_field : (copied name owner : List ℕ) → copied ≡ name → name ≡ owner → copied ++ drop (length name) (replicate {A = ℕ} 20 0) ≡ name_field 20 owner
+in_field copied name owner same is = rw (same, is) (ap (λ (zeros : List ℕ). owner ++ zeros) (drop-replicate {X = ℕ} (length owner) 20 0))

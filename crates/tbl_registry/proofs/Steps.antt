@@ -12,6 +12,7 @@ use Rattle.access_desc.specs.declared.handle_view.HandleView.{HandleView}
 use Rattle.access_desc.specs.Steps.{at_place, changed_at, has, pins_old, with_no_pin, new_handle as new_view}
 use Rattle.working_buffers.specs.Places.{LentBuffer}
 use Rattle.std.proofs.Math.ListN.{get_or-map}
+use Rattle.std.proofs.Math.Seq.{take-length}
 use Rattle.tbl_registry.specs.Pins.{Pins, Leads}
 use Rattle.tbl_registry.specs.Lending.{pinned_image, name_by, lent_at}
 use Rattle.tbl_registry.specs.declared.pin.Pin.{Pin}
@@ -181,6 +182,13 @@ module _ (rows : List (Option Table)) (handles : List (Option HandleView)) (buff
       by : (old : Bool) → Pins t old → cond old t.before t.last ≡ Some image → unwrap_or (cond (cond old (t.count - 1) t.count == t.count) t.last t.before) [] ≡ image
       by true p last = let some = p.loaded in let other : (t.count - 1 == t.count) ≡ false = grind (arith, nat_tests) in rw (other, last) refl
       by false p last = let same : (t.count == t.count) ≡ true = search rules in rw (same, last) refl
+
+  -- all of them are the image
+  pub whole_lends : (offset len : ℕ) (image : List ℕ) → h.pinned ≡ true → cond h.old t.before t.last ≡ Some image → length image ≡ t.size → offset ≡ 0 → length image ≡ len → read n offset len (tables_of rows handles) ≡ Ok image
+  whole_lends offset len image pinned is size begins all =
+      let e : 0 + len - 0 ≡ length image = omega (arith, all) in
+      let it : take (offset + len - offset) (drop offset image) ≡ image = rw (begins, e) (take-length image) in
+      rw it at (read_lends offset len image pinned is size (omega (arith, begins, all)))
 
   -- it lends that image
   pub lends : (place : ℕ) (image : List ℕ) → h.pinned ≡ true → cond h.old t.before t.last ≡ Some image → lent_at n place (tables_of rows handles) ≡ Some (record { bytes = image; handle = n; place = place; name = t.name })

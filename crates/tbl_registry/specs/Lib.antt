@@ -6,3 +6,4 @@ pub mod Sound
 pub mod Views
 pub mod Adding
 pub mod Lending
+pub mod InUse

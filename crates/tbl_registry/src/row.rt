@@ -203,6 +203,13 @@ impl Row {
         self.flags.contains(Options::DOUBLE)
     }
 
+    /// Whether a load of it is open.
+    pub(crate) fn has_load(&self) -> bool
+        ensures { result ≡ is_some self.now.load }
+    {
+        self.load.is_some()
+    }
+
     /// Whether it uses a shared working buffer.
     pub(crate) fn uses_buffer(&self) -> bool
         ensures { result ≡ uses_buffer (Some self.now) }
@@ -310,6 +317,18 @@ impl Row {
             self.buffers.active()
         };
         Some(image?.bytes())
+    }
+
+    /// Its last image, or the one before it, with all that own it.
+    pub(crate) fn whole(&self, before: bool) -> Option<&Image>
+        ensures image { option_copied result ≡ (if before then self.now.before else self.now.last) }
+        ensures size { IfSome result (λ image. length image.now ≡ self.now.size) }
+    {
+        if before {
+            self.buffers.before()
+        } else {
+            self.buffers.active()
+        }
     }
 
     /// A further owner of its last image, or of the one before it. None where there is none; an Err means that the image has as

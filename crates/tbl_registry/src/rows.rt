@@ -1,11 +1,10 @@
 //! The 128 rows, each with a table or none.
 
-ghost use Rattle.std.specs.Prelude.{◌≡◌, ◌<◌, ◌≤◌, ◌↔◌, ◌+◌, None, Some, IsSome, IsNone, IfOk, IfSome, if◌then◌else◌, length, position, replicate, count_by, is_some, is_none, slice_index_or, ◌∷◌, take};
+ghost use Rattle.std.specs.Prelude.{◌≡◌, ◌<◌, ◌≤◌, ◌↔◌, ◌+◌, None, Some, IsSome, IsNone, IfOk, IfSome, if◌then◌else◌, length, position, replicate, count_by, is_some, is_none, slice_index_or};
 ghost use Rattle.std.specs.Option.{option_copied};
 ghost use Rattle.tbl_kinds.specs.Free.{least_free};
-ghost use Rattle.tbl_model.specs.Tables.{has_load, is_critical_in, uses_buffer, rows_from};
+ghost use Rattle.tbl_model.specs.Tables.{is_critical_in};
 ghost use Rattle.tbl_model.specs.TableSteps.{has_name};
-ghost use Rattle.tbl_registry.specs.Seen.{padded};
 
 use crate::row::Row;
 use std::alloc::{AllocError, Global};
@@ -39,6 +38,16 @@ fn has_name(row: &Option<Row>, name: &[u8]) -> bool
     ensures { result ≡ has_name name.now row.now }
 {
     match row {
+        Some(table) => table.has_name(name),
+        None => false,
+    }
+}
+
+/// Whether the row of this number has the table of this full name.
+pub(crate) fn is_named(rows: &[Option<Row>], row: u8, name: &[u8]) -> bool
+    ensures { result ≡ has_name name.now (slice_index_or rows.now row None) }
+{
+    match table_in(rows, row) {
         Some(table) => table.has_name(name),
         None => false,
     }
@@ -91,42 +100,6 @@ fn counted(count: u16, counts: bool) -> u16
     if counts { count + 1 } else { count }
 }
 
-/// How many tables there are.
-pub(crate) fn tables_in(rows: &[Option<Row>]) -> u16
-    requires { length rows.now ≤ 256 }
-    ensures tables { result ≡ count_by is_some rows.now }
-    ensures within { result ≤ length rows.now }
-{
-    let mut count = 0;
-    for row in rows {
-        count = counted(count, row.is_some());
-    }
-    count
-}
-
-/// Whether the row has a table with an open load.
-fn has_load(row: &Option<Row>) -> bool
-    ensures { result ≡ has_load row.now }
-{
-    match row {
-        Some(table) => table.load().is_some(),
-        None => false,
-    }
-}
-
-/// How many loads are open.
-pub(crate) fn loads_in(rows: &[Option<Row>]) -> u16
-    requires { length rows.now ≤ 256 }
-    ensures loads { result ≡ count_by has_load rows.now }
-    ensures within { result ≤ length rows.now }
-{
-    let mut count = 0;
-    for row in rows {
-        count = counted(count, has_load(row));
-    }
-    count
-}
-
 /// Whether the row has a critical table.
 fn has_critical(row: &Option<Row>) -> bool
     ensures { result ≡ is_critical_in row.now }
@@ -148,39 +121,4 @@ pub(crate) fn critical_in(rows: &[Option<Row>]) -> u16
         count = counted(count, has_critical(row));
     }
     count
-}
-
-/// Whether the row has a table that uses a shared working buffer.
-fn uses_buffer(row: &Option<Row>) -> bool
-    ensures { result ≡ uses_buffer row.now }
-{
-    match row {
-        Some(table) => table.uses_buffer(),
-        None => false,
-    }
-}
-
-/// Puts the row in front of those that were found, where it uses a buffer.
-fn put_front(found: &mut [Option<u8>; 4], row: u8, uses: bool)
-    ensures { found.new ≡ (if uses then Some row ∷ take 3 found.old else found.old) }
-{
-    if uses {
-        *found = [Some(row), found[0], found[1], found[2]];
-    }
-}
-
-/// The rows that use the shared working buffers, ascending, and then None.
-pub(crate) fn rows_with_buffer(rows: &[Option<Row>]) -> [Option<u8>; 4]
-    requires rows { length rows.now ≤ 256 }
-    requires few { count_by uses_buffer rows.now ≤ 4 }
-    ensures { result ≡ padded (rows_from 0 rows.now) }
-{
-    let mut found = [None; 4];
-    // From the last row down: each is put in front, so they end up ascending.
-    let mut row = rows.len();
-    while row > 0 {
-        row -= 1;
-        put_front(&mut found, row as u8, uses_buffer(&rows[row]));
-    }
-    found
 }

@@ -1,8 +1,9 @@
-ghost use Rattle.std.specs.Prelude.{◌==◌, ◌&&◌, ◌≡◌, false, ◌≢◌, ◌<◌, ◌≤◌, ◌↔◌, ◌+◌, ◌-◌, ◌^◌, ℕ, List, true, None, Some, Ok, Err, IsTrue, IsSome, IfOk, OnOk, OnErr, IfSome, IfNone, length, option_and_then, is_some, not};
+ghost use Rattle.std.specs.Prelude.{◌==◌, ◌&&◌, ◌≡◌, ◌++◌, false, ◌≢◌, ◌<◌, ◌≤◌, ◌↔◌, ◌+◌, ◌-◌, ◌^◌, ℕ, List, true, None, Some, Ok, Err, IsTrue, IsSome, IfOk, OnOk, OnErr, IfSome, IfNone, length, option_and_then, is_some, not};
 ghost use Rattle.std.specs.Option.{option_copied, option_map, ForSome};
 ghost use Rattle.std.specs.Borrow.{Bor};
 ghost use Rattle.tbl_kinds.specs.Free.{least_free};
 ghost use Rattle.tbl_kinds.specs.Limits.{table_limit};
+ghost use Rattle.tbl_kinds.specs.Telemetry.{registry_record};
 ghost use Rattle.tbl_model.specs.State.{no_tables, Load, Table};
 ghost use Rattle.tbl_model.specs.Tables.{table_count, handle_count, load_count, critical_count, in_use, has_option, option_bits, table_at};
 ghost use Rattle.tbl_model.specs.TableSteps.{find, added};
@@ -12,14 +13,13 @@ ghost use Rattle.tbl_registry.specs.Adding.{planned};
 ghost use Rattle.tbl_registry.specs.Rows.{IsTable};
 ghost use Rattle.tbl_registry.specs.Seen.{padded};
 
+use self::buffers::rows_with_buffer;
 use crate::row::{NewTable, Row, RowView};
-use crate::rows::{
-    critical_in, free_row, free_rows, loads_in, row_of_name, rows_with_buffer, table_in, tables_in,
-};
+use crate::rows::{critical_in, free_row, free_rows, is_named, row_of_name, table_in};
 use access_desc::Handles;
 use std::alloc::Global;
 use std::marker::Model;
-use tbl_kinds::{Memory, Name40, Name64, RegistryRow};
+use tbl_kinds::{Bytes, Memory, Name40, Name64, RegistryRow};
 use working_buffers::Working;
 
 mod buffers;
@@ -43,12 +43,50 @@ pub enum AddFault {
     Memory,
 }
 
+/// How many tables are registered, and how many of them have an open load.
+#[derive(Clone, Copy)]
+struct Counts {
+    tables: u16,
+    loads: u16,
+}
+
+impl Counts {
+    /// There is no table.
+    fn none() -> Counts
+        ensures { result ≡ record { tables = 0; loads = 0 } }
+    {
+        Counts {
+            tables: 0,
+            loads: 0,
+        }
+    }
+}
+
 /// The registered tables, the handles on them, and who has the shared working buffers.
 #[derive(Drop)]
 pub struct Tables {
     rows: Vec<Option<Row>>,
     handles: Handles,
     working: Working,
+    counts: Counts,
+    /// For each number that `hint_of` gives, the row where the latest table with such a name was registered.
+    hints: [u8; HINTS],
+}
+
+/// How many numbers `hint_of` gives.
+const HINTS: usize = 256;
+
+/// A number that few names share, made of their length and their last bytes. It only says which row is looked at first.
+fn hint_of(name: &[u8]) -> usize
+    ensures { result < 256 }
+{
+    let len = name.len();
+    if len < 3 {
+        return 0;
+    }
+    let hundreds = 100 * usize::from(name[len - 3]);
+    let tens = 10 * usize::from(name[len - 2]);
+    (64 * (len % 4) + hundreds + tens + usize::from(name[len - 1])) % HINTS
 }
 
 impl Model for Tables {
@@ -57,11 +95,11 @@ impl Model for Tables {
     ghost Value = { Tables };
 
     ghost use Rattle.tbl_registry.specs.Seen.{tables_of};
-    ghost use Rattle.tbl_registry.specs.Sound.{IsSound};
+    ghost use Rattle.tbl_registry.specs.Sound.{IsKept};
 
     ghost view = { λ t. tables_of t.rows.items t.handles };
 
-    ghost invariant = { λ t. IsSound t.rows.items t.handles t.working };
+    ghost invariant = { λ t. IsKept t.rows.items t.handles t.working t.counts };
 }
 
 impl Tables {
@@ -76,6 +114,8 @@ impl Tables {
             rows: free_rows(alloc)?,
             handles: Handles::make(alloc)?,
             working: Working::make(alloc)?,
+            counts: Counts::none(),
+            hints: [0; HINTS],
         })
     }
 
@@ -85,6 +125,10 @@ impl Tables {
         ensures table { IfSome result (λ row. IsSome (table_at self.now row)) }
         ensures within { IfSome result (λ row. row < 128) }
     {
+        let hint = self.hints[hint_of(name)];
+        if is_named(&self.rows, hint, name) {
+            return Some(hint);
+        }
         match row_of_name(&self.rows, name) {
             Some(row) => Some(row as u8),
             None => None,
@@ -104,7 +148,7 @@ impl Tables {
         ensures tables { result ≡ table_count self.now }
         ensures within { result ≤ 128 }
     {
-        tables_in(&self.rows)
+        self.counts.tables
     }
 
     /// How many loads are open.
@@ -112,7 +156,7 @@ impl Tables {
         ensures loads { result ≡ load_count self.now }
         ensures within { result ≤ 128 }
     {
-        loads_in(&self.rows)
+        self.counts.loads
     }
 
     /// How many tables are critical.
@@ -162,7 +206,9 @@ impl Tables {
         let Some(handle) = self.handles.add(app, row) else {
             return Err(AddFault::HandlesFull);
         };
+        self.hints[hint_of(plan.name.bytes())] = row;
         self.rows[row as usize] = Some(Row::make(app, handle, plan));
+        self.counts.tables += 1;
         Ok(handle)
     }
 
@@ -200,6 +246,20 @@ impl Tables {
             unreachable!();
         };
         table.info()
+    }
+
+    /// Appends the record of the table of a row, as the registry tells it (`CFE_TBL_GetInfo`), 144 bytes.
+    pub fn write_info(&self, row: u8, out: &mut Bytes)
+        requires table { IsSome (table_at self.now row) }
+        requires room { 144 ≤ out.old.spare }
+        ensures bytes { ForSome (table_at self.now row) (λ t. out.new.list ≡ out.old.list ++ registry_record (registry_row t)) }
+        ensures room { out.old.spare ≤ out.new.spare + 144 }
+        ensures len { length out.new.list ≡ length out.old.list + 144 }
+    {
+        let Some(table) = table_in(&self.rows, row) else {
+            unreachable!();
+        };
+        table.write_info(out);
     }
 
     /// The full name of the table of a row.
@@ -250,7 +310,7 @@ impl Tables {
         ensures rows { result ≡ padded (in_use self.now) }
         ensures within { length (in_use self.now) ≤ 4 }
     {
-        rows_with_buffer(&self.rows)
+        rows_with_buffer(&self.rows, &self.working)
     }
 
     /// Whether all four shared working buffers are used.

@@ -1,16 +1,21 @@
 //! What the registry tells of a table.
 
-ghost use Rattle.std.specs.Prelude.{◌≡◌, ◌==◌, ◌<◌, ◌≤◌, length, position, is_some, IfSome};
+ghost use Rattle.std.specs.Prelude.{◌≡◌, ◌==◌, ◌<◌, ◌≤◌, ◌+◌, ◌++◌, length, position, is_some, IfSome};
 ghost use Rattle.std.specs.Option.{option_map_or};
 ghost use Rattle.std.specs.List.{position_or_len};
+ghost use Rattle.arrayvec.specs.ArrayVec.{array_vec_len};
 ghost use Rattle.tbl_kinds.specs.Check.{check16};
+ghost use Rattle.tbl_kinds.specs.Names.{HasNoZero, name_field};
 ghost use Rattle.tbl_kinds.specs.Records.{validator_number};
+ghost use Rattle.tbl_kinds.specs.Telemetry.{registry_record};
 ghost use Rattle.tbl_model.specs.Registry.{registry_row, owner_name, bits_of, bit_at};
 
 use super::Row;
+use arrayvec::ArrayVec;
 use bitflags::Flags;
 use check_word::check16;
-use tbl_kinds::{Name20, Name40, Options, RegistryRow};
+use tbl_kinds::fields::put;
+use tbl_kinds::{Bytes, Name20, Name40, Options, RegistryRow};
 
 /// Where the first dot stands.
 fn first_dot(name: &[u8]) -> Option<usize>
@@ -32,16 +37,29 @@ fn before_dot(name: &[u8]) -> usize
 }
 
 /// The application's name in a full name.
-fn owner_name(name: &Name40) -> Name20
-    ensures { result ≡ owner_name name.now }
+fn owner_in(name: &Name40) -> &[u8]
+    ensures owner { result.now ≡ owner_name name.now }
+    ensures within { length result.now ≤ 20 }
+    ensures no_zero { HasNoZero result.now }
 {
     let bytes = name.bytes();
     let owner = &bytes[..before_dot(bytes)];
     if owner.len() > 20 {
-        Name20::of(&owner[..20])
+        &owner[..20]
     } else {
-        Name20::of(owner)
+        owner
     }
+}
+
+/// The field of the application's name in a full name.
+fn owner_field(name: &Name40) -> [u8; 20]
+    ensures bytes { result ≡ name_field 20 (owner_name name.now) }
+    ensures len { length (name_field 20 (owner_name name.now)) ≡ 20 }
+{
+    let owner = owner_in(name);
+    let mut field = [0; 20];
+    field[..owner.len()].copy_from_slice(owner);
+    field
 }
 
 /// The value of a bit that is set, else 0.
@@ -98,8 +116,38 @@ impl Row {
             bits: self.bits(),
             validator: self.validator_number(),
             name: self.name.copy(),
-            owner: owner_name(&self.name),
+            owner: Name20::of(owner_in(&self.name)),
             file: self.file.copy(),
         }
+    }
+
+    /// Its record in the registry, as registry packets and registry files have it.
+    #[tactic(auto, unfolding(tbl_kinds::specs::Telemetry::registry_record))]
+    fn record(&self) -> ArrayVec<u8, 144>
+        ensures bytes { result.items ≡ registry_record (registry_row self.now) }
+        ensures len { array_vec_len result ≡ 144 }
+    {
+        let mut record = ArrayVec::new();
+        put(&mut record, &self.size.to_be_bytes());
+        put(&mut record, &self.check().to_be_bytes());
+        put(&mut record, &self.count.to_be_bytes());
+        put(&mut record, &self.seconds.to_be_bytes());
+        put(&mut record, &self.sub.to_be_bytes());
+        put(&mut record, &[self.bits(), self.validator_number()]);
+        put(&mut record, &self.name.field());
+        put(&mut record, &owner_field(&self.name));
+        put(&mut record, &self.file.field());
+        record
+    }
+
+    /// Appends its record in the registry.
+    pub(crate) fn write_info(&self, out: &mut Bytes)
+        requires { 144 ≤ out.old.spare }
+        ensures bytes { out.new.list ≡ out.old.list ++ registry_record (registry_row self.now) }
+        ensures room { out.old.spare ≤ out.new.spare + 144 }
+        ensures len { length out.new.list ≡ length out.old.list + 144 }
+    {
+        let record = self.record();
+        out.append(record.as_slice());
     }
 }

@@ -6,8 +6,8 @@ ghost use Rattle.tbl_model.specs.State.{no_tables};
 ghost use Rattle.tbl_model.specs.Tables.{table_at};
 ghost use Rattle.tbl_model.specs.TableSteps.{remove};
 
-use super::Tables;
 use super::buffers::settle;
+use super::{Counts, Tables};
 use crate::rows::{free_all, table_in};
 
 impl Tables {
@@ -21,6 +21,8 @@ impl Tables {
         };
         // While the table is there it can tell whether it uses a buffer.
         settle(&mut self.working, row, table.uses_buffer(), false);
+        self.counts.loads -= table.has_load() as u16;
+        self.counts.tables -= 1;
         self.handles.orphan(row);
         self.rows[row as usize] = None;
     }
@@ -32,5 +34,6 @@ impl Tables {
         free_all(&mut self.rows);
         self.handles.clear();
         self.working.clear();
+        self.counts = Counts::none();
     }
 }

@@ -17,7 +17,8 @@ use crate::pin::Pin;
 use crate::row::Row;
 use crate::rows::table_in;
 use access_desc::{HandleView, Handles};
-use tbl_kinds::{Answer, Memory, Status};
+use buffer_pairs::Image;
+use tbl_kinds::{Answer, INLINE_LIMIT, Memory, Status};
 
 /// What a handle stands for, with its table's row and its table.
 fn access<'a>(
@@ -254,6 +255,27 @@ impl Tables {
             return Err(Status::ERR_OUT_OF_RANGE);
         }
         Ok(&image[from..to])
+    }
+
+    /// The image that the handle pins, where the stated bytes are the whole of it and more than stand in a value itself: a
+    /// read of them can have them without a copy. None else.
+    pub fn read_whole(&self, handle: u16, offset: u32, len: u32) -> Option<&Image>
+        ensures { IfSome result (λ image. read handle offset len self.now ≡ Ok image.now) }
+    {
+        if offset != 0 || len as usize <= INLINE_LIMIT {
+            return None;
+        }
+        let Some((view, _, table)) = access(&self.rows, &self.handles, handle) else {
+            return None;
+        };
+        if !view.pinned {
+            return None;
+        }
+        let image = table.whole(view.old)?;
+        if image.bytes().len() != len as usize {
+            return None;
+        }
+        Some(image)
     }
 
     /// Lends the image that a handle pins, with the place of the call that got its address. None where the handle leads to no

@@ -119,6 +119,7 @@ impl Tables {
         let Some(table) = &mut self.rows[row as usize] else {
             unreachable!();
         };
+        self.counts.loads += !table.has_load() as u16;
         take_load(table, &mut self.working, row, image);
     }
 
@@ -146,6 +147,7 @@ impl Tables {
             unreachable!();
         };
         let _ = end_load(table, &mut self.working, row);
+        self.counts.loads -= 1;
     }
 
     /// The image of the open load becomes the last one of the table of a row, and the load is closed.
@@ -161,6 +163,7 @@ impl Tables {
             unreachable!();
         };
         load_goes_active(table, &mut self.handles, &mut self.working, row);
+        self.counts.loads -= 1;
     }
 
     /// The activation of the open load of the table of a row is requested.

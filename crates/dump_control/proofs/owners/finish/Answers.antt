@@ -1,5 +1,5 @@
 use Rattle.std.proofs.Common.{refl}
-use Rattle.dump_control.proofs.Keeping.{pending_stay, loads_stay}
+use Rattle.dump_control.proofs.Keeping.{pending_stay, loads_stay, same_functions}
 use Rattle.dump_control.proofs.owners.finish.Goals as goal
 
 pub returns-clause-pending : goal.returns-clause-pending
@@ -7,3 +7,6 @@ returns-clause-pending c = λ pending all. rw c.end_dump.ensures (pending_stay c
 
 pub returns-clause-loads : goal.returns-clause-loads
 returns-clause-loads c = λ all. rw c.end_dump.ensures (loads_stay c.args.tables.now c.args.row _ (record { function = λ t. refl; images = λ t some. some; load = λ t. refl; activation = λ t. refl }) all)
+
+pub returns-clause-functions : goal.returns-clause-functions
+returns-clause-functions c row = rw c.end_dump.ensures (same_functions c.args.tables.now c.args.row _ (record { function = λ t. refl; images = λ t some. some; load = λ t. refl; activation = λ t. refl }) row)

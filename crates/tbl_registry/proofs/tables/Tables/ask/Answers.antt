@@ -1,9 +1,12 @@
 use Rattle.std.proofs.Common.{refl}
 use Rattle.tbl_registry.proofs.Changes.{stands, quiet_sound, row_seen}
+use Rattle.tbl_registry.proofs.Counted.{kept}
 use Rattle.tbl_registry.proofs.tables.Tables.ask.Goals as goal
 
 pub invariant_of-self : goal.invariant_of-self
-invariant_of-self c = rw c.ask.ensures (quiet_sound (stands c.args.row c.self.invariant c.index_mut.ensures.value c.in-Some.is (rw (← c.self.view_is) at c.requires.table)) _ refl refl refl (λ none. none) refl)
+invariant_of-self c =
+    let row = stands c.args.row c.self.invariant.sound c.index_mut.ensures.value c.in-Some.is (rw (← c.self.view_is) at c.requires.table) in
+    rw c.ask.ensures (kept row c.self.invariant.counted _ (quiet_sound row _ refl refl refl (λ none. none) refl) refl)
 
 pub returns : goal.returns
-returns c = let row = stands c.args.row c.self.invariant c.index_mut.ensures.value c.in-Some.is (rw (← c.self.view_is) at c.requires.table) in rw (← c.self.view_is, c.ask.ensures, row.there) (row_seen row _ refl)
+returns c = let row = stands c.args.row c.self.invariant.sound c.index_mut.ensures.value c.in-Some.is (rw (← c.self.view_is) at c.requires.table) in rw (← c.self.view_is, c.ask.ensures, row.there) (row_seen row _ refl)

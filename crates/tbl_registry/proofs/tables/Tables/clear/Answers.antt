@@ -1,6 +1,6 @@
 use Rattle.std.proofs.Common.{rules}
-use Rattle.tbl_registry.proofs.Start.{sound_start}
+use Rattle.tbl_registry.proofs.Start.{kept_start}
 use Rattle.tbl_registry.proofs.tables.Tables.clear.Goals as goal
 
 pub invariant_of-self : goal.invariant_of-self
-invariant_of-self c = sound_start _ c.clear.new.self c.clear-2.new.self (search rules) c.clear.ensures c.clear-2.ensures
+invariant_of-self c = kept_start _ c.clear.new.self c.clear-2.new.self _ (search rules) c.clear.ensures c.clear-2.ensures c.none-self-inside.ensures
