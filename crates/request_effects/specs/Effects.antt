@@ -1,5 +1,6 @@
 -- The effect of a request as the code has it, and what it stands for.
-use Rattle.std.specs.Prelude.{◌≡◌, ℕ, ◌≤◌, List, [], ◌∷◌, ◌++◌, length, map, Bool, false, Option, None, Some, IfSome}
+use Rattle.std.specs.Prelude.{◌≡◌, ℕ, ◌+◌, ◌*◌, ◌≤◌, List, [], ◌∷◌, ◌++◌, length, map, Option, None, Some, IfSome}
+use Rattle.std.proofs.Common.{ℤ}
 use Rattle.tbl_kinds.specs.Admitted.{all_admitted}
 use Rattle.tbl_model.specs.State.{State, Tables, first_state}
 use Rattle.tbl_model.specs.Effects as model
@@ -15,7 +16,50 @@ use Rattle.tbl_model.specs.declared.telemetry.Shown.TheVariants.{Nothing, Housek
 use Rattle.tbl_kinds.specs.declared.telemetry.Event.{Event}
 use Rattle.tbl_kinds.specs.declared.request.Actor.TheVariants.{Ground}
 use Rattle.tbl_kinds.specs.declared.request.Request.{Request}
-use Rattle.request_effects.specs.declared.effect.Effect.{Effect}
+use Rattle.tbl_kinds.specs.declared.entry.Answer.{Answer}
+use Rattle.tbl_kinds.specs.declared.note.BankNote.{BankNote}
+use Rattle.tbl_kinds.specs.Notes.{untouched}
+use Rattle.tbl_kinds.specs.Buffers.{Buffer}
+use Rattle.tbl_model.specs.declared.telemetry.Named.{Named}
+use Rattle.tbl_model.specs.declared.telemetry.Notice.{Notice}
+use Rattle.tbl_model.specs.declared.telemetry.TelemetryEvent.{TelemetryEvent}
+use Rattle.request_effects.specs.Reports.{Reported, nothing_reported}
+
+-- ---- what a request did
+
+-- once it is done: its answer and the reply's bytes, what is told of it, and how its calls of the store went
+pub record Effect : Type 0 where
+  pub answer : Answer
+  pub bytes : List ℕ
+  pub table : Option Named
+  pub events : List TelemetryEvent
+  pub shown : Shown
+  pub notice : Option Notice
+  pub note : BankNote
+  pub verdicts : List (Option ℤ)
+
+abbrev pub reported_effect : Answer → List ℕ → Reported → BankNote → Effect
+reported_effect answer bytes report note = record {
+  answer = answer;
+  bytes = bytes;
+  table = report.table;
+  events = report.events;
+  shown = report.shown;
+  notice = report.notice;
+  note = note;
+  verdicts = report.verdicts;
+}
+
+-- nothing is told but the answer
+abbrev pub noted_effect : Answer → List ℕ → BankNote → Effect
+noted_effect answer bytes note = reported_effect answer bytes nothing_reported note
+
+abbrev pub quiet_effect : Answer → List ℕ → Effect
+quiet_effect answer bytes = noted_effect answer bytes untouched
+
+-- it called nothing of the store
+abbrev pub told_effect : Answer → List ℕ → Reported → Effect
+told_effect answer bytes report = reported_effect answer bytes report untouched
 
 -- ---- what it stands for
 
@@ -23,9 +67,9 @@ use Rattle.request_effects.specs.declared.effect.Effect.{Effect}
 pub record IsEffect (done : Effect) (asks : List Question) (after : State) (e : model.Effect) : Type 0 where
   pub status : e.status ≡ done.answer.status
   pub detail : e.detail ≡ done.answer.detail
-  pub bytes : e.bytes ≡ done.bytes.list
+  pub bytes : e.bytes ≡ done.bytes
   pub table : e.table ≡ done.table
-  pub events : e.events ≡ done.events.items
+  pub events : e.events ≡ done.events
   pub shown : e.shown ≡ done.shown
   pub questions : e.questions ≡ asks
   pub calls : e.calls ≡ []
@@ -51,9 +95,9 @@ abbrev pub without_images : Effect → State → model.Effect
 without_images done next = record {
   status = done.answer.status;
   detail = done.answer.detail;
-  bytes = done.bytes.list;
+  bytes = done.bytes;
   table = done.table;
-  events = done.events.items;
+  events = done.events;
   images = [];
   questions = [];
   calls = [];
@@ -75,7 +119,7 @@ seen done = without_images done (first_state [] [] all_admitted)
 
 -- the events of a command, or of another request, with this effect
 abbrev pub told_events : ReadCommand → Effect → List Event
-told_events command done = command_events command (seen done) ++ map sent_event done.events.items
+told_events command done = command_events command (seen done) ++ map sent_event done.events
 
 abbrev pub listed : Option Event → List Event
 listed None = []
@@ -89,23 +133,30 @@ shown_len Nothing = 0
 shown_len Housekeeping = 290
 shown_len (Registry row) = 156
 
+-- and of a notice
+abbrev pub notice_len : Option Notice → ℕ
+notice_len None = 0
+notice_len (Some notice) = 12
+
+-- no packet is there yet, and there is room for those that tell the effect, and for so many bytes more
+pub record HasRoom (more : ℕ) (packets : Buffer) (done : Effect) : Type 0 where
+  pub none : packets.list ≡ []
+  pub room : more + 24 * length done.events + shown_len done.shown + notice_len done.notice ≤ packets.spare
+
 -- a reply has at most this many bytes, and its packets too
 abbrev pub reply_limit : ℕ
 reply_limit = 66000
 
--- it has so many events at most, its packet after the events is so long at most, it gives a notice only where it may owe one,
--- that can be sent, and its reply isn't too long
-pub record IsWithin (most room : ℕ) (owes : Bool) (done : Effect) : Type 0 where
-  pub events : length done.events.items ≤ most
-  pub shown : shown_len done.shown ≤ room
-  pub no_notice : owes ≡ false → done.notice ≡ None
+-- it has so many events at most, its notice can be sent, and its reply isn't too long
+pub record IsWithin (most : ℕ) (done : Effect) : Type 0 where
+  pub events : length done.events ≤ most
   pub notice : IfSome done.notice HasCode
-  pub bytes : length done.bytes.list ≤ reply_limit
+  pub bytes : length done.bytes ≤ reply_limit
 
--- it answers, with a reply that is not too long, and no more is told of it
+-- it answers, with a reply that is not too long, and no more is told of it than the table that it names
 pub record IsQuiet (done : Effect) : Type 0 where
-  pub events : done.events.items ≡ []
+  pub events : done.events ≡ []
   pub shown : done.shown ≡ Nothing
   pub notice : done.notice ≡ None
   pub given : given_of done ≡ nothing_given
-  pub bytes : length done.bytes.list ≤ reply_limit
+  pub bytes : length done.bytes ≤ reply_limit
