@@ -10,9 +10,8 @@ use Rattle.tbl_kinds.specs.declared.entry.Answer.{Answer}
 use Rattle.table_update.specs.Answers.{then_judged, then_updated, asked_by, is_updated, managed}
 use Rattle.table_update.specs.declared.judging.Judgement.{Judgement}
 use Rattle.table_update.specs.declared.management.Managed.{Managed}
-use Rattle.request_effects.specs.Effects.{IsEffect}
+use Rattle.request_effects.specs.Effects.{Effect, IsEffect}
 use Rattle.table_requests.specs.Managed.{judged_events, managed_events}
-use Rattle.request_effects.specs.declared.effect.Effect.{Effect}
 
 module _ (s : State) (row : ℕ) (t : Table) where
   -- the questions don't hang on the update
@@ -41,8 +40,8 @@ module _ (s : State) (row : ℕ) (t : Table) where
   questions_when_managed m tables pending = questions_of_both (is_updated m.answer) m.first m.second
 
   -- an effect with this answer, these events and this byte is that of what was managed
-  pub is_managed : (m : Managed) (tables timed : Tables) (pending : List (ℕ × Bool)) (done : Effect) → done.answer ≡ m.answer → done.bytes.list ≡ m.did ∷ [] → done.table ≡ None
-      → done.events.items ≡ managed_events row t.name m (activated row t) → done.shown ≡ Nothing → done.notice ≡ None → timed ≡ cond (is_updated m.answer) (set_time row s.seconds s.sub tables) tables
+  pub is_managed : (m : Managed) (tables timed : Tables) (pending : List (ℕ × Bool)) (done : Effect) → done.answer ≡ m.answer → done.bytes ≡ m.did ∷ [] → done.table ≡ None
+      → done.events ≡ managed_events row t.name m (activated row t) → done.shown ≡ Nothing → done.notice ≡ None → timed ≡ cond (is_updated m.answer) (set_time row s.seconds s.sub tables) tables
       → IsEffect done (managed s row t m tables pending).questions (record s { tables = timed; pending = pending }) (managed s row t m tables pending)
   is_managed m tables timed pending done answer bytes table events shown notice time = record {
     status = ap (λ (a : Answer). a.status) (sym answer);

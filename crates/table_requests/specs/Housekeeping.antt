@@ -1,5 +1,5 @@
 -- Filled dumps come to their end in two parts: their files are written, while no dump has ended yet, and then all end.
-use Rattle.std.specs.Prelude.{ℕ, List, if◌then◌else◌}
+use Rattle.std.specs.Prelude.{ℕ, List, count_by, if◌then◌else◌}
 use Rattle.tbl_kinds.specs.Drawer.{File}
 use Rattle.tbl_model.specs.State.{State, Tables}
 use Rattle.tbl_model.specs.Tables.{table_at}
@@ -30,3 +30,7 @@ then_write s w row = files_of (then_end (with_files s w) row)
 -- the dump in this row is over, if it is filled
 abbrev pub then_finish : Tables → ℕ → Tables
 then_finish tables row = if is_filled (table_at tables row) then end_dump row tables else tables
+
+-- how many of the tables in these rows have a filled dump
+abbrev pub filled_count : Tables → List ℕ → ℕ
+filled_count tables rows = count_by (λ row. is_filled (table_at tables row)) rows

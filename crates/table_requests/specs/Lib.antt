@@ -4,3 +4,4 @@ pub mod Loads
 pub mod Managed
 pub mod Rows
 pub mod Reads
+pub mod Rooms

@@ -1,15 +1,14 @@
 //! Addresses of tables: got, read through, and given back.
 
-ghost use Rattle.std.specs.Prelude.{◌≡◌, ◌≤◌, [], length, IfOk, IfErr, IfSome};
+ghost use Rattle.std.specs.Prelude.{◌≡◌, ◌≤◌, [], length, IfOk, IfErr, OnOk};
 ghost use Rattle.tbl_model.specs.State.{State};
 ghost use Rattle.tbl_model.specs.Effects.{answered, answered_with};
 ghost use Rattle.tbl_model.specs.Addresses.{get_effect, release_effect, read_effect};
 ghost use Rattle.tbl_kinds.specs.Limits.{table_limit};
-ghost use Rattle.request_effects.specs.Effects.{IsEffect, IsQuiet};
+ghost use Rattle.request_effects.specs.Effects.{IsEffect, IsQuiet, quiet_effect};
 ghost use Rattle.table_requests.specs.Reads.{Reads, AreRead};
 
 use crate::checks::check;
-use request_effects::Effect;
 use sharing::Apps;
 use tbl_kinds::{Answer, Bytes, Memory, Status};
 use tbl_registry::Tables;
@@ -57,23 +56,30 @@ fn piece<'a>(
     }
 }
 
-/// These bytes: as they were lent, or else a copy.
-fn lent_or_copied(lent: Option<Bytes>, piece: &[u8], mut empty: Bytes) -> Result<Bytes, Memory>
-    requires lent { IfSome lent (λ slice. slice.list ≡ piece.now) }
-    requires empty { empty.list ≡ [] }
-    ensures { IfOk result (λ bytes. bytes.list ≡ piece.now) }
+/// Puts the bytes that the handle's image has there. Where they are the whole image and many, they stay where they are and get a
+/// further owner; else they are copied.
+fn put_piece(
+    tables: &Tables,
+    handle: u16,
+    offset: u32,
+    len: u32,
+    piece: &[u8],
+    bytes: &mut Bytes,
+) -> Result<(), Memory>
+    requires reads { Reads handle offset len tables.now piece.now }
+    requires empty { bytes.old.list ≡ [] }
+    ensures { OnOk result (bytes.new.list ≡ piece.now) }
 {
-    match lent {
-        Some(slice) => Ok(slice),
-        None => {
-            empty.reserve(piece.len())?;
-            empty.append(piece);
-            Ok(empty)
-        }
+    if let Some(image) = tables.read_whole(handle, offset, len) {
+        *bytes = Bytes::from_shared(bytes.allocator(), image.shared()?);
+        return Ok(());
     }
+    bytes.reserve(piece.len())?;
+    bytes.append(piece);
+    Ok(())
 }
 
-/// An application reads bytes of the image that its handle pins. Where they were lent, none is copied and no memory is taken.
+/// An application reads bytes of the image that its handle pins.
 pub fn read(
     tables: &Tables,
     apps: &Apps,
@@ -81,19 +87,43 @@ pub fn read(
     handle: u16,
     offset: u32,
     len: u32,
-    lent: Option<Bytes>,
-    empty: Bytes,
-) -> Result<Effect, Memory>
-    requires lent { IfSome lent (λ slice. AreRead handle offset len tables.now slice.list) }
-    requires empty { empty.list ≡ [] }
-    ensures effect { IfOk result (λ done. (s : State) → s.tables ≡ tables.now → s.apps ≡ apps.now → IsEffect done [] s (read_effect s app handle offset len)) }
-    ensures quiet { IfOk result IsQuiet }
+    bytes: &mut Bytes,
+) -> Result<Answer, Memory>
+    requires { bytes.old.list ≡ [] }
+    ensures effect { IfOk result (λ answer. (s : State) → s.tables ≡ tables.now → s.apps ≡ apps.now → IsEffect (quiet_effect answer bytes.new.list) [] s (read_effect s app handle offset len)) }
+    ensures quiet { IfOk result (λ answer. IsQuiet (quiet_effect answer bytes.new.list)) }
 {
     match piece(tables, apps, app, handle, offset, len) {
         Ok(piece) => {
-            let bytes = lent_or_copied(lent, piece, empty)?;
-            Ok(Effect::of(Answer::plain(Status::SUCCESS), bytes))
+            put_piece(tables, handle, offset, len, piece, bytes)?;
+            Ok(Answer::plain(Status::SUCCESS))
         }
-        Err(status) => Ok(Effect::of(Answer::plain(status), empty)),
+        Err(status) => Ok(Answer::plain(status)),
+    }
+}
+
+/// An application reads bytes of the image that its handle pins, which were lent: they are the reply. None is copied and no
+/// memory is taken.
+pub fn read_lent(
+    tables: &Tables,
+    apps: &Apps,
+    app: u8,
+    handle: u16,
+    offset: u32,
+    len: u32,
+    slice: Bytes,
+    bytes: &mut Bytes,
+) -> Answer
+    requires lent { AreRead handle offset len tables.now slice.list }
+    requires empty { bytes.old.list ≡ [] }
+    ensures effect { (s : State) → s.tables ≡ tables.now → s.apps ≡ apps.now → IsEffect (quiet_effect result bytes.new.list) [] s (read_effect s app handle offset len) }
+    ensures quiet { IsQuiet (quiet_effect result bytes.new.list) }
+{
+    match piece(tables, apps, app, handle, offset, len) {
+        Ok(_) => {
+            *bytes = slice;
+            Answer::plain(Status::SUCCESS)
+        }
+        Err(status) => Answer::plain(status),
     }
 }

@@ -1,21 +1,34 @@
 //! The tests that several requests share, and how they are answered.
 
-ghost use Rattle.std.specs.Prelude.{◌≡◌, ◌+◌, ◌<◌, ◌≤◌, ◌==◌, ℕ, [], ◌∷◌, ◌++◌, length, None, if◌then◌else◌, IsSome, IfOk, IfErr, OnOk};
+ghost use Rattle.std.specs.Prelude.{◌≡◌, ◌+◌, ◌<◌, ◌≤◌, ◌==◌, ℕ, [], ◌∷◌, ◌++◌, length, if◌then◌else◌, IsSome, IfOk, IfErr, OnOk};
 ghost use Rattle.tbl_model.specs.State.{State};
 ghost use Rattle.tbl_model.specs.Tables.{table_at, in_use};
 ghost use Rattle.tbl_model.specs.TableSteps.{access_of};
 ghost use Rattle.tbl_model.specs.Effects.{Effect as Model, answered};
 ghost use Rattle.tbl_model.specs.Subjects.{if_handle};
-ghost use Rattle.request_effects.specs.Effects.{IsQuiet};
 ghost use Rattle.table_requests.specs.Rows.{rows_in};
+ghost use Rattle.table_requests.specs.Rooms.{event_room};
 
-use request_effects::Effect;
 use sharing::Apps;
 use tbl_kinds::{Answer, Bytes, Status};
 use tbl_registry::Tables;
 
 /// How many shared working buffers there are, and so how many rows use them at most.
 pub(crate) const BUFFERS: usize = 4;
+
+/// The length of an event packet.
+pub(crate) const EVENT_LENGTH: usize = 24;
+
+/// The length of a notice.
+pub(crate) const NOTICE_LENGTH: usize = 12;
+
+/// The room for the packet of an event, if it can come.
+pub(crate) fn event_room(can: bool) -> usize
+    ensures room { result ≡ event_room can }
+    ensures few { result ≤ 24 }
+{
+    if can { EVENT_LENGTH } else { 0 }
+}
 
 /// The tests that all calls with a handle have in common: the application runs, the handle is in use, it is this
 /// application's, its table is there, and for the owner alone, the caller owns it. The row of the table.
@@ -54,20 +67,15 @@ fn put_rows(bytes: &mut Bytes, places: &[Option<u8>])
     }
 }
 
-/// The effect of an answer to a load. Where no shared buffer is free, it gives the rows that use them.
+/// Where a load was answered that no shared buffer is free, the reply gives the rows that use them.
 #[tactic(auto, using(crate::proofs::Buffers::rows_in_padded))]
-pub(crate) fn answered_load(tables: &Tables, answer: Answer, mut empty: Bytes) -> Effect
-    requires empty { empty.list ≡ [] }
-    requires room { 4 ≤ empty.spare }
-    ensures answer { result.answer ≡ answer }
-    ensures bytes { result.bytes.list ≡ (if answer.status.0 == Status.ERR_NO_BUFFER_AVAIL.0 then in_use tables.now else []) }
-    ensures len { length result.bytes.list ≤ 4 }
-    ensures table { result.table ≡ None }
-    ensures quiet { IsQuiet result }
+pub(crate) fn put_users(tables: &Tables, answer: Answer, bytes: &mut Bytes)
+    requires empty { bytes.old.list ≡ [] }
+    requires room { 4 ≤ bytes.old.spare }
+    ensures bytes { bytes.new.list ≡ (if answer.status.0 == Status.ERR_NO_BUFFER_AVAIL.0 then in_use tables.now else []) }
+    ensures len { length bytes.new.list ≤ 4 }
 {
-    if answer.status != Status::ERR_NO_BUFFER_AVAIL {
-        return Effect::of(answer, empty);
+    if answer.status == Status::ERR_NO_BUFFER_AVAIL {
+        put_rows(bytes, &tables.in_use());
     }
-    put_rows(&mut empty, &tables.in_use());
-    Effect::of(answer, empty)
 }

@@ -1,23 +1,24 @@
 //! Dumps: the ground asks for them, owners fill them, and write over the images of dump-only tables.
 
-ghost use Rattle.std.specs.Prelude.{◌≡◌, ◌≤◌, ◌^◌, ◌-◌, ◌<◌, true, false, [], length, None, Some, IsSome, IfOk, OnErr, vec_capacity};
+ghost use Rattle.std.specs.Prelude.{◌≡◌, ◌≤◌, ◌^◌, ◌-◌, ◌<◌, true, false, [], length, None, Some, IsSome, IfOk, OnOk, OnErr};
 ghost use Rattle.std.specs.Option.{ForSome};
 ghost use Rattle.tbl_model.specs.State.{State};
 ghost use Rattle.tbl_model.specs.Tables.{table_at};
 ghost use Rattle.tbl_model.specs.Given.{nothing_given};
+ghost use Rattle.tbl_model.specs.Effects.{answered_with};
 ghost use Rattle.tbl_model.specs.Validations.{selected};
 ghost use Rattle.tbl_model.specs.Dumps.{dump_file, registry_file, written_effect, dump_by, dump_effect, dump_registry_effect, filled_effect, edited_effect};
 ghost use Rattle.dump_control.specs.Images.{CanBeDumped, dumped_image};
-ghost use Rattle.request_effects.specs.Effects.{IsEffect, IsQuiet, IsWithin, given_of};
-ghost use Rattle.request_effects.specs.Effects.{reply_limit};
+ghost use Rattle.request_effects.specs.Effects.{IsEffect, IsWithin, HasRoom, given_of, told_effect, reply_limit};
+ghost use Rattle.request_effects.specs.Reports.{nothing_reported};
 ghost use Rattle.table_requests.specs.Limits.{AreCounted, AreSendable};
 
-use crate::checks::{BUFFERS, answered_load};
+use crate::checks::{BUFFERS, EVENT_LENGTH, put_users};
 use dump_control::{
     DumpAnswer, dump_file, dump_len, registry_file, registry_file_len, request_dump,
 };
 use file_drawer::{Drawer, PutFault};
-use request_effects::{Clock, Effect, notice, subject};
+use request_effects::{Clock, Report, notice, subject};
 use std::alloc::Global;
 use tbl_kinds::{Answer, Bytes, Memory, Name40, Name64, Status};
 use tbl_model::{Named, TelemetryEvent};
@@ -29,16 +30,17 @@ fn written(
     row: Option<u8>,
     file: &Name64,
     contents: Bytes,
-    mut events: Vec<TelemetryEvent>,
-    empty: Bytes,
-) -> Result<Effect, Memory>
+    bytes: &mut Bytes,
+    report: &mut Report,
+) -> Result<Answer, Memory>
     requires few { length contents.list ≤ reply_limit }
-    requires no_events { events.items ≡ [] }
-    requires room { 1 ≤ vec_capacity events }
-    requires empty { empty.list ≡ [] }
-    ensures effect { IfOk result (λ done. (s : State) → s.drawer ≡ drawer.old → IsEffect done [] (record s { drawer = drawer.new }) (written_effect s row file.now contents.list)) }
-    ensures within { IfOk result (IsWithin 1 0 false) }
-    ensures given { IfOk result (λ done. given_of done ≡ nothing_given) }
+    requires empty { bytes.old.list ≡ [] }
+    requires report { report.old ≡ nothing_reported }
+    ensures effect { IfOk result (λ answer. (s : State) → s.drawer ≡ drawer.old
+        → IsEffect (told_effect answer bytes.new.list report.new) [] (record s { drawer = drawer.new }) (written_effect s row file.now contents.list)) }
+    ensures within { IfOk result (λ answer. IsWithin 1 (told_effect answer bytes.new.list report.new)) }
+    ensures given { IfOk result (λ answer. given_of (told_effect answer bytes.new.list report.new) ≡ nothing_given) }
+    ensures alone { OnOk result (record report.new { events = [] } ≡ nothing_reported) }
     ensures err { OnErr result (drawer.new ≡ drawer.old) }
 {
     // The drawer keeps one copy and the reply has the other. It is made before the drawer changes.
@@ -46,17 +48,15 @@ fn written(
     match drawer.put(file, copy) {
         Ok(_) => {
             let len = contents.bytes().len() as u32;
-            events.push_reserved(TelemetryEvent::Dumped {
+            report.add_event(TelemetryEvent::Dumped {
                 row,
                 file: file.copy(),
                 len,
             });
-            Ok(Effect {
-                events,
-                ..Effect::of(Answer::plain(Status::SUCCESS), contents)
-            })
+            *bytes = contents;
+            Ok(Answer::plain(Status::SUCCESS))
         }
-        Err(PutFault::Full) => Ok(Effect::of(Answer::plain(Status::ERR_DRAWER_FULL), empty)),
+        Err(PutFault::Full) => Ok(Answer::plain(Status::ERR_DRAWER_FULL)),
         Err(PutFault::Memory) => Err(Memory),
     }
 }
@@ -89,44 +89,46 @@ fn dump_found(
     table: Named,
     select: u16,
     file: &Name64,
-    events: Vec<TelemetryEvent>,
-    mut empty: Bytes,
-) -> Result<Effect, Memory>
+    bytes: &mut Bytes,
+    packets: &mut Bytes,
+    report: &mut Report,
+) -> Result<Answer, Memory>
     requires table { IsSome (table_at tables.old table.row) }
     requires notices { AreSendable tables.old }
-    requires no_events { events.items ≡ [] }
-    requires room { 1 ≤ vec_capacity events }
-    requires empty { empty.list ≡ [] }
-    ensures effect { IfOk result (λ done. (s : State) → s.tables ≡ tables.old → s.drawer ≡ drawer.old → s.seconds ≡ clock.seconds → s.sub ≡ clock.sub
+    requires empty { bytes.old.list ≡ [] }
+    requires packets { packets.old.list ≡ [] }
+    requires report { report.old ≡ nothing_reported }
+    ensures effect { IfOk result (λ answer. (s : State) → s.tables ≡ tables.old → s.drawer ≡ drawer.old → s.seconds ≡ clock.seconds → s.sub ≡ clock.sub
         → ForSome (table_at tables.old table.row) (λ t.
-        IsEffect done [] (record s { tables = tables.new; drawer = drawer.new }) (record (dump_by s file.now table.row t (selected t select)) { table = Some table }))) }
-    ensures within { IfOk result (IsWithin 1 0 true) }
-    ensures given { IfOk result (λ done. given_of done ≡ nothing_given) }
+        IsEffect (told_effect answer bytes.new.list report.new) [] (record s { tables = tables.new; drawer = drawer.new })
+        (record (dump_by s file.now table.row t (selected t select)) { table = Some table }))) }
+    ensures within { IfOk result (λ answer. IsWithin 1 (told_effect answer bytes.new.list report.new)) }
+    ensures given { IfOk result (λ answer. given_of (told_effect answer bytes.new.list report.new) ≡ nothing_given) }
+    ensures room { IfOk result (λ answer. HasRoom 24 packets.new (told_effect answer bytes.new.list report.new)) }
     ensures err { OnErr result (tables.new ≡ tables.old) }
     ensures drawer { OnErr result (drawer.new ≡ drawer.old) }
 {
-    empty.reserve(BUFFERS)?;
+    bytes.reserve(BUFFERS)?;
+    // The notice is shorter than an event.
+    packets.reserve(EVENT_LENGTH + EVENT_LENGTH)?;
     let row = table.row;
     let owed = notice(tables, row);
-    match request_dump(tables, row, select, file) {
-        DumpAnswer::Refused(answer) => Ok(Effect {
-            table: Some(table),
-            ..answered_load(tables, answer, empty)
-        }),
-        DumpAnswer::Asked => Ok(Effect {
-            table: Some(table),
-            notice: owed,
-            ..Effect::of(Answer::plain(Status::SUCCESS), empty)
-        }),
+    let answer = match request_dump(tables, row, select, file) {
+        DumpAnswer::Refused(answer) => {
+            put_users(tables, answer, bytes);
+            answer
+        }
+        DumpAnswer::Asked => {
+            report.notify(owed);
+            Answer::plain(Status::SUCCESS)
+        }
         DumpAnswer::Write { active } => {
             let contents = image_file(alloc, tables, row, active, clock)?;
-            let done = written(drawer, Some(row), file, contents, events, empty)?;
-            Ok(Effect {
-                table: Some(table),
-                ..done
-            })
+            written(drawer, Some(row), file, contents, bytes, report)?
         }
-    }
+    };
+    report.name_table(table);
+    Ok(answer)
 }
 
 /// The ground dumps the table of this name into a file (`CFE_TBL_DUMP_CC`): its last image, or that of its open load. Of a
@@ -141,24 +143,27 @@ pub(crate) fn dump(
     select: u16,
     name: &Name40,
     file: &Name64,
-    events: Vec<TelemetryEvent>,
-    empty: Bytes,
-) -> Result<Effect, Memory>
+    bytes: &mut Bytes,
+    packets: &mut Bytes,
+    report: &mut Report,
+) -> Result<Answer, Memory>
     requires notices { AreSendable tables.old }
-    requires no_events { events.items ≡ [] }
-    requires room { 1 ≤ vec_capacity events }
-    requires empty { empty.list ≡ [] }
-    ensures effect { IfOk result (λ done. (s : State) → s.tables ≡ tables.old → s.drawer ≡ drawer.old → s.seconds ≡ clock.seconds → s.sub ≡ clock.sub
-        → IsEffect done [] (record s { tables = tables.new; drawer = drawer.new }) (dump_effect s select name.now file.now)) }
-    ensures within { IfOk result (IsWithin 1 0 true) }
-    ensures given { IfOk result (λ done. given_of done ≡ nothing_given) }
+    requires empty { bytes.old.list ≡ [] }
+    requires packets { packets.old.list ≡ [] }
+    requires event { 24 ≤ packets.old.spare }
+    requires report { report.old ≡ nothing_reported }
+    ensures effect { IfOk result (λ answer. (s : State) → s.tables ≡ tables.old → s.drawer ≡ drawer.old → s.seconds ≡ clock.seconds → s.sub ≡ clock.sub
+        → IsEffect (told_effect answer bytes.new.list report.new) [] (record s { tables = tables.new; drawer = drawer.new }) (dump_effect s select name.now file.now)) }
+    ensures within { IfOk result (λ answer. IsWithin 1 (told_effect answer bytes.new.list report.new)) }
+    ensures given { IfOk result (λ answer. given_of (told_effect answer bytes.new.list report.new) ≡ nothing_given) }
+    ensures room { IfOk result (λ answer. HasRoom 24 packets.new (told_effect answer bytes.new.list report.new)) }
     ensures err { OnErr result (tables.new ≡ tables.old) }
     ensures drawer { OnErr result (drawer.new ≡ drawer.old) }
 {
     match subject(tables, name) {
-        None => Ok(Effect::of(Answer::plain(Status::ERR_NO_SUCH_TABLE), empty)),
+        None => Ok(Answer::plain(Status::ERR_NO_SUCH_TABLE)),
         Some(table) => dump_found(
-            alloc, tables, drawer, clock, table, select, file, events, empty,
+            alloc, tables, drawer, clock, table, select, file, bytes, packets, report,
         ),
     }
 }
@@ -172,31 +177,32 @@ pub(crate) fn dump_registry(
     drawer: &mut Drawer,
     clock: Clock,
     file: &Name64,
-    events: Vec<TelemetryEvent>,
-    empty: Bytes,
-) -> Result<Effect, Memory>
-    requires no_events { events.items ≡ [] }
-    requires room { 1 ≤ vec_capacity events }
-    requires empty { empty.list ≡ [] }
-    ensures effect { IfOk result (λ done. (s : State) → s.tables ≡ tables.now → s.drawer ≡ drawer.old → s.seconds ≡ clock.seconds → s.sub ≡ clock.sub
-        → IsEffect done [] (record s { drawer = drawer.new }) (dump_registry_effect s file.now)) }
-    ensures within { IfOk result (IsWithin 1 0 false) }
-    ensures given { IfOk result (λ done. given_of done ≡ nothing_given) }
+    bytes: &mut Bytes,
+    packets: &mut Bytes,
+    report: &mut Report,
+) -> Result<Answer, Memory>
+    requires empty { bytes.old.list ≡ [] }
+    requires packets { packets.old.list ≡ [] }
+    requires report { report.old ≡ nothing_reported }
+    ensures effect { IfOk result (λ answer. (s : State) → s.tables ≡ tables.now → s.drawer ≡ drawer.old → s.seconds ≡ clock.seconds → s.sub ≡ clock.sub
+        → IsEffect (told_effect answer bytes.new.list report.new) [] (record s { drawer = drawer.new }) (dump_registry_effect s file.now)) }
+    ensures within { IfOk result (λ answer. IsWithin 1 (told_effect answer bytes.new.list report.new)) }
+    ensures given { IfOk result (λ answer. given_of (told_effect answer bytes.new.list report.new) ≡ nothing_given) }
+    ensures room { IfOk result (λ answer. HasRoom 24 packets.new (told_effect answer bytes.new.list report.new)) }
     ensures err { OnErr result (drawer.new ≡ drawer.old) }
 {
+    packets.reserve(EVENT_LENGTH + EVENT_LENGTH)?;
     let mut contents = Bytes::make(alloc, registry_file_len(tables))?;
     registry_file(tables, &mut contents, clock.seconds, clock.sub);
-    written(drawer, None, file, contents, events, empty)
+    written(drawer, None, file, contents, bytes, report)
 }
 
 /// The owner of the table in the row fills the dump that the ground asked for (`CFE_TBL_DumpToBuffer`).
-pub fn dump_to_buffer(tables: &mut Tables, row: u8, empty: Bytes) -> Effect
-    requires table { IsSome (table_at tables.old row) }
-    requires empty { empty.list ≡ [] }
-    ensures effect { (s : State) → s.tables ≡ tables.old → ForSome (table_at tables.old row) (λ t. IsEffect result [] (record s { tables = tables.new }) (filled_effect s row t)) }
-    ensures quiet { IsQuiet result }
+pub fn dump_to_buffer(tables: &mut Tables, row: u8) -> Answer
+    requires { IsSome (table_at tables.old row) }
+    ensures { (s : State) → s.tables ≡ tables.old → ForSome (table_at tables.old row) (λ t. filled_effect s row t ≡ answered_with s result tables.new) }
 {
-    Effect::of(dump_control::fill(tables, row), empty)
+    dump_control::fill(tables, row)
 }
 
 /// The owner of the dump-only table in the row writes bytes over its image.
@@ -206,16 +212,12 @@ pub fn edit(
     row: u8,
     offset: u32,
     bytes: &[u8],
-    empty: Bytes,
-) -> Result<Effect, Memory>
+) -> Result<Answer, Memory>
     requires table { IsSome (table_at tables.old row) }
     requires counted { AreCounted tables.old }
-    requires empty { empty.list ≡ [] }
-    ensures effect { IfOk result (λ done. (s : State) → s.tables ≡ tables.old
-        → ForSome (table_at tables.old row) (λ t. IsEffect done [] (record s { tables = tables.new }) (edited_effect s row t offset bytes.now))) }
-    ensures quiet { IfOk result IsQuiet }
+    ensures effect { IfOk result (λ answer. (s : State) → s.tables ≡ tables.old
+        → ForSome (table_at tables.old row) (λ t. edited_effect s row t offset bytes.now ≡ answered_with s answer tables.new)) }
     ensures err { OnErr result (tables.new ≡ tables.old) }
 {
-    let answer = dump_control::edit(alloc, tables, row, offset, bytes)?;
-    Ok(Effect::of(answer, empty))
+    dump_control::edit(alloc, tables, row, offset, bytes)
 }

@@ -4,7 +4,6 @@
 
 mod activations;
 mod addresses;
-mod applications;
 mod checks;
 mod commands;
 mod dumps;
@@ -17,13 +16,12 @@ mod registry;
 mod validations;
 
 pub use activations::update;
-pub use addresses::{get, read, release};
-pub use applications::{exit, share, start};
+pub use addresses::{get, read, read_lent, release};
 pub use checks::check;
 pub use commands::ground_command;
 pub use dumps::{dump_to_buffer, edit};
 pub use files::file;
 pub use loads::{load_file, load_image};
-pub use management::{get_status, manage, notify};
+pub use management::{get_status, manage};
 pub use registry::get_info;
 pub use validations::app_validate;

@@ -1,20 +1,24 @@
 //! What the registry tells of a table, to an application or to the ground.
 
-ghost use Rattle.std.specs.Prelude.{◌≡◌, ◌≤◌, [], length, false, IfOk};
+ghost use Rattle.std.specs.Prelude.{◌≡◌, ◌≤◌, [], length, IfOk};
 ghost use Rattle.tbl_model.specs.State.{State};
 ghost use Rattle.tbl_model.specs.Given.{nothing_given};
 ghost use Rattle.tbl_model.specs.Sharing.{info_effect, send_registry_effect};
-ghost use Rattle.request_effects.specs.Effects.{IsEffect, IsQuiet, IsWithin, given_of};
+ghost use Rattle.request_effects.specs.Effects.{IsEffect, IsQuiet, IsWithin, HasRoom, given_of, quiet_effect, told_effect};
+ghost use Rattle.request_effects.specs.Reports.{nothing_reported};
 
-use request_effects::{Effect, subject};
+use crate::checks::EVENT_LENGTH;
+use request_effects::{Report, subject};
 use sharing::Apps;
 use tbl_kinds::{Answer, Bytes, Memory, Name40, Status};
 use tbl_model::Shown;
 use tbl_registry::Tables;
-use tlm_packets::registry_bytes;
 
 /// The length of a registry record.
 const RECORD_LENGTH: usize = 144;
+
+/// The length of a registry packet.
+const REGISTRY_LENGTH: usize = 156;
 
 /// An application asks for the registry record of a table (`CFE_TBL_GetInfo`).
 #[inline(never)]
@@ -23,36 +27,45 @@ pub fn get_info(
     apps: &Apps,
     app: u8,
     name: &Name40,
-    mut empty: Bytes,
-) -> Result<Effect, Memory>
-    requires { empty.list ≡ [] }
-    ensures effect { IfOk result (λ done. (s : State) → s.tables ≡ tables.now → s.apps ≡ apps.now → IsEffect done [] s (info_effect s app name.now)) }
-    ensures quiet { IfOk result IsQuiet }
+    bytes: &mut Bytes,
+) -> Result<Answer, Memory>
+    requires { bytes.old.list ≡ [] }
+    ensures effect { IfOk result (λ answer. (s : State) → s.tables ≡ tables.now → s.apps ≡ apps.now → IsEffect (quiet_effect answer bytes.new.list) [] s (info_effect s app name.now)) }
+    ensures quiet { IfOk result (λ answer. IsQuiet (quiet_effect answer bytes.new.list)) }
 {
-    match sharing::info(tables, apps, app, name) {
+    match sharing::row_of(tables, apps, app, name) {
         Ok(row) => {
-            empty.reserve(RECORD_LENGTH)?;
-            registry_bytes(&mut empty, &row);
-            Ok(Effect::of(Answer::plain(Status::SUCCESS), empty))
+            bytes.reserve(RECORD_LENGTH)?;
+            tables.write_info(row, bytes);
+            Ok(Answer::plain(Status::SUCCESS))
         }
-        Err(status) => Ok(Effect::of(Answer::plain(status), empty)),
+        Err(status) => Ok(Answer::plain(status)),
     }
 }
 
 /// The ground asks for the registry packet of the table of this name (`CFE_TBL_SEND_REGISTRY_CC`).
 #[tactic(auto, unfolding(tbl_model::specs::Sharing::send_registry_effect))]
-pub(crate) fn send_registry(tables: &Tables, name: &Name40, empty: Bytes) -> Effect
-    requires { empty.list ≡ [] }
-    ensures effect { (s : State) → s.tables ≡ tables.now → IsEffect result [] s (send_registry_effect s name.now) }
-    ensures within { IsWithin 0 156 false result }
-    ensures given { given_of result ≡ nothing_given }
+pub(crate) fn send_registry(
+    tables: &Tables,
+    name: &Name40,
+    packets: &mut Bytes,
+    report: &mut Report,
+) -> Result<Answer, Memory>
+    requires packets { packets.old.list ≡ [] }
+    requires event { 24 ≤ packets.old.spare }
+    requires report { report.old ≡ nothing_reported }
+    ensures effect { IfOk result (λ answer. (s : State) → s.tables ≡ tables.now → IsEffect (told_effect answer [] report.new) [] s (send_registry_effect s name.now)) }
+    ensures within { IfOk result (λ answer. IsWithin 0 (told_effect answer [] report.new)) }
+    ensures given { IfOk result (λ answer. given_of (told_effect answer [] report.new) ≡ nothing_given) }
+    ensures room { IfOk result (λ answer. HasRoom 24 packets.new (told_effect answer [] report.new)) }
 {
     match subject(tables, name) {
-        None => Effect::of(Answer::plain(Status::ERR_NO_SUCH_TABLE), empty),
-        Some(table) => Effect {
-            shown: Shown::Registry { row: table.row },
-            table: Some(table),
-            ..Effect::of(Answer::plain(Status::SUCCESS), empty)
-        },
+        None => Ok(Answer::plain(Status::ERR_NO_SUCH_TABLE)),
+        Some(table) => {
+            packets.reserve(EVENT_LENGTH + REGISTRY_LENGTH)?;
+            report.show(Shown::Registry { row: table.row });
+            report.name_table(table);
+            Ok(Answer::plain(Status::SUCCESS))
+        }
     }
 }

@@ -1,8 +1,8 @@
 //! Validations, which the ground asks for and owners have done.
 
-ghost use Rattle.std.specs.Prelude.{◌≡◌, ◌≤◌, ℕ, List, Bool, [], length, false, true, None, Some, IsSome, IfSome, vec_capacity};
+ghost use Rattle.std.specs.Prelude.{◌≡◌, ◌≤◌, ◌+◌, ◌*◌, ℕ, List, Bool, [], length, None, Some, IsSome, IfSome, IfOk, OnErr};
 ghost use Rattle.std.specs.Option.{ForSome};
-ghost use Rattle.tbl_kinds.specs.Notes.{untouched};
+ghost use Rattle.tbl_kinds.specs.Buffers.{Buffer};
 ghost use Rattle.tbl_model.specs.State.{State, Table, Tables as Registry};
 ghost use Rattle.tbl_model.specs.Tables.{table_at};
 ghost use Rattle.tbl_model.specs.Given.{nothing_given};
@@ -13,13 +13,16 @@ ghost use Rattle.validation.specs.Asked.{WasAsked};
 ghost use Rattle.validation.specs.Ready.{ArePending, HaveFunctions};
 ghost use Rattle.table_update.specs.Answers.{requested, validated, verdicts_of};
 ghost use Rattle.tbl_model.specs.Fit.{HasCode};
-ghost use Rattle.request_effects.specs.Effects.{IsEffect, IsEffectAsking, IsWithin, given_of};
+ghost use Rattle.request_effects.specs.Effects.{IsEffect, IsEffectAsking, IsWithin, HasRoom, given_of, told_effect, notice_len};
+ghost use Rattle.request_effects.specs.Reports.{nothing_reported};
 ghost use Rattle.table_requests.specs.Limits.{AreSendable};
+ghost use Rattle.table_requests.specs.Rooms.{IsAlone};
 
-use crate::loads::named;
-use request_effects::{Effect, notice, subject};
+use crate::checks::EVENT_LENGTH;
+use crate::loads::name_of;
+use request_effects::{Report, notice, subject};
 use table_update::{Judgement, Requested, Validated, request_validation};
-use tbl_kinds::{Answer, Bytes, Name40, Status};
+use tbl_kinds::{Answer, Bytes, Memory, Name40, Status};
 use tbl_model::{Named, Notice, TelemetryEvent};
 use tbl_outside::Validator;
 use tbl_registry::Tables;
@@ -38,43 +41,32 @@ pub(crate) fn finished(row: u8, judgement: Judgement, name: Name40) -> Telemetry
     }
 }
 
-/// What VALIDATE is answered about a table, which has this name of its own and gives this notice.
+/// What VALIDATE is answered about the table in a row, which has this name and gives this notice, and what is told of it.
 fn told(
     came: Requested,
-    table: Named,
+    row: u8,
     name: Name40,
     notice: Option<Notice>,
-    mut events: Vec<TelemetryEvent>,
-    empty: Bytes,
-) -> Effect
+    report: &mut Report,
+) -> Answer
     requires code { IfSome notice HasCode }
-    requires no_events { events.items ≡ [] }
-    requires room { 1 ≤ vec_capacity events }
-    requires empty { empty.list ≡ [] }
+    requires report { report.old ≡ nothing_reported }
     ensures effect { (s : State) (t : Table) (tables : Registry) (pending : List (ℕ × Bool)) → t.name ≡ name → t.notice ≡ notice
-        → IsEffect result [] (left_with s tables pending) (record (requested s table.row t came tables pending) { table = Some table }) }
-    ensures within { IsWithin 1 0 true result }
-    ensures given { given_of result ≡ nothing_given }
+        → IsEffect (told_effect result [] report.new) [] (left_with s tables pending) (requested s row t came tables pending) }
+    ensures within { IsWithin 1 (told_effect result [] report.new) }
+    ensures given { given_of (told_effect result [] report.new) ≡ nothing_given }
+    ensures room { 24 * length report.new.events + notice_len report.new.notice ≤ 24 }
+    ensures shown { report.new.shown ≡ nothing_reported.shown }
 {
-    let row = table.row;
-    let table = Some(table);
     match came {
-        Requested::Refused(answer) => Effect {
-            table,
-            ..Effect::of(answer, empty)
-        },
-        Requested::Pending => Effect {
-            table,
-            notice,
-            ..Effect::of(Answer::plain(Status::SUCCESS), empty)
-        },
+        Requested::Refused(answer) => answer,
+        Requested::Pending => {
+            report.notify(notice);
+            Answer::plain(Status::SUCCESS)
+        }
         Requested::Finished(judgement) => {
-            events.push_reserved(finished(row, judgement, name));
-            Effect {
-                table,
-                events,
-                ..Effect::of(Answer::plain(Status::SUCCESS), empty)
-            }
+            report.add_event(finished(row, judgement, name));
+            Answer::plain(Status::SUCCESS)
         }
     }
 }
@@ -85,30 +77,36 @@ fn validate_found(
     pending: &mut Pending,
     table: Named,
     select: u16,
-    events: Vec<TelemetryEvent>,
-    empty: Bytes,
-) -> Effect
+    packets: &mut Bytes,
+    report: &mut Report,
+) -> Result<Answer, Memory>
     requires table { IsSome (table_at tables.old table.row) }
     requires pending { ArePending tables.old pending.old }
     requires notices { AreSendable tables.old }
-    requires no_events { events.items ≡ [] }
-    requires room { 1 ≤ vec_capacity events }
-    requires empty { empty.list ≡ [] }
-    ensures effect { (s : State) → s.tables ≡ tables.old → s.pending ≡ pending.old
-        → ForSome (table_at tables.old table.row) (λ t. IsEffect result [] (left_with s tables.new pending.new) (record (validate_by s table.row t (selected t select)) { table = Some table })) }
-    ensures within { IsWithin 1 0 true result }
-    ensures given { given_of result ≡ nothing_given }
+    requires packets { packets.old.list ≡ [] }
+    requires report { report.old ≡ nothing_reported }
+    ensures effect { IfOk result (λ answer. (s : State) → s.tables ≡ tables.old → s.pending ≡ pending.old
+        → ForSome (table_at tables.old table.row) (λ t.
+        IsEffect (told_effect answer [] report.new) [] (left_with s tables.new pending.new) (record (validate_by s table.row t (selected t select)) { table = Some table }))) }
+    ensures within { IfOk result (λ answer. IsWithin 1 (told_effect answer [] report.new)) }
+    ensures given { IfOk result (λ answer. given_of (told_effect answer [] report.new) ≡ nothing_given) }
+    ensures room { IfOk result (λ answer. HasRoom 24 packets.new (told_effect answer [] report.new)) }
+    ensures err { OnErr result (tables.new ≡ tables.old) }
+    ensures still_pending { OnErr result (pending.new ≡ pending.old) }
 {
-    let Some(active) = tables.selected(table.row, select) else {
-        return Effect {
-            table: Some(table),
-            ..Effect::of(Answer::plain(Status::ERR_BAD_SELECT), empty)
-        };
+    // The notice is shorter than an event.
+    packets.reserve(EVENT_LENGTH + EVENT_LENGTH)?;
+    let row = table.row;
+    let Some(active) = tables.selected(row, select) else {
+        report.name_table(table);
+        return Ok(Answer::plain(Status::ERR_BAD_SELECT));
     };
-    let Named { name, .. } = named(tables, table.row);
-    let notice = notice(tables, table.row);
-    let came = request_validation(tables, pending, table.row, active);
-    told(came, table, name, notice, events, empty)
+    let name = name_of(tables, row);
+    let notice = notice(tables, row);
+    let came = request_validation(tables, pending, row, active);
+    let answer = told(came, row, name, notice, report);
+    report.name_table(table);
+    Ok(answer)
 }
 
 /// The ground asks for the validation of an image of the table of this name (`CFE_TBL_VALIDATE_CC`): of the last one, or
@@ -119,79 +117,70 @@ pub(crate) fn validate(
     pending: &mut Pending,
     select: u16,
     name: &Name40,
-    events: Vec<TelemetryEvent>,
-    empty: Bytes,
-) -> Effect
+    packets: &mut Bytes,
+    report: &mut Report,
+) -> Result<Answer, Memory>
     requires pending { ArePending tables.old pending.old }
     requires notices { AreSendable tables.old }
-    requires no_events { events.items ≡ [] }
-    requires room { 1 ≤ vec_capacity events }
-    requires empty { empty.list ≡ [] }
-    ensures effect { (s : State) → s.tables ≡ tables.old → s.pending ≡ pending.old → IsEffect result [] (left_with s tables.new pending.new) (validate_effect s select name.now) }
-    ensures within { IsWithin 1 0 true result }
-    ensures given { given_of result ≡ nothing_given }
+    requires packets { packets.old.list ≡ [] }
+    requires event { 24 ≤ packets.old.spare }
+    requires report { report.old ≡ nothing_reported }
+    ensures effect { IfOk result (λ answer. (s : State) → s.tables ≡ tables.old → s.pending ≡ pending.old
+        → IsEffect (told_effect answer [] report.new) [] (left_with s tables.new pending.new) (validate_effect s select name.now)) }
+    ensures within { IfOk result (λ answer. IsWithin 1 (told_effect answer [] report.new)) }
+    ensures given { IfOk result (λ answer. given_of (told_effect answer [] report.new) ≡ nothing_given) }
+    ensures room { IfOk result (λ answer. HasRoom 24 packets.new (told_effect answer [] report.new)) }
+    ensures err { OnErr result (tables.new ≡ tables.old) }
+    ensures still_pending { OnErr result (pending.new ≡ pending.old) }
 {
     match subject(tables, name) {
-        None => Effect::of(Answer::plain(Status::ERR_NO_SUCH_TABLE), empty),
-        Some(table) => validate_found(tables, pending, table, select, events, empty),
+        None => Ok(Answer::plain(Status::ERR_NO_SUCH_TABLE)),
+        Some(table) => validate_found(tables, pending, table, select, packets, report),
     }
 }
 
-/// The effect of a validation that an owner has done, of the table in a row, of this name.
-fn done(
-    row: u8,
-    came: Validated,
-    name: Name40,
-    mut events: Vec<TelemetryEvent>,
-    empty: Bytes,
-) -> Effect
-    requires no_events { events.items ≡ [] }
-    requires room { 1 ≤ vec_capacity events }
-    requires empty { empty.list ≡ [] }
+/// What is told of a validation that an owner has done, of the table in a row, of this name.
+fn tell_validated(row: u8, came: Validated, name: Name40, report: &mut Report)
+    requires { report.old ≡ nothing_reported }
     ensures effect { (s : State) (t : Table) (tables : Registry) (pending : List (ℕ × Bool)) → t.name ≡ name
-        → IsEffectAsking result (left_with s tables pending) (validated s row t came tables pending) }
-    ensures within { IsWithin 1 0 false result }
-    ensures note { result.note ≡ untouched }
-    ensures verdicts { result.verdicts ≡ verdicts_of came.judgement None }
+        → IsEffectAsking (told_effect came.answer [] report.new) (left_with s tables pending) (validated s row t came tables pending) }
+    ensures within { IsWithin 1 (told_effect came.answer [] report.new) }
+    ensures alone { IsAlone report.new }
+    ensures verdicts { report.new.verdicts ≡ verdicts_of came.judgement None }
 {
-    let Some(judgement) = came.judgement else {
-        return Effect::of(came.answer, empty);
-    };
-    events.push_reserved(finished(row, judgement, name));
-    Effect {
-        events,
-        verdicts: [Some(judgement.verdict), None],
-        ..Effect::of(came.answer, empty)
+    if let Some(judgement) = came.judgement {
+        report.add_event(finished(row, judgement, name));
+        report.judge([Some(judgement.verdict), None]);
     }
 }
 
 /// The owner of the table in a row has a validation of it done that is pending (`CFE_TBL_Validate`), that of the last
-/// image first.
+/// image first. The one event that it tells fits into the room for an event.
 pub fn app_validate<C: Validator>(
     tables: &mut Tables,
     kit: &mut Kit<C>,
     pending: &mut Pending,
     row: u8,
-    events: Vec<TelemetryEvent>,
-    empty: Bytes,
-) -> Effect
+    report: &mut Report,
+) -> Answer
     requires table { IsSome (table_at tables.old row) }
     requires pending { ArePending tables.old pending.old }
     requires kit { HaveFunctions tables.old kit.old }
     requires few { MayAskEach C.asked 2 kit.old }
-    requires no_events { events.items ≡ [] }
-    requires room { 1 ≤ vec_capacity events }
-    requires empty { empty.list ≡ [] }
+    requires report { report.old ≡ nothing_reported }
     ensures effect { (s : State) → s.tables ≡ tables.old → s.pending ≡ pending.old
-        → ForSome (table_at tables.old row) (λ t. IsEffectAsking result (left_with s tables.new pending.new) (validation_of s (given_of result) row t)) }
+        → ForSome (table_at tables.old row) (λ t.
+        IsEffectAsking (told_effect result [] report.new) (left_with s tables.new pending.new) (validation_of s (given_of (told_effect result [] report.new)) row t)) }
     ensures asks { (s : State) → s.tables ≡ tables.old → s.pending ≡ pending.old
-        → ForSome (table_at tables.old row) (λ t. WasAsked C.verdict C.asked kit.old kit.new (validation_of s (given_of result) row t).questions result.verdicts) }
+        → ForSome (table_at tables.old row) (λ t.
+        WasAsked C.verdict C.asked kit.old kit.new (validation_of s (given_of (told_effect result [] report.new)) row t).questions report.new.verdicts) }
     ensures owners { owners kit.new ≡ owners kit.old }
-    ensures within { IsWithin 1 0 false result }
-    ensures note { result.note ≡ untouched }
-    ensures two { length result.verdicts ≡ 2 }
+    ensures within { IsWithin 1 (told_effect result [] report.new) }
+    ensures room { (packets : Buffer) → packets.list ≡ [] → 24 ≤ packets.spare → HasRoom 0 packets (told_effect result [] report.new) }
+    ensures two { length report.new.verdicts ≡ 2 }
 {
-    let Named { name, .. } = named(tables, row);
+    let name = name_of(tables, row);
     let came = table_update::validate(tables, kit, pending, row);
-    done(row, came, name, events, empty)
+    tell_validated(row, came, name, report);
+    came.answer
 }

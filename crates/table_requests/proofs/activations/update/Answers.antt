@@ -1,28 +1,20 @@
-use Rattle.std.proofs.Common.{◌≡◌, ◌∙◌, ℕ, Bool, true, false, cond, refl, ap}
-use Rattle.tbl_kinds.specs.Statuses.{is_success}
-use Rattle.tbl_kinds.specs.declared.entry.Answer.{Answer}
-use Rattle.tbl_model.specs.State.{State, Table, Tables}
-use Rattle.tbl_model.specs.TableSteps.{set_time}
-use Rattle.tbl_model.specs.Effects as model
-use Rattle.table_update.specs.Answers.{updated}
+use Rattle.std.proofs.Common.{◌∙◌, refl, ap, [], arith}
+use Rattle.tbl_model.specs.Tables.{table_at}
+use Rattle.request_effects.specs.Effects.{seen_at, told_effect}
+use Rattle.table_requests.specs.Rooms.{copy_room}
+use Rattle.table_requests.proofs.Places.{some_is}
+use Rattle.table_requests.proofs.Rooms.{one_if, update_few, event_room_is, room_of}
 use Rattle.table_requests.proofs.activations.update.Goals as goal
 
--- the tables have the time of the update, if it was made
-timed : (s : State) (row : ℕ) (t : Table) (answer : Answer) (old new : Tables) (seconds sub : ℕ) → s.seconds ≡ seconds → s.sub ≡ sub
-    → new ≡ cond (is_success answer.status) (set_time row seconds sub old) old → (updated s row t answer old).next ≡ record s { tables = new }
-timed s row t answer old new seconds sub same_seconds same_sub = by (is_success answer.status) _ _ refl refl
-  where
-    by : (b : Bool) (made refused : model.Effect) → made.next ≡ record s { tables = set_time row s.seconds s.sub old } → refused.next ≡ record s { tables = old }
-        → new ≡ cond b (set_time row seconds sub old) old → (cond b made refused).next ≡ record s { tables = new }
-    by true made refused is other same = rw (is, same, same_seconds, same_sub) refl
-    by false made refused other is same = rw (is, same) refl
-
-pub returns-clause-effect : goal.returns-clause-effect
-returns-clause-effect c = λ s same_tables same_seconds same_sub t there.
-    let answer = c.update-answer.result in
-    let old = c.update-answer.new.tables in
-    let new = c.set_update_time.new.tables in
-    let is = c.made.ensures.effect s c.args.row t old (c.named-table.ensures t there) (c.activated-active.ensures t there) in
-    let time = c.set_update_time.ensures ∙ ap (λ b. cond b (set_time c.args.row c.args.clock.seconds c.args.clock.sub old) old) c.eq.ensures in
-    rw (c.update-answer.ensures.effect s same_tables t there)
-    (rw (timed s c.args.row t answer old new c.args.clock.seconds c.args.clock.sub same_seconds same_sub time) at is)
+pub returns-clause-room : goal.returns-clause-room
+returns-clause-room c =
+    let t = some_is (table_at c.args.tables.now c.args.row) c.requires.table in
+    let s = seen_at c.args.clock.seconds c.args.clock.sub c.args.tables.now in
+    let done = told_effect c.make_update.result [] c.make_update.new.report in
+    let effect = c.make_update.ensures.effect s refl refl refl t.0 t.1 in
+    let critical = ap copy_room t.1 in
+    let room = c.update_room.ensures.room t.0 t.1 in
+    let event = event_room_is t.0.activation in
+    let reserved = c.in_ok-reserve.ensures.room in
+    room_of c.reserve.new.self done _ (copy_room (table_at c.args.tables.now c.args.row)) (one_if t.0.activation) (c.reserve.ensures.bytes ∙ c.requires.packets)
+    (omega (arith, critical, room, event, reserved)) effect.events (update_few s c.args.row t.0) c.make_update.ensures.alone.shown c.make_update.ensures.alone.notice

@@ -17,5 +17,5 @@ write_row-returns-in-Ok-write_all-clause-effect t c = λ s tables seconds sub.
     let of_len : length (filled_file s x) ≡ c.in-Some.len = search rules in
     let name : filled_name x ≡ Some c.in-Some-write_filled.name = search rules in
     let room : is_full_for c.args.drawer.now c.in-Some-write_filled.name ≡ false = search rules in
-    let wrote = is_written s (record { drawer = c.args.drawer.now; bytes = c.args.out.now.list; events = c.args.events.now.items }) c.args.row c.in-Some.len c.in-Some-write_filled.name x (ap (λ (t : Tables). table_at t c.args.row) tables) name of_len room in
+    let wrote = is_written s (record { drawer = c.args.drawer.now; bytes = c.args.out.now.list; events = c.args.report.now.events }) c.args.row c.in-Some.len c.in-Some-write_filled.name x (ap (λ (t : Tables). table_at t c.args.row) tables) name of_len room in
     ap (λ (w : Written). fold (then_write s) w (rows_in c.args.further.now)) wrote ∙ search rules

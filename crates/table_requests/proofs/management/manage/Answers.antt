@@ -1,39 +1,25 @@
-use Rattle.std.proofs.Common.{◌≡◌, ◌∙◌, ◌++◌, cond, sym, ap, subst}
+use Rattle.std.proofs.Common.{◌∙◌, ◌+◌, refl, ap, true, false, arith}
 use Rattle.tbl_model.specs.Tables.{table_at}
-use Rattle.tbl_model.specs.TableSteps.{set_time}
-use Rattle.tbl_model.specs.Effects as model
-use Rattle.tbl_model.specs.Management.{all_done}
-use Rattle.tbl_model.specs.declared.telemetry.Named.{Named}
-use Rattle.table_update.specs.Answers.{asked_by, is_updated}
-use Rattle.request_effects.specs.Effects.{IsEffect, given_of}
-use Rattle.table_requests.specs.Managed.{managed_events}
-use Rattle.table_requests.proofs.Managing.{questions_when_managed, is_managed}
+use Rattle.tbl_model.specs.Pending.{is_pending}
+use Rattle.request_effects.specs.Effects.{seen_at, told_effect, given_of}
+use Rattle.table_requests.specs.Rooms.{copy_room}
 use Rattle.table_requests.proofs.Places.{some_is}
-use Rattle.table_requests.proofs.Kits.{same_owners}
+use Rattle.table_requests.proofs.Rooms.{one_if, manage_few, event_room_is, room_of}
 use Rattle.table_requests.proofs.management.manage.Goals as goal
 
-pub returns-clause-effect : goal.returns-clause-effect
-returns-clause-effect g c = λ s same_tables same_pending same_seconds same_sub t there.
-    let row = c.args.row in
-    let m = c.manage-done.result in
-    let old = c.manage-done.new.tables in
-    let name = ap (λ (n : Named). n.name) (c.named-name.ensures t there) in
-    let events = c.told.ensures.events ∙ ap (λ n. managed_events row n m c.activated-active.result) name ∙ ap (managed_events row t.name m) (c.activated-active.ensures t there) in
-    let made = c.set_update_time.ensures ∙ ap (λ b. cond b (set_time row c.args.clock.seconds c.args.clock.sub old) old) c.eq.ensures in
-    let time = made ∙ ap (λ seconds. cond (is_updated m.answer) (set_time row seconds c.args.clock.sub old) old) (sym same_seconds) ∙ ap (λ sub. cond (is_updated m.answer) (set_time row s.seconds sub old) old) (sym same_sub) in
-    subst (λ (e : model.Effect). IsEffect c.told.result e.questions (record s { tables = c.set_update_time.new.tables; pending = c.manage-done.new.pending }) e)
-    (sym (c.manage-done.ensures.effect s (given_of c.told.result) same_tables same_pending c.told.ensures.verdicts t there))
-    (is_managed s row t m old c.set_update_time.new.tables c.manage-done.new.pending c.told.result c.told.ensures.answer c.told.ensures.bytes c.told.ensures.table events c.told.ensures.shown c.told.ensures.notice time)
-
-pub returns-clause-asks : goal.returns-clause-asks
-returns-clause-asks g c = λ s same_tables same_pending t there.
-    let m = c.manage-done.result in
-    let is = c.manage-done.ensures.effect s (given_of c.told.result) same_tables same_pending c.told.ensures.verdicts t there in
-    let same : (all_done s (given_of c.told.result) c.args.row).questions ≡ asked_by t m.first ++ asked_by t m.second =
-    ap (λ (e : model.Effect). e.questions) is ∙ questions_when_managed s c.args.row t m c.manage-done.new.tables c.manage-done.new.pending in
-    rw (same, c.told.ensures.verdicts) (c.manage-done.ensures.asked t there)
-
-pub returns-clause-owners : goal.returns-clause-owners
-returns-clause-owners g c =
+pub returns-clause-room : goal.returns-clause-room
+returns-clause-room g c =
     let t = some_is (table_at c.args.tables.now c.args.row) c.requires.table in
-    same_owners g.C.Validator.verdict g.C.Validator.asked _ _ _ _ (c.manage-done.ensures.asked t.0 t.1)
+    let pairs = c.args.pending.now in
+    let s = record (seen_at c.args.clock.seconds c.args.clock.sub c.args.tables.now) { pending = pairs } in
+    let done = told_effect c.manage_all.result c.manage_all.new.bytes.list c.manage_all.new.report in
+    let effect = c.manage_all.ensures.effect s refl refl refl refl t.0 t.1 in
+    let critical = ap copy_room t.1 in
+    let room = c.pending_room.ensures t.0 t.1 in
+    let asked = event_room_is t.0.activation in
+    let first = event_room_is (is_pending c.args.row true pairs) in
+    let second = event_room_is (is_pending c.args.row false pairs) in
+    let reserved = c.in_ok-reserve-2.ensures.room in
+    room_of c.reserve-2.new.self done _ (copy_room (table_at c.args.tables.now c.args.row)) (one_if t.0.activation + one_if (is_pending c.args.row true pairs) + one_if (is_pending c.args.row false pairs))
+    (c.reserve-2.ensures.bytes ∙ c.requires.packets)
+    (omega (arith, critical, room, asked, first, second, reserved)) effect.events (manage_few s (given_of done) c.args.row t.0 t.1) c.manage_all.ensures.alone.shown c.manage_all.ensures.alone.notice
