@@ -21,7 +21,7 @@ use Rattle.cds_store.specs.declared.fault.BankFault.{BankFault}
 use Rattle.cds_store.specs.declared.fault.BankFault.TheVariants.{Fault, Stopped as Cut}
 use Rattle.store_requests.specs.BankCalls.{AsksBy, restore_at}
 use Rattle.store_requests.specs.Called.{call_note, done_note, broken_note, reserve_note, IsUngiven}
-use Rattle.request_effects.specs.declared.effect.Effect.{Effect}
+use Rattle.request_effects.specs.Effects.{Effect}
 
 -- of a slot in which a block is open
 pub at_open : (o : Option Slot) (size : ℕ) (calls : Slot → List BankCall) (HasCalls : List BankCall → Type 0) → IsOpenOf size o → ForSome o (λ s. HasCalls (calls s)) → HasCalls (option_map_or calls o [])

@@ -1,5 +1,5 @@
 -- Requests that call the store: from how each call ended to what the model says of the request.
-use Rattle.std.proofs.Common.{◌≡◌, ◌≢◌, ℕ, ◌+◌, zero, suc, List, [], ◌∷◌, length, take, Bool, true, false, Option, Some, None, Result, Ok, Err, refl, sym, ◌∙◌, ap, subst}
+use Rattle.std.proofs.Common.{◌≡◌, ◌≢◌, ℕ, ◌+◌, List, [], ◌∷◌, length, take, Bool, true, false, Option, Some, None, Result, Ok, Err, refl, sym, ◌∙◌, ap, subst}
 use Rattle.std.specs.Prelude.{OnOk, IfErr, slice_get, slice_index_or, ◌==◌, map, if◌then◌else◌, option_and_then}
 use Rattle.std.specs.Option.{ForSome, option_map}
 use Rattle.std.proofs.lemmas.Option.{same_Some}
@@ -36,15 +36,16 @@ use Rattle.cds_layout.specs.Images.{held_in, stored_in, store_of}
 use Rattle.tbl_kinds.specs.declared.block.Block.{Block}
 use Rattle.cds_store.specs.declared.fault.BankFault.{BankFault}
 use Rattle.cds_store.specs.declared.fault.BankFault.TheVariants.{Fault, Stopped as Cut}
-use Rattle.request_effects.specs.Effects.{IsEffect}
+use Rattle.request_effects.specs.Effects.{IsEffect, reported_effect}
+use Rattle.request_effects.specs.Reports.{Reported, nothing_reported}
 use Rattle.tbl_session.specs.Crashes.{DuringCalls, writes}
 use Rattle.tbl_session.specs.Restores.{GaveHeld}
 use Rattle.tbl_outside.specs.Bank.{LeavesOnly}
 use Rattle.cds_store.specs.Moments.{LeavesIn}
 use Rattle.store_requests.proofs.Moments.{one_leaves}
-use Rattle.store_requests.specs.Called.{Leaving, with_boot, broken_note, broken_status, done_note, call_note, call_status, IsTold, IsUngiven, unasked, IsCalled, Calls}
+use Rattle.store_requests.specs.Called.{Leaving, with_boot, broken_note, broken_status, done_note, call_note, call_status, IsSilent, IsTold, IsUngiven, unasked, IsCalled, Calls}
 use Rattle.tbl_model.specs.declared.telemetry.Named.{Named}
-use Rattle.request_effects.specs.declared.effect.Effect.{Effect}
+use Rattle.request_effects.specs.Effects.{Effect}
 use Rattle.tbl_outside.specs.declared.bank.Bank.{Ghosts}
 
 -- ---- the effect
@@ -205,6 +206,17 @@ module _ {B : Type 0} (g : Ghosts B) (first kept : StoreParts B) (s : State) (do
         writing = is.writing;
         moments = is.moments;
       }
+
+-- what is told beside an answer that is silent by itself
+pub silent_beside : (done : Effect) (report : Reported) (table : Option Named) → IsSilent done → report ≡ record nothing_reported { table = table }
+    → record done { table = table } ≡ reported_effect done.answer done.bytes report done.note
+silent_beside done report table silent is = (λ i. record done {
+  table = table;
+  events = silent.events i;
+  shown = silent.shown i;
+  notice = silent.notice i;
+  verdicts = silent.verdicts i;
+}) ∙ sym (ap (λ (r : Reported). reported_effect done.answer done.bytes r done.note) is)
 
 -- a copy of an image of this size, and the deletion of a block
 module _ {B : Type 0} (g : Ghosts B) (first before kept : StoreParts B) (s : State) (done : Effect) (slot : ℕ) (ended : Result Unit BankFault) (stands : StandsFor g.tells g.now before s.store) (told : IsTold done (call_status ended) 0 [] (call_note ended untouched)) where

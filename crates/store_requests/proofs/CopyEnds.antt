@@ -9,6 +9,7 @@ use Rattle.tbl_kinds.specs.StoreCalls.{StoreCall, copy, after, broken, CanBreak}
 use Rattle.tbl_kinds.specs.Notes.{untouched}
 use Rattle.tbl_kinds.specs.declared.block.Block.{Block}
 use Rattle.tbl_kinds.specs.declared.block.BlockKind.{BlockKind}
+use Rattle.tbl_kinds.specs.Buffers.{Buffer}
 use Rattle.tbl_kinds.specs.declared.note.BankNote.{BankNote}
 use Rattle.tbl_kinds.specs.declared.entry.Answer.{Answer}
 use Rattle.tbl_model.specs.State.{Table, Tables}
@@ -35,8 +36,7 @@ use Rattle.cds_layout.specs.Images.{store_of}
 use Rattle.cds_store.specs.Moments.{LeavesIn}
 use Rattle.store_requests.proofs.Moments.{one_leaves}
 use Rattle.store_requests.specs.Copying.{IsCopied, IsCopyCall}
-use Rattle.request_effects.specs.Effects.{IsEffect}
-use Rattle.request_effects.specs.declared.effect.Effect.{Effect}
+use Rattle.request_effects.specs.Effects.{Effect, IsEffect, HasRoom}
 use Rattle.tbl_outside.specs.declared.bank.Bank.{Ghosts}
 
 -- ---- the block of a table
@@ -92,6 +92,9 @@ module _ {B : Type 0} (g : Ghosts B) (first kept : StoreParts B) (e : model.Effe
   stays moments means same told stands ended stopped found =
       let n = with_boot ended stopped found before.note in
       subst (IsCalled g first kept (done_first e) before n) (sym (same n)) (alone moments told stands ended stopped found)
+
+  pub with_note : (means : BankNote → model.Effect) (note : BankNote) → note ≡ before.note → Copies before means → Copies (record before { note = note }) means
+  with_note means note is all = subst (λ (n : BankNote). Copies (record before { note = n }) means) (sym is) all
 
   -- it is copied into this slot
   pub copied_after : (prior : StoreParts B) (row slot : ℕ) (image : List ℕ) (done : Effect) (ended : Result Unit BankFault) → (g.tells_moments → LeavesOnly g.clock g.left_since first.bank kept.bank (LeavesIn (copy slot image) e.next.store)) → StandsFor g.tells g.now prior e.next.store → IfErr ended (λ fault. (blocks : Blocks) → CanBreak (is_gate fault) (is_old fault) (copy slot image) blocks)
@@ -177,10 +180,8 @@ one_more events event most few = let both = length-append events (event ∷ []) 
 pub copied_call : {B : Type 0} (g : Ghosts B) (old new : StoreParts B) (before done : Effect) (row slot : ℕ) (ended : Result Unit BankFault) → new.booted ≡ true → g.faults old.bank ≤ g.faults new.bank → g.stops old.bank ≤ g.stops new.bank → CallCounted g.faults g.stops old.bank new.bank ended → IsCopied row slot ended before done
     → IsCopyCall g old new before done
 copied_call g old new before done row slot (Ok x) booted more_faults more_stops counted copied = record {
-  within = λ most room owes within. record {
+  within = λ most within. record {
     events = let few = within.events in rw copied.events (omega (arith, few));
-    shown = rw copied.shown within.shown;
-    no_notice = λ owing. copied.notice ∙ within.no_notice owing;
     notice = rw copied.notice within.notice;
     bytes = rw copied.bytes within.bytes;
   };
@@ -192,10 +193,8 @@ copied_call g old new before done row slot (Ok x) booted more_faults more_stops 
   booted = booted;
 }
 copied_call g old new before done row slot (Err (Fault gate prior)) booted more_faults more_stops counted copied = record {
-  within = λ most room owes within. record {
-    events = let few = within.events in rw copied.events (one_more before.events.items (CopyFailed row slot) most few);
-    shown = rw copied.shown within.shown;
-    no_notice = λ owing. copied.notice ∙ within.no_notice owing;
+  within = λ most within. record {
+    events = let few = within.events in rw copied.events (one_more before.events (CopyFailed row slot) most few);
     notice = rw copied.notice within.notice;
     bytes = rw copied.bytes within.bytes;
   };
@@ -207,10 +206,8 @@ copied_call g old new before done row slot (Err (Fault gate prior)) booted more_
   booted = booted;
 }
 copied_call g old new before done row slot (Err (Cut gate prior)) booted more_faults more_stops counted copied = record {
-  within = λ most room owes within. record {
+  within = λ most within. record {
     events = let few = within.events in rw copied.events (omega (arith, few));
-    shown = rw copied.shown (omega arith);
-    no_notice = λ owing. copied.notice;
     notice = rw copied.notice tt;
     bytes = rw copied.bytes (omega arith);
   };
@@ -219,6 +216,39 @@ copied_call g old new before done row slot (Err (Cut gate prior)) booted more_fa
   stopped = λ is. ap (λ (a : Answer). a.status) copied.answer;
   answer = inr (ap (λ (a : Answer). a.status) copied.answer, rw copied.note refl);
   trouble = rw copied.note (let b = counted.1 in record { fault_count = more_faults; stop_count = more_stops; fault = inl (omega (arith, b)); stop = rose_one _ _ counted.0; no_fault = λ none. b; no_stop = λ none. absurd (cc none) });
+  booted = booted;
+}
+
+-- a copy that failed sends one packet more
+pub copied_room : (row slot : ℕ) (ended : Result Unit BankFault) (before done : Effect) → IsCopied row slot ended before done
+    → (packets : Buffer) → HasRoom 24 packets before → HasRoom 0 packets done
+copied_room row slot (Ok x) before done copied packets had = record {
+  none = had.none;
+  room = let room = had.room in rw (copied.events, copied.shown, copied.notice) (omega (arith, room));
+}
+copied_room row slot (Err (Fault gate old)) before done copied packets had = record {
+  none = had.none;
+  room = let room = had.room in let both = length-append before.events (CopyFailed row slot ∷ []) in rw (copied.events, copied.shown, copied.notice) (omega (arith, room, both));
+}
+copied_room row slot (Err (Cut gate old)) before done copied packets had = record {
+  none = had.none;
+  room = let room = had.room in rw (copied.events, copied.shown, copied.notice) (omega (arith, room));
+}
+
+-- ---- nothing is copied
+
+-- less room is enough where nothing more is told
+pub same_room : (critical : Bool) (packets : Buffer) (before : Effect) (note : BankNote) → HasRoom (cond critical 24 0) packets before → HasRoom 0 packets (record before { note = note })
+same_room critical packets before note had = record { none = had.none; room = let room = had.room in omega (arith, room) }
+
+pub uncopied_call : {B : Type 0} (g : Ghosts B) (store : StoreParts B) (before : Effect) (note : BankNote) → store.booted ≡ true → note ≡ untouched → IsCopyCall g store store before (record before { note = note })
+uncopied_call g store before note booted is = record {
+  within = λ most within. record { events = let few = within.events in omega (arith, few); notice = within.notice; bytes = within.bytes };
+  verdicts = refl;
+  no_boot = rw is (record { ended = refl; stopped = refl; found = refl });
+  stopped = rw is (λ stop. absurd (cc stop));
+  answer = inl refl;
+  trouble = rw is (record { fault_count = omega arith; stop_count = omega arith; fault = inl (omega arith); stop = inl (omega arith); no_fault = λ none. refl; no_stop = λ none. refl });
   booted = booted;
 }
 

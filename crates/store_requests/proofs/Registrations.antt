@@ -1,5 +1,5 @@
 -- A critical table is registered: from how the calls for its block ended to what the model says of the request.
-use Rattle.std.proofs.Common.{◌≡◌, ◌≢◌, inl, ℕ, ◌+◌, ◌*◌, List, [], ◌∷◌, length, take, drop, ◌++◌, ◌≤◌, arith, Bool, true, false, not, Option, Some, None, Result, Ok, Err, refl, sym, ◌∙◌, ap, subst}
+use Rattle.std.proofs.Common.{◌≡◌, ◌≢◌, inl, ℕ, ◌+◌, List, [], ◌∷◌, length, take, drop, ◌++◌, ◌≤◌, arith, Bool, true, false, not, Option, Some, None, Result, Ok, Err, refl, sym, ◌∙◌, ap, subst}
 use Rattle.std.specs.Prelude.{OnOk, IfErr, slice_get, if◌then◌else◌}
 use Rattle.std.specs.Option.{ForSome, option_map}
 use Rattle.std.proofs.lemmas.Option.{same_Some}
@@ -45,7 +45,7 @@ use Rattle.request_effects.specs.Effects.{IsEffect, IsWithin}
 use Rattle.store_requests.specs.Called.{NoBoot, Troubled, with_boot, broken_note, done_note, IsTold, IsUngiven, IsCall, unasked, IsCalled, Calls, Leaving}
 use Rattle.tbl_session.specs.Restores.{GaveHeld, RestoresHeld}
 use Rattle.store_requests.specs.Registering.{Enters, EntersBroken, EntersWithout, EntersRestored, EntersReserved, recovery, making}
-use Rattle.request_effects.specs.declared.effect.Effect.{Effect}
+use Rattle.request_effects.specs.Effects.{Effect}
 use Rattle.store_requests.proofs.Calls.{told_so, by_note, calls_same, held_image, block_there, gives_image, gives_none}
 use Rattle.tbl_session.specs.Crashes.{DuringCalls, writes}
 use Rattle.tbl_outside.specs.Bank.{LeavesOnly}
@@ -250,11 +250,9 @@ plain_cause status note quiet = record {
   boot = λ is. absurd (cc (ap tells_trouble (sym is) ∙ quiet));
 }
 
-silent_within : (done : Effect) (status : Status) (detail : ℕ) (note : BankNote) → IsTold done status detail [] note → IsWithin 0 0 false done
+silent_within : (done : Effect) (status : Status) (detail : ℕ) (note : BankNote) → IsTold done status detail [] note → IsWithin 0 done
 silent_within done status detail note told = record {
   events = rw told.silent.events (omega arith);
-  shown = rw told.silent.shown (omega arith);
-  no_notice = λ _. told.silent.notice;
   notice = rw told.silent.notice tt;
   bytes = rw told.bytes_are (omega arith);
 }

@@ -33,7 +33,7 @@ use Rattle.cds_store.specs.Moments.{LeavesIn}
 use Rattle.store_requests.proofs.Moments.{one_leaves}
 use Rattle.store_requests.specs.Called.{Leaving, broken_note, done_note, reserve_note, reserve_status, reserve_detail, IsTold, Calls}
 use Rattle.store_requests.proofs.Calls.{by_note, calls_none, calls_done, calls_broke, calls_same}
-use Rattle.request_effects.specs.declared.effect.Effect.{Effect}
+use Rattle.request_effects.specs.Effects.{Effect}
 use Rattle.tbl_outside.specs.declared.bank.Bank.{Ghosts}
 
 -- ---- what the model does

@@ -29,8 +29,7 @@ use Rattle.cds_store.specs.declared.fault.BankFault.{BankFault}
 use Rattle.cds_store.specs.declared.fault.BankFault.TheVariants.{Fault, Stopped as Cut}
 use Rattle.cds_store.specs.declared.fault.ReserveFault.{ReserveFault}
 use Rattle.cds_store.specs.declared.fault.ReserveFault.TheVariants.{NoRoom, Bank}
-use Rattle.request_effects.specs.Effects.{IsEffect, IsWithin, uncalled}
-use Rattle.request_effects.specs.declared.effect.Effect.{Effect}
+use Rattle.request_effects.specs.Effects.{Effect, IsEffect, IsWithin, uncalled}
 use Rattle.tbl_outside.specs.declared.bank.Bank.{Ghosts}
 
 -- ---- the boot after it
@@ -77,7 +76,7 @@ broken_status (Cut gate old) = INFO_STOPPED
 -- no packet tells more than the answer, and no function was asked
 pub record IsSilent (done : Effect) : Type 0 where
   pub table : done.table ≡ None
-  pub events : done.events.items ≡ []
+  pub events : done.events ≡ []
   pub shown : done.shown ≡ Nothing
   pub notice : done.notice ≡ None
   pub verdicts : done.verdicts ≡ None ∷ None ∷ []
@@ -86,7 +85,7 @@ pub record IsSilent (done : Effect) : Type 0 where
 pub record IsTold (done : Effect) (status : Status) (detail : ℕ) (bytes : List ℕ) (note : BankNote) : Type 0 where
   pub status_is : done.answer.status ≡ status
   pub detail_is : done.answer.detail ≡ detail
-  pub bytes_are : done.bytes.list ≡ bytes
+  pub bytes_are : done.bytes ≡ bytes
   pub note_is : done.note ≡ note
   pub silent : IsSilent done
 
@@ -131,7 +130,7 @@ reserve_detail (Err fault) = 0
 -- its reply isn't too long and no packet tells it, and no function was asked. Its note and its answer have their causes in the counts
 -- of the bank
 pub record IsCall {B : Type 0} (g : Ghosts B) (old new : StoreParts B) (done : Effect) : Type 0 where
-  pub within : IsWithin 0 0 false done
+  pub within : IsWithin 0 done
   pub verdicts : done.verdicts ≡ None ∷ None ∷ []
   pub no_boot : NoBoot done.note
   pub stopped : done.note.outcome ≡ Stopped → done.answer.status ≡ INFO_STOPPED

@@ -1,5 +1,5 @@
 -- An image that went active is copied, after what its request did.
-use Rattle.std.specs.Prelude.{◌≡◌, ◌⊎◌, ℕ, suc, List, [], ◌∷◌, ◌++◌, None, Bool, true, Result, Ok, Err, vec_capacity}
+use Rattle.std.specs.Prelude.{◌≡◌, ◌⊎◌, ℕ, suc, List, [], ◌∷◌, ◌++◌, None, true, Result, Ok, Err}
 use Rattle.tbl_kinds.specs.Notes.{untouched}
 use Rattle.tbl_model.specs.declared.telemetry.TelemetryEvent.{TelemetryEvent}
 use Rattle.tbl_model.specs.declared.telemetry.TelemetryEvent.TheVariants.{CopyFailed}
@@ -10,16 +10,14 @@ use Rattle.cds_store.specs.declared.fault.BankFault.TheVariants.{Fault, Stopped 
 use Rattle.tbl_kinds.specs.declared.note.Outcome.TheVariants.{Stopped}
 use Rattle.tbl_kinds.specs.declared.status.TheConstants.Status.{INFO_STOPPED}
 use Rattle.store_requests.specs.Called.{NoBoot, Troubled, call_note}
-use Rattle.request_effects.specs.Effects.{IsWithin}
-use Rattle.store_requests.specs.declared.copies.CopyRoom.{CopyRoom}
-use Rattle.request_effects.specs.declared.effect.Effect.{Effect}
+use Rattle.request_effects.specs.Effects.{Effect, IsWithin}
+use Rattle.std.specs.Global.{Box}
+use Rattle.tbl_kinds.specs.declared.note.Outside.{Outside}
 use Rattle.tbl_outside.specs.declared.bank.Bank.{Ghosts}
 
--- room for a note of which nothing is told yet, and for four events
-pub record IsFresh (room : CopyRoom) : Type 0 where
-  pub note : room.note.value ≡ untouched
-  pub none : room.events.items ≡ []
-  pub four : vec_capacity room.events ≡ 4
+-- nothing is told of it yet
+abbrev pub IsFresh : Box Outside → Type 0
+IsFresh outside = outside.value.note ≡ untouched
 
 -- where it was stopped, something else
 abbrev pub unless_stopped : {X : Type 0} → Result Unit BankFault → X → X → X
@@ -36,9 +34,9 @@ with_failure row slot (Err (Cut gate old)) events = events
 -- what becomes of an effect by how the copy ended
 pub record IsCopied (row slot : ℕ) (ended : Result Unit BankFault) (before done : Effect) : Type 0 where
   pub answer : done.answer ≡ unless_stopped ended before.answer (record { status = INFO_STOPPED; detail = 0 })
-  pub bytes : done.bytes.list ≡ unless_stopped ended before.bytes.list []
+  pub bytes : done.bytes ≡ unless_stopped ended before.bytes []
   pub table : done.table ≡ unless_stopped ended before.table None
-  pub events : done.events.items ≡ with_failure row slot ended before.events.items
+  pub events : done.events ≡ with_failure row slot ended before.events
   pub shown : done.shown ≡ unless_stopped ended before.shown Nothing
   pub notice : done.notice ≡ unless_stopped ended before.notice None
   pub note : done.note ≡ call_note ended untouched
@@ -46,7 +44,7 @@ pub record IsCopied (row slot : ℕ) (ended : Result Unit BankFault) (before don
 
 -- the answer stays but where the copy was stopped, no more is told than one event, and the note has its cause in the counts of the bank
 pub record IsCopyCall {B : Type 0} (g : Ghosts B) (old new : StoreParts B) (before done : Effect) : Type 0 where
-  pub within : (most room : ℕ) (owes : Bool) → IsWithin most room owes before → IsWithin (suc most) room owes done
+  pub within : (most : ℕ) → IsWithin most before → IsWithin (suc most) done
   pub verdicts : done.verdicts ≡ before.verdicts
   pub no_boot : NoBoot done.note
   pub stopped : done.note.outcome ≡ Stopped → done.answer.status ≡ INFO_STOPPED

@@ -28,7 +28,7 @@ use Rattle.tbl_kinds.specs.declared.note.BankNote.{BankNote}
 use Rattle.tbl_kinds.specs.declared.status.Status.{Status}
 use Rattle.tbl_kinds.specs.declared.status.TheConstants.Status.{SUCCESS, INFO_STOPPED, INFO_RECOVERED_TBL, WARN_NOT_CRITICAL}
 use Rattle.store_requests.specs.Called.{IsTold, done_note, broken_note}
-use Rattle.request_effects.specs.declared.effect.Effect.{Effect}
+use Rattle.request_effects.specs.Effects.{Effect}
 use Rattle.tbl_outside.specs.declared.bank.Bank.{Ghosts}
 
 -- this table was registered next, and the answer is this status, with this note

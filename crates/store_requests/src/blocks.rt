@@ -17,14 +17,14 @@ ghost use Rattle.std.specs.Option.{ForSome, option_map};
 ghost use Rattle.tbl_model.specs.Applications.{full_name};
 ghost use Rattle.sharing.specs.Apps.{app_name};
 ghost use Rattle.store_requests.specs.OwnBlocks.{renewing, deleting};
-ghost use Rattle.store_requests.specs.Called.{Calls, IsCall, IsTold, reserve_note, reserve_status, reserve_detail};
+ghost use Rattle.store_requests.specs.Called.{Calls, IsCall, IsSilent, IsTold, reserve_note, reserve_status, reserve_detail};
 
 use crate::notes::{broken, called, done, note_done, note_room, noted};
 use cds_store::{ReserveFault, Store};
 use request_effects::Effect;
 use sharing::{Apps, plan_name};
 use std::alloc::Global;
-use tbl_kinds::{Answer, BankNote, BlockKind, Bytes, Memory, Name16, Name40, Status};
+use tbl_kinds::{Answer, BlockKind, Bytes, Memory, Name16, Name40, Outside, Status};
 use tbl_outside::Bank;
 
 /// The largest image of a block, that of a table (`CFE_PLATFORM_TBL_MAX_SNGL_TABLE_SIZE`), in bytes.
@@ -40,9 +40,9 @@ pub(crate) fn plain(status: Status, detail: u32, empty: Bytes) -> Effect
 // ---- a block is registered
 
 /// How a reservation went, which is the last call of its request.
-fn reserved(made: Result<u8, ReserveFault>, empty: Bytes, note: Box<BankNote>) -> Effect
-    requires { note.value.done < 255 }
-    ensures { IsTold result (reserve_status made) (reserve_detail made) empty.list (reserve_note made note.value) }
+fn reserved(made: Result<u8, ReserveFault>, empty: Bytes, note: Box<Outside>) -> Effect
+    requires { note.value.note.done < 255 }
+    ensures { IsTold result (reserve_status made) (reserve_detail made) empty.list (reserve_note made note.value.note) }
 {
     match made {
         Ok(slot) => {
@@ -65,7 +65,7 @@ fn renew<B: Bank>(
     name: &Name40,
     size: u32,
     empty: Bytes,
-    mut note: Box<BankNote>,
+    mut note: Box<Outside>,
 ) -> Effect
     requires booted { store.old.booted ≡ true }
     requires named { is_name name.now ≡ true }
@@ -75,7 +75,7 @@ fn renew<B: Bank>(
     requires taken { IsSome (slot_at store.old.slots old) }
     requires room { (blocks : Blocks) → StandsFor B.tells B.now store.old blocks → has_room size (Some old) blocks ≡ true }
     requires empty { empty.list ≡ [] }
-    requires untouched { note.value ≡ untouched }
+    requires untouched { note.value.note ≡ untouched }
     ensures effect { B.tells → (s : State) → StandsFor B.tells B.now store.old s.store
         → Calls B.Bank store.old store.new s result (renewing s name.now size old) }
     ensures call { IsCall B.Bank store.old store.new result }
@@ -235,6 +235,7 @@ pub(crate) fn delete<B: Bank>(
         → Calls B.Bank store.old store.new s done (deleting s slot)) }
     ensures call { IfOk result (IsCall B.Bank store.old store.new) }
     ensures bank_calls { IfOk result (λ done. AsksBy B.Bank store.old.bank store.new.bank done.note.outcome (delete_calls slot)) }
+    ensures silent { IfOk result IsSilent }
     ensures err { OnErr result (store.new ≡ store.old) }
 {
     let note = note_room(alloc)?;

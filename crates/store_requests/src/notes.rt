@@ -9,20 +9,24 @@ ghost use Rattle.store_requests.specs.Called.{broken_note, broken_status, done_n
 use cds_store::BankFault;
 use request_effects::Effect;
 use std::alloc::Global;
-use tbl_kinds::{Answer, BankNote, Bytes, Memory, Note, Outcome, Status};
+use tbl_kinds::{Answer, BankNote, Bytes, Memory, Note, Outcome, Outside, Status};
 
 /// Memory for a note, which tells of no call yet.
-pub fn note_room(alloc: Global) -> Result<Box<BankNote>, Memory>
-    ensures { IfOk result (λ note. note.value ≡ untouched) }
+pub fn note_room(alloc: Global) -> Result<Box<Outside>, Memory>
+    ensures { IfOk result (λ note. note.value.note ≡ untouched) }
 {
-    Ok(Box::new(alloc, BankNote::untouched())?)
+    let outside = Outside {
+        note: BankNote::untouched(),
+        verdicts: [None, None],
+    };
+    Ok(Box::new(alloc, outside)?)
 }
 
 /// An answer with these bytes and this note.
-pub fn noted(answer: Answer, bytes: Bytes, note: Box<BankNote>) -> Effect
+pub fn noted(answer: Answer, bytes: Bytes, note: Box<Outside>) -> Effect
     ensures answer { result.answer ≡ answer }
-    ensures bytes { result.bytes ≡ bytes }
-    ensures note { result.note ≡ note.value }
+    ensures bytes { result.bytes ≡ bytes.list }
+    ensures note { result.note ≡ note.value.note }
     ensures quiet { IsSilent result }
 {
     Effect {
@@ -32,39 +36,39 @@ pub fn noted(answer: Answer, bytes: Bytes, note: Box<BankNote>) -> Effect
 }
 
 /// One call more is done.
-pub(crate) fn note_done(note: &mut BankNote)
-    requires { note.now.done < 255 }
-    ensures { note.exit.now ≡ record note.entry.now { outcome = went.Done; done = note.entry.now.done + 1 } }
+pub(crate) fn note_done(outside: &mut Outside)
+    requires { outside.now.note.done < 255 }
+    ensures { outside.exit.now.note ≡ record outside.entry.now.note { outcome = went.Done; done = outside.entry.now.note.done + 1 } }
 {
-    note.outcome = Outcome::Done;
-    note.done += 1;
+    outside.note.outcome = Outcome::Done;
+    outside.note.done += 1;
 }
 
 /// The next call broke off.
-pub(crate) fn note_broken(note: &mut BankNote, fault: BankFault)
-    ensures { note.exit.now ≡ broken_note fault note.entry.now }
+pub(crate) fn note_broken(outside: &mut Outside, fault: BankFault)
+    ensures { outside.exit.now.note ≡ broken_note fault outside.entry.now.note }
 {
     let (outcome, gate, old) = match fault {
         BankFault::Fault { gate, old } => (Outcome::Failed, gate, old),
         BankFault::Stopped { gate, old } => (Outcome::Stopped, gate, old),
     };
-    note.outcome = outcome;
-    note.gate = gate;
-    note.old = old;
+    outside.note.outcome = outcome;
+    outside.note.gate = gate;
+    outside.note.old = old;
 }
 
 /// The last call of a request is done, which is answered so.
-pub(crate) fn done(answer: Answer, bytes: Bytes, mut note: Box<BankNote>) -> Effect
-    requires { note.value.done < 255 }
-    ensures { IsTold result answer.status answer.detail bytes.list (done_note note.value) }
+pub(crate) fn done(answer: Answer, bytes: Bytes, mut note: Box<Outside>) -> Effect
+    requires { note.value.note.done < 255 }
+    ensures { IsTold result answer.status answer.detail bytes.list (done_note note.value.note) }
 {
     note_done(&mut note);
     noted(answer, bytes, note)
 }
 
 /// The next call of a request broke off. Where it was stopped, the service boots after it.
-pub(crate) fn broken(fault: BankFault, empty: Bytes, mut note: Box<BankNote>) -> Effect
-    ensures { IsTold result (broken_status fault) 0 empty.list (broken_note fault note.value) }
+pub(crate) fn broken(fault: BankFault, empty: Bytes, mut note: Box<Outside>) -> Effect
+    ensures { IsTold result (broken_status fault) 0 empty.list (broken_note fault note.value.note) }
 {
     note_broken(&mut note, fault);
     let status = match fault {
@@ -75,9 +79,9 @@ pub(crate) fn broken(fault: BankFault, empty: Bytes, mut note: Box<BankNote>) ->
 }
 
 /// The last call of a request ended so.
-pub(crate) fn called(ended: Result<(), BankFault>, empty: Bytes, note: Box<BankNote>) -> Effect
-    requires { note.value.done < 255 }
-    ensures { IsTold result (call_status ended) 0 empty.list (call_note ended note.value) }
+pub(crate) fn called(ended: Result<(), BankFault>, empty: Bytes, note: Box<Outside>) -> Effect
+    requires { note.value.note.done < 255 }
+    ensures { IsTold result (call_status ended) 0 empty.list (call_note ended note.value.note) }
 {
     match ended {
         Ok(()) => done(Answer::plain(Status::SUCCESS), empty, note),

@@ -25,7 +25,7 @@ use cds_store::{BankFault, RestoreFault, Store};
 use request_effects::Effect;
 use sharing::Apps;
 use std::alloc::Global;
-use tbl_kinds::{Answer, BankNote, BlockKind, Bytes, Memory, Name20, Name40, Status};
+use tbl_kinds::{Answer, BlockKind, Bytes, Memory, Name20, Name40, Outside, Status};
 use tbl_outside::Bank;
 
 /// An application's own block: its slot, and the size of its image.
@@ -139,27 +139,27 @@ pub fn cds_copy<B: Bank>(
 }
 
 /// The image that a block gave is the reply, and the note tells it.
-fn given(image: &[u8], mut reply: Bytes, mut kept: Bytes, mut note: Box<BankNote>) -> Effect
+fn given(image: &[u8], mut reply: Bytes, mut kept: Bytes, mut note: Box<Outside>) -> Effect
     requires reply { length image.now ≤ reply.spare }
     requires kept { length image.now ≤ kept.spare }
     requires no_reply { reply.list ≡ [] }
     requires none_kept { kept.list ≡ [] }
-    requires done { note.value.done < 255 }
-    ensures told { IsTold result Status.SUCCESS 0 image.now (record (done_note note.value) { restored = result.note.restored }) }
+    requires done { note.value.note.done < 255 }
+    ensures told { IsTold result Status.SUCCESS 0 image.now (record (done_note note.value.note) { restored = result.note.restored }) }
     ensures restored { restored_image result.note ≡ Some image.now }
 {
     reply.append(image);
     kept.append(image);
-    note.restored = Some(kept);
+    note.note.restored = Some(kept);
     done(Answer::plain(Status::SUCCESS), reply, note)
 }
 
 /// A block that was read gave no image: this is told of it.
-fn torn(words: u32, empty: Bytes, mut note: Box<BankNote>) -> Effect
-    requires { note.value.done < 255 }
-    ensures { IsTold result Status.ERR_CDS_TORN words empty.list (record (done_note note.value) { torn = words }) }
+fn torn(words: u32, empty: Bytes, mut note: Box<Outside>) -> Effect
+    requires { note.value.note.done < 255 }
+    ensures { IsTold result Status.ERR_CDS_TORN words empty.list (record (done_note note.value.note) { torn = words }) }
 {
-    note.torn = words;
+    note.note.torn = words;
     let answer = Answer {
         status: Status::ERR_CDS_TORN,
         detail: words,
@@ -168,9 +168,9 @@ fn torn(words: u32, empty: Bytes, mut note: Box<BankNote>) -> Effect
 }
 
 /// A block gave no image: either it was read and has none, or the bank failed.
-fn not_given(fault: RestoreFault, empty: Bytes, note: Box<BankNote>) -> Effect
-    requires { note.value.done < 255 }
-    ensures { IsUngiven result (words fault) empty.list note.value }
+fn not_given(fault: RestoreFault, empty: Bytes, note: Box<Outside>) -> Effect
+    requires { note.value.note.done < 255 }
+    ensures { IsUngiven result (words fault) empty.list note.value.note }
 {
     match fault.words() {
         Some(words) => torn(words, empty, note),
@@ -192,7 +192,7 @@ fn restore_into<B: Bank>(
     reply: Bytes,
     kept: Bytes,
     empty: Bytes,
-    note: Box<BankNote>,
+    note: Box<Outside>,
 ) -> Effect
     requires booted { store.old.booted ≡ true }
     requires own { IsOpenOf (length image.old) (slot_at store.old.slots slot) }
@@ -202,7 +202,7 @@ fn restore_into<B: Bank>(
     requires no_reply { reply.list ≡ [] }
     requires none_kept { kept.list ≡ [] }
     requires empty { empty.list ≡ [] }
-    requires untouched { note.value ≡ untouched }
+    requires untouched { note.value.note ≡ untouched }
     ensures effect { B.tells → (s : State) → StandsFor B.tells B.now store.old s.store
         → Calls B.Bank store.old store.new s result (restoring s slot) }
     ensures call { IsCall B.Bank store.old store.new result }

@@ -32,7 +32,7 @@ use request_effects::Effect;
 use sharing::{Apps, plan_table, register_plain, register_uncritical};
 use std::alloc::Global;
 use std::sync::Arc;
-use tbl_kinds::{Answer, BankNote, BlockKind, Bytes, Memory, Name16, Options, Status};
+use tbl_kinds::{Answer, BlockKind, Bytes, Memory, Name16, Options, Outside, Status};
 use tbl_outside::{Bank, Validator};
 use tbl_registry::{NewTable, Tables};
 use validation::Kit;
@@ -48,12 +48,12 @@ fn lost(
     plan: NewTable,
     fault: BankFault,
     empty: Bytes,
-    mut note: Box<BankNote>,
+    mut note: Box<Outside>,
 ) -> Effect
     requires can { CanRegister tables.old plan }
     requires begins { plan.first ≡ None }
     requires empty { empty.list ≡ [] }
-    ensures broken { EntersBroken tables.old tables.new (planned tables.old app plan) result fault note.value }
+    ensures broken { EntersBroken tables.old tables.new (planned tables.old app plan) result fault note.value.note }
 {
     note_broken(&mut note, fault);
     match fault {
@@ -72,19 +72,19 @@ fn recovered(
     image: Image,
     mut kept: Bytes,
     empty: Bytes,
-    mut note: Box<BankNote>,
+    mut note: Box<Outside>,
 ) -> Effect
     requires can { CanRegister tables.old plan }
     requires sized { length image ≡ plan.size }
     requires room { length image ≤ kept.spare }
     requires none_kept { kept.list ≡ [] }
     requires empty { empty.list ≡ [] }
-    requires done { note.value.done < 255 }
-    ensures enters { EntersRecovered tables.old tables.new (planned tables.old app plan) result image note.value }
+    requires done { note.value.note.done < 255 }
+    ensures enters { EntersRecovered tables.old tables.new (planned tables.old app plan) result image note.value.note }
     ensures restored { restored_image result.note ≡ Some image }
 {
     kept.append(image.bytes());
-    note.restored = Some(kept);
+    note.note.restored = Some(kept);
     note_done(&mut note);
     plan.first = Some(image);
     let answer = sharing::register(tables, app, plan, Status::INFO_RECOVERED_TBL);
@@ -98,15 +98,15 @@ fn torn(
     plan: NewTable,
     words: u32,
     empty: Bytes,
-    mut note: Box<BankNote>,
+    mut note: Box<Outside>,
 ) -> Effect
     requires can { CanRegister tables.old plan }
     requires begins { plan.first ≡ None }
     requires empty { empty.list ≡ [] }
-    requires done { note.value.done < 255 }
-    ensures enters { Enters tables.old tables.new (planned tables.old app plan) result Status.SUCCESS (record (done_note note.value) { torn = words }) }
+    requires done { note.value.note.done < 255 }
+    ensures enters { Enters tables.old tables.new (planned tables.old app plan) result Status.SUCCESS (record (done_note note.value.note) { torn = words }) }
 {
-    note.torn = words;
+    note.note.torn = words;
     note_done(&mut note);
     let answer = sharing::register(tables, app, plan, Status::SUCCESS);
     noted(answer, empty, note)
@@ -119,12 +119,12 @@ fn not_restored(
     plan: NewTable,
     fault: RestoreFault,
     empty: Bytes,
-    note: Box<BankNote>,
+    note: Box<Outside>,
 ) -> Effect
     requires can { CanRegister tables.old plan }
     requires begins { plan.first ≡ None }
     requires empty { empty.list ≡ [] }
-    requires untouched { note.value ≡ untouched }
+    requires untouched { note.value.note ≡ untouched }
     ensures enters { EntersWithout tables.old tables.new (planned tables.old app plan) result (words fault) }
 {
     match fault.words() {
@@ -148,7 +148,7 @@ fn restored(
     image: Image,
     kept: Bytes,
     empty: Bytes,
-    note: Box<BankNote>,
+    note: Box<Outside>,
 ) -> Effect
     requires can { CanRegister tables.old plan }
     requires begins { plan.first ≡ None }
@@ -156,7 +156,7 @@ fn restored(
     requires room { length image ≤ kept.spare }
     requires none_kept { kept.list ≡ [] }
     requires empty { empty.list ≡ [] }
-    requires untouched { note.value ≡ untouched }
+    requires untouched { note.value.note ≡ untouched }
     ensures enters { EntersRestored tables.old tables.new (planned tables.old app plan) result ended image }
 {
     match ended {
@@ -233,13 +233,13 @@ fn reserved(
     plan: NewTable,
     made: Result<u8, ReserveFault>,
     empty: Bytes,
-    mut note: Box<BankNote>,
+    mut note: Box<Outside>,
 ) -> Effect
     requires can { CanRegister tables.old plan }
     requires begins { plan.first ≡ None }
     requires empty { empty.list ≡ [] }
-    requires done { note.value.done < 255 }
-    ensures reserved { EntersReserved tables.old tables.new (planned tables.old app plan) result made note.value }
+    requires done { note.value.note.done < 255 }
+    ensures reserved { EntersReserved tables.old tables.new (planned tables.old app plan) result made note.value.note }
 {
     match made {
         Ok(_) => {
@@ -261,7 +261,7 @@ fn renew<B: Bank>(
     old: u8,
     plan: NewTable,
     empty: Bytes,
-    mut note: Box<BankNote>,
+    mut note: Box<Outside>,
 ) -> Effect
     requires booted { store.old.booted ≡ true }
     requires can { CanRegister tables.old plan }
@@ -270,7 +270,7 @@ fn renew<B: Bank>(
     requires taken { IsSome (slot_at store.old.slots old) }
     requires room { (blocks : Blocks) → StandsFor B.tells B.now store.old blocks → has_room plan.size (Some old) blocks ≡ true }
     requires empty { empty.list ≡ [] }
-    requires untouched { note.value ≡ untouched }
+    requires untouched { note.value.note ≡ untouched }
     ensures effect { B.tells → (s : State) → s.tables ≡ tables.old → StandsFor B.tells B.now store.old s.store
         → Calls B.Bank store.old store.new (record s { tables = tables.new }) result (making s (next_row tables.old) (planned tables.old app plan) (Some old)) }
     ensures call { IsCall B.Bank store.old store.new result }

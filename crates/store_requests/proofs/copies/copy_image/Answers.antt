@@ -1,30 +1,52 @@
 use Rattle.std.proofs.Common.{refl, ◌≡◌, ◌∙◌, Some, None, sym, ap, rules}
 use Rattle.tbl_model.specs.Copies.{block_of, copied_to}
-use Rattle.store_requests.proofs.CopyEnds.{stays, copied_after, same_copies, copied_call}
+use Rattle.store_requests.proofs.CopyEnds.{stays, with_note, copied_after, same_copies, copied_call, copied_room, uncopied_call, same_room}
 use Rattle.store_requests.proofs.Moments.{unmoved}
 use Rattle.tbl_laws.proofs.Crashes.{before_calls}
 use Rattle.tbl_session.specs.Crashes.{DuringCalls}
 use Rattle.tbl_kinds.specs.StoreCalls.{StoreCall}
-use Rattle.std.specs.Prelude.{List}
+use Rattle.std.specs.Prelude.{List, true}
+use Rattle.request_effects.specs.Effects.{told_effect, reported_effect}
 use Rattle.store_requests.proofs.copies.copy_image.Goals as goal
 
 pub returns-in_default-clause-copies : goal.returns-in_default-clause-copies
 returns-in_default-clause-copies g c = λ tells e t is named sized stands.
     let b = g.B.Bank in
+    let store = c.args.store.now in
+    let before = told_effect c.args.answer c.args.bytes.now.list c.args.report.now in
     let none : block_of t e.next.store ≡ None = sym (c.sized_block.ensures.block t e.next.store named sized stands) ∙ (search rules) in
-    stays b c.args.store.now c.args.store.now e c.args.effect is (unmoved b g.met.B.Bank.leaves_only_now g.met.B.Bank.only_now c.args.store.now c.args.store.now (λ left. (calls : List StoreCall) → DuringCalls calls e.next.store left) refl (λ calls. before_calls calls e.next.store _ (stands.shows tells))) (λ n. copied_to c.args.row n e (block_of t e.next.store) (Some c.args.image.now)) (λ n. ap (λ o. copied_to c.args.row n e o (Some c.args.image.now)) none) c.requires.untouched stands
+    with_note b store store e before is (λ n. copied_to c.args.row n e (block_of t e.next.store) (Some c.args.image.now)) c.args.note.now c.requires.untouched
+    (stays b store store e before is (unmoved b g.met.B.Bank.leaves_only_now g.met.B.Bank.only_now store store (λ left. (calls : List StoreCall) → DuringCalls calls e.next.store left) refl (λ calls. before_calls calls e.next.store _ (stands.shows tells))) (λ n. copied_to c.args.row n e (block_of t e.next.store) (Some c.args.image.now)) (λ n. ap (λ o. copied_to c.args.row n e o (Some c.args.image.now)) none) refl stands)
+
+pub returns-in_default-clause-call : goal.returns-in_default-clause-call
+returns-in_default-clause-call g c =
+    uncopied_call g.B.Bank c.args.store.now (told_effect c.args.answer c.args.bytes.now.list c.args.report.now) c.args.note.now c.requires.booted c.requires.untouched
+
+pub returns-in_default-clause-room : goal.returns-in_default-clause-room
+returns-in_default-clause-room g c = λ packets had.
+    same_room true packets (told_effect c.args.answer c.args.bytes.now.list c.args.report.now) c.args.note.now had
 
 pub returns-clause-copies : goal.returns-clause-copies
 returns-clause-copies g c = λ tells e t is named sized stands.
     let b = g.B.Bank in
     let slot = c.in-Some.slot in
+    let before = told_effect c.args.answer c.args.bytes.now.list c.args.report.now in
+    let done = reported_effect c.copied.result c.copied.new.bytes.list c.copied.new.report c.copied.new.note in
     let there : block_of t e.next.store ≡ Some slot = sym (c.sized_block.ensures.block t e.next.store named sized stands) ∙ (search rules) in
     let ended = c.copy-ended.ensures in
-    same_copies b c.args.store.now c.copy-ended.new.self e c.args.effect is c.copied.result (λ n. copied_to c.args.row n e (Some slot) (Some c.args.image.now)) (λ n. copied_to c.args.row n e (block_of t e.next.store) (Some c.args.image.now))
+    same_copies b c.args.store.now c.copy-ended.new.self e before is done (λ n. copied_to c.args.row n e (Some slot) (Some c.args.image.now)) (λ n. copied_to c.args.row n e (block_of t e.next.store) (Some c.args.image.now))
     (λ n. ap (λ o. copied_to c.args.row n e o (Some c.args.image.now)) there)
-    (copied_after b c.args.store.now c.copy-ended.new.self e c.args.effect is c.args.store.now c.args.row slot c.args.image.now c.copied.result c.copy-ended.result (λ m. ended.moments m e.next.store stands) stands ended.breaks ended.ok ended.err c.copied.ensures)
+    (copied_after b c.args.store.now c.copy-ended.new.self e before is c.args.store.now c.args.row slot c.args.image.now done c.copy-ended.result (λ m. ended.moments m e.next.store stands) stands ended.breaks ended.ok ended.err c.copied.ensures)
 
 pub returns-clause-call : goal.returns-clause-call
 returns-clause-call g c =
     let b = g.B.Bank in
-    copied_call b c.args.store.now c.copy-ended.new.self c.args.effect c.copied.result c.args.row c.in-Some.slot c.copy-ended.result c.copy-ended.ensures.booted (search rules) (search rules) c.copy-ended.ensures.counted c.copied.ensures
+    let before = told_effect c.args.answer c.args.bytes.now.list c.args.report.now in
+    let done = reported_effect c.copied.result c.copied.new.bytes.list c.copied.new.report c.copied.new.note in
+    copied_call b c.args.store.now c.copy-ended.new.self before done c.args.row c.in-Some.slot c.copy-ended.result c.copy-ended.ensures.booted (search rules) (search rules) c.copy-ended.ensures.counted c.copied.ensures
+
+pub returns-clause-room : goal.returns-clause-room
+returns-clause-room g c = λ packets had.
+    let before = told_effect c.args.answer c.args.bytes.now.list c.args.report.now in
+    let done = reported_effect c.copied.result c.copied.new.bytes.list c.copied.new.report c.copied.new.note in
+    copied_room c.args.row c.in-Some.slot c.copy-ended.result before done c.copied.ensures packets had

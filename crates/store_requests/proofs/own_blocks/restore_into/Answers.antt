@@ -2,7 +2,7 @@ use Rattle.std.proofs.Common.{◌≡◌, length, ◌∙◌, ap, sym, subst, rule
 use Rattle.tbl_kinds.specs.declared.note.BankNote.{BankNote}
 use Rattle.cds_layout.specs.Restores.{words}
 use Rattle.cds_store.specs.Sound.{IsOpenOf}
-use Rattle.store_requests.specs.Called.{done_note, IsUngiven}
+use Rattle.store_requests.specs.Called.{done_note}
 use Rattle.store_requests.proofs.Calls.{block_there, held_image, told_with, given_called, gives_image, ungiven_told, ungiven_called, ungiven_gave}
 use Rattle.store_requests.proofs.Registrations.{ungiven_call}
 use Rattle.std.specs.Prelude.{[]}

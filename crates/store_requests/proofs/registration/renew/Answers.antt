@@ -17,7 +17,7 @@ returns-in-Ok-clause-effect g c = λ tells s same stands.
     let b = g.B.Bank in
     let t = planned c.args.tables.now c.args.app c.args.plan in
     let made = c.reserve_block-made.ensures in
-    let note : c.note_done.new.note ≡ done_note untouched = search rules in
+    let note : c.note_done.new.outside.note ≡ done_note untouched = search rules in
     renewed b c.args.store.now c.reserve_block-made.new.self s c.reserved.result c.args.tables.now c.reserved.new.tables t same refl
     c.delete_block.new.self c.reserve_block-made.result c.args.old
     (two_leave b c.args.store.now c.delete_block.new.self c.reserve_block-made.new.self (delete c.args.old) (reserve Table t.name t.size) s.store (λ m. c.in-Ok.ensures.moments m s.store stands)
