@@ -1,15 +1,18 @@
 //! The running numbers of telemetry.
 
-ghost use Rattle.std.specs.Prelude.{◌≡◌, ◌+◌, ◌%◌, ◌<◌, [], unwrap_or, if◌then◌else◌};
+ghost use Rattle.std.specs.Prelude.{◌≡◌, ℕ, ◌+◌, ◌%◌, ◌<◌, Some, true, if◌then◌else◌};
 ghost use Rattle.std.specs.Option.{option_copied};
-ghost use Rattle.tbl_model.specs.CountsAfter.{bit, counts_after};
-ghost use Rattle.tbl_model.specs.Counts.{no_counts};
+ghost use Rattle.tbl_model.specs.Commands.{asks_housekeeping, asks_reset_counters, asks_validate};
+ghost use Rattle.tbl_model.specs.CountsAfter.{bit, counts_after, tally_of};
+ghost use Rattle.tbl_model.specs.Counts.{Told, no_counts, restarts};
+ghost use Rattle.request_effects.specs.Requests.{read_of};
 
-use crate::tallying::{latest_dump, latest_validation, update_in};
-use request_effects::Clock;
+use crate::events::is_good;
+use cmd_packets::Ground;
+use request_effects::{Clock, ReadCommand};
 use std::marker::Model;
-use tbl_kinds::{Name, Name40, Name64};
-use tbl_model::TelemetryEvent;
+use tbl_kinds::{Name40, Name64, Status};
+use tbl_model::{Named, Notice, Shown, TelemetryEvent};
 
 /// Sequence counts have 14 bits (CCSDS 133.0-B, "Packet Sequence Count").
 pub(crate) const SEQUENCE_COUNTS: u16 = 16_384;
@@ -50,89 +53,42 @@ impl Model for Validation {
     ghost view = { λ v. record { check = v.check; verdict = v.verdict; active = v.active; name = v.name } };
 }
 
-impl Update {
-    /// The latest update, after a newer one if there is one.
-    fn renew(&mut self, newer: Option<Update>)
-        ensures { self.new ≡ unwrap_or newer self.old }
-    {
-        if let Some(update) = newer {
-            *self = update;
-        }
-    }
-}
-
-impl Validation {
-    /// The latest validation, after a newer one if there is one.
-    fn renew(&mut self, newer: Option<Validation>)
-        ensures { self.new ≡ unwrap_or newer self.old }
-    {
-        if let Some(validation) = newer {
-            *self = validation;
-        }
-    }
-}
-
-/// How much an entry adds to the running numbers.
-#[derive(Clone, Copy)]
-pub struct Tally {
-    /// The service began anew.
-    pub restarted: bool,
-    /// The counters of commands and of validations were cleared.
-    pub cleared: bool,
-    /// A command was accepted that counts.
-    pub accepted: bool,
-    /// A command was refused.
-    pub refused: bool,
-    /// So many validations came to their end, so many of them with verdict 0, and so many with another.
-    pub finished: u8,
-    pub good: u8,
-    pub bad: u8,
-    /// A VALIDATE was accepted.
-    pub request: bool,
-    /// So many event packets were sent.
-    pub events: u8,
-    /// A housekeeping packet was sent.
-    pub housekeeping: bool,
-    /// A registry packet was sent.
-    pub registry: bool,
-    /// A notice was sent to an application.
-    pub notice: bool,
-}
-
-/// A counter of one byte: 0 where it was cleared, else so many more.
-fn counted(known: u8, cleared: bool, more: u8) -> u8
-    ensures { result ≡ (if cleared then 0 else (known + more) % 256) }
-{
-    if cleared { 0 } else { known.wrapping_add(more) }
-}
-
-/// A counter of two bytes.
-fn counted_wide(known: u16, cleared: bool, more: u8) -> u16
-    ensures { result ≡ (if cleared then 0 else (known + more) % 65536) }
-{
-    if cleared {
-        0
-    } else {
-        known.wrapping_add(u16::from(more))
-    }
-}
-
-/// A sequence count after so many packets more.
-fn sequence(known: u16, more: u8) -> u16
+/// A sequence count after one packet more.
+fn after(known: u16) -> u16
     requires { known < 16384 }
-    ensures after { result ≡ (known + more) % 16384 }
+    ensures after { result ≡ (known + 1) % 16384 }
     ensures within { result < 16384 }
 {
-    (known + u16::from(more)) % SEQUENCE_COUNTS
+    (known + 1) % SEQUENCE_COUNTS
 }
 
-/// The latest name, after a newer one if there is one.
-fn renew_name<const N: usize>(known: &mut Name<N>, newer: Option<&Name<N>>)
-    ensures { known.new ≡ unwrap_or (option_copied newer.entry) known.old }
+/// A counter of commands: 0 where it was cleared, else one more where it counts this one.
+fn counted(known: u8, is_cleared: bool, counts: bool) -> u8
+    ensures { result ≡ (if is_cleared then 0 else (known + bit counts) % 256) }
 {
-    if let Some(name) = newer {
-        *known = name.copy();
+    if is_cleared {
+        0
+    } else {
+        known.wrapping_add(u8::from(counts))
     }
+}
+
+pub(crate) fn asks_housekeeping(command: &ReadCommand) -> bool
+    ensures { result ≡ asks_housekeeping (Some (read_of command.now)) }
+{
+    matches!(command, Ok(Ground::Housekeeping))
+}
+
+fn asks_reset_counters(command: &ReadCommand) -> bool
+    ensures { result ≡ asks_reset_counters (Some (read_of command.now)) }
+{
+    matches!(command, Ok(Ground::ResetCounters))
+}
+
+fn asks_validate(command: &ReadCommand) -> bool
+    ensures { result ≡ asks_validate (Some (read_of command.now)) }
+{
+    matches!(command, Ok(Ground::Validate { .. }))
 }
 
 /// How many commands were accepted and refused, and how many validations were requested and finished, since the counters were
@@ -154,6 +110,12 @@ pub struct Counters {
     pub loaded: Name40,
     pub loaded_file: Name64,
     pub dumped_file: Name64,
+    ghost accepted_fits: { accepted < 256 },
+    ghost refused_fits: { refused < 256 },
+    ghost finished_fits: { finished < 65536 },
+    ghost good_fits: { good < 256 },
+    ghost bad_fits: { bad < 256 },
+    ghost requests_fit: { requests < 256 },
     ghost events_fit: { events < 16384 },
     ghost housekeepings_fit: { housekeepings < 16384 },
     ghost registries_fit: { registries < 16384 },
@@ -161,7 +123,7 @@ pub struct Counters {
 }
 
 impl Counters {
-    ghost use Rattle.reply_packets.specs.Counters.{counts_view, tally_view, restarted, renewed};
+    ghost use Rattle.reply_packets.specs.Counters.{counts_view, sent_events, sent_shown, sent_notice, counted_command, counted_event, counted_load};
 
     /// Nothing was counted yet.
     pub fn make() -> Counters
@@ -195,64 +157,112 @@ impl Counters {
         }
     }
 
-    /// No packet was sent, and nothing is the latest.
-    fn restart(&mut self)
-        ensures { counts_view self.new ≡ restarted (counts_view self.old) }
+    /// The service began anew: nothing is counted any more, and nothing is the latest.
+    pub fn begin_anew(&mut self)
+        ensures { (t : Told) → restarts t ≡ true → counts_view self.new ≡ counts_after (counts_view self.old) (tally_of t) }
     {
-        let none = Counters::make();
-        self.events = none.events;
-        self.housekeepings = none.housekeepings;
-        self.registries = none.registries;
-        self.notices = none.notices;
-        self.validation = none.validation;
-        self.update = none.update;
-        self.loaded = none.loaded;
-        self.loaded_file = none.loaded_file;
-        self.dumped_file = none.dumped_file;
+        *self = Counters::make();
     }
 
-    /// The latest of what events tell. It isn't inlined: few requests have events, and whoever calls it would clear the
-    /// memory of its names for each.
-    #[inline(never)]
-    fn renew(&mut self, clock: Clock, events: &[TelemetryEvent])
-        ensures { counts_view self.new ≡ renewed (counts_view self.old) clock events.now }
+    /// The sequence count of the next event, which is counted.
+    pub(crate) fn next_event(&mut self) -> u16
+        ensures sent { result ≡ self.old.events }
+        ensures counts { counts_view self.new ≡ sent_events 1 (counts_view self.old) }
     {
-        self.validation.renew(latest_validation(events));
-        self.update.renew(update_in(clock, events));
-        if let Some(name) = latest_dump(events) {
-            self.dumped_file = name;
+        let sent = self.events;
+        self.events = after(sent);
+        sent
+    }
+
+    /// And that of the next housekeeping packet.
+    pub(crate) fn next_housekeeping(&mut self) -> u16
+        ensures sent { result ≡ self.old.housekeepings }
+        ensures counts { counts_view self.new ≡ sent_shown Shown.Housekeeping (counts_view self.old) }
+    {
+        let sent = self.housekeepings;
+        self.housekeepings = after(sent);
+        sent
+    }
+
+    /// And that of the next registry packet.
+    pub(crate) fn next_registry(&mut self) -> u16
+        ensures sent { result ≡ self.old.registries }
+        ensures counts { (row : ℕ) → counts_view self.new ≡ sent_shown (Shown.Registry row) (counts_view self.old) }
+    {
+        let sent = self.registries;
+        self.registries = after(sent);
+        sent
+    }
+
+    /// And that of the next notice.
+    pub(crate) fn next_notice(&mut self) -> u16
+        ensures sent { result ≡ self.old.notices }
+        ensures counts { (notice : Notice) → counts_view self.new ≡ sent_notice (Some notice) (counts_view self.old) }
+    {
+        let sent = self.notices;
+        self.notices = after(sent);
+        sent
+    }
+
+    /// Counts a command that was accepted, or refused.
+    pub(crate) fn count_command(&mut self, command: &ReadCommand, status: Status)
+        ensures { counts_view self.new ≡ counted_command (Some (read_of command.now)) status (counts_view self.old) }
+    {
+        let is_accepted = status == Status::SUCCESS;
+        let clears = is_accepted && asks_reset_counters(command);
+        let counts = is_accepted && !asks_housekeeping(command) && !asks_reset_counters(command);
+        self.accepted = counted(self.accepted, clears, counts);
+        self.refused = counted(self.refused, clears, !is_accepted);
+        self.requests = counted(self.requests, clears, is_accepted && asks_validate(command));
+        self.finished = if clears { 0 } else { self.finished };
+        self.good = if clears { 0 } else { self.good };
+        self.bad = if clears { 0 } else { self.bad };
+    }
+
+    /// Counts what an event tells.
+    pub(crate) fn count_event(&mut self, clock: Clock, event: &TelemetryEvent)
+        ensures { counts_view self.new ≡ counted_event clock.seconds clock.sub event.now (counts_view self.old) }
+    {
+        match event {
+            TelemetryEvent::Finished {
+                active,
+                check,
+                verdict,
+                name,
+                ..
+            } => {
+                let is_good = is_good(*verdict);
+                self.finished = self.finished.wrapping_add(1);
+                self.good = self.good.wrapping_add(u8::from(is_good));
+                self.bad = self.bad.wrapping_add(u8::from(!is_good));
+                self.validation = Validation {
+                    check: *check,
+                    verdict: *verdict,
+                    active: u8::from(*active),
+                    name: name.copy(),
+                };
+            }
+            TelemetryEvent::Activated { name, .. } => {
+                self.update = Update {
+                    seconds: clock.seconds,
+                    sub: clock.sub,
+                    name: name.copy(),
+                };
+            }
+            TelemetryEvent::Dumped { file, .. } => self.dumped_file = file.copy(),
+            _ => {}
         }
     }
 
-    /// Counts an entry, with what was done in it at this time, and the table that was loaded from a file.
-    pub fn add(
-        &mut self,
-        tally: Tally,
-        clock: Clock,
-        events: &[TelemetryEvent],
-        loaded: Option<&Name40>,
-        loaded_file: Option<&Name64>,
-    )
-        ensures { counts_view self.new ≡ counts_after (counts_view self.old) (tally_view tally clock events.now (option_copied loaded.entry) (option_copied loaded_file.entry)) }
+    /// Counts an accepted load of this table, from this file if it was from one.
+    pub(crate) fn count_load(&mut self, table: Option<&Named>, file: Option<&Name64>)
+        ensures { counts_view self.new ≡ counted_load true (option_copied file.entry) (option_copied table.entry) (counts_view self.old) }
     {
-        self.accepted = counted(self.accepted, tally.cleared, u8::from(tally.accepted));
-        self.refused = counted(self.refused, tally.cleared, u8::from(tally.refused));
-        self.finished = counted_wide(self.finished, tally.cleared, tally.finished);
-        self.good = counted(self.good, tally.cleared, tally.good);
-        self.bad = counted(self.bad, tally.cleared, tally.bad);
-        self.requests = counted(self.requests, tally.cleared, u8::from(tally.request));
-        if tally.restarted {
-            self.restart();
-            return;
+        if let Some(table) = table {
+            self.loaded = table.name.copy();
         }
-        self.events = sequence(self.events, tally.events);
-        self.housekeepings = sequence(self.housekeepings, u8::from(tally.housekeeping));
-        self.registries = sequence(self.registries, u8::from(tally.registry));
-        self.notices = sequence(self.notices, u8::from(tally.notice));
-        renew_name(&mut self.loaded, loaded);
-        renew_name(&mut self.loaded_file, loaded_file);
-        if !events.is_empty() {
-            self.renew(clock, events);
+        if let Some(file) = file {
+            self.loaded_file = file.copy();
         }
     }
 }

@@ -1,23 +1,20 @@
 //! The event packets of a request: that of a command, and one for each event of what was done.
 
-ghost use Rattle.std.specs.Prelude.{◌≡◌, ◌+◌, ◌*◌, ◌<◌, ◌≤◌, ◌++◌, map, length, None};
-ghost use Rattle.tbl_kinds.specs.Packets.{telemetry_packet, event_id};
-ghost use Rattle.tbl_kinds.specs.Telemetry.{event_body};
+ghost use Rattle.std.specs.Prelude.{◌≡◌, ◌+◌, ◌*◌, ◌<◌, ◌≤◌, [], ◌∷◌, ◌++◌, ◌&&◌, map, length, false, Some};
+ghost use Rattle.tbl_kinds.specs.Statuses.{is_success};
 ghost use Rattle.tbl_model.specs.Commands.{asks_housekeeping, command_code};
+ghost use Rattle.std.specs.Option.{option_copied};
 ghost use Rattle.tbl_model.specs.Telemetry.{is_good};
-ghost use Rattle.tbl_model.specs.Events.{row_field, table_field, verdict_event, sent_event, command_events};
+ghost use Rattle.tbl_model.specs.Events.{row_field, table_field, verdict_event, sent_event};
 ghost use Rattle.tbl_model.specs.Replies.{head_at, event_packets};
-ghost use Rattle.request_effects.specs.Requests.{command_view};
-ghost use Rattle.request_effects.specs.Effects.{seen, told_events, listed};
+ghost use Rattle.request_effects.specs.Requests.{read_of};
+ghost use Rattle.reply_packets.specs.Counters.{counts_view, sent_events, counted_events, answered_events};
 
-use crate::counters::SEQUENCE_COUNTS;
-use request_effects::{Clock, Effect, ReadCommand, asks_housekeeping, command_code};
-use tbl_kinds::{Bytes, Event, Status, TlmHead};
+use crate::counters::{Counters, SEQUENCE_COUNTS, asks_housekeeping};
+use request_effects::{Clock, ReadCommand, code_of};
+use tbl_kinds::{Answer, Bytes, Event, Status, TlmHead};
 use tbl_model::{Named, TelemetryEvent};
 use tlm_packets::write_event;
-
-/// The length of an event packet.
-pub const EVENT_LENGTH: usize = 24;
 
 /// The row field of an event that is about no table.
 const NO_ROW: u16 = 0xFFFF;
@@ -33,8 +30,8 @@ fn row_field(row: Option<u8>) -> u16
 }
 
 /// The row field of a command's event.
-fn table_field(table: &Option<Named>) -> u16
-    ensures { result ≡ table_field table.now }
+fn table_field(table: Option<&Named>) -> u16
+    ensures { result ≡ table_field (option_copied table.entry) }
 {
     match table {
         Some(table) => u16::from(table.row),
@@ -96,93 +93,100 @@ fn sent_event(event: &TelemetryEvent) -> Event
     }
 }
 
-/// The event of a command itself: 1 where it was accepted, 2 where it was refused. A housekeeping request that was
-/// accepted has none.
-pub(crate) fn command_event(command: &ReadCommand, effect: &Effect) -> Option<Event>
-    ensures { listed result ≡ command_events (command_view command.now) (seen effect.now) }
+/// The function code of a command, which event 1 tells.
+fn command_code(command: &ReadCommand) -> u8
+    ensures { result ≡ command_code (Some (read_of command.now)) }
 {
-    if command.is_none() {
-        return None;
+    match command {
+        Ok(command) => code_of(command),
+        Err(_) => 0,
     }
-    if effect.answer.status != Status::SUCCESS {
-        return Some(Event {
+}
+
+/// The event of a command itself: 1 where it was accepted, 2 where it was refused.
+fn command_event(command: &ReadCommand, answer: Answer, table: Option<&Named>) -> Event
+    ensures { (is_success answer.status && asks_housekeeping (Some (read_of command.now))) ≡ false
+        → answered_events (read_of command.now) answer (option_copied table.entry) ≡ result ∷ [] }
+{
+    let row = table_field(table);
+    if answer.status != Status::SUCCESS {
+        return Event {
             number: 2,
-            status: effect.answer.status,
-            row: table_field(&effect.table),
-            detail: effect.answer.detail,
-        });
+            status: answer.status,
+            row,
+            detail: answer.detail,
+        };
     }
-    // Its packet answers for it.
-    if asks_housekeeping(command) {
-        return None;
-    }
-    Some(Event {
+    Event {
         number: 1,
         status: Status::SUCCESS,
-        row: table_field(&effect.table),
+        row,
         detail: u32::from(command_code(command)),
-    })
+    }
 }
 
 /// The head of a packet before which so many of its kind were sent.
-pub fn head_at(clock: Clock, sent: u32) -> TlmHead
+pub(crate) fn head_at(clock: Clock, sent: u16) -> TlmHead
     ensures head { result ≡ head_at clock.seconds clock.sub sent }
     ensures count { result.count < 16384 }
 {
     TlmHead {
-        count: (sent % u32::from(SEQUENCE_COUNTS)) as u16,
+        count: sent % SEQUENCE_COUNTS,
         seconds: clock.seconds,
         sub: clock.sub,
     }
 }
 
-/// Appends an event packet.
-fn put_event(packets: &mut Bytes, clock: Clock, sent: u32, event: &Event)
+/// Appends an event packet, and counts it.
+fn put_event(packets: &mut Bytes, clock: Clock, counters: &mut Counters, event: &Event)
     requires { 24 ≤ packets.old.spare }
-    ensures bytes { packets.new.list ≡ packets.old.list ++ telemetry_packet event_id (head_at clock.seconds clock.sub sent) (event_body event.now) }
+    ensures bytes { packets.new.list ≡ packets.old.list ++ event_packets clock.seconds clock.sub counters.old.events (event.now ∷ []) }
     ensures room { packets.old.spare ≤ packets.new.spare + 24 }
     ensures len { length packets.new.list ≡ length packets.old.list + 24 }
+    ensures counts { counts_view counters.new ≡ sent_events 1 (counts_view counters.old) }
 {
-    write_event(packets, &head_at(clock, sent), event);
+    let head = head_at(clock, counters.next_event());
+    write_event(packets, &head, event);
 }
 
-/// Appends a packet for each of these events.
-fn put_each(packets: &mut Bytes, clock: Clock, sent: u32, events: &[TelemetryEvent])
-    requires few { length events.now ≤ 8 }
-    requires sent { sent ≤ 16384 }
-    requires room { 24 * length events.now ≤ packets.old.spare }
-    ensures bytes { packets.new.list ≡ packets.old.list ++ event_packets clock.seconds clock.sub sent (map sent_event events.now) }
-    ensures room { packets.old.spare ≤ packets.new.spare + 24 * length events.now }
-    ensures len { length packets.new.list ≡ length packets.old.list + 24 * length events.now }
-{
-    let mut sent = sent;
-    for event in events {
-        put_event(packets, clock, sent, &sent_event(event));
-        sent += 1;
-    }
-}
-
-/// Appends the events of a request: that of the command itself, and those of what was done.
-pub fn put_events(
+/// Appends the event of a command itself, and counts it. A housekeeping request that was accepted has none, since its packet
+/// answers for it.
+pub(crate) fn put_command(
     packets: &mut Bytes,
     clock: Clock,
-    sent: u16,
+    counters: &mut Counters,
     command: &ReadCommand,
-    effect: &Effect,
+    answer: Answer,
+    table: Option<&Named>,
 )
-    requires few { length effect.now.events.items ≤ 8 }
-    requires sent { sent < 16384 }
-    requires room { 24 * length (told_events (command_view command.now) effect.now) ≤ packets.old.spare }
-    ensures bytes { packets.new.list ≡ packets.old.list ++ event_packets clock.seconds clock.sub sent (told_events (command_view command.now) effect.now) }
-    ensures room { packets.old.spare ≤ packets.new.spare + 24 * length (told_events (command_view command.now) effect.now) }
-    ensures len { length packets.new.list ≡ length packets.old.list + 24 * length (told_events (command_view command.now) effect.now) }
+    requires { 24 ≤ packets.old.spare }
+    ensures bytes { packets.new.list ≡ packets.old.list ++ event_packets clock.seconds clock.sub counters.old.events (answered_events (read_of command.now) answer (option_copied table.entry)) }
+    ensures room { packets.old.spare ≤ packets.new.spare + 24 }
+    ensures len { length packets.new.list ≤ length packets.old.list + 24 }
+    ensures counts { counts_view counters.new ≡ sent_events (length (answered_events (read_of command.now) answer (option_copied table.entry))) (counts_view counters.old) }
 {
-    let sent = u32::from(sent);
-    match command_event(command, effect) {
-        Some(event) => {
-            put_event(packets, clock, sent, &event);
-            put_each(packets, clock, sent + 1, effect.events.as_slice());
-        }
-        None => put_each(packets, clock, sent, effect.events.as_slice()),
+    if answer.status == Status::SUCCESS && asks_housekeeping(command) {
+        return;
+    }
+    let event = command_event(command, answer, table);
+    put_event(packets, clock, counters, &event);
+}
+
+/// Appends a packet for each of these events, and counts them.
+pub(crate) fn put_events(
+    packets: &mut Bytes,
+    clock: Clock,
+    counters: &mut Counters,
+    events: &[TelemetryEvent],
+)
+    requires room { 24 * length events.now ≤ packets.old.spare }
+    ensures bytes { packets.new.list ≡ packets.old.list ++ event_packets clock.seconds clock.sub counters.old.events (map sent_event events.now) }
+    ensures room { packets.old.spare ≤ packets.new.spare + 24 * length events.now }
+    ensures len { length packets.new.list ≡ length packets.old.list + 24 * length events.now }
+    ensures counts { counts_view counters.new ≡ counted_events clock.seconds clock.sub events.now (counts_view counters.old) }
+{
+    for event in events {
+        put_event(packets, clock, counters, &sent_event(event));
+        counters.count_event(clock, event);
     }
 }

@@ -5,9 +5,7 @@
 mod counters;
 mod events;
 mod packets;
-mod tallying;
+mod telling;
 
-pub use counters::{Counters, Tally, Update, Validation};
-pub use events::{EVENT_LENGTH, head_at, put_events};
-pub use packets::{NOTICE_LENGTH, put_notice, put_shown};
-pub use tallying::{loaded_file, loaded_name, tally};
+pub use counters::{Counters, Update, Validation};
+pub use telling::{tell_call, tell_command};

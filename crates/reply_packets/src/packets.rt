@@ -1,21 +1,19 @@
 //! The packets after the events: housekeeping, a table's registry packet, a notice.
 
-ghost use Rattle.std.specs.Prelude.{◌≡◌, ◌+◌, ◌<◌, ◌≤◌, ◌++◌, length, count_by, is_none, is_some, true, IfSome};
-ghost use Rattle.tbl_model.specs.Tables.{free_buffers, table_at};
-ghost use Rattle.tbl_model.specs.Counts.{Counts};
-ghost use Rattle.tbl_model.specs.Replies.{housekeeping_of, registry_packet, shown_packet, notice_packet};
+ghost use Rattle.std.specs.Prelude.{◌≡◌, ◌+◌, ◌≤◌, ◌++◌, length, count_by, is_none, IfSome};
+ghost use Rattle.tbl_model.specs.Tables.{free_buffers};
+ghost use Rattle.tbl_model.specs.Replies.{housekeeping_of, notice_packet};
 ghost use Rattle.tbl_model.specs.Fit.{HasCode};
-ghost use Rattle.reply_packets.specs.Counters.{counts_view};
-ghost use Rattle.request_effects.specs.Effects.{shown_len};
+ghost use Rattle.reply_packets.specs.Counters.{counts_view, sent_shown, sent_notice, shown_after};
+ghost use Rattle.request_effects.specs.Effects.{shown_len, notice_len};
 
-use crate::counters::{Counters, SEQUENCE_COUNTS};
-use tbl_kinds::{Bytes, Housekeeping, TlmHead};
+use crate::counters::Counters;
+use crate::events::head_at;
+use request_effects::Clock;
+use tbl_kinds::{Bytes, Housekeeping};
 use tbl_model::{Notice, Shown};
 use tbl_registry::Tables;
 use tlm_packets::{write_housekeeping, write_notice, write_registry};
-
-/// The length of a notice.
-pub const NOTICE_LENGTH: usize = 12;
 
 /// How many of the four buffers no row uses.
 fn free_in(rows: &[Option<u8>; 4]) -> usize
@@ -58,69 +56,73 @@ fn housekeeping(counters: &Counters, tables: &Tables) -> Housekeeping
     }
 }
 
-/// Appends a housekeeping packet. It isn't inlined, since whoever calls it would clear the memory of its fields for each
-/// request.
+/// Appends a housekeeping packet, and counts it. It isn't inlined, since whoever calls it would clear the memory of its fields
+/// for each request.
 #[inline(never)]
-fn put_housekeeping(packets: &mut Bytes, head: &TlmHead, counters: &Counters, tables: &Tables)
-    requires count { head.now.count < 16384 }
+fn put_housekeeping(packets: &mut Bytes, clock: Clock, counters: &mut Counters, tables: &Tables)
     requires room { 290 ≤ packets.old.spare }
-    ensures bytes { packets.new.list ≡ packets.old.list ++ shown_packet head.now (counts_view counters.now) tables.now Shown.Housekeeping }
+    ensures bytes { packets.new.list ≡ packets.old.list ++ shown_after clock.seconds clock.sub (counts_view counters.old) tables.now Shown.Housekeeping }
     ensures len { length packets.new.list ≤ length packets.old.list + 290 }
     ensures room { packets.old.spare ≤ packets.new.spare + 290 }
+    ensures counts { counts_view counters.new ≡ sent_shown Shown.Housekeeping (counts_view counters.old) }
 {
-    write_housekeeping(packets, head, &housekeeping(counters, tables));
+    let head = head_at(clock, counters.next_housekeeping());
+    write_housekeeping(packets, &head, &housekeeping(counters, tables));
 }
 
-/// Appends the registry packet of the table of a row.
+/// Appends the registry packet of the table of a row, and counts it.
 #[inline(never)]
-fn put_registry(packets: &mut Bytes, head: &TlmHead, tables: &Tables, row: u8)
-    requires count { head.now.count < 16384 }
+fn put_registry(
+    packets: &mut Bytes,
+    clock: Clock,
+    counters: &mut Counters,
+    tables: &Tables,
+    row: u8,
+)
     requires room { 156 ≤ packets.old.spare }
-    ensures bytes { packets.new.list ≡ packets.old.list ++ registry_packet head.now (table_at tables.now row) }
+    ensures bytes { packets.new.list ≡ packets.old.list ++ shown_after clock.seconds clock.sub (counts_view counters.old) tables.now (Shown.Registry row) }
     ensures len { length packets.new.list ≤ length packets.old.list + 156 }
     ensures room { packets.old.spare ≤ packets.new.spare + 156 }
+    ensures counts { counts_view counters.new ≡ sent_shown (Shown.Registry row) (counts_view counters.old) }
 {
+    let head = head_at(clock, counters.next_registry());
     if tables.name(row).is_none() {
         return;
     }
-    write_registry(packets, head, &tables.info(row));
+    write_registry(packets, &head, &tables.info(row));
 }
 
-/// Appends the packet after the events.
-pub fn put_shown(
+/// Appends the packet after the events, and counts it.
+pub(crate) fn put_shown(
     packets: &mut Bytes,
-    head: TlmHead,
-    counters: &Counters,
+    clock: Clock,
+    counters: &mut Counters,
     tables: &Tables,
     shown: Shown,
 )
-    requires count { head.count < 16384 }
     requires room { shown_len shown ≤ packets.old.spare }
-    ensures bytes { packets.new.list ≡ packets.old.list ++ shown_packet head (counts_view counters.now) tables.now shown }
+    ensures bytes { packets.new.list ≡ packets.old.list ++ shown_after clock.seconds clock.sub (counts_view counters.old) tables.now shown }
     ensures len { length packets.new.list ≤ length packets.old.list + shown_len shown }
     ensures room { packets.old.spare ≤ packets.new.spare + shown_len shown }
+    ensures counts { counts_view counters.new ≡ sent_shown shown (counts_view counters.old) }
 {
     match shown {
         Shown::Nothing => {}
-        Shown::Housekeeping => put_housekeeping(packets, &head, counters, tables),
-        Shown::Registry { row } => put_registry(packets, &head, tables, row),
+        Shown::Housekeeping => put_housekeeping(packets, clock, counters, tables),
+        Shown::Registry { row } => put_registry(packets, clock, counters, tables, row),
     }
 }
 
-/// Appends a notice, before which so many were sent.
-pub fn put_notice(packets: &mut Bytes, sent: u16, notice: Option<Notice>)
+/// Appends a notice, and counts it.
+pub(crate) fn put_notice(packets: &mut Bytes, counters: &mut Counters, notice: Option<Notice>)
     requires code { IfSome notice HasCode }
-    requires room { is_some notice ≡ true → 12 ≤ packets.old.spare }
-    ensures bytes { (c : Counts) → c.notices ≡ sent → packets.new.list ≡ packets.old.list ++ notice_packet c notice }
-    ensures len { length packets.new.list ≤ length packets.old.list + 12 }
+    requires room { notice_len notice ≤ packets.old.spare }
+    ensures bytes { packets.new.list ≡ packets.old.list ++ notice_packet (counts_view counters.old) notice }
+    ensures len { length packets.new.list ≤ length packets.old.list + notice_len notice }
+    ensures counts { counts_view counters.new ≡ sent_notice notice (counts_view counters.old) }
 {
     if let Some(notice) = notice {
-        write_notice(
-            packets,
-            sent % SEQUENCE_COUNTS,
-            notice.msg,
-            notice.code,
-            notice.parameter,
-        );
+        let sent = counters.next_notice();
+        write_notice(packets, sent, notice.msg, notice.code, notice.parameter);
     }
 }
