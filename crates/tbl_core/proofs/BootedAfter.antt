@@ -23,17 +23,17 @@ use Rattle.cds_layout.specs.Images.{store_of}
 use Rattle.store_requests.specs.Called.{Leaving, boots_after, Troubled}
 use Rattle.tbl_core.specs.Ended.{Follows, boot_only}
 use Rattle.request_effects.specs.Effects.{given_of}
-use Rattle.tbl_core.specs.Service.{PartsView, HoldsAll, state_of, step_of, Bounds, EndsIn, HasEffect, Has, Makes, Meets, IsMade, after_stop}
+use Rattle.tbl_core.specs.Service.{PartsView, HoldsAll, state_of, step_of, EndsIn, HasEffect, Has, Makes, Meets, IsMade, after_stop}
 use Rattle.tbl_core.specs.Verdicts.{Judged}
-use Rattle.request_effects.specs.declared.effect.Effect.{Effect}
+use Rattle.request_effects.specs.Effects.{Effect}
 use Rattle.tbl_core.specs.Pins.{HaveImages, PinsGoOn}
 use Rattle.tbl_core.proofs.Pinning.{stopped_pins}
 use Rattle.tbl_core.proofs.Trouble.{troubled_after, caused_after}
 use Rattle.tbl_outside.specs.declared.bank.Bank.{Ghosts}
 use Rattle.tbl_outside.specs.declared.validator.Validator.{Ghosts as ValidatorGhosts}
 
-module _ {B C : Type 0} (g : Ghosts B) (v : ValidatorGhosts C) (bounds : Bounds) (old mid new : PartsView B C) (request : Request) (means : State → Given → Option model.Effect)
-    (called : Effect) (note : BankNote) (makes : Makes g v bounds request old mid called) (meets : Meets g v (step_of old mid request) means called)
+module _ {B C : Type 0} (g : Ghosts B) (v : ValidatorGhosts C) (old mid new : PartsView B C) (request : Request) (means : State → Given → Option model.Effect)
+    (called : Effect) (note : BankNote) (makes : Makes g v request old mid called) (meets : Meets g v (step_of old mid request) means called)
     (follows : Follows called.note note) (held : new ≡ after_stop called.note.outcome note new.store mid)
     (boots : g.tells → (s : State) → HoldsAll g mid s → HoldsAll g new (boots_after called.note.outcome note s))
     (found : g.tells → (s : State) → HoldsAll g mid s → called.note.outcome ≡ Stopped → Boots (Some Processor) s.store note)

@@ -36,15 +36,15 @@ use Rattle.tbl_model.specs.Fit.{AreFit}
 use Rattle.tbl_laws.proofs.Cases.{OfEffect}
 use Rattle.tbl_laws.proofs.Causes.{caused}
 use Rattle.tbl_laws.proofs.Ordinary.{IsOrdinary, ordinary}
-use Rattle.request_effects.specs.Requests.{activates, most_owned_events}
+use Rattle.tbl_core.specs.Requests.{activates}
 use Rattle.store_requests.specs.Called.{with_boot}
 use Rattle.tbl_session.specs.Restores.{RestoresHeld}
 use Rattle.request_effects.specs.Effects.{IsEffect, given_of}
 use Rattle.tbl_core.specs.Owned.{owned_effect, owned_at}
-use Rattle.tbl_core.specs.Service.{PartsView, IsStateOf, state_of, step_of, events_alone, DoesAndCopies, Has, HasEffect, Makes, Meets}
+use Rattle.tbl_core.specs.Service.{PartsView, IsStateOf, state_of, step_of, DoesAndCopies, Has, HasEffect, Makes, Meets}
 use Rattle.tbl_core.specs.Verdicts.{Judged}
 use Rattle.cds_store.specs.StoreBlocks.{StandsFor as HasBlocks}
-use Rattle.request_effects.specs.declared.effect.Effect.{Effect}
+use Rattle.request_effects.specs.Effects.{Effect}
 use Rattle.tbl_core.proofs.StoreRequests.{has_called}
 use Rattle.tbl_core.proofs.TableRequests.{stands_in, state_is, effect_left, judged_there, fit_without}
 use Rattle.tbl_outside.specs.declared.bank.Bank.{Ghosts}
@@ -168,7 +168,7 @@ module _ {B C : Type 0} (g : Ghosts B) (v : ValidatorGhosts C) (old new : PartsV
       (law_pins (state_of old) so_many fits has actor request (given_of does.before) left.0 whole noted) in
       (on.0, pins_with old.tables new.tables request left.0.status done.answer.status (activates_no_get request can) on.1)
 
-  pub copies_makes : Makes g v (events_alone (suc (most_owned_events request))) request old new done
+  pub copies_makes : Makes g v request old new done
   copies_makes = record {
     fit = λ n fit. fit_without (suc n) [] (state_of new) (subst (AreFit (suc n)) (state_is (record new { store = old.store }) [] left.0.next left.3) (ordinary_left n fit).fit);
     judged = (
@@ -177,7 +177,7 @@ module _ {B C : Type 0} (g : Ghosts B) (v : ValidatorGhosts C) (old new : PartsV
           (judged_there v old.kit new.kit does.before.verdicts _ left.0 left.1 (does.does.judged (state_of old) (stands_in old))),
     );
     two = ap length does.call.verdicts ∙ does.does.two;
-    within = does.call.within (most_owned_events request) 0 false does.does.within;
+    within = let within = does.call.within 3 does.does.within in let few = within.events in record { events = omega (arith, few); notice = within.notice; bytes = within.bytes };
     booted = does.call.booted ∙ sym (ap not goes);
     ended = goes ∙ sym does.call.no_boot.ended;
     stopped = λ is. (does.call.stopped is, does.call.no_boot);

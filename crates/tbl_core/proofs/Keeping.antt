@@ -7,7 +7,7 @@ use Rattle.tbl_model.specs.Telemetry.{Question}
 use Rattle.tbl_model.specs.Effects.{Effect}
 use Rattle.tbl_model.specs.State.{State, Table}
 use Rattle.tbl_model.specs.Tables.{table_at}
-use Rattle.tbl_model.specs.History.{Run, begins_at, given_in, onward, run_from}
+use Rattle.tbl_model.specs.History.{Run, begins_at, onward, run_from}
 use Rattle.tbl_kinds.specs.declared.entry.Entry.{Entry}
 use Rattle.tbl_outside.specs.declared.validator.KitEntry.{KitEntry}
 use Rattle.validation.specs.Kits.{entry_at}
@@ -37,15 +37,15 @@ module _ {C : Type 0} (verdict : C → List ℕ → ℤ) (given : List (Option (
   answer_of (first ∷ more) (Some v ∷ verdicts) gives (suc place) q at = answer_of more verdicts gives.1 place q at
 
   -- what is given in an entry of the history
-  given_at : (r : Run) (before after : List Entry) (e : Entry) → AreGiven verdict given r (before ++ e ∷ after) → GivesEach verdict given (questions_in (run_from r before) e) e.verdicts
+  given_at : (r : Run) (before after : List Entry) (e : Entry) → AreGiven verdict given r (before ++ e ∷ after) → GivesEach verdict given (questions_in (run_from r before) e) e.given.verdicts
   given_at r [] after e are = are.0
   given_at r (x ∷ before) after e are = given_at (onward r x) before after e are.1
 
   pub keeps : (opening : State) (entries : List Entry) → AreGiven verdict given (begins_at opening) entries → KeepsToFunctions verdict given opening entries
   keeps opening entries are before after e effect split found place row number event image v tells is function =
       let r = run_from (begins_at opening) before in
-      let gives : GivesEach verdict given effect.questions e.verdicts = subst (λ (o : Option Effect). GivesEach verdict given (option_map_or (λ (x : Effect). x.questions) o []) e.verdicts) found (given_at (begins_at opening) before after e (subst (AreGiven verdict given (begins_at opening)) split are)) in
-      let all : IsKept r.state (given_in e) effect = subst (OfEffect (IsKept r.state (given_in e))) found (kept r.state (given_in e) e.actor e.request) in
+      let gives : GivesEach verdict given effect.questions e.given.verdicts = subst (λ (o : Option Effect). GivesEach verdict given (option_map_or (λ (x : Effect). x.questions) o []) e.given.verdicts) found (given_at (begins_at opening) before after e (subst (AreGiven verdict given (begins_at opening)) split are)) in
+      let all : IsKept r.state e.given effect = subst (OfEffect (IsKept r.state e.given)) found (kept r.state e.given e.actor e.request) in
       let t = with_function (table_at r.state.tables row) number function in
       let was = all place row number event image v t.0 (record { event_is = tells.event_is; image_is = tells.image_is }) is t.1 t.2 in
-      was.answer ∙ answer_of effect.questions e.verdicts gives was.place _ was.question
+      was.answer ∙ answer_of effect.questions e.given.verdicts gives was.place _ was.question

@@ -1,7 +1,6 @@
 -- Images that the core lends, and bytes that were taken of them.
 use Rattle.std.proofs.Common.{◌≡◌, ◌<◌, ℕ, List, ◌∷◌, [], ◌++◌, length, Option, Some, None, Result, Ok, refl, sym, ap, ◌∙◌, subst, inl, inr, arith}
 use Rattle.std.specs.Prelude.{slice_get, IfSome, OnSome}
-use Rattle.tbl_kinds.specs.Buffers.{Buffer}
 use Rattle.std.specs.Option.{option_map}
 use Rattle.std.proofs.lemmas.Option.{same_Some, slice_get_within}
 use Rattle.tbl_model.specs.TableSteps.{read}
@@ -37,12 +36,6 @@ slice_is v core pin (ask.Read handle offset len) slice ready is same of = λ byt
     let got : IsPiece core.state.tables pin.handle offset len bytes = read_is_piece core.state.tables ready.images pin.handle offset len bytes gives' in
     of.1 ∙ ap (piece offset len) (sym (is.image got.0 got.1 same)) ∙ sym got.2
 slice_is v core pin request slice ready is same of = absurd of
-
--- whatever of them is handed on
-pub may_be : {B C : Type 0} (v : ValidatorGhosts C) (core : CoreView B C) (pin : Pin) (request : Request) (slice : Buffer) (lent : Option Buffer) → IsReady v core → IsOfPin pin core → IsSliceOf pin request slice.list
-    → IfSome lent (λ (b : Buffer). (b ≡ slice) × (place_in core.gets pin.handle ≡ pin.place)) → IfSome lent (λ (b : Buffer). MayBeLent request core.state.tables b.list)
-may_be v core pin request slice None ready is of still = tt
-may_be v core pin request slice (Some b) ready is of still = slice_is v core pin request b.list ready is still.1 (subst (λ (x : Buffer). IsSliceOf pin request x.list) (sym still.0) of)
 
 -- each image that is lent
 pub lent_each : {B C : Type 0} (v : ValidatorGhosts C) (core : CoreView B C) (handle : ℕ) (lent : Option Pin) → IsReady v core → lent ≡ lent_at handle (place_in core.gets handle) core.state.tables → OnSome lent (handle < handle_limit) → IfSome lent (λ (pin : Pin). IsOfPin pin core)

@@ -1,8 +1,8 @@
 pub mod BootedAfter
 pub mod CopiedAfter
+pub mod Commanding
 pub mod Crashing
 pub mod Doing
-pub mod PacketRoom
 pub mod Functions
 pub mod Keeping
 pub mod Owned
@@ -21,3 +21,5 @@ pub mod Vouching
 pub mod Pinning
 pub mod Places
 pub mod Lending
+pub mod Answering
+pub mod Nothing

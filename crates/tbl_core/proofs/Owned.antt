@@ -9,11 +9,11 @@ use Rattle.tbl_model.specs.Given.{Given}
 use Rattle.tbl_laws.proofs.Options.{update_options, load_image_options, app_file_options, manage_options}
 use Rattle.tbl_kinds.specs.declared.request.Request.{Request}
 use Rattle.tbl_kinds.specs.declared.request.Request.TheVariants as ask
-use Rattle.request_effects.specs.Requests.{activates, most_owned_events}
+use Rattle.tbl_core.specs.Requests.{activates}
 use Rattle.request_effects.specs.Effects.{given_of}
 use Rattle.tbl_core.specs.Owned.{owned_effect, owned_at}
-use Rattle.tbl_core.specs.Service.{PartsView, state_of, events_alone, owned_in, Does}
-use Rattle.request_effects.specs.declared.effect.Effect.{Effect}
+use Rattle.tbl_core.specs.Service.{PartsView, state_of, owned_in, Does}
+use Rattle.request_effects.specs.Effects.{Effect}
 use Rattle.tbl_core.proofs.TableRequests.{stands_in, effect_left}
 use Rattle.tbl_outside.specs.declared.validator.Validator.{Ghosts as ValidatorGhosts}
 
@@ -32,7 +32,7 @@ by_options t None is critical stay = tt
 by_options t (Some u) is critical stay = critical ∙ ap (has_option 0x0008) (sym stay)
 
 pub stays_critical : {B C : Type 0} (v : ValidatorGhosts C) (old new : PartsView B C) (row : ℕ) (request : Request) (done : Effect) (t : Table) → table_at old.tables row ≡ Some t → activates request ≡ true
-    → Does v (events_alone (most_owned_events request)) old new (owned_in row request) done
+    → Does v 3 old new (owned_in row request) done
     → (is : Bool) → is ≡ is_critical t → IfSome (table_at new.tables row) (λ u. is ≡ is_critical u)
 stays_critical v old new row request done t there can does is critical =
     let left = effect_left [] done new _ (does.effect (state_of old) (stands_in old)) in
@@ -40,11 +40,3 @@ stays_critical v old new row request done t there can does is critical =
     let found : owned_effect (state_of old) row t request (given_of done) ≡ Some e = ap (λ (o : Option Table). owned_at o (state_of old) row request (given_of done)) (sym there) ∙ left.1 in
     subst (λ (tables : Tables). IfSome (table_at tables row) (λ u. is ≡ is_critical u)) left.3.tables
     (by_options t (table_at e.next.tables row) is critical (options_stay (state_of old) row t there request (given_of done) e can found))
-
-pub few_events : (request : Request) (n : ℕ) → n ≤ most_owned_events request → n ≤ 3
-few_events (ask.LoadImage h image) n few = omega (arith, few)
-few_events (ask.LoadFile h name) n few = omega (arith, few)
-few_events (ask.Update h) n few = omega (arith, few)
-few_events (ask.Validate h) n few = omega (arith, few)
-few_events (ask.Manage h) n few = omega (arith, few)
-few_events request n few = omega (arith, few)

@@ -1,11 +1,13 @@
 -- A call that the owner of a table alone may make is what is done to the table of its handle, or why that isn't done.
-use Rattle.std.proofs.Common.{◌≡◌, ◌∙◌, ℕ, List, true, false, Option, Some, refl, sym, ap, subst}
+use Rattle.std.proofs.Common.{◌≡◌, ◌∙◌, ℕ, List, [], ◌∷◌, true, false, ◌≤◌, Option, Some, None, Result, Ok, Err, refl, sym, ap, subst, arith}
+use Rattle.std.specs.Prelude.{OnOk, IfOk}
+use Rattle.std.specs.Result.{is_err}
 use Rattle.std.proofs.lemmas.Option.{same_Some}
-use Rattle.tbl_model.specs.State.{State, Table}
+use Rattle.tbl_model.specs.State.{State, Table, Tables}
 use Rattle.tbl_model.specs.Tables.{table_at}
-use Rattle.tbl_model.specs.Effects.{Effect, answered}
+use Rattle.tbl_model.specs.Effects.{Effect, answered, answered_left}
 use Rattle.tbl_model.specs.Telemetry.{Question}
-use Rattle.tbl_model.specs.Given.{Given}
+use Rattle.tbl_model.specs.Given.{Given, nothing_given}
 use Rattle.tbl_model.specs.Refusals.{by_answer, closed_refusal, update_refusal}
 use Rattle.tbl_model.specs.Subjects.{by_table, if_handle, if_owner, if_file}
 use Rattle.tbl_model.specs.AppLoads.{load_image_of, load_image_effect, load_file_of, app_file_effect}
@@ -14,7 +16,7 @@ use Rattle.tbl_model.specs.Validations.{first_pending, do_validation, app_valida
 use Rattle.tbl_model.specs.Management.{managed_effect, manage_answer, all_done, manage_effect}
 use Rattle.tbl_model.specs.Sharing.{notify_effect, noticed_effect}
 use Rattle.tbl_model.specs.Dumps.{dump_to_buffer_effect, edit_effect, filled_effect, edited_effect}
-use Rattle.tbl_model.specs.Dispatch.{app_effect}
+use Rattle.tbl_model.specs.Dispatch.{app_effect, effect_of}
 use Rattle.tbl_kinds.specs.declared.status.Status.{Status}
 use Rattle.tbl_kinds.specs.declared.status.TheConstants.Status.{ERR_UNREGISTERED}
 use Rattle.tbl_kinds.specs.declared.request.Request.{Request}
@@ -23,10 +25,17 @@ use Rattle.tbl_kinds.specs.Blocks.{Store as Blocks}
 use Rattle.std.specs.Option.{option_map}
 use Rattle.tbl_model.specs.Copies.{then_copy}
 use Rattle.tbl_kinds.specs.declared.note.BankNote.{BankNote}
-use Rattle.request_effects.specs.Requests.{owners_handle, activates}
-use Rattle.request_effects.specs.Effects.{IsEffect, given_of}
-use Rattle.tbl_core.specs.Service.{PartsView, IsStateOf, Bounds, owned_in, Leaves, IsJudged, Does}
-use Rattle.request_effects.specs.declared.effect.Effect.{Effect as Done}
+use Rattle.tbl_kinds.specs.Notes.{untouched}
+use Rattle.tbl_kinds.specs.declared.entry.Answer.{Answer}
+use Rattle.tbl_kinds.specs.declared.request.Actor.{Actor}
+use Rattle.tbl_kinds.specs.declared.request.Actor.TheVariants.{App}
+use Rattle.request_effects.specs.Requests.{owners_handle}
+use Rattle.tbl_core.specs.Requests.{activates, told_handle}
+use Rattle.request_effects.specs.Effects.{IsEffect, IsWithin, given_of, quiet_effect}
+use Rattle.tbl_core.specs.Service.{PartsView, IsStateOf, owned_in, Leaves, IsJudged, Does, LeadsTo}
+use Rattle.tbl_core.proofs.Doing.{answered as does_answer}
+use Rattle.tbl_core.proofs.Verdicts.{none_judged}
+use Rattle.request_effects.specs.Effects.{Effect as Done}
 use Rattle.tbl_core.specs.Owned.{owned_effect, owned_at, copied_at}
 use Rattle.tbl_outside.specs.declared.validator.Validator.{Ghosts as ValidatorGhosts}
 
@@ -103,18 +112,74 @@ leaves_of blocks done new questions e after is stands = (
   subst (IsStateOf blocks new) (sym is.next) stands,
 )
 
--- what was done to the table of the handle is what the application requested, where nothing is copied after it
-module _ {B C : Type 0} (v : ValidatorGhosts C) (bounds : Bounds) (old new : PartsView B C) (app row : ℕ) (request : Request) (done : Done)
-    (means : (s : State) → IsStateOf s.store old s → (given : Given) → app_effect s app request given ≡ copied_at request row given.note (owned_at (table_at s.tables row) s row request given)) (plain : activates request ≡ false) where
-  same : (s : State) → IsStateOf s.store old s → app_effect s app request (given_of done) ≡ owned_at (table_at s.tables row) s row request (given_of done)
-  same s stands = means s stands (given_of done) ∙ not_copied request row done.note (owned_at (table_at s.tables row) s row request (given_of done)) plain
+-- an owner's call that is answered so, leaves this state, and that no packet tells of
+module _ {B C : Type 0} (v : ValidatorGhosts C) (old new : PartsView B C) (app handle row : ℕ) (request : Request) (owners : owners_handle request ≡ Some handle) (plain : activates request ≡ false)
+    (t : Table) (there : table_at old.tables row ≡ Some t) (may : (s : State) → IsStateOf s.store old s → (effect : ℕ → Effect) → if_handle s app handle true effect ≡ effect row)
+    (answer : Answer) (after : State → State) (is : (s : State) → IsStateOf s.store old s → owned_effect s row t request nothing_given ≡ Some (answered_left s answer (after s)))
+    (stands : (s : State) → IsStateOf s.store old s → IsStateOf s.store new (after s)) (kit : new.kit ≡ old.kit) (store : new.store ≡ old.store) where
+  pub owner_answered : Does v 0 old new (λ s given. app_effect s app request given) (quiet_effect answer [])
+  owner_answered = does_answer v old new (λ s given. app_effect s app request given) answer after
+      (λ s stood. let found = ap (λ (tables : Tables). table_at tables row) stood.tables ∙ there in
+      taken s app handle nothing_given row t (may s stood) found request owners
+      ∙ not_copied request row untouched (owned_at (table_at s.tables row) s row request nothing_given) plain
+      ∙ ap (λ (o : Option Table). owned_at o s row request nothing_given) found ∙ is s stood)
+      stands (rw kit (none_judged v old.kit [] untouched (None ∷ None ∷ []) refl refl)) store
 
-  pub does_plainly : Does v bounds old new (owned_in row request) done → Does v bounds old new (λ s given. app_effect s app request given) done
-  does_plainly does = record {
-    effect = λ s stands. subst (Leaves s.store done new) (sym (same s stands)) (does.effect s stands);
-    judged = λ s stands. subst (IsJudged v old.kit new.kit done.verdicts) (sym (same s stands)) (does.judged s stands);
-    store = does.store;
-    note = does.note;
-    two = does.two;
-    within = does.within;
-  }
+-- and one that is refused
+pub owner_refused : {B C : Type 0} (v : ValidatorGhosts C) (old : PartsView B C) (app handle : ℕ) (request : Request) → owners_handle request ≡ Some handle → (status : Status) (answer : Answer)
+    → answer.status ≡ status → answer.detail ≡ 0 → ((s : State) → IsStateOf s.store old s → (effect : ℕ → Effect) → if_handle s app handle true effect ≡ answered s status 0)
+    → Does v 0 old old (λ s given. app_effect s app request given) (quiet_effect answer [])
+owner_refused v old app handle request owners status answer same plain never = does_answer v old old (λ s given. app_effect s app request given) answer (λ s. s)
+    (λ s stood. refused s app handle nothing_given status (never s stood) request owners ∙ (λ i. Some (answered s (sym same i) (sym plain i))))
+    (λ s stood. stood) (none_judged v old.kit [] untouched (None ∷ None ∷ []) refl refl) refl
+
+-- what was done to the table of a handle that leads there is what the application requested, where nothing is copied after it
+pub leads_plainly : {B C : Type 0} (v : ValidatorGhosts C) (most : ℕ) (old new : PartsView B C) (actor : Actor) (row : ℕ) (request : Request) (done : Done) → LeadsTo old actor request row → activates request ≡ false
+    → Does v most old new (owned_in row request) done → Does v most old new (λ s given. effect_of s actor request given) done
+leads_plainly v most old new actor row request done leads plain does = record {
+  effect = λ s stands. subst (Leaves s.store done new) (sym (same s stands)) (does.effect s stands);
+  judged = λ s stands. subst (IsJudged v old.kit new.kit done.verdicts) (sym (same s stands)) (does.judged s stands);
+  store = does.store;
+  note = does.note;
+  two = does.two;
+  within = does.within;
+} where
+  same : (s : State) → IsStateOf s.store old s → effect_of s actor request (given_of done) ≡ owned_in row request s (given_of done)
+  same s stands = leads.means s stands (given_of done) ∙ not_copied request row done.note (owned_in row request s (given_of done)) plain
+
+-- where a handle leads
+pub leads_to : {B C : Type 0} (old : PartsView B C) (app handle row : ℕ) (request : Request) → owners_handle request ≡ Some handle → (t : Table) → table_at old.tables row ≡ Some t
+    → ((s : State) → IsStateOf s.store old s → (effect : ℕ → Effect) → if_handle s app handle true effect ≡ effect row) → LeadsTo old (App app) request row
+leads_to old app handle row request owners t there may = record {
+  table = rw there cc;
+  means = λ s stood given. taken s app handle given row t (may s stood) (ap (λ (tables : Tables). table_at tables row) stood.tables ∙ there) request owners;
+}
+
+-- whoever asks for what packets tell of is an owner
+pub told_owners : (request : Request) (handle : ℕ) → told_handle request ≡ Some handle → owners_handle request ≡ Some handle
+told_owners (ask.LoadImage h image) handle is = is
+told_owners (ask.LoadFile h name) handle is = is
+told_owners (ask.Update h) handle is = is
+told_owners (ask.Validate h) handle is = is
+told_owners (ask.Manage h) handle is = is
+told_owners request handle is = absurd (cc is)
+
+-- ---- results
+
+-- what holds where a call was done holds of what it gave
+pub on_ok : {X Y : Type 0} (P : Type 0) (r : Result X Y) → OnOk r P → IfOk r (λ x. P)
+on_ok P (Ok x) p = p
+on_ok P (Err y) p = tt
+
+pub on_ok_then : {X Y P Q : Type 0} (r : Result X Y) → (P → Q) → OnOk r P → OnOk r Q
+on_ok_then (Ok x) then p = then p
+on_ok_then (Err y) then p = tt
+
+-- and it holds where it was done
+pub when_ok : {X Y P : Type 0} (r : Result X Y) → false ≡ is_err r → OnOk r P → P
+when_ok (Ok x) is p = p
+when_ok (Err y) is p = absurd (cc is)
+
+-- fewer events than that
+pub at_most : (least most : ℕ) (done : Done) → least ≤ most → IsWithin least done → IsWithin most done
+at_most least most done less within = let few = within.events in record { events = omega (arith, less, few); notice = within.notice; bytes = within.bytes }

@@ -26,9 +26,9 @@ use Rattle.tbl_laws.proofs.Crashes.{before_calls}
 use Rattle.cds_layout.specs.Images.{store_of}
 use Rattle.cds_store.specs.Moments.{BootLeaves}
 use Rattle.store_requests.specs.Called.{Leaving, with_boot, Troubled, IsSilent}
-use Rattle.tbl_core.specs.Service.{PartsView, state_of, step_of, events_alone, EndsIn, Makes, Meets}
+use Rattle.tbl_core.specs.Service.{PartsView, state_of, step_of, EndsIn, Makes, Meets}
 use Rattle.tbl_core.specs.Verdicts.{Judged}
-use Rattle.request_effects.specs.declared.effect.Effect.{Effect}
+use Rattle.request_effects.specs.Effects.{Effect}
 use Rattle.tbl_core.proofs.Verdicts.{none_judged}
 use Rattle.tbl_core.proofs.Pinning.{no_pins}
 use Rattle.tbl_outside.specs.declared.bank.Bank.{Ghosts}
@@ -76,22 +76,20 @@ module _ {B C : Type 0} (g : Ghosts B) (v : ValidatorGhosts C) (old new : PartsV
     (held : new ≡ after_reset kind (with_boot ended stopped found untouched) kept old)
     (note : done.note ≡ with_boot ended stopped found untouched)
     (answer : done.answer ≡ record { status = reset_status (with_boot ended stopped found untouched); detail = 0 })
-    (bytes : done.bytes.list ≡ [])
+    (bytes : done.bytes ≡ [])
     (silent : IsSilent done) where
   judged : Judged v old.kit new.kit [] done.verdicts
   judged =
       let same : new.kit ≡ old.kit = ap (λ (h : PartsView B C). h.kit) held in
       rw (same, silent.verdicts) (none_judged v old.kit [] untouched (None ∷ None ∷ []) refl refl)
 
-  pub reset_makes : kept.booted ≡ not ended → Troubled g old.store.bank kept.bank (with_boot ended stopped [] untouched) → Makes g v (events_alone 0) (ask.Reset kind) old new done
+  pub reset_makes : kept.booted ≡ not ended → Troubled g old.store.bank kept.bank (with_boot ended stopped [] untouched) → Makes g v (ask.Reset kind) old new done
   reset_makes booted trouble = record {
     fit = λ n fits. fit_at_first (suc n) (state_of new) (ap (λ (h : PartsView B C). h.tables) held) (ap (λ (h : PartsView B C). h.pending) held);
     judged = ([], judged);
     two = rw silent.verdicts refl;
     within = record {
       events = rw silent.events (omega arith);
-      shown = rw silent.shown (omega arith);
-      no_notice = λ _. silent.notice;
       notice = rw silent.notice tt;
       bytes = rw bytes (omega arith);
     };

@@ -1,5 +1,5 @@
 -- A request that calls the store was made: what it did, with any note that a boot after it may leave.
-use Rattle.std.proofs.Common.{◌≡◌, ◌≢◌, ◌∙◌, ℕ, suc, List, [], ◌∷◌, Bool, false, not, Option, Some, None, IsSome, unwrap_or, Result, Ok, refl, sym, ap, subst, inl, inr}
+use Rattle.std.proofs.Common.{◌≡◌, ◌≢◌, ◌∙◌, ℕ, suc, List, [], ◌∷◌, Bool, false, not, Option, Some, None, IsSome, unwrap_or, Result, Ok, refl, sym, ap, subst, inl, inr, arith}
 use Rattle.tbl_kinds.specs.Notes.{untouched}
 use Rattle.tbl_kinds.specs.Blocks.{Store as Blocks}
 use Rattle.tbl_model.specs.State.{State, Tables}
@@ -40,9 +40,9 @@ use Rattle.tbl_outside.proofs.Moments.{leaves_among}
 use Rattle.cds_layout.specs.Images.{store_of}
 use Rattle.store_requests.specs.Called.{NoBoot, with_boot, IsCall, IsCalled, Calls, GaveAsHeld}
 use Rattle.tbl_session.specs.Restores.{RestoresHeld}
-use Rattle.tbl_core.specs.Service.{PartsView, IsStateOf, HoldsAll, state_of, step_of, events_alone, HasEffect, Makes, Meets}
+use Rattle.tbl_core.specs.Service.{PartsView, IsStateOf, HoldsAll, state_of, step_of, HasEffect, Makes, Meets}
 use Rattle.tbl_core.specs.Verdicts.{Judged}
-use Rattle.request_effects.specs.declared.effect.Effect.{Effect}
+use Rattle.request_effects.specs.Effects.{Effect}
 use Rattle.tbl_core.proofs.Verdicts.{none_judged}
 use Rattle.tbl_outside.specs.declared.bank.Bank.{Ghosts}
 use Rattle.tbl_outside.specs.declared.validator.Validator.{Ghosts as ValidatorGhosts}
@@ -128,13 +128,13 @@ module _ {B C : Type 0} (g : Ghosts B) (v : ValidatorGhosts C) (old new : PartsV
         rw (same, call.verdicts) (none_judged v old.kit questions untouched (None ∷ None ∷ []) none refl)
 
     pub call_makes : ((n : ℕ) → AreFit n (state_of old) → AreFit (suc n) (record (state_of old) { tables = new.tables })) → Keeps old.tables new.tables → ((n : ℕ) → asks_address n request ≡ false)
-        → Makes g v (events_alone 0) request old new done
+        → Makes g v request old new done
     call_makes fit keeps none =
         let goes : new.ended ≡ false = ap (λ (h : PartsView B C). h.ended) held ∙ live in record {
           fit = λ n was. subst (AreFit (suc n)) (ap state_of (sym held)) (fit n was);
           judged = ([], unasked [] refl);
           two = rw call.verdicts refl;
-          within = call.within;
+          within = let few = call.within.events in record { events = omega (arith, few); notice = call.within.notice; bytes = call.within.bytes };
           booted = call.booted ∙ sym (ap not goes);
           ended = goes ∙ sym call.no_boot.ended;
           stopped = λ is. (call.stopped is, call.no_boot);
@@ -168,7 +168,7 @@ module _ {B C : Type 0} (g : Ghosts B) (v : ValidatorGhosts C) (old new : PartsV
     same_tables : new ≡ record old { store = new.store; tables = new.tables }
     same_tables = held ∙ ap (λ (tables : Tables). record old { store = new.store; tables = tables }) (sym (ap (λ (h : PartsView B C). h.tables) held))
 
-    pub block_makes : ((n : ℕ) → asks_address n request ≡ false) → Makes g v (events_alone 0) request old new done
+    pub block_makes : ((n : ℕ) → asks_address n request ≡ false) → Makes g v request old new done
     block_makes none = call_makes same_tables live call (λ n fit. subst (λ (tables : Tables). AreFit (suc n) (record (state_of old) { tables = tables })) (sym (ap (λ (h : PartsView B C). h.tables) held)) (grown n (state_of old) fit))
         (subst (Keeps old.tables) (sym (ap (λ (h : PartsView B C). h.tables) held)) (stays_keeps old.tables)) none
 

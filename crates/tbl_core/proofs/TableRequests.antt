@@ -1,5 +1,5 @@
 -- A request about tables was made: the parts stand for the state that it leaves, over the same blocks.
-use Rattle.std.proofs.Common.{◌≡◌, ◌∙◌, ℕ, suc, List, [], true, false, Option, Some, None, ℤ, refl, sym, ap, subst, inl, arith}
+use Rattle.std.proofs.Common.{◌≡◌, ◌≤◌, ◌∙◌, ℕ, suc, List, [], true, false, Option, Some, None, ℤ, refl, sym, ap, subst, inl, arith}
 use Rattle.tbl_kinds.specs.Notes.{untouched}
 use Rattle.tbl_kinds.specs.Blocks.{Store as Blocks}
 use Rattle.tbl_kinds.specs.StoreCalls.{StoreCall}
@@ -28,9 +28,9 @@ use Rattle.cds_layout.specs.Images.{store_of}
 use Rattle.store_requests.specs.Called.{Leaving, boots_after}
 use Rattle.tbl_session.specs.Restores.{RestoresHeld}
 use Rattle.request_effects.specs.Effects.{IsEffect, given_of}
-use Rattle.tbl_core.specs.Service.{PartsView, IsStateOf, state_of, step_of, Bounds, Leaves, IsJudged, Does, HasEffect, Has, Makes, Meets}
+use Rattle.tbl_core.specs.Service.{PartsView, IsStateOf, state_of, step_of, Leaves, IsJudged, Does, HasEffect, Has, Makes, Meets}
 use Rattle.tbl_core.specs.Verdicts.{Judged}
-use Rattle.request_effects.specs.declared.effect.Effect.{Effect}
+use Rattle.request_effects.specs.Effects.{Effect}
 use Rattle.tbl_outside.specs.declared.bank.Bank.{Ghosts}
 use Rattle.tbl_outside.specs.declared.validator.Validator.{Ghosts as ValidatorGhosts}
 
@@ -71,8 +71,8 @@ pub judged_there : {C : Type 0} (v : ValidatorGhosts C) (old new : List (Option 
     → found ≡ Some e → IsJudged v old new verdicts found → Judged v old new e.questions verdicts
 judged_there v old new verdicts found e is asks = subst (IsJudged v old new verdicts) is asks
 
-module _ {B C : Type 0} (g : Ghosts B) (v : ValidatorGhosts C) (bounds : Bounds) (old new : PartsView B C) (actor : Actor) (request : Request) (done : Effect)
-    (does : Does v bounds old new (λ s given. effect_of s actor request given) done) (live : old.ended ≡ false) (so_many : ℕ) (fits : AreFit so_many (state_of old)) where
+module _ {B C : Type 0} (g : Ghosts B) (v : ValidatorGhosts C) (most : ℕ) (old new : PartsView B C) (actor : Actor) (request : Request) (done : Effect)
+    (does : Does v most old new (λ s given. effect_of s actor request given) done) (few_enough : most ≤ 8) (live : old.ended ≡ false) (so_many : ℕ) (fits : AreFit so_many (state_of old)) where
   -- without blocks
   left : (e : model.Effect) × (effect_of (state_of old) actor request (given_of done) ≡ Some e) × (IsEffect done e.questions e.next e) × (IsStateOf [] new e.next)
   left = effect_left [] done new _ (does.effect (state_of old) (stands_in old))
@@ -91,12 +91,12 @@ module _ {B C : Type 0} (g : Ghosts B) (v : ValidatorGhosts C) (bounds : Bounds)
       (subst (λ (status : Status). HaveImages left.0.next.tables × PinsGoOn old.tables left.0.next.tables request status) left.2.status
       (law_pins (state_of old) so_many fits has actor request (given_of done) left.0 left.1 noted))
 
-  pub table_makes : old.store.booted ≡ true → is_reset request ≡ false → Makes g v bounds request old new done
+  pub table_makes : old.store.booted ≡ true → is_reset request ≡ false → Makes g v request old new done
   table_makes booted plain = record {
     fit = λ n fit. fit_without (suc n) [] (state_of new) (subst (AreFit (suc n)) (state_is new [] left.0.next left.3) (ordinary_left n fit).fit);
     judged = (left.0.questions, judged_there v old.kit new.kit done.verdicts _ left.0 left.1 (does.judged (state_of old) (stands_in old)));
     two = does.two;
-    within = does.within;
+    within = let few = does.within.events in record { events = omega (arith, few, few_enough); notice = does.within.notice; bytes = does.within.bytes };
     booted = rw (does.store, booted, goes) refl;
     ended = rw (goes, does.note) refl;
     stopped = rw does.note (λ is. absurd (cc is));

@@ -34,7 +34,7 @@ module _ {C : Type 0} (verdict : C → List ℕ → ℤ) where
   each_first given kit of (q ∷ more) (Some v ∷ verdicts) gives = (gives_first (entry_at given q.number) (entry_at kit q.number) q.image v (of q.number) gives.0, each_first given kit of more verdicts gives.1)
 
   -- one entry more
-  given_push : (given : List (Option (KitEntry C))) (r : Run) (es : List Entry) (e : Entry) → AreGiven verdict given r es → GivesEach verdict given (questions_in (run_from r es) e) e.verdicts → AreGiven verdict given r (es ++ e ∷ [])
+  given_push : (given : List (Option (KitEntry C))) (r : Run) (es : List Entry) (e : Entry) → AreGiven verdict given r es → GivesEach verdict given (questions_in (run_from r es) e) e.given.verdicts → AreGiven verdict given r (es ++ e ∷ [])
   given_push given r [] e before gives = (gives, tt)
   given_push given r (x ∷ es) e before gives = (before.0, given_push given (onward r x) es e before.1 gives)
 
@@ -70,6 +70,6 @@ module _ {C : Type 0} (v : ValidatorGhosts C) where
     verdicts = λ told.
         let judged = p.judged told (run_from (begins_at opening) old.entries) (vouched.stands.shows told) in
         subst (λ (es : List Entry). AreGiven v.verdict given (begins_at opening) es) (sym p.added)
-        (given_push v.verdict given (begins_at opening) old.entries p.entry (vouched.verdicts told) (each_first v.verdict given old.state.kit vouched.functions _ p.entry.verdicts judged.gives));
+        (given_push v.verdict given (begins_at opening) old.entries p.entry (vouched.verdicts told) (each_first v.verdict given old.state.kit vouched.functions _ p.entry.given.verdicts judged.gives));
     functions = λ number. of_before (count_by (is_for number) p.kit.0) (entry_at given number) (entry_at old.state.kit number) (entry_at new.state.kit number) (vouched.functions number) (p.kit.1.each number);
   }

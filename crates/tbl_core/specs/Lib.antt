@@ -1,6 +1,8 @@
 pub mod Ended
-pub mod Finish
+pub mod Requests
+pub mod Answers
 pub mod Log
+pub mod Numbers
 pub mod Owned
 pub mod Pins
 pub mod Service

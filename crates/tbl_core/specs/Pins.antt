@@ -70,10 +70,10 @@ pub record PinsGoOn (old new : Tables) (request : Request) (status : Status) : T
 abbrev pub IsGetAt : List Entry → ℕ → ℕ → Type 0
 IsGetAt entries place handle = (e : Entry) × (slice_get entries place ≡ Some e) × (gets_address handle e.request e.reply.status ≡ true)
 
--- these bytes may be the answer of a Read; no other request has use for them
+-- the request is a Read, and these bytes may be its answer
 abbrev pub MayBeLent : Request → Tables → List ℕ → Type 0
 MayBeLent (ask.Read handle offset len) tables slice = AreRead handle offset len tables slice
-MayBeLent _ tables slice = Unit {0}
+MayBeLent _ tables slice = ⊥
 
 -- the bytes that a Read asks for, of the image that was lent by its handle
 abbrev pub IsSliceOf : Pin → Request → List ℕ → Type 0

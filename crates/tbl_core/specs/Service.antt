@@ -1,5 +1,5 @@
 -- What the core keeps, and which histories it stands for.
-use Rattle.std.specs.Prelude.{◌≡◌, ◌⊎◌, ℕ, suc, ◌+◌, ◌*◌, ◌^◌, ◌<◌, List, [], ◌∷◌, ◌++◌, length, Bool, true, false, not, Option, Some, None, Result, slice_get}
+use Rattle.std.specs.Prelude.{◌≡◌, ◌⊎◌, ℕ, suc, ◌+◌, ◌*◌, ◌^◌, ◌<◌, List, [], ◌∷◌, ◌++◌, length, Bool, true, false, not, Option, Some, None, IsSome, Result, slice_get}
 use Rattle.std.specs.Option.{ForSome}
 use Rattle.std.proofs.Common.{ℤ}
 use Rattle.tbl_model.specs.State.{State, Handle, Tables, no_tables}
@@ -12,6 +12,7 @@ use Rattle.tbl_session.specs.Crashes.{DuringCalls, UnderWay, writes, all_calls_i
 use Rattle.tbl_kinds.specs.Admitted.{Admitted}
 use Rattle.tbl_kinds.specs.Drawer.{File}
 use Rattle.tbl_model.specs.Effects as model
+use Rattle.tbl_model.specs.Dispatch.{effect_of}
 use Rattle.tbl_model.specs.Counts.{Counts, counts_of}
 use Rattle.tbl_model.specs.CountsAfter.{tally_of, counts_after}
 use Rattle.tbl_model.specs.Replies.{packets_by}
@@ -24,8 +25,8 @@ use Rattle.tbl_kinds.specs.declared.entry.Entry.{Entry}
 use Rattle.tbl_kinds.specs.declared.entry.Reply.{Reply}
 use Rattle.tbl_kinds.specs.declared.request.Actor.{Actor}
 use Rattle.tbl_kinds.specs.declared.request.Request.{Request}
-use Rattle.tbl_core.specs.Log.{Logged, entry_of}
-use Rattle.tbl_core.specs.Pins.{handle_limit, place_in, gets_after, gets_address, HaveImages, PinsGoOn, IsGetAt}
+use Rattle.tbl_core.specs.Numbers.{AreCounts}
+use Rattle.tbl_core.specs.Pins.{handle_limit, place_in, gets_address, HaveImages, PinsGoOn, IsGetAt}
 use Rattle.tbl_model.specs.TableSteps.{handle_at}
 use Rattle.tbl_registry.specs.Lending.{pins_image, pinned_image}
 use Rattle.tbl_registry.specs.declared.pin.Pin.{Pin}
@@ -45,20 +46,19 @@ use Rattle.tbl_kinds.specs.declared.status.TheConstants.Status.{INFO_STOPPED}
 use Rattle.tbl_model.specs.Copies.{then_copy}
 use Rattle.store_requests.specs.Called.{NoBoot, boots_after, Troubled, Leaving, done_first, CallsAfter}
 use Rattle.tbl_session.specs.Restores.{RestoresHeld}
-use Rattle.request_effects.specs.Requests.{asks_notice, shown_room, most_owned_events, most_events}
-use Rattle.tbl_model.specs.Commands.{ReadCommand}
 use Rattle.tbl_core.specs.Ended.{Follows, session_end}
-use Rattle.tbl_core.specs.Owned.{owned_at}
+use Rattle.tbl_core.specs.Owned.{owned_at, copied_at}
 use Rattle.table_requests.specs.Limits.{AreCounted, AreSendable}
 use Rattle.store_requests.specs.Copying.{IsCopyCall}
-use Rattle.request_effects.specs.Effects.{IsEffect, IsWithin, uncalled, given_of, told_at}
+use Rattle.request_effects.specs.Reports.{most_events}
+use Rattle.request_effects.specs.Effects.{Effect, IsEffect, IsWithin, uncalled, given_of}
 use Rattle.tbl_kinds.specs.Notes.{untouched}
 use Rattle.tbl_model.specs.Given.{Given}
 use Rattle.tbl_core.specs.Verdicts.{Judged}
 use Rattle.tbl_session.specs.Verdicts.{questions_in, AreGiven, AreOf}
-use Rattle.request_effects.specs.declared.effect.Effect.{Effect}
-use Rattle.request_effects.specs.declared.clock.Clock.{Clock}
+use Rattle.reply_packets.specs.Counters.{counts_view}
 use Rattle.tbl_core.specs.declared.parts.Parts.{Parts}
+use Rattle.tbl_core.specs.declared.playing.Service.{Service}
 use Rattle.tbl_core.specs.declared.service.StartFault.{StartFault}
 use Rattle.tbl_core.specs.declared.service.StartFault.TheVariants.{Memory, BootFault, BootStopped}
 use Rattle.tbl_core.specs.declared.service.StepFault.{StepFault}
@@ -101,8 +101,8 @@ parts_view parts = record {
   ended = parts.ended;
 }
 
-abbrev pub view_of : {B C : Type 0} → Parts B C → CoreView B C
-view_of parts = record { entries = parts.log.entries; state = parts_view parts; counts = parts.log.counts; gets = parts.log.gets }
+abbrev pub view_of : {B C : Type 0} → Service B C → CoreView B C
+view_of service = record { entries = service.log.entries; state = parts_view service.parts; counts = counts_view service.counters; gets = service.log.gets }
 
 -- ---- what the parts stand for
 
@@ -169,6 +169,7 @@ pub record IsReady {B C : Type 0} (v : ValidatorGhosts C) (core : CoreView B C) 
   pub booted : core.state.store.booted ≡ not core.state.ended
   pub kit : AskedBelow v.asked (2 ^ 62 + 2 * length core.entries) core.state.kit
   pub images : HaveImages core.state.tables
+  pub numbers : AreCounts core.counts
   pub places : length core.gets ≡ handle_limit
   pub gets : (handle : ℕ) (h : Handle) (p : ℕ) → handle < handle_limit → handle_at core.state.tables handle ≡ Some h → h.pin ≡ Some p → IsGetAt core.entries (place_in core.gets handle) handle
 
@@ -193,19 +194,6 @@ pub record Step (B C : Type 0) : Type 0 where
 abbrev pub step_of : {B C : Type 0} → PartsView B C → PartsView B C → Request → Step B C
 step_of old new request = record { old = old; new = new; request = request }
 
--- how much may be told of a request: so many events, a packet after the events of so many bytes, and a notice, if it owes one
-pub record Bounds : Type 0 where
-  pub most : ℕ
-  pub room : ℕ
-  pub owes : Bool
-
-abbrev pub bounds_of : Request → ReadCommand → Bounds
-bounds_of request command = record { most = most_events request command; room = shown_room command; owes = asks_notice command }
-
--- so many events, and nothing else
-abbrev pub events_alone : ℕ → Bounds
-events_alone most = record { most = most; room = 0; owes = false }
-
 -- ---- one request about tables
 
 -- the request has this effect, and the parts stand for the state that it leaves, over the same blocks
@@ -218,24 +206,29 @@ abbrev pub IsJudged : {C : Type 0} → ValidatorGhosts C → List (Option (KitEn
 IsJudged v old new verdicts None = ⊥
 IsJudged v old new verdicts (Some e) = Judged v old new e.questions verdicts
 
--- the request was done: this was its effect, the kit gave what it was asked for, no more is told than there is room for, and
--- the store wasn't called
-pub record Does {B C : Type 0} (v : ValidatorGhosts C) (bounds : Bounds) (old new : PartsView B C) (means : State → Given → Option model.Effect) (done : Effect) : Type 0 where
+-- the request was done: this was its effect, the kit gave what it was asked for, no more events are told, and the store wasn't
+-- called
+pub record Does {B C : Type 0} (v : ValidatorGhosts C) (most : ℕ) (old new : PartsView B C) (means : State → Given → Option model.Effect) (done : Effect) : Type 0 where
   pub effect : (s : State) → IsStateOf s.store old s → Leaves s.store done new (means s (given_of done))
   pub judged : (s : State) → IsStateOf s.store old s → IsJudged v old.kit new.kit done.verdicts (means s (given_of done))
   pub store : new.store ≡ old.store
   pub note : done.note ≡ untouched
   pub two : length done.verdicts ≡ 2
-  pub within : IsWithin bounds.most bounds.room bounds.owes done
+  pub within : IsWithin most done
 
 -- what the owner of the table in a row asks for it
 abbrev pub owned_in : ℕ → Request → State → Given → Option model.Effect
 owned_in row request s given = owned_at (table_at s.tables row) s row request given
 
+-- an application requests this of the table in the row, as its owner
+pub record LeadsTo {B C : Type 0} (held : PartsView B C) (actor : Actor) (request : Request) (row : ℕ) : Type 0 where
+  pub table : IsSome (table_at held.tables row)
+  pub means : (s : State) → IsStateOf s.store held s → (given : Given) → effect_of s actor request given ≡ copied_at request row given.note (owned_in row request s given)
+
 -- the request was done to the table in this row, and an image that went active by it was copied
 pub record DoesAndCopies {B C : Type 0} (g : Ghosts B) (v : ValidatorGhosts C) (old new : PartsView B C) (row : ℕ) (request : Request) (done : Effect) : Type 0 where
   pub before : Effect  -- the copy
-  pub does : Does v (events_alone (most_owned_events request)) old (record new { store = old.store }) (owned_in row request) before
+  pub does : Does v 3 old (record new { store = old.store }) (owned_in row request) before
   pub copied : g.tells → (e : model.Effect) → IsEffect before e.questions e.next e → e.next.tables ≡ new.tables → HasBlocks g.tells g.now old.store e.next.store
       → CallsAfter g old.store new.store (done_first e) done (λ n. then_copy row n e)
   pub call : IsCopyCall g old.store new.store before done
@@ -263,11 +256,11 @@ Has g v step s done note None = ⊥
 Has g v step s done note (Some e) = HasEffect g v step s done note e
 
 -- the request was made. This holds over a bank that doesn't tell its bytes too
-pub record Makes {B C : Type 0} (g : Ghosts B) (v : ValidatorGhosts C) (bounds : Bounds) (request : Request) (old new : PartsView B C) (done : Effect) : Type 0 where
+pub record Makes {B C : Type 0} (g : Ghosts B) (v : ValidatorGhosts C) (request : Request) (old new : PartsView B C) (done : Effect) : Type 0 where
   pub fit : (n : ℕ) → AreFit n (state_of old) → AreFit (suc n) (state_of new)
   pub judged : (questions : List Question) × Judged v old.kit new.kit questions done.verdicts
   pub two : length done.verdicts ≡ 2
-  pub within : IsWithin bounds.most bounds.room bounds.owes done
+  pub within : IsWithin most_events done
   pub booted : new.store.booted ≡ not new.ended
   pub ended : new.ended ≡ done.note.ended
   pub stopped : done.note.outcome ≡ Stopped → (done.answer.status ≡ INFO_STOPPED) × NoBoot done.note
@@ -312,17 +305,6 @@ pub record IsMade {B C : Type 0} (g : Ghosts B) (v : ValidatorGhosts C) (step : 
 
 -- ---- one entry
 
--- an entry tells the effect, and it is counted
-pub record Finishes (old new : Logged) (clock : Clock) (tables : Tables) (actor : Actor) (request : Request) (done : Effect) : Type 0 where
-  pub reply : Reply
-  pub status : reply.status ≡ done.answer.status
-  pub detail : reply.detail ≡ done.answer.detail
-  pub bytes : reply.bytes.list ≡ done.bytes.list
-  pub packets : reply.packets.list ≡ packets_by old.counts new.counts (told_at clock.seconds clock.sub tables request done)
-  pub counts : new.counts ≡ counts_after old.counts (tally_of (told_at clock.seconds clock.sub tables request done))
-  pub entries : new.entries ≡ old.entries ++ entry_of actor request reply (given_of done) ∷ []
-  pub gets : new.gets ≡ gets_after old.gets (length old.entries) (entry_of actor request reply (given_of done))
-
 -- whatever image a handle pins after an entry it pinned before, by the call at the same place, or the entry is that call; and by an
 -- entry that got an address its handle pins, from its place on
 pub record PinsOnward {B C : Type 0} (old new : CoreView B C) : Type 0 where
@@ -339,14 +321,14 @@ pub record Plays {B C : Type 0} (g : Ghosts B) (v : ValidatorGhosts C) (old new 
   pub added : new.entries ≡ old.entries ++ entry ∷ []
   pub answered : g.tells → (r : Run) → Shows g old r → IsAnswered r entry
   pub shows : g.tells → (r : Run) → Shows g old r → Shows g new (onward r entry)
-  pub ended : new.state.ended ≡ entry.note.ended
-  pub ends : result ≡ session_end entry.note
+  pub ended : new.state.ended ≡ entry.given.note.ended
+  pub ends : result ≡ session_end entry.given.note
   pub ready : IsReady v new
-  pub judged : g.tells → (r : Run) → Shows g old r → Judged v old.state.kit new.state.kit (questions_in r entry) entry.verdicts
-  pub kit : (questions : List Question) × Judged v old.state.kit new.state.kit questions entry.verdicts
-  pub gave : g.tells → (r : Run) → Shows g old r → RestoresHeld (g.now old.state.store.bank) (all_calls_in r entry) r.state.store entry.note
-  pub trouble : Troubled g old.state.store.bank new.state.store.bank entry.note
-  pub cause : HasCause entry.reply.status entry.note
+  pub judged : g.tells → (r : Run) → Shows g old r → Judged v old.state.kit new.state.kit (questions_in r entry) entry.given.verdicts
+  pub kit : (questions : List Question) × Judged v old.state.kit new.state.kit questions entry.given.verdicts
+  pub gave : g.tells → (r : Run) → Shows g old r → RestoresHeld (g.now old.state.store.bank) (all_calls_in r entry) r.state.store entry.given.note
+  pub trouble : Troubled g old.state.store.bank new.state.store.bank entry.given.note
+  pub cause : HasCause entry.reply.status entry.given.note
   pub moments : g.tells → (r : Run) → Shows g old r → Leaving g old.state.store new.state.store (UnderWay r entry)
   pub pins : PinsOnward old new
 
@@ -364,10 +346,10 @@ pub record AddsOne {B C : Type 0} (g : Ghosts B) (old new : CoreView B C) (actor
   pub actor_is : entry.actor ≡ actor
   pub request_is : entry.request ≡ request
   pub added : new.entries ≡ old.entries ++ entry ∷ []
-  pub ended : new.state.ended ≡ entry.note.ended
-  pub ends : result ≡ session_end entry.note
-  pub trouble : Troubled g old.state.store.bank new.state.store.bank entry.note
-  pub cause : HasCause entry.reply.status entry.note
+  pub ended : new.state.ended ≡ entry.given.note.ended
+  pub ends : result ≡ session_end entry.given.note
+  pub trouble : Troubled g old.state.store.bank new.state.store.bank entry.given.note
+  pub cause : HasCause entry.reply.status entry.given.note
 
 -- why a start isn't done
 abbrev pub start_fault : BankFault → StartFault

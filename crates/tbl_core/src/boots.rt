@@ -3,7 +3,7 @@
 ghost use Rattle.std.specs.Prelude.{◌≡◌, [], replicate, not, true, false, None, Some, IfOk, OnErr};
 ghost use Rattle.tbl_kinds.specs.Blocks.{Store as Blocks};
 ghost use Rattle.tbl_kinds.specs.Notes.{untouched};
-ghost use Rattle.tbl_kinds.specs.declared.note.Outcome.TheVariants.{Stopped};
+ghost use Rattle.tbl_kinds.specs.declared.note.Outcome.TheVariants.{Untouched, Stopped};
 ghost use Rattle.tbl_kinds.specs.declared.request.ResetKind.TheVariants.{Processor};
 ghost use Rattle.tbl_kinds.specs.declared.request.Request.TheVariants as ask;
 ghost use Rattle.tbl_model.specs.State.{State, no_tables};
@@ -15,7 +15,7 @@ ghost use Rattle.tbl_kinds.specs.StoreSteps.{Shows as ShowsBlocks};
 ghost use Rattle.tbl_outside.specs.Bank.{LeavesOnly};
 ghost use Rattle.tbl_core.specs.Ended.{Follows, boot_only, session_end};
 ghost use Rattle.store_requests.specs.Called.{NoBoot, Leaving, boots_after, with_boot, Troubled};
-ghost use Rattle.tbl_core.specs.Service.{HoldsAll, Makes, Meets, events_alone, parts_view, step_of, after_stop};
+ghost use Rattle.tbl_core.specs.Service.{HoldsAll, Makes, Meets, parts_view, step_of, after_stop};
 
 use crate::parts::Parts;
 use crate::service::StepFault;
@@ -24,7 +24,7 @@ use request_effects::Effect;
 use sharing::Apps;
 use std::mem;
 use store_requests::{note_room, noted};
-use tbl_kinds::{Answer, BankNote, Bytes, Memory, Note, Outcome, ResetKind, Status};
+use tbl_kinds::{Answer, BankNote, Bytes, Given, Memory, Note, Outcome, ResetKind, Status};
 use tbl_outside::{Bank, Validator};
 
 /// The store boots, and the note tells how it went.
@@ -62,11 +62,12 @@ fn reset_status(note: &BankNote) -> Status
     Status::ERR_BOOT_FAULT
 }
 
-/// Whether a boot ended the service in the request of this note.
-pub(crate) fn session_end(note: &Note) -> Result<(), StepFault>
-    ensures { result ≡ session_end note.now }
+/// Whether a boot ended the service in the request to which this was given.
+#[tactic(auto, using(tbl_kinds::proofs::PlainNotes::plain_goes_on))]
+pub(crate) fn session_end(given: &Given) -> Result<(), StepFault>
+    ensures { result ≡ session_end given.now.note }
 {
-    match note.touched() {
+    match given.touched() {
         Some(note) if note.ended && note.stopped => Err(StepFault::BootStopped),
         Some(note) if note.ended => Err(StepFault::BootFault),
         _ => Ok(()),
@@ -86,7 +87,7 @@ impl<B: Bank, C: Validator> Parts<B, C> {
         ensures trouble { Troubled B.Bank self.old.store.bank self.new.store.bank (with_boot note.exit.now.ended note.exit.now.stopped [] untouched) }
         ensures moments { B.tells_moments → (blocks : Blocks) → HasBlocks B.tells B.now self.old.store blocks
             → LeavesOnly B.clock B.left_since self.old.store.bank self.new.store.bank (BootLeaves kind blocks) }
-        ensures log { self.new.log ≡ self.old.log }
+        ensures report { self.new.report ≡ self.old.report }
     {
         boot_store(&mut self.store, kind, note);
         self.tables.clear();
@@ -97,7 +98,7 @@ impl<B: Bank, C: Validator> Parts<B, C> {
     /// What outlives a reset of the processor goes with a power-on: uplinked files, and applications that run.
     fn clear_at_power_on(&mut self, kind: ResetKind)
         ensures held { parts_view self.new ≡ record (parts_view self.old) { drawer = if_processor kind self.old.drawer []; apps = if_processor kind self.old.apps (replicate 16 None) } }
-        ensures log { self.new.log ≡ self.old.log }
+        ensures report { self.new.report ≡ self.old.report }
     {
         match kind {
             ResetKind::Processor => {}
@@ -112,44 +113,43 @@ impl<B: Bank, C: Validator> Parts<B, C> {
     pub(crate) fn reset(&mut self, kind: ResetKind, empty: Bytes) -> Result<Effect, Memory>
         requires empty { empty.list ≡ [] }
         requires live { self.old.ended ≡ false }
-        ensures makes { IfOk result (Makes B.Bank C.Validator (events_alone 0) (ask.Reset kind) (parts_view self.old) (parts_view self.new)) }
+        ensures no_call { IfOk result (λ done. done.note.outcome ≡ Untouched) }
+        ensures makes { IfOk result (Makes B.Bank C.Validator (ask.Reset kind) (parts_view self.old) (parts_view self.new)) }
         ensures meets { IfOk result (Meets B.Bank C.Validator (step_of (parts_view self.old) (parts_view self.new) (ask.Reset kind)) (λ s given. Some (reset_effect s kind given.note))) }
-        ensures log { self.new.log ≡ self.old.log }
+        ensures report { self.new.report ≡ self.old.report }
         ensures err { OnErr result (parts_view self.new ≡ parts_view self.old) }
     {
-        let mut note = note_room(self.alloc)?;
-        self.boot(kind, &mut note);
+        let mut whole = note_room(self.alloc)?;
+        self.boot(kind, &mut whole.note);
         self.clear_at_power_on(kind);
-        let status = reset_status(&note);
-        Ok(noted(Answer::plain(status), empty, note))
+        let status = reset_status(&whole.note);
+        Ok(noted(Answer::plain(status), empty, whole))
     }
 
-    /// Boots as after a reset of the processor where a call of the store was stopped in the request of this effect. What the
-    /// request did before stays in the effect, and is told by no packet, as the processor was reset; the note tells how the boot
-    /// went.
-    pub(crate) fn boot_if_stopped(&mut self, effect: &mut Effect)
-        requires fresh { effect.old.note.outcome ≡ Stopped → NoBoot effect.old.note }
-        requires live { effect.old.note.outcome ≡ Stopped → self.old.ended ≡ false }
-        ensures effect { effect.new ≡ record effect.old { note = effect.new.note } }
-        ensures note { Follows effect.old.note effect.new.note }
-        ensures held { parts_view self.new ≡ after_stop effect.old.note.outcome effect.new.note self.new.store (parts_view self.old) }
-        ensures booted { effect.old.note.outcome ≡ Stopped → self.new.store.booted ≡ not effect.new.note.ended }
+    /// Boots as after a reset of the processor where a call of the store was stopped in the request of this note. The note tells
+    /// how the boot went.
+    pub(crate) fn boot_if_stopped(&mut self, note: &mut Note)
+        requires fresh { note.old.outcome ≡ Stopped → NoBoot note.old }
+        requires live { note.old.outcome ≡ Stopped → self.old.ended ≡ false }
+        ensures note { Follows note.old note.new }
+        ensures held { parts_view self.new ≡ after_stop note.old.outcome note.new self.new.store (parts_view self.old) }
+        ensures booted { note.old.outcome ≡ Stopped → self.new.store.booted ≡ not note.new.ended }
         ensures boots { B.tells → (s : State) → HoldsAll B.Bank (parts_view self.old) s
-            → HoldsAll B.Bank (parts_view self.new) (boots_after effect.old.note.outcome effect.new.note s) }
-        ensures found { B.tells → (s : State) → HoldsAll B.Bank (parts_view self.old) s → effect.old.note.outcome ≡ Stopped
-            → Boots (Some Processor) s.store effect.new.note }
-        ensures trouble { Troubled B.Bank self.old.store.bank self.new.store.bank (boot_only effect.old.note.outcome effect.new.note) }
-        ensures moments { B.tells → (s : State) → HoldsAll B.Bank (parts_view self.old) s → effect.old.note.outcome ≡ Stopped
+            → HoldsAll B.Bank (parts_view self.new) (boots_after note.old.outcome note.new s) }
+        ensures found { B.tells → (s : State) → HoldsAll B.Bank (parts_view self.old) s → note.old.outcome ≡ Stopped
+            → Boots (Some Processor) s.store note.new }
+        ensures trouble { Troubled B.Bank self.old.store.bank self.new.store.bank (boot_only note.old.outcome note.new) }
+        ensures moments { B.tells → (s : State) → HoldsAll B.Bank (parts_view self.old) s → note.old.outcome ≡ Stopped
             → Leaving B.Bank self.old.store self.new.store (ShowsBlocks s.store) }
-        ensures log { self.new.log ≡ self.old.log }
+        ensures report { self.new.report ≡ self.old.report }
     {
-        if effect.note.outcome() != Outcome::Stopped {
+        if note.outcome() != Outcome::Stopped {
             return;
         }
-        let Some(mut note) = mem::replace(&mut effect.note, Note::untouched()).taken() else {
+        let Some(mut whole) = mem::replace(note, Note::untouched()).taken() else {
             unreachable!();
         };
-        self.boot(ResetKind::Processor, &mut note);
-        effect.note = Note::of(note);
+        self.boot(ResetKind::Processor, &mut whole.note);
+        *note = Note::of(whole);
     }
 }

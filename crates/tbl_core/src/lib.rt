@@ -3,9 +3,9 @@
 
 mod boots;
 mod dispatch;
-mod finish;
 mod log;
 mod parts;
+mod playing;
 mod service;
 
 pub use service::{Core, StartFault, StepFault};

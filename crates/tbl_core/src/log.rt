@@ -1,29 +1,22 @@
-//! The history, what telemetry counts over it, and where in it addresses were got.
+//! The history, and where in it addresses were got.
 
 ghost use Rattle.std.specs.Prelude.{◌≡◌, ◌<◌, ◌||◌, ◌==◌, ◌∷◌, [], ◌++◌, length, replicate, IfOk, OnOk, All, if◌then◌else◌, slice_set};
-ghost use Rattle.std.specs.Option.{option_copied};
-ghost use Rattle.tbl_model.specs.Counts.{no_counts};
-ghost use Rattle.tbl_model.specs.CountsAfter.{counts_after};
 ghost use Rattle.tbl_kinds.specs.Records.{record_limit};
 ghost use Rattle.tbl_model.specs.Whole.{is_done};
 ghost use Rattle.tbl_core.specs.Log.{IsSmall};
 ghost use Rattle.tbl_core.specs.Pins.{place_in, gets_after};
 
-use reply_packets::{Counters, Tally};
-use request_effects::Clock;
 use std::alloc::Global;
 use std::marker::Model;
-use tbl_kinds::{Entry, Memory, Name40, Name64, Request, Status};
-use tbl_model::TelemetryEvent;
+use tbl_kinds::{Entry, Memory, Request, Status};
 
 /// How many handles there can be (`CFE_PLATFORM_TBL_MAX_NUM_HANDLES`).
 const HANDLES: usize = 256;
 
-/// The entries in their order, the running numbers of telemetry, and reserved room for further entries.
+/// The entries in their order, and reserved room for further ones.
 #[derive(Drop)]
 pub(crate) struct Log {
     entries: Vec<Entry>,
-    counters: Counters,
     /// For each handle the place of the latest entry that got an address by it.
     gets: Vec<u32>,
 }
@@ -36,9 +29,8 @@ impl Model for Log {
     ghost use Rattle.std.specs.Prelude.{◌≡◌, ◌-◌, All, length, vec_len, vec_capacity};
     ghost use Rattle.tbl_core.specs.Log.{IsSmall};
     ghost use Rattle.tbl_core.specs.Pins.{handle_limit};
-    ghost use Rattle.reply_packets.specs.Counters.{counts_view};
 
-    ghost view = { λ l. record { entries = l.entries.items; counts = counts_view l.counters; gets = l.gets.items; spare = vec_capacity l.entries - vec_len l.entries } };
+    ghost view = { λ l. record { entries = l.entries.items; gets = l.gets.items; spare = vec_capacity l.entries - vec_len l.entries } };
 
     ghost invariant = { λ l. All IsSmall l.entries.items × (length l.gets.items ≡ handle_limit) };
 }
@@ -79,17 +71,13 @@ fn no_places(alloc: Global) -> Result<Vec<u32>, Memory>
 }
 
 impl Log {
-    ghost use Rattle.reply_packets.specs.Counters.{counts_view, tally_view};
-
     /// An empty history.
     pub(crate) fn make(alloc: Global) -> Result<Log, Memory>
         ensures entries { IfOk result (λ log. log.entries ≡ []) }
-        ensures counts { IfOk result (λ log. log.counts ≡ no_counts) }
         ensures places { IfOk result (λ log. length log.gets ≡ 256) }
     {
         Ok(Log {
             entries: Vec::new(alloc),
-            counters: Counters::make(),
             gets: no_places(alloc)?,
         })
     }
@@ -100,13 +88,6 @@ impl Log {
         ensures small { All IsSmall result.now }
     {
         self.entries.as_slice()
-    }
-
-    /// The running numbers.
-    pub(crate) fn counters(&self) -> &Counters
-        ensures { counts_view result.now ≡ self.now.counts }
-    {
-        &self.counters
     }
 
     /// The place of the latest entry that got an address by this handle, 0 where there is none.
@@ -123,38 +104,19 @@ impl Log {
     pub(crate) fn reserve(&mut self) -> Result<(), Memory>
         ensures entries { self.new.entries ≡ self.old.entries }
         ensures gets { self.new.gets ≡ self.old.gets }
-        ensures counts { self.new.counts ≡ self.old.counts }
         ensures room { OnOk result (0 < self.new.spare) }
     {
         self.entries.reserve(1)?;
         Ok(())
     }
 
-    /// Counts what an entry adds, with what was done in it at this time, and the table that was loaded from a file.
-    pub(crate) fn count(
-        &mut self,
-        tally: Tally,
-        clock: Clock,
-        events: &[TelemetryEvent],
-        loaded: Option<&Name40>,
-        loaded_file: Option<&Name64>,
-    )
-        ensures entries { self.new.entries ≡ self.old.entries }
-        ensures gets { self.new.gets ≡ self.old.gets }
-        ensures room { self.new.spare ≡ self.old.spare }
-        ensures counts { self.new.counts ≡ counts_after self.old.counts (tally_view tally clock events.now (option_copied loaded.entry) (option_copied loaded_file.entry)) }
-    {
-        self.counters.add(tally, clock, events, loaded, loaded_file);
-    }
-
-    /// Adds an entry, which was counted.
+    /// Adds an entry.
     pub(crate) fn enter(&mut self, entry: Entry)
         requires room { 0 < self.old.spare }
         requires few { length self.old.entries < record_limit }
         requires small { IsSmall entry }
         ensures gets { self.new.gets ≡ gets_after self.old.gets (length self.old.entries) entry }
         ensures entries { self.new.entries ≡ self.old.entries ++ entry ∷ [] }
-        ensures counts { self.new.counts ≡ self.old.counts }
     {
         keep_place(&mut self.gets, &entry, self.entries.len() as u32);
         self.entries.push_reserved(entry);

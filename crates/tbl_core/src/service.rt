@@ -30,7 +30,7 @@ ghost use Rattle.tbl_core.specs.Verdicts.{Judged};
 ghost use Rattle.tbl_session.specs.Verdicts.{questions_in, KeepsToFunctions};
 ghost use Rattle.tbl_kinds.specs.declared.entry.Entry.{Entry};
 
-use crate::parts::Parts;
+use crate::playing::Service;
 use cds_store::BankFault;
 use std::alloc::Global;
 use std::marker::Model;
@@ -76,7 +76,7 @@ impl From<BankFault> for StartFault {
 /// history of all that was requested and answered.
 #[derive(Drop)]
 pub struct Core<B: Bank, C: Validator> {
-    parts: Parts<B, C>,
+    service: Service<B, C>,
 }
 
 impl<B: Bank, C: Validator> Model for Core<B, C> {
@@ -86,9 +86,9 @@ impl<B: Bank, C: Validator> Model for Core<B, C> {
 
     ghost use Rattle.tbl_core.specs.Service.{view_of, IsReady};
 
-    ghost view = { λ c. view_of c.parts };
+    ghost view = { λ c. view_of c.service };
 
-    ghost invariant = { λ c. IsReady C.Validator (view_of c.parts) };
+    ghost invariant = { λ c. IsReady C.Validator (view_of c.service) };
 }
 
 impl<B: Bank, C: Validator> Core<B, C> {
@@ -117,8 +117,8 @@ impl<B: Bank, C: Validator> Core<B, C> {
         ensures cause { IfErr result (λ back. StartCounted B.Bank bank back.bank back.cause) }
         ensures room_err { IfErr result (λ back. bank_size ≤ B.size back.bank) }
     {
-        let mut parts = match Parts::make(alloc, bank, kit, admit) {
-            Ok(parts) => parts,
+        let mut service = match Service::make(alloc, bank, kit, admit) {
+            Ok(service) => service,
             Err(Back { bank, .. }) => {
                 return Err(Back {
                     cause: StartFault::Memory,
@@ -126,11 +126,11 @@ impl<B: Bank, C: Validator> Core<B, C> {
                 });
             }
         };
-        match parts.store.boot(ResetKind::Processor) {
-            Ok(_found) => Ok(Core { parts }),
+        match service.parts.store.boot(ResetKind::Processor) {
+            Ok(_found) => Ok(Core { service }),
             Err(fault) => Err(Back {
                 cause: StartFault::from(fault),
-                bank: parts.end(),
+                bank: service.parts.end(),
             }),
         }
     }
@@ -140,7 +140,7 @@ impl<B: Bank, C: Validator> Core<B, C> {
         ensures bank { result ≡ self.state.store.bank }
         ensures room { bank_size ≤ B.size result }
     {
-        self.parts.end()
+        self.service.parts.end()
     }
 
     /// All that was requested and answered, in order.
@@ -148,14 +148,14 @@ impl<B: Bank, C: Validator> Core<B, C> {
         ensures entries { result.now ≡ self.now.entries }
         ensures small { All IsSmall result.now }
     {
-        self.parts.log.entries()
+        self.service.log.entries()
     }
 
     /// Whether the service plays a further request: no boot of it has failed or was stopped.
     pub fn is_live(&self) -> bool
         ensures { IsTrue result ↔ (self.now.state.ended ≡ false) }
     {
-        self.parts.is_live()
+        self.service.parts.is_live()
     }
 
     /// Plays one request, and adds its entry to the history. Where the service boots in it and that boot fails or is stopped,
@@ -174,7 +174,7 @@ impl<B: Bank, C: Validator> Core<B, C> {
             → AreBacked (run_from (begins_at opening) self.new.entries).state) }
         // The functions were asked what the request asks, and the entry has their verdicts.
         ensures judged { OnPlayed result ((e : Entry) × (self.new.entries ≡ self.old.entries ++ e ∷ []) × (B.tells → (opening : State) → FollowsFrom B.Bank opening self.old
-            → Judged C.Validator self.old.state.kit self.new.state.kit (questions_in (run_from (begins_at opening) self.old.entries) e) e.verdicts)) }
+            → Judged C.Validator self.old.state.kit self.new.state.kit (questions_in (run_from (begins_at opening) self.old.entries) e) e.given.verdicts)) }
         // No image went active that its table's function didn't answer for.
         ensures vouched { OnPlayed result (B.tells → (opening : State) → opening.tables ≡ no_tables → opening.pending ≡ [] → FollowsFrom B.Bank opening self.old → IsVouched opening self.new.entries) }
         // Whatever functions it was given at first, the history's verdicts are still theirs.
@@ -185,7 +185,8 @@ impl<B: Bank, C: Validator> Core<B, C> {
             → KeepsToFunctions C.verdict given opening self.new.entries) }
         // What a restore gave is what its block held in the bank as the step began.
         ensures gave { OnPlayed result ((e : Entry) × (self.new.entries ≡ self.old.entries ++ e ∷ []) × (B.tells → (opening : State) → FollowsFrom B.Bank opening self.old
-            → RestoresHeld (B.now self.old.state.store.bank) (all_calls_in (run_from (begins_at opening) self.old.entries) e) (run_from (begins_at opening) self.old.entries).state.store e.note)) }
+            → RestoresHeld (B.now self.old.state.store.bank) (all_calls_in (run_from (begins_at opening) self.old.entries) e)
+            (run_from (begins_at opening) self.old.entries).state.store e.given.note)) }
         // A reset at any moment in it leaves the store as it was after the entries before, or what this request made of it so far.
         ensures crash { OnPlayed result (B.tells_moments → (opening : State) → FollowsFrom B.Bank opening self.old
             → LeavesOnly B.clock B.left_since self.old.state.store.bank self.new.state.store.bank (λ image. AfterCrash opening self.new.entries (length self.old.entries) (store_of image))) }
@@ -203,7 +204,7 @@ impl<B: Bank, C: Validator> Core<B, C> {
         ensures live { OnOk result (self.new.state.ended ≡ false) }
         ensures err { result ≡ Err StepFault.Memory → self.new ≡ self.old }
     {
-        self.parts.play(actor, request, None)
+        self.service.play(actor, request)
     }
 
     /// Plays a Read by a handle whose image was lent, like `step`, with the bytes that were taken of it before. Where the handle
@@ -231,7 +232,7 @@ impl<B: Bank, C: Validator> Core<B, C> {
             → AreBacked (run_from (begins_at opening) self.new.entries).state) }
         // The functions were asked what the request asks, and the entry has their verdicts.
         ensures judged { OnPlayed result ((e : Entry) × (self.new.entries ≡ self.old.entries ++ e ∷ []) × (B.tells → (opening : State) → FollowsFrom B.Bank opening self.old
-            → Judged C.Validator self.old.state.kit self.new.state.kit (questions_in (run_from (begins_at opening) self.old.entries) e) e.verdicts)) }
+            → Judged C.Validator self.old.state.kit self.new.state.kit (questions_in (run_from (begins_at opening) self.old.entries) e) e.given.verdicts)) }
         // No image went active that its table's function didn't answer for.
         ensures vouched { OnPlayed result (B.tells → (opening : State) → opening.tables ≡ no_tables → opening.pending ≡ [] → FollowsFrom B.Bank opening self.old → IsVouched opening self.new.entries) }
         // Whatever functions it was given at first, the history's verdicts are still theirs.
@@ -242,7 +243,8 @@ impl<B: Bank, C: Validator> Core<B, C> {
             → KeepsToFunctions C.verdict given opening self.new.entries) }
         // What a restore gave is what its block held in the bank as the step began.
         ensures gave { OnPlayed result ((e : Entry) × (self.new.entries ≡ self.old.entries ++ e ∷ []) × (B.tells → (opening : State) → FollowsFrom B.Bank opening self.old
-            → RestoresHeld (B.now self.old.state.store.bank) (all_calls_in (run_from (begins_at opening) self.old.entries) e) (run_from (begins_at opening) self.old.entries).state.store e.note)) }
+            → RestoresHeld (B.now self.old.state.store.bank) (all_calls_in (run_from (begins_at opening) self.old.entries) e)
+            (run_from (begins_at opening) self.old.entries).state.store e.given.note)) }
         // A reset at any moment in it leaves the store as it was after the entries before, or what this request made of it so far.
         ensures crash { OnPlayed result (B.tells_moments → (opening : State) → FollowsFrom B.Bank opening self.old
             → LeavesOnly B.clock B.left_since self.old.state.store.bank self.new.state.store.bank (λ image. AfterCrash opening self.new.entries (length self.old.entries) (store_of image))) }
@@ -260,8 +262,7 @@ impl<B: Bank, C: Validator> Core<B, C> {
         ensures live { OnOk result (self.new.state.ended ≡ false) }
         ensures err { result ≡ Err StepFault.Memory → self.new ≡ self.old }
     {
-        let lent = self.parts.still_lent(pin, slice);
-        self.parts.play(actor, request, lent)
+        self.service.play_read(actor, request, pin, slice)
     }
 
     /// Lends the image that a handle pins, with the place of the call that got its address. None where the handle leads to no
@@ -272,6 +273,6 @@ impl<B: Bank, C: Validator> Core<B, C> {
         ensures none { IfOk result (λ lent. is_some lent ≡ pins_image handle self.now.state.tables) }
         ensures pin { IfOk result (λ lent. IfSome lent (λ pin. IsOfPin pin self.now)) }
     {
-        self.parts.lend(handle)
+        self.service.lend(handle)
     }
 }

@@ -13,7 +13,7 @@ use Rattle.tbl_core.proofs.parts.Parts.app_store_request.Goals as goal
 pub returns-in-CdsRegister-clause-makes : goal.returns-in-CdsRegister-clause-makes
 returns-in-CdsRegister-clause-makes g c =
     let b = g.B.Bank in
-    IfOk-weaker c.cds_register.result _ _ (λ done call. block_makes b g.C.Validator _ _ c.args.request.now done refl c.requires.live call (store_no_get c.args.request.now None c.requires.calls)) c.cds_register.ensures.call
+    IfOk-weaker c.cds_register.result _ _ (λ done call. block_makes b g.C.Validator _ _ c.args.request.now done refl c.requires.live call (store_no_get c.args.request.now c.requires.calls)) c.cds_register.ensures.call
 
 pub returns-in-CdsRegister-clause-meets : goal.returns-in-CdsRegister-clause-meets
 returns-in-CdsRegister-clause-meets g c =
@@ -26,7 +26,7 @@ returns-in-CdsRegister-clause-meets g c =
 pub returns-in-CdsCopy-clause-makes : goal.returns-in-CdsCopy-clause-makes
 returns-in-CdsCopy-clause-makes g c =
     let b = g.B.Bank in
-    IfOk-weaker c.cds_copy.result _ _ (λ done call. block_makes b g.C.Validator _ _ c.args.request.now done refl c.requires.live call (store_no_get c.args.request.now None c.requires.calls)) c.cds_copy.ensures.call
+    IfOk-weaker c.cds_copy.result _ _ (λ done call. block_makes b g.C.Validator _ _ c.args.request.now done refl c.requires.live call (store_no_get c.args.request.now c.requires.calls)) c.cds_copy.ensures.call
 
 pub returns-in-CdsCopy-clause-meets : goal.returns-in-CdsCopy-clause-meets
 returns-in-CdsCopy-clause-meets g c =
@@ -39,7 +39,7 @@ returns-in-CdsCopy-clause-meets g c =
 pub returns-in-CdsRestore-clause-makes : goal.returns-in-CdsRestore-clause-makes
 returns-in-CdsRestore-clause-makes g c =
     let b = g.B.Bank in
-    IfOk-weaker c.cds_restore.result _ _ (λ done call. block_makes b g.C.Validator _ _ c.args.request.now done refl c.requires.live call (store_no_get c.args.request.now None c.requires.calls)) c.cds_restore.ensures.call
+    IfOk-weaker c.cds_restore.result _ _ (λ done call. block_makes b g.C.Validator _ _ c.args.request.now done refl c.requires.live call (store_no_get c.args.request.now c.requires.calls)) c.cds_restore.ensures.call
 
 pub returns-in-CdsRestore-clause-meets : goal.returns-in-CdsRestore-clause-meets
 returns-in-CdsRestore-clause-meets g c =
@@ -53,7 +53,7 @@ returns-in-CdsRestore-clause-meets g c =
 pub returns-in-CdsDelete-clause-makes : goal.returns-in-CdsDelete-clause-makes
 returns-in-CdsDelete-clause-makes g c =
     let b = g.B.Bank in
-    IfOk-weaker c.cds_delete.result _ _ (λ done call. block_makes b g.C.Validator _ _ c.args.request.now done refl c.requires.live call (store_no_get c.args.request.now None c.requires.calls)) c.cds_delete.ensures.call
+    IfOk-weaker c.cds_delete.result _ _ (λ done call. block_makes b g.C.Validator _ _ c.args.request.now done refl c.requires.live call (store_no_get c.args.request.now c.requires.calls)) c.cds_delete.ensures.call
 
 pub returns-in-CdsDelete-clause-meets : goal.returns-in-CdsDelete-clause-meets
 returns-in-CdsDelete-clause-meets g c =
@@ -67,7 +67,7 @@ pub returns-in-Register-clause-makes : goal.returns-in-Register-clause-makes
 returns-in-Register-clause-makes g c =
     let b = g.B.Bank in
     three c.register.result _ _ _ _ c.register.ensures.call c.register.ensures.fit c.register.ensures.one (λ done call fit one. call_makes b g.C.Validator _ _ c.args.request.now done refl c.requires.live call
-    (λ n was. fit (state_of (parts_view c.args.self.now)) n refl refl was) (registers_keeps c.args.self.now.tables c.register.new.tables c.args.app one) (store_no_get c.args.request.now None c.requires.calls))
+    (λ n was. fit (state_of (parts_view c.args.self.now)) n refl refl was) (registers_keeps c.args.self.now.tables c.register.new.tables c.args.app one) (store_no_get c.args.request.now c.requires.calls))
 
 pub returns-in-Register-clause-meets : goal.returns-in-Register-clause-meets
 returns-in-Register-clause-meets g c =

@@ -5,20 +5,22 @@ use Rattle.cds_store.specs.StoreBlocks.{StandsFor as HasBlocks}
 use Rattle.cds_store.proofs.Recovered.{booted_alike}
 use Rattle.tbl_core.specs.Service.{parts_view, state_of, StartCounted}
 use Rattle.tbl_laws.proofs.Ordinary.{fit_at_first}
+use Rattle.tbl_core.proofs.Nothing.{none_counted}
 use Rattle.tbl_core.proofs.Pinning.{no_images, no_handle}
 use Rattle.tbl_core.proofs.Starting.{stands_first, start_counted, start_leaves, stays_shown}
 use Rattle.tbl_core.proofs.service.Core.start.Goals as goal
 
 pub invariant_of-result : goal.invariant_of-result
 invariant_of-result g c = record {
-  fit = fit_at_first (length c.in-Ok.parts.log.entries) (state_of (parts_view (record c.in-Ok.parts { store = c.boot.new.self }))) c.in-Ok.ensures.tables c.in-Ok.ensures.pending;
+  fit = fit_at_first (length c.in-Ok.service.log.entries) (state_of (parts_view (record c.in-Ok.service.parts { store = c.boot.new.self }))) c.in-Ok.ensures.tables c.in-Ok.ensures.pending;
   booted = search rules;
   kit = λ number entry there.
       let low = c.requires.asked number entry (subst (λ kit. entry_at kit number ≡ Some entry) c.in-Ok.ensures.kit there) in
       omega (arith, low);
-  images = no_images c.in-Ok.parts.tables c.in-Ok.ensures.tables;
+  images = no_images c.in-Ok.service.parts.tables c.in-Ok.ensures.tables;
+  numbers = rw c.in-Ok.ensures.counts none_counted;
   places = c.in-Ok.ensures.places;
-  gets = λ handle h p within at pin. absurd (no_handle c.in-Ok.parts.tables handle h c.in-Ok.ensures.tables at);
+  gets = λ handle h p within at pin. absurd (no_handle c.in-Ok.service.parts.tables handle h c.in-Ok.ensures.tables at);
 }
 
 pub returns-in-Ok-boot-clause-stands : goal.returns-in-Ok-boot-clause-stands
@@ -39,24 +41,24 @@ returns-in-Ok-boot-clause-stands g c =
       live = c.in-Ok.ensures.ended;
     })
     (λ told. subst (HasBlocks b.tells b.now c.boot.new.self) (ap (λ bank. store_of (b.now bank)) c.in-Ok.ensures.bank)
-    (subst (HasBlocks b.tells b.now c.boot.new.self) (booted_alike (b.now c.in-Ok.parts.store.bank) c.in-Ok-boot._found) (c.in-Ok-boot.ensures.ok told (store_of (b.now c.in-Ok.parts.store.bank)) (inr (told, refl)))))
+    (subst (HasBlocks b.tells b.now c.boot.new.self) (booted_alike (b.now c.in-Ok.service.parts.store.bank) c.in-Ok-boot._found) (c.in-Ok-boot.ensures.ok told (store_of (b.now c.in-Ok.service.parts.store.bank)) (inr (told, refl)))))
 
 pub returns-in-Err-boot-clause-cause : goal.returns-in-Err-boot-clause-cause
 returns-in-Err-boot-clause-cause g c =
     let b = g.B.Bank in
     subst (λ bank. StartCounted b bank c.end.result c.from.result) c.in-Ok.ensures.bank
-    (rw (c.end.ensures.bank, c.from.ensures) (start_counted b c.in-Ok.parts.store.bank c.boot.new.self.bank c.boot.result c.in-Err-boot.fault c.in-Err-boot.is c.boot.ensures.counted))
+    (rw (c.end.ensures.bank, c.from.ensures) (start_counted b c.in-Ok.service.parts.store.bank c.boot.new.self.bank c.boot.result c.in-Err-boot.fault c.in-Err-boot.is c.boot.ensures.counted))
 
 pub returns-in-Ok-boot-clause-crash : goal.returns-in-Ok-boot-clause-crash
 returns-in-Ok-boot-clause-crash g c told =
     let b = g.B.Bank in
-    start_leaves b c.in-Ok.parts.store c.boot.new.self c.args.bank c.in-Ok.ensures.bank c.boot.ensures.moments g.met.B.Bank.tells_both told
+    start_leaves b c.in-Ok.service.parts.store c.boot.new.self c.args.bank c.in-Ok.ensures.bank c.boot.ensures.moments g.met.B.Bank.tells_both told
 
 pub returns-in-Err-boot-clause-crash_err : goal.returns-in-Err-boot-clause-crash_err
 returns-in-Err-boot-clause-crash_err g c told =
     let b = g.B.Bank in
     rw c.end.ensures.bank
-    (start_leaves b c.in-Ok.parts.store c.boot.new.self c.args.bank c.in-Ok.ensures.bank c.boot.ensures.moments g.met.B.Bank.tells_both told)
+    (start_leaves b c.in-Ok.service.parts.store c.boot.new.self c.args.bank c.in-Ok.ensures.bank c.boot.ensures.moments g.met.B.Bank.tells_both told)
 
 pub returns-in-Err-clause-crash_err : goal.returns-in-Err-clause-crash_err
 returns-in-Err-clause-crash_err g c told =

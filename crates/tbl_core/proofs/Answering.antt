@@ -1,0 +1,76 @@
+-- A request was made in which no call of the store was stopped, and its entry has what it did.
+use Rattle.std.proofs.Common.{◌≡◌, ◌∙◌, ◌==◌, ℕ, List, [], Bool, true, false, Option, refl, sym, ap, subst, arith, inl}
+use Rattle.std.proofs.lemmas.Bool.{eqb-true}
+use Rattle.tbl_kinds.specs.Notes.{untouched}
+use Rattle.tbl_kinds.specs.Blocks.{Store as Blocks}
+use Rattle.tbl_kinds.specs.declared.note.BankNote.{BankNote}
+use Rattle.tbl_kinds.specs.declared.note.Outcome.TheVariants.{Untouched}
+use Rattle.tbl_kinds.specs.declared.status.Status.{Status}
+use Rattle.tbl_kinds.specs.declared.status.TheConstants.Status.{INFO_STOPPED}
+use Rattle.tbl_model.specs.State.{State}
+use Rattle.tbl_model.specs.Effects as model
+use Rattle.tbl_model.specs.Given.{Given}
+use Rattle.tbl_model.specs.Fit.{AreFit}
+use Rattle.tbl_model.specs.BankCounts.{HasCause}
+use Rattle.tbl_model.specs.Counts.{Counts}
+use Rattle.tbl_model.specs.Dispatch.{effect_of}
+use Rattle.tbl_kinds.specs.declared.request.Request.{Request}
+use Rattle.cds_store.specs.StoreBlocks.{StandsFor as HasBlocks}
+use Rattle.tbl_session.specs.Crashes.{DuringCalls}
+use Rattle.store_requests.specs.Called.{Leaving}
+use Rattle.request_effects.specs.Reports.{Reported, nothing_reported}
+use Rattle.request_effects.specs.Effects.{Effect, told_at}
+use Rattle.reply_packets.specs.Telling.{Tells}
+use Rattle.tbl_core.specs.Answers.{Moment, effect_in, Answers}
+use Rattle.tbl_core.specs.Numbers.{AreCounts}
+use Rattle.tbl_core.specs.Service.{PartsView, state_of, step_of, Does, Makes, Meets, IsMade}
+use Rattle.tbl_core.proofs.BootedAfter.{is_made}
+use Rattle.tbl_core.proofs.Nothing.{IsSilent, nothing_told}
+use Rattle.tbl_core.proofs.TableRequests.{table_makes, table_meets}
+use Rattle.tbl_outside.specs.declared.bank.Bank.{Ghosts}
+use Rattle.tbl_outside.specs.declared.validator.Validator.{Ghosts as ValidatorGhosts}
+
+-- without a call of the store no answer tells of a stop
+pub not_stopped : (status : Status) (note : BankNote) → note ≡ untouched → HasCause status note → (status.0 == INFO_STOPPED.0) ≡ false
+not_stopped status note none cause = by (status.0 == INFO_STOPPED.0) refl where
+  by : (b : Bool) → (status.0 == INFO_STOPPED.0) ≡ b → (status.0 == INFO_STOPPED.0) ≡ false
+  by false is = is
+  by true is =
+      let same : status ≡ INFO_STOPPED = λ i. record { 0 = eqb-true status.0 INFO_STOPPED.0 is i } in
+      absurd ((subst (λ (n : BankNote). HasCause status n) none cause).stop same refl)
+
+module _ {B C : Type 0} (g : Ghosts B) (v : ValidatorGhosts C) (old new : PartsView B C) (request : Request) (means : State → Given → Option model.Effect) (done : Effect)
+    (makes : Makes g v request old new done) (meets : Meets g v (step_of old new request) means done) (none : done.note.outcome ≡ Untouched) where
+  -- no boot comes after it
+  pub made_plainly : IsMade g v (step_of old new request) means done
+  made_plainly = is_made g v old new new request means done done.note makes meets
+      (record { ended = done.note.ended; stopped = done.note.stopped; found = done.note.found; is = refl; same = λ _. refl })
+      (rw none refl) (λ told s holds. rw none holds) (λ told s holds stop. absurd (cc (stop, none))) (λ told s holds stop. absurd (cc (stop, none)))
+      (rw none (record { fault_count = omega arith; stop_count = omega arith; fault = inl (omega arith); stop = inl (omega arith); no_fault = λ _. refl; no_stop = λ _. refl }))
+      (λ stop. absurd (cc (stop, none)))
+
+-- a request about tables was done of which no packet tells
+module _ {B C : Type 0} (g : Ghosts B) (v : ValidatorGhosts C) (old new : Moment B C)
+    (same_actor : new.entry.actor ≡ old.entry.actor) (same_request : new.entry.request ≡ old.entry.request) (silent : IsSilent new.entry.request)
+    (does : Does v 0 old.parts new.parts (λ s given. effect_of s new.entry.actor new.entry.request given) (effect_in new.entry nothing_reported))
+    (live : old.parts.ended ≡ false) (so_many : ℕ) (fits : AreFit so_many (state_of old.parts)) (booted : old.parts.store.booted ≡ true)
+    (moved : g.tells → (blocks : Blocks) → HasBlocks g.tells g.now old.parts.store blocks → Leaving g old.parts.store new.parts.store (DuringCalls [] blocks))
+    (no_packets : new.entry.reply.packets.list ≡ []) (same_counts : new.counts ≡ old.counts) (are : AreCounts old.counts) where
+  makes : Makes g v new.entry.request old.parts new.parts (effect_in new.entry nothing_reported)
+  makes = table_makes g v 0 old.parts new.parts new.entry.actor new.entry.request (effect_in new.entry nothing_reported) does (omega arith) live so_many fits booted silent.no_reset
+
+  meets : Meets g v (step_of old.parts new.parts new.entry.request) (λ s given. effect_of s new.entry.actor new.entry.request given) (effect_in new.entry nothing_reported)
+  meets = table_meets g v 0 old.parts new.parts new.entry.actor new.entry.request (effect_in new.entry nothing_reported) does (omega arith) live so_many fits moved silent.no_reset
+
+  told : Tells old.counts new.counts (told_at old.parts.seconds old.parts.sub new.parts.tables new.entry.request (effect_in new.entry nothing_reported)) new.entry.reply.packets.list
+  told = rw (no_packets, same_counts)
+      (nothing_told old.parts.seconds old.parts.sub new.parts.tables new.entry.request (effect_in new.entry nothing_reported) silent (not_stopped new.entry.reply.status new.entry.given.note does.note makes.cause) refl refl refl old.counts are)
+
+  pub quietly_answered : Answers g v old new nothing_reported
+  quietly_answered = record {
+    actor_is = same_actor;
+    request_is = same_request;
+    made = made_plainly g v old.parts new.parts new.entry.request (λ s given. effect_of s new.entry.actor new.entry.request given) (effect_in new.entry nothing_reported) makes meets (ap (λ (n : BankNote). n.outcome) does.note);
+    told = told;
+    small = record { bytes = does.within.bytes; packets = rw no_packets (omega arith) };
+  }

@@ -1,0 +1,60 @@
+-- What becomes of an entry, from its request to its packets.
+use Rattle.std.specs.Prelude.{◌≡◌, ◌≤◌, []}
+use Rattle.tbl_kinds.specs.Given.{nothing_given}
+use Rattle.tbl_model.specs.Counts.{Counts}
+use Rattle.tbl_model.specs.Dispatch.{effect_of}
+use Rattle.tbl_kinds.specs.declared.entry.Entry.{Entry}
+use Rattle.request_effects.specs.Reports.{Reported}
+use Rattle.request_effects.specs.Effects.{Effect, told_at}
+use Rattle.reply_packets.specs.Counters.{counts_view}
+use Rattle.reply_packets.specs.Telling.{Tells}
+use Rattle.reply_packets.specs.declared.counters.Counters.{Counters}
+use Rattle.tbl_core.specs.Log.{IsSmall}
+use Rattle.tbl_core.specs.Service.{PartsView, parts_view, step_of, IsMade}
+use Rattle.tbl_core.specs.declared.parts.Parts.{Parts}
+use Rattle.tbl_outside.specs.declared.bank.Bank.{Ghosts}
+use Rattle.tbl_outside.specs.declared.validator.Validator.{Ghosts as ValidatorGhosts}
+
+-- ---- an entry
+
+-- nothing is answered to its request yet, and there is room for one event packet
+pub record IsBegun (e : Entry) : Type 0 where
+  pub no_bytes : e.reply.bytes.list ≡ []
+  pub no_packets : e.reply.packets.list ≡ []
+  pub one_packet : 24 ≤ e.reply.packets.spare
+  pub nothing : e.given ≡ nothing_given
+
+-- the effect that an entry and its report have
+abbrev pub effect_in : Entry → Reported → Effect
+effect_in e report = record {
+  answer = record { status = e.reply.status; detail = e.reply.detail };
+  bytes = e.reply.bytes.list;
+  table = report.table;
+  events = report.events;
+  shown = report.shown;
+  notice = report.notice;
+  note = e.given.note;
+  verdicts = e.given.verdicts;
+}
+
+-- ---- a request
+
+-- the parts of the service, what is counted, and an entry, before a request or after it
+pub record Moment (B C : Type 0) : Type 0 where
+  pub parts : PartsView B C
+  pub counts : Counts
+  pub entry : Entry
+
+abbrev pub moment_at : {B C : Type 0} → PartsView B C → Counts → Entry → Moment B C
+moment_at parts counts entry = record { parts = parts; counts = counts; entry = entry }
+
+abbrev pub moment_of : {B C : Type 0} → Parts B C → Counters → Entry → Moment B C
+moment_of parts counters entry = moment_at (parts_view parts) (counts_view counters) entry
+
+-- the request of the entry was made, and the entry has what it did and how it is told, with this report
+pub record Answers {B C : Type 0} (g : Ghosts B) (v : ValidatorGhosts C) (old new : Moment B C) (report : Reported) : Type 0 where
+  pub actor_is : new.entry.actor ≡ old.entry.actor
+  pub request_is : new.entry.request ≡ old.entry.request
+  pub made : IsMade g v (step_of old.parts new.parts new.entry.request) (λ s given. effect_of s new.entry.actor new.entry.request given) (effect_in new.entry report)
+  pub told : Tells old.counts new.counts (told_at old.parts.seconds old.parts.sub new.parts.tables new.entry.request (effect_in new.entry report)) new.entry.reply.packets.list
+  pub small : IsSmall new.entry
