@@ -128,7 +128,7 @@ module _ {B C : Type 0} (g : Ghosts B) (laws : Laws g) (verdict : C → List ℕ
   Crash = g.tells_moments → (opening : State) → FollowsFrom g opening old.core → LeavesOnly g.clock g.left_since old.core.state.store.bank new.core.state.store.bank (λ image. AfterCrash opening new.core.entries (length old.core.entries) (store_of image))
 
   abbrev Gave : Type 0
-  Gave = (e : Entry) × (new.core.entries ≡ old.core.entries ++ e ∷ []) × (g.tells → (opening : State) → FollowsFrom g opening old.core → RestoresHeld (g.now old.core.state.store.bank) (all_calls_in (run_from (begins_at opening) old.core.entries) e) (run_from (begins_at opening) old.core.entries).state.store e.note)
+  Gave = (e : Entry) × (new.core.entries ≡ old.core.entries ++ e ∷ []) × (g.tells → (opening : State) → FollowsFrom g opening old.core → RestoresHeld (g.now old.core.state.store.bank) (all_calls_in (run_from (begins_at opening) old.core.entries) e) (run_from (begins_at opening) old.core.entries).state.store e.given.note)
 
   lead_on : (result : Result Unit StepFault) → AddsOne g old.core new.core (actor_of actor) request result → Legal → Verdicts → Crash → Gave
       → ((scripts : List (List Request)) → ArePlayed old.fault scripts old.core.entries old.left → ArePlayed new.fault scripts new.core.entries new.left)

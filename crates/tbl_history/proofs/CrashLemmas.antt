@@ -72,7 +72,7 @@ module _ {B C : Type 0} (g : Ghosts B) (laws : Laws g) where
     began_with : g.left_since new.state.store.bank (g.clock bank) (g.now old.state.store.bank)
     began_with = crash.keeps (g.clock bank) (g.now old.state.store.bank) (was.moments told).later (laws.counts_now old.state.store.bank (g.clock bank) (g.now old.state.store.bank) told (was.moments told).later (laws.leaves_now old.state.store.bank told))
 
-    restored_on : RestoresHeld (g.now old.state.store.bank) (all_calls_in (run_from (begins_at opening) old.entries) entry) (run_from (begins_at opening) old.entries).state.store entry.note
+    restored_on : RestoresHeld (g.now old.state.store.bank) (all_calls_in (run_from (begins_at opening) old.entries) entry) (run_from (begins_at opening) old.entries).state.store entry.given.note
         → AllGaveLeft (g.left_since new.state.store.bank (g.clock bank)) opening new.entries
     restored_on gave place e at = elim (pushed old.entries entry place e (subst (λ (es : List Entry). slice_get es place ≡ Some e) added at)) [
       | inl before ↦
@@ -96,7 +96,7 @@ module _ {B C : Type 0} (g : Ghosts B) (laws : Laws g) where
           }))
     ]
 
-    exit_on : (ended : Bool) → entry.note.ended ≡ ended → new.state.ended ≡ entry.note.ended → (image : List ℕ) → g.may_leave new.state.store.bank image → AtExit opening new.entries image
+    exit_on : (ended : Bool) → entry.given.note.ended ≡ ended → new.state.ended ≡ entry.given.note.ended → (image : List ℕ) → g.may_leave new.state.store.bank image → AtExit opening new.entries image
     exit_on false is same image may = exit_live opening new stands (same ∙ is) told image may
     exit_on true is same image may = inr (record {
       before = old.entries;
@@ -106,16 +106,16 @@ module _ {B C : Type 0} (g : Ghosts B) (laws : Laws g) where
       crash = crash.each image (laws.counts_now new.state.store.bank (g.clock old.state.store.bank) image told crash.later may);
     })
 
-  pub survives_on : (opening : State) (bank : B) (old new : CoreView B C) (entry : Entry) → new.entries ≡ old.entries ++ entry ∷ [] → new.state.ended ≡ entry.note.ended → old.state.ended ≡ false
+  pub survives_on : (opening : State) (bank : B) (old new : CoreView B C) (entry : Entry) → new.entries ≡ old.entries ++ entry ∷ [] → new.state.ended ≡ entry.given.note.ended → old.state.ended ≡ false
       → ((opening : State) → FollowsFrom g opening old → FollowsFrom g opening new)
       → (g.tells_moments → (opening : State) → FollowsFrom g opening old → LeavesOnly g.clock g.left_since old.state.store.bank new.state.store.bank (λ image. AfterCrash opening new.entries (length old.entries) (store_of image)))
-      → (e : Entry) × (new.entries ≡ old.entries ++ e ∷ []) × (g.tells → (opening : State) → FollowsFrom g opening old → RestoresHeld (g.now old.state.store.bank) (all_calls_in (run_from (begins_at opening) old.entries) e) (run_from (begins_at opening) old.entries).state.store e.note)
+      → (e : Entry) × (new.entries ≡ old.entries ++ e ∷ []) × (g.tells → (opening : State) → FollowsFrom g opening old → RestoresHeld (g.now old.state.store.bank) (all_calls_in (run_from (begins_at opening) old.entries) e) (run_from (begins_at opening) old.entries).state.store e.given.note)
       → Is opening bank old → Is opening bank new
   survives_on opening bank old new entry added ended live legal crash gave was =
       let stands = legal opening was.stands in record {
         stands = stands;
         moments = λ told. moments_on opening bank old new entry added live was stands told (crash told opening was.stands);
-        exit = λ told. exit_on opening bank old new entry added live was stands told (crash told opening was.stands) entry.note.ended refl ended;
+        exit = λ told. exit_on opening bank old new entry added live was stands told (crash told opening was.stands) entry.given.note.ended refl ended;
         restored = λ told. restored_on opening bank old new gave.0 gave.1 live was stands told (crash told opening was.stands) (gave.2 (laws.tells_both told) opening was.stands);
       }
 

@@ -73,7 +73,7 @@ module _ {B C : Type 0} (g : Ghosts B) (laws : Laws g) (verdict : C → List ℕ
       → ((opening : State) → FollowsFrom g opening old → FollowsFrom g opening new)
       → ((opening : State) (given : List (Option (KitEntry C))) → Vouches g verdict given opening old → Vouches g verdict given opening new)
       → (g.tells_moments → (opening : State) → FollowsFrom g opening old → LeavesOnly g.clock g.left_since old.state.store.bank new.state.store.bank (λ image. AfterCrash opening new.entries (length old.entries) (store_of image)))
-      → (e : Entry) × (new.entries ≡ old.entries ++ e ∷ []) × (g.tells → (opening : State) → FollowsFrom g opening old → RestoresHeld (g.now old.state.store.bank) (all_calls_in (run_from (begins_at opening) old.entries) e) (run_from (begins_at opening) old.entries).state.store e.note)
+      → (e : Entry) × (new.entries ≡ old.entries ++ e ∷ []) × (g.tells → (opening : State) → FollowsFrom g opening old → RestoresHeld (g.now old.state.store.bank) (all_calls_in (run_from (begins_at opening) old.entries) e) (run_from (begins_at opening) old.entries).state.store e.given.note)
       → Continues g verdict old new
   step_continues actor request result one legal vouches crash gave = record {
     stands = legal;

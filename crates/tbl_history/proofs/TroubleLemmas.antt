@@ -17,7 +17,7 @@ use Rattle.tbl_kinds.specs.declared.request.Request.{Request}
 use Rattle.tbl_session.specs.Trouble.{Rises, HaveCauses, EndsInBoot}
 use Rattle.tbl_history.specs.Trouble.{IsCaused}
 
-causes_push : (entries : List Entry) (e : Entry) → HaveCauses entries → HasCause e.reply.status e.note → HaveCauses (entries ++ e ∷ [])
+causes_push : (entries : List Entry) (e : Entry) → HaveCauses entries → HasCause e.reply.status e.given.note → HaveCauses (entries ++ e ∷ [])
 causes_push [] e causes cause = (cause, tt)
 causes_push (x ∷ entries) e causes cause = (causes.0, causes_push entries e causes.1 cause)
 
@@ -36,8 +36,8 @@ no_last before last e = omega (arith, ap length e, length-append before (last �
 pub caused_on : {B C : Type 0} (g : Ghosts B) (bank : B) (old new : CoreView B C) (actor : Actor) (request : Request) (result : Result Unit StepFault) → AddsOne g old new actor request result
     → IsCaused g bank old → IsCaused g bank new
 caused_on g bank old new actor request result one caused =
-    let all_faults : fault_count new.entries ≡ fault_count old.entries + faults_in one.entry.note = ap fault_count one.added ∙ sum_by_push (λ (e : Entry). faults_in e.note) old.entries one.entry in
-    let all_stops : stop_count new.entries ≡ stop_count old.entries + stops_in one.entry.note = ap stop_count one.added ∙ sum_by_push (λ (e : Entry). stops_in e.note) old.entries one.entry in
+    let all_faults : fault_count new.entries ≡ fault_count old.entries + faults_in one.entry.given.note = ap fault_count one.added ∙ sum_by_push (λ (e : Entry). faults_in e.given.note) old.entries one.entry in
+    let all_stops : stop_count new.entries ≡ stop_count old.entries + stops_in one.entry.given.note = ap stop_count one.added ∙ sum_by_push (λ (e : Entry). stops_in e.given.note) old.entries one.entry in
     record {
       fault_up = omega (arith, caused.fault_up, one.trouble.fault_count);
       stop_up = omega (arith, caused.stop_up, one.trouble.stop_count);
@@ -46,7 +46,7 @@ caused_on g bank old new actor request result one caused =
         stop = rw all_stops (rose_on _ _ _ _ _ caused.stop_up one.trouble.stop_count caused.trouble.stop one.trouble.stop);
       };
       causes = subst HaveCauses (sym one.added) (causes_push old.entries one.entry caused.causes one.cause);
-      ended = λ before last is. one.ended ∙ ap (λ (e : Entry). e.note.ended) (same_last old.entries before one.entry last (sym one.added ∙ is));
+      ended = λ before last is. one.ended ∙ ap (λ (e : Entry). e.given.note.ended) (same_last old.entries before one.entry last (sym one.added ∙ is));
     }
 
 -- at first
@@ -85,10 +85,10 @@ boot_stopped note true false is stop e = let other : session_end note ≡ Err Bo
 boot_stopped note false stopped is stop e = let other : session_end note ≡ Ok tt = rw is refl in absurd (cc (e, other))
 
 pub ends_in_fault : {B C : Type 0} (g : Ghosts B) (old new : CoreView B C) (actor : Actor) (request : Request) → AddsOne g old new actor request (Err BootFault) → EndsInBoot false new.entries
-ends_in_fault g old new actor request one = let b = boot_failed one.entry.note one.entry.note.ended one.entry.note.stopped refl refl one.ends in (old.entries, one.entry, one.added, b.0, b.1)
+ends_in_fault g old new actor request one = let b = boot_failed one.entry.given.note one.entry.given.note.ended one.entry.given.note.stopped refl refl one.ends in (old.entries, one.entry, one.added, b.0, b.1)
 
 pub ends_in_stop : {B C : Type 0} (g : Ghosts B) (old new : CoreView B C) (actor : Actor) (request : Request) → AddsOne g old new actor request (Err BootStopped) → EndsInBoot true new.entries
-ends_in_stop g old new actor request one = let b = boot_stopped one.entry.note one.entry.note.ended one.entry.note.stopped refl refl one.ends in (old.entries, one.entry, one.added, b.0, b.1)
+ends_in_stop g old new actor request one = let b = boot_stopped one.entry.given.note one.entry.given.note.ended one.entry.given.note.stopped refl refl one.ends in (old.entries, one.entry, one.added, b.0, b.1)
 
 -- a service that goes on had no such boot
 pub still_lives : {B C : Type 0} (g : Ghosts B) (bank : B) (core : CoreView B C) (stopped : Bool) → IsCaused g bank core → core.state.ended ≡ false → EndsInBoot stopped core.entries → ⊥
@@ -124,10 +124,10 @@ told_stop note ended stopped = rw (ended, stopped) (omega arith)
 
 pub rose_by_fault : {B : Type 0} (g : Ghosts B) (bank bank_then : B) (entries : List Entry) → Rises g bank bank_then entries → EndsInBoot false entries → RoseBy 1 (g.faults bank) (g.faults bank_then)
 rose_by_fault g bank bank_then entries rises boot =
-    let all : fault_count entries ≡ fault_count boot.0 + faults_in boot.1.note = ap fault_count boot.2 ∙ sum_by_push (λ (e : Entry). faults_in e.note) boot.0 boot.1 in
-    rose_fewer (fault_count entries) 1 (g.faults bank) (g.faults bank_then) (omega (arith, all, told_fault boot.1.note boot.3 boot.4)) rises.fault
+    let all : fault_count entries ≡ fault_count boot.0 + faults_in boot.1.given.note = ap fault_count boot.2 ∙ sum_by_push (λ (e : Entry). faults_in e.given.note) boot.0 boot.1 in
+    rose_fewer (fault_count entries) 1 (g.faults bank) (g.faults bank_then) (omega (arith, all, told_fault boot.1.given.note boot.3 boot.4)) rises.fault
 
 pub rose_by_stop : {B : Type 0} (g : Ghosts B) (bank bank_then : B) (entries : List Entry) → Rises g bank bank_then entries → EndsInBoot true entries → RoseBy 1 (g.stops bank) (g.stops bank_then)
 rose_by_stop g bank bank_then entries rises boot =
-    let all : stop_count entries ≡ stop_count boot.0 + stops_in boot.1.note = ap stop_count boot.2 ∙ sum_by_push (λ (e : Entry). stops_in e.note) boot.0 boot.1 in
-    rose_fewer (stop_count entries) 1 (g.stops bank) (g.stops bank_then) (omega (arith, all, told_stop boot.1.note boot.3 boot.4)) rises.stop
+    let all : stop_count entries ≡ stop_count boot.0 + stops_in boot.1.given.note = ap stop_count boot.2 ∙ sum_by_push (λ (e : Entry). stops_in e.given.note) boot.0 boot.1 in
+    rose_fewer (stop_count entries) 1 (g.stops bank) (g.stops bank_then) (omega (arith, all, told_stop boot.1.given.note boot.3 boot.4)) rises.stop

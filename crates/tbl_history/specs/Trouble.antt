@@ -12,4 +12,4 @@ pub record IsCaused {B C : Type 0} (g : Ghosts B) (bank : B) (core : CoreView B 
   pub stop_up : g.stops bank ≤ g.stops core.state.store.bank
   pub trouble : Rises g bank core.state.store.bank core.entries
   pub causes : HaveCauses core.entries
-  pub ended : (before : List Entry) (last : Entry) → core.entries ≡ before ++ last ∷ [] → core.state.ended ≡ last.note.ended
+  pub ended : (before : List Entry) (last : Entry) → core.entries ≡ before ++ last ∷ [] → core.state.ended ≡ last.given.note.ended

@@ -75,7 +75,7 @@ module _ {B C : Type 0} (g : Ghosts B) (laws : Laws g) (verdict : C → List ℕ
   Crash = g.tells_moments → (opening : State) → FollowsFrom g opening old → LeavesOnly g.clock g.left_since old.state.store.bank new.state.store.bank (λ image. AfterCrash opening new.entries (length old.entries) (store_of image))
 
   abbrev Gave : Type 0
-  Gave = (e : Entry) × (new.entries ≡ old.entries ++ e ∷ []) × (g.tells → (opening : State) → FollowsFrom g opening old → RestoresHeld (g.now old.state.store.bank) (all_calls_in (run_from (begins_at opening) old.entries) e) (run_from (begins_at opening) old.entries).state.store e.note)
+  Gave = (e : Entry) × (new.entries ≡ old.entries ++ e ∷ []) × (g.tells → (opening : State) → FollowsFrom g opening old → RestoresHeld (g.now old.state.store.bank) (all_calls_in (run_from (begins_at opening) old.entries) e) (run_from (begins_at opening) old.entries).state.store e.given.note)
 
   pub continues_on : (actor : Actor) (request : Request) (done : Result Unit StepFault) → OnPlayed done (AddsOne g old new actor request done) → OnPlayed done Legal → OnPlayed done Verdicts → OnPlayed done Crash → OnPlayed done Gave
       → OnPlayed done (Continues g verdict old new)
@@ -159,10 +159,10 @@ module _ {B C : Type 0} (g : Ghosts B) (verdict : C → List ℕ → ℤ) (old n
     served_on actor request (Err NoMemory) kept one live err = subst IsServed (sym (same_view old new (err refl) (kept ∙ sym may.went) base)) served
     served_on actor request (Err BootFault) kept one live err =
         let boot = ends_in_fault g old.core new.core actor request one in
-        tells_end BootFault one.entry one.added (record { ended = one.ended ∙ ended_by BootFault one.entry.note one.entry.note.ended refl one.ends; boot = boot; later = later one.entry one.added }) kept
+        tells_end BootFault one.entry one.added (record { ended = one.ended ∙ ended_by BootFault one.entry.given.note one.entry.given.note.ended refl one.ends; boot = boot; later = later one.entry one.added }) kept
     served_on actor request (Err BootStopped) kept one live err =
         let boot = ends_in_stop g old.core new.core actor request one in
-        tells_end BootStopped one.entry one.added (record { ended = one.ended ∙ ended_by BootStopped one.entry.note one.entry.note.ended refl one.ends; boot = boot; later = later one.entry one.added }) kept
+        tells_end BootStopped one.entry one.added (record { ended = one.ended ∙ ended_by BootStopped one.entry.given.note one.entry.given.note.ended refl one.ends; boot = boot; later = later one.entry one.added }) kept
 
     pub moves_on : (actor : Actor) (request : Request) (done : Result Unit StepFault) → Fits actor request → new.fault ≡ kept_of done → OnPlayed done (AddsOne g old.core new.core actor request done) → OnPlayed done (Continues g verdict old.core new.core)
         → (done ≡ Err NoMemory → new.core ≡ old.core) → Moves g verdict old (actor_number actor) new
