@@ -72,7 +72,7 @@ fn bank_of(alloc: Global, bytes: &[u8]) -> Result<CalmBank, Memory>
     requires { length bytes.now ≡ bank_size }
     ensures { IfOk result (λ bank. bank ≡ bytes.now) }
 {
-    Ok(CalmBank::make(copied(alloc, bytes)?))
+    Ok(CalmBank::make(Vec::from_slice(alloc, bytes)?))
 }
 
 /// A source of these bytes.

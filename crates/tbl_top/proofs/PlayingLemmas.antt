@@ -5,7 +5,7 @@ use Rattle.std.proofs.lemmas.List.{take-append-drop, length-drop, length-take, d
 use Rattle.std.specs.List.{AllByRecursion}
 use Rattle.std.specs.Prelude.{Option, Some, None, MatchOption, ⊤}
 use Rattle.tbl_kinds.specs.Records.{Pair, IsRecord, spelling, joined}
-use Rattle.tbl_kinds.specs.Transcript.{pair_of, pairs_of, offset_of, end_bytes}
+use Rattle.tbl_kinds.specs.Transcript.{pair_of, pairs_of, offset_of}
 use Rattle.session_records.specs.Reading.{IfItem}
 use Rattle.session_records.specs.declared.reading.Next.{Next}
 use Rattle.session_records.specs.declared.reading.Next.TheVariants.{Item}
@@ -91,10 +91,6 @@ offset_bound core session =
 
 pub used_bound : (p : Pair) (used : ℕ) → IsRecord p → used ≡ length (spelling p) → used ≤ 32836
 used_bound p used is e = omega (arith, length-spelling p, is.within)
-
-pub end_length : (status count offset : ℕ) → length (end_bytes status count offset) ≡ 13
-unfolding end_bytes
-end_length status count offset = refl
 
 -- ---- what was read at the front of the bytes
 

@@ -13,7 +13,7 @@ use Rattle.tbl_model.specs.Subjects.{name_of}
 use Rattle.tbl_model.specs.Effects.{Effect, answered}
 use Rattle.tbl_model.specs.Dispatch.{effect_of}
 use Rattle.tbl_model.specs.StoreNotes.{IsNoteOf}
-use Rattle.tbl_model.specs.History.{Run, begins_at, given_in, effect_in, onward, onward_by, run_from, IsAnswered, AreAnswered}
+use Rattle.tbl_model.specs.History.{Run, begins_at, effect_in, onward, onward_by, run_from, IsAnswered, AreAnswered}
 use Rattle.tbl_session.specs.Recovery.{IsHistory, Registration, registering, request_of, Registers, Begins, ComesBack, started}
 use Rattle.tbl_laws.proofs.RecoveryLaws.{StartsWith, recovers, gives_what_it_holds, recovers_copied, loses_none, registers_at_start}
 use Rattle.cds_layout.specs.Images.{store_of}
@@ -42,9 +42,9 @@ answered_at r (first ∷ entries) (suc place) e are at = answered_at (onward r f
 module _ (run : Run) (e : Entry) (r : Registration) (asks : Asks e r) (is : IsAnswered run e) where
   effect_is : effect_in run e ≡ Some (registering run.state r)
   effect_is =
-      ap (λ (actor : Actor). effect_of run.state actor e.request (given_in e)) asks.actor
-      ∙ ap (λ (request : Request). effect_of run.state (App r.app) request (given_in e)) asks.request
-      ∙ ap (λ (note : BankNote). effect_of run.state (App r.app) (request_of r) (record { note = note; verdicts = e.verdicts })) asks.note
+      ap (λ (actor : Actor). effect_of run.state actor e.request e.given) asks.actor
+      ∙ ap (λ (request : Request). effect_of run.state (App r.app) request e.given) asks.request
+      ∙ ap (λ (note : BankNote). effect_of run.state (App r.app) (request_of r) (record { note = note; verdicts = e.given.verdicts })) asks.note
 
   same : is.effect ≡ registering run.state r
   same = same_Some is.effect (registering run.state r) (sym is.effect_is ∙ effect_is)
@@ -69,8 +69,8 @@ module _ (run : Run) (e : Entry) (r : Registration) (asks : Asks e r) (is : IsAn
   noted : IsNoteOf (request_of r) (registering run.state r).calls run.state.store r.note
   noted =
       subst (λ (note : BankNote). IsNoteOf (request_of r) (registering run.state r).calls run.state.store note) asks.note
-      (subst (λ (request : Request). IsNoteOf request (registering run.state r).calls run.state.store e.note) asks.request
-      (subst (λ (x : Effect). IsNoteOf e.request x.calls run.state.store e.note) same is.given.note))
+      (subst (λ (request : Request). IsNoteOf request (registering run.state r).calls run.state.store e.given.note) asks.request
+      (subst (λ (x : Effect). IsNoteOf e.request x.calls run.state.store e.given.note) same is.given.note))
 
   gives_back : (left : Store) (name : List ℕ) (held : Option (List ℕ)) → StartsWith left (registering run.state r) name held → IsGivenBack held run e name
   gives_back left name None starts = begins left name _ _ starts.status starts.begins
@@ -112,7 +112,7 @@ start_next s next false false is = refl
 
 module _ (opening : State) (first : Entry) (app : ℕ) (app_name : List ℕ) (actor : first.actor ≡ App app) (starts : first.request ≡ ask.Start app_name) (is : IsAnswered (begins_at opening) first) (runs : first.reply.status ≡ SUCCESS) where
   started_effect : effect_in (begins_at opening) first ≡ Some (start_effect opening app app_name)
-  started_effect = ap (λ (actor : Actor). effect_of opening actor first.request (given_in first)) actor ∙ ap (λ (request : Request). effect_of opening (App app) request (given_in first)) starts
+  started_effect = ap (λ (actor : Actor). effect_of opening actor first.request first.given) actor ∙ ap (λ (request : Request). effect_of opening (App app) request first.given) starts
 
   started_state : (onward (begins_at opening) first).state ≡ record opening { apps = slice_set opening.apps (app - 1) (Some app_name) }
   started_state =

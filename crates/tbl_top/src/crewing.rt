@@ -145,7 +145,7 @@ pub(crate) fn run_crew<
     ensures room { bank_size ≤ B.size result.1 }
 {
     match begin_crew(alloc, bank, kit, admit) {
-        Err(Back { cause, bank }) => (finish_unbegun(alloc, cause, sink), bank),
+        Err(Back { cause, bank }) => (finish_unbegun(cause, sink), bank),
         Ok((playback, collector)) => {
             let (status, core) = play_crew(rt, playback, collector, source, sink, gate);
             (status, core.end())

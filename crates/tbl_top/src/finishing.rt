@@ -3,12 +3,10 @@
 ghost use Rattle.std.specs.Prelude.{◌≡◌, ◌≤◌, length};
 ghost use Rattle.tbl_top.specs.Finishing.{Finishes, FinishesUnbegun, WritesEndAlone, status_of, unbegun_status};
 
-use crate::playback::{END_LENGTH, Playback, Standing};
-use std::alloc::Global;
+use crate::playback::{Playback, Standing};
 use tbl_core::StartFault;
-use tbl_kinds::Bytes;
 use tbl_outside::{Bank, Failed, Sink, Validator};
-use transcript::write_end;
+use transcript::end_record;
 
 /// The input was read to its end, and all of it was played.
 pub(crate) const DONE: u8 = 0;
@@ -85,15 +83,11 @@ pub(crate) fn finish<B: Bank, C: Validator, K: Sink>(
 }
 
 /// Writes the end record of a session that has no entry.
-fn tell_empty_end<K: Sink>(alloc: Global, status: u8, sink: &mut K) -> u8
+fn tell_empty_end<K: Sink>(status: u8, sink: &mut K) -> u8
     ensures finishes { WritesEndAlone status result (K.taken sink.old, K.faults sink.old) (K.taken sink.new, K.faults sink.new) }
     ensures count { K.faults sink.old ≤ K.faults sink.new }
 {
-    let Ok(mut end) = Bytes::make(alloc, END_LENGTH) else {
-        return NO_MEMORY;
-    };
-    write_end(&mut end, status, 0, 0);
-    match sink.write(end.bytes()) {
+    match sink.write(&end_record(status, 0, 0)) {
         Ok(()) => status,
         Err(Failed) => SINK_FAILED,
     }
@@ -111,13 +105,13 @@ pub(crate) fn unbegun_status(fault: StartFault) -> u8
 }
 
 /// Ends a session whose service didn't begin: its transcript is the end record alone. Where memory ran out there is none.
-pub(crate) fn finish_unbegun<K: Sink>(alloc: Global, fault: StartFault, sink: &mut K) -> u8
+pub(crate) fn finish_unbegun<K: Sink>(fault: StartFault, sink: &mut K) -> u8
     ensures finishes { FinishesUnbegun fault result (K.taken sink.old, K.faults sink.old) (K.taken sink.new, K.faults sink.new) }
     ensures count { K.faults sink.old ≤ K.faults sink.new }
 {
     match fault {
         StartFault::Memory => NO_MEMORY,
-        StartFault::BootFault => tell_empty_end(alloc, BANK_FAILED, sink),
-        StartFault::BootStopped => tell_empty_end(alloc, BANK_STOPPED, sink),
+        StartFault::BootFault => tell_empty_end(BANK_FAILED, sink),
+        StartFault::BootStopped => tell_empty_end(BANK_STOPPED, sink),
     }
 }

@@ -23,9 +23,9 @@ use std::sync::Wait;
 use std::thread::Threads;
 use tbl_core::{Core, StepFault};
 use tbl_crew::{Scripts, workers};
-use tbl_kinds::{Actor, Bytes, Entry, Memory, Request};
+use tbl_kinds::{Actor, Entry, Memory, Request};
 use tbl_outside::{Bank, Failed, Gate, Sink, Validator};
-use transcript::write_end;
+use transcript::end_record;
 
 /// The most records of a session.
 pub(crate) const RECORD_LIMIT: usize = 32_768;
@@ -33,8 +33,8 @@ pub(crate) const RECORD_LIMIT: usize = 32_768;
 /// The length of a record's head.
 const HEAD_LENGTH: usize = 4;
 
-/// The length of the end record.
-pub(crate) const END_LENGTH: usize = 13;
+/// How many bytes of room the spelling of an entry has from the beginning. Longer ones take more where they come.
+const SHORT_SPELLING: usize = 256;
 
 /// How a session stands after a piece of the input.
 #[derive(Clone, Copy, PartialEq, Eq)]
@@ -65,9 +65,7 @@ pub(crate) struct Playback<B: Bank, C: Validator> {
     /// The number of bytes of the records that were played.
     offset: u32,
     /// Room for the spelling of one entry.
-    out: Bytes,
-    /// Room for the end record.
-    end: Bytes,
+    out: Vec<u8>,
 }
 
 impl<B: Bank, C: Validator> Model for Playback<B, C> {
@@ -75,13 +73,13 @@ impl<B: Bank, C: Validator> Model for Playback<B, C> {
 
     ghost Value = { CoreView B C };
 
-    ghost use Rattle.std.specs.Prelude.{◌≡◌, ◌≤◌, []};
+    ghost use Rattle.std.specs.Prelude.{◌≡◌};
     ghost use Rattle.tbl_kinds.specs.Transcript.{offset_of};
     ghost use Rattle.tbl_top.specs.Playing.{IsSession};
 
     ghost view = { λ p. p.core };
 
-    ghost invariant = { λ p. (13 ≤ p.end.spare) × (p.end.list ≡ []) × IsSession p.core × (p.offset ≡ offset_of p.core.entries) };
+    ghost invariant = { λ p. IsSession p.core × (p.offset ≡ offset_of p.core.entries) };
 }
 
 impl<B: Bank, C: Validator> Playback<B, C> {
@@ -92,10 +90,7 @@ impl<B: Bank, C: Validator> Playback<B, C> {
         ensures core { IfOk result (λ p. p ≡ core) }
         ensures err { IfErr result (λ back. back ≡ core) }
     {
-        let Ok(out) = Bytes::make(alloc, 0) else {
-            return Err(core);
-        };
-        let Ok(end) = Bytes::make(alloc, END_LENGTH) else {
+        let Ok(out) = Vec::with_capacity(alloc, SHORT_SPELLING) else {
             return Err(core);
         };
         Ok(Playback {
@@ -103,7 +98,6 @@ impl<B: Bank, C: Validator> Playback<B, C> {
             core,
             offset: 0,
             out,
-            end,
         })
     }
 
@@ -239,18 +233,14 @@ impl<B: Bank, C: Validator> Playback<B, C> {
     }
 
     /// Writes the end record.
-    pub(crate) fn tell_end<K: Sink>(&mut self, status: u8, sink: &mut K) -> Result<(), Failed>
-        ensures same { self.new ≡ self.old }
-        ensures ok { OnOk result (K.taken sink.new ≡ append_known (K.taken sink.old) (end_bytes status (length self.old.entries) (offset_of self.old.entries))) }
-        ensures err { OnErr result (TakesFront (K.taken sink.old) (K.taken sink.new) (end_bytes status (length self.old.entries) (offset_of self.old.entries))) }
+    pub(crate) fn tell_end<K: Sink>(&self, status: u8, sink: &mut K) -> Result<(), Failed>
+        ensures ok { OnOk result (K.taken sink.new ≡ append_known (K.taken sink.old) (end_bytes status (length self.now.entries) (offset_of self.now.entries))) }
+        ensures err { OnErr result (TakesFront (K.taken sink.old) (K.taken sink.new) (end_bytes status (length self.now.entries) (offset_of self.now.entries))) }
         ensures cause { OnErr result (Rose (K.faults sink.old) (K.faults sink.new)) }
         ensures count { K.faults sink.old ≤ K.faults sink.new }
     {
         let count = self.core.history().len() as u32;
-        write_end(&mut self.end, status, count, self.offset);
-        let told = sink.write(self.end.bytes());
-        self.end.clear();
-        told
+        sink.write(&end_record(status, count, self.offset))
     }
 }
 
@@ -291,7 +281,6 @@ impl<B: Bank + Send, C: Validator + Send> Playback<B, C> {
             core,
             offset,
             out: self.out,
-            end: self.end,
         };
         (played, fault)
     }

@@ -12,13 +12,13 @@ use crate::playback::Standing;
 use crate::stepping::step;
 use crate::writing::write;
 use tbl_core::Core;
-use tbl_kinds::{Actor, Bytes, Memory, Request};
+use tbl_kinds::{Actor, Memory, Request};
 use tbl_outside::{Bank, Sink, Validator};
 
 /// Writes the last entry, and answers this where the sink took it.
 fn write_last<B: Bank, C: Validator, K: Sink>(
     core: &Core<B, C>,
-    out: &mut Bytes,
+    out: &mut Vec<u8>,
     ending: Option<Standing>,
     sink: &mut K,
 ) -> Option<Standing>
@@ -43,7 +43,7 @@ fn write_last<B: Bank, C: Validator, K: Sink>(
 /// `Ok(Some(..))` where the entry was added and the session is over: it wasn't written whole, or a boot failed or was stopped.
 pub(crate) fn play<B: Bank, C: Validator, K: Sink>(
     core: &mut Core<B, C>,
-    out: &mut Bytes,
+    out: &mut Vec<u8>,
     actor: Actor,
     request: Request,
     sink: &mut K,

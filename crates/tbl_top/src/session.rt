@@ -126,7 +126,7 @@ pub(crate) fn play_in_order<S: Source, K: Sink, B: Bank, C: Validator>(
     ensures room { bank_size ≤ B.size result.1 }
 {
     match begin(alloc, bank, kit, admit) {
-        Err(Back { cause, bank }) => (finish_unbegun(alloc, cause, sink), bank),
+        Err(Back { cause, bank }) => (finish_unbegun(cause, sink), bank),
         Ok(mut player) => {
             let status = play(&mut player, source, sink);
             (status, player.end().end())

@@ -10,9 +10,9 @@ ghost use Rattle.tbl_core.specs.Log.{IsSmall};
 ghost use Rattle.tbl_top.specs.Standing.{TellsStop, TellsWhy};
 
 use crate::playback::Standing;
-use tbl_kinds::{Bytes, Entry};
+use tbl_kinds::Entry;
 use tbl_outside::{Failed, Sink};
-use transcript::{FRONT_LENGTH, write_around, write_entry};
+use transcript::{FRONT_LENGTH, spell_around, spell_entry};
 
 /// From how many bytes on a reply is written from where it stands, which takes two further writes, and isn't copied.
 const LONG_REPLY: usize = 4_096;
@@ -53,8 +53,9 @@ fn write_parts<K: Sink>(
 }
 
 /// Writes the spelling of an entry whose reply is long; None where the sink took it.
+#[inline(never)]
 fn write_long<K: Sink>(
-    out: &mut Bytes,
+    out: &mut Vec<u8>,
     place: usize,
     entry: &Entry,
     sink: &mut K,
@@ -66,11 +67,10 @@ fn write_long<K: Sink>(
     ensures why { TellsWhy result (K.faults sink.old) (K.faults sink.new) }
     ensures count { K.faults sink.old ≤ K.faults sink.new }
 {
-    out.clear();
-    if write_around(out, place as u32, entry).is_err() {
+    let Ok(around) = spell_around(out, place as u32, entry) else {
         return Some(Standing::Unwritten);
-    }
-    match write_parts(out.bytes(), place as u32, entry, sink) {
+    };
+    match write_parts(around, place as u32, entry, sink) {
         Ok(()) => None,
         Err(Failed) => Some(Standing::SinkFailed),
     }
@@ -78,7 +78,7 @@ fn write_long<K: Sink>(
 
 /// Writes the spelling of an entry, which is put together in `out` unless its reply is long; None where the sink took it.
 pub(crate) fn write<K: Sink>(
-    out: &mut Bytes,
+    out: &mut Vec<u8>,
     place: usize,
     entry: &Entry,
     sink: &mut K,
@@ -93,9 +93,8 @@ pub(crate) fn write<K: Sink>(
     if entry.reply.bytes.bytes().len() >= LONG_REPLY {
         return write_long(out, place, entry, sink);
     }
-    out.clear();
-    match write_entry(out, place as u32, entry) {
-        Ok(()) => match sink.write(out.bytes()) {
+    match spell_entry(out, place as u32, entry) {
+        Ok(spelling) => match sink.write(spelling) {
             Ok(()) => None,
             Err(Failed) => Some(Standing::SinkFailed),
         },

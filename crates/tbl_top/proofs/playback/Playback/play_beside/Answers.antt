@@ -17,8 +17,6 @@ pub invariant_of-played : goal.invariant_of-played
 invariant_of-played g c =
     let begun = rw (← c.self.view_is) at c.requires.begun in
     let one = c.crew-core.ensures.history begun.0 begun.1 in (
-      c.self.invariant.0,
-      c.self.invariant.1,
       record { each = of_each IsRecord c.crew-core.result.1 c.args.scripts c.crew-core.result.0.entries one.played c.requires.records; few = one.few },
       c.offset_of-offset.ensures ∙ ap offset_of c.history.ensures.entries,
     )

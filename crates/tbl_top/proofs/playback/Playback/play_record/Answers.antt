@@ -12,7 +12,7 @@ overflow_cast-self g c = omega (arith, used_bound (record { actor = c.args.actor
 
 pub overflow_add-self : goal.overflow_add-self
 overflow_add-self g c =
-    omega (arith, used_bound (record { actor = c.args.actor; request = c.args.request }) c.args.used c.requires.is_record c.requires.used, offset_bound c.self.inside.core c.self.invariant.2, c.self.invariant.3)
+    omega (arith, used_bound (record { actor = c.args.actor; request = c.args.request }) c.args.used c.requires.is_record c.requires.used, offset_bound c.self.inside.core c.self.invariant.0, c.self.invariant.1)
 
 pub returns-in-Ok-clause-continues : goal.returns-in-Ok-clause-continues
 returns-in-Ok-clause-continues g c = rw (← c.self.view_is) c.in-Ok.ensures.continues
