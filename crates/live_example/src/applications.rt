@@ -1,7 +1,6 @@
 //! The two applications.
 
-ghost use Rattle.std.specs.Prelude.{◌+◌, ◌≤◌, length, IfOk};
-ghost use Rattle.request_effects.specs.Effects.{reply_limit};
+ghost use Rattle.std.specs.Prelude.{IfOk};
 ghost use Rattle.tbl_live.specs.Seats.{IsAppOf, IsSame};
 ghost use Rattle.live_example.specs.Flights.{AreOfBoard};
 
@@ -100,9 +99,7 @@ pub(crate) fn read_limits<R: Wait>(
     out: &mut Bytes,
 ) -> Result<[u8; LIMITS], Stop>
     requires app { IsAppOf desk.now.service.of seat.old }
-    requires room { reply_limit ≤ out.old.spare + length out.old.list }
     ensures same { IsSame seat.old seat.new }
-    ensures room { reply_limit ≤ out.new.spare + length out.new.list }
 {
     let read = Request::Read {
         handle,

@@ -1,8 +1,7 @@
 //! What all threads share: the service, and the board on which their receipts stay.
 
-ghost use Rattle.std.specs.Prelude.{◌≡◌, ◌+◌, ◌≤◌, length, IfOk};
+ghost use Rattle.std.specs.Prelude.{◌≡◌, IfOk};
 ghost use Rattle.tbl_kinds.specs.Requests.{Fits};
-ghost use Rattle.request_effects.specs.Effects.{reply_limit};
 ghost use Rattle.tbl_live.specs.Boards.{IsOfBoard};
 ghost use Rattle.tbl_live.specs.Seats.{IsAppOf, IsSame};
 
@@ -12,7 +11,7 @@ use std::io;
 use std::sync::Wait;
 use tbl_fakes::CalmBank;
 use tbl_kinds::{Bytes, Memory, Request, Status};
-use tbl_live::{Board, CallFault, Receipt, Seat, Service, Ticket};
+use tbl_live::{Board, CallFault, REPLY_LIMIT, Receipt, Seat, Service, Ticket};
 
 /// A seat at the service of this program.
 pub(crate) type Place = Seat<CalmBank, FirstByte>;
@@ -71,12 +70,11 @@ impl Desk {
     ) -> Result<Receipt, Stop>
         requires own { seat.old.of ≡ self.now.service.of }
         requires fits { Fits seat.old.actor request }
-        requires room { reply_limit ≤ out.old.spare + length out.old.list }
         ensures same { IsSame seat.old seat.new }
         ensures app { IsAppOf self.now.service.of seat.old → IsAppOf self.now.service.of seat.new }
-        ensures room { reply_limit ≤ out.new.spare + length out.new.list }
     {
         out.clear();
+        out.reserve(REPLY_LIMIT)?;
         match self.service.call(rt, seat, request, out) {
             Ok(receipt) => Ok(receipt),
             Err(CallFault::Memory) => Err(Stop::Memory),
@@ -94,10 +92,8 @@ impl Desk {
     ) -> Result<(Status, Ticket), Stop>
         requires own { seat.old.of ≡ self.now.service.of }
         requires fits { Fits seat.old.actor request }
-        requires room { reply_limit ≤ out.old.spare + length out.old.list }
         ensures same { IsSame seat.old seat.new }
         ensures app { IsAppOf self.now.service.of seat.old → IsAppOf self.now.service.of seat.new }
-        ensures room { reply_limit ≤ out.new.spare + length out.new.list }
         ensures ticket { IfOk result (λ told. IsOfBoard self.now.board told.1) }
     {
         let receipt = self.call(rt, seat, request, out)?;

@@ -12,7 +12,7 @@ use cfe_headers::{FileHeader, HEADER_LENGTH, write_cmd};
 use std::alloc::Global;
 use std::sync::Wait;
 use table_files::{IMAGE_PLACE, TABLE_SUBTYPE, TableFile, write_table_file};
-use tbl_kinds::{Bytes, Memory, Name, Request};
+use tbl_kinds::{Bytes, FILE_NAME_LENGTH, Memory, Name, Request, Uplink};
 use tbl_live::{REPLY_LIMIT, Ticket};
 
 /// The message id of commands, and the function codes of three.
@@ -34,7 +34,8 @@ const TABLE: &[u8] = b"GUIDE.LIMITS";
 fn uplink(alloc: Global) -> Result<Request, Memory>
     ensures { IfOk result (Fits Ground) }
 {
-    let mut bytes = Bytes::make(alloc, IMAGE_PLACE + LIMITS)?;
+    let mut spelling = Bytes::make(alloc, FILE_NAME_LENGTH + IMAGE_PLACE + LIMITS)?;
+    Name::<64>::of(FILE).append_field(&mut spelling);
     let header = FileHeader {
         subtype: TABLE_SUBTYPE,
         length: HEADER_LENGTH as u32,
@@ -50,10 +51,9 @@ fn uplink(alloc: Global) -> Result<Request, Memory>
         count: LIMITS as u32,
         name: Name::of(TABLE),
     };
-    write_table_file(&mut bytes, &header, &file, &[2; LIMITS]);
+    write_table_file(&mut spelling, &header, &file, &[2; LIMITS]);
     Ok(Request::File {
-        name: Name::of(FILE),
-        bytes,
+        file: Uplink::of(spelling),
     })
 }
 

@@ -17,7 +17,7 @@ use shipped_kit::Shipped;
 use std::alloc::Global;
 use tbl_core::Core;
 use tbl_fakes::{Break, MemBank};
-use tbl_kinds::{Admit, Bytes, Memory};
+use tbl_kinds::{Admit, Memory};
 use validation::Kit;
 
 /// How many writes the copy of an opening makes at most.
@@ -38,8 +38,7 @@ fn bank_of(alloc: Global, image: &[u8], breaks: &[Break], room: Room) -> Result<
     requires { length image.now ≤ bank_size + 1 }
     ensures { IfOk result (λ bank. length bank.bytes ≡ length image.now) }
 {
-    let mut bytes = Bytes::make(alloc, image.len())?;
-    bytes.append(image);
+    let bytes = Vec::from_slice(alloc, image)?;
     let writes = room.writes.saturating_add(COPIES);
     let written = room.bytes.saturating_add(BANK_SIZE);
     MemBank::make(alloc, bytes, breaks, &[], writes, written)
@@ -140,7 +139,7 @@ pub(crate) fn die(plan: &Plan<'_>, number: u32, after: u32) -> Result<Death, Fau
     let left = healed(alloc, &apart, played, plan.room)?;
     let behind = played.saturating_add(1);
     let mut runs = Runs::make(alloc);
-    come_back(plan, left.image.bytes(), behind, after, &mut runs)?;
+    come_back(plan, left.image.as_slice(), behind, after, &mut runs)?;
     runs.end()?;
     let mut lost = if played == plan.history.len() {
         0usize

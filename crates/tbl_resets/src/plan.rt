@@ -277,7 +277,7 @@ impl<'a> Finder<'a> {
             Request::Reset {
                 kind: ResetKind::PowerOn,
             } => Ok(self.empty_all(place)?),
-            _ if entry.note.outcome() == Outcome::Done => self.see_call(place, entry),
+            _ if entry.given.outcome() == Outcome::Done => self.see_call(place, entry),
             _ => Ok(()),
         }
     }

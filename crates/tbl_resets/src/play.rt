@@ -9,7 +9,7 @@ use shipped_kit::{Shipped, shipped_entries};
 use std::alloc::{AllocError, AllocFailed, Global};
 use tbl_core::{Core, StartFault, StepFault};
 use tbl_fakes::{Break, MemBank};
-use tbl_kinds::{Actor, Admit, Bytes, Entry, Memory, Request, Status, fits};
+use tbl_kinds::{Actor, Admit, Entry, Memory, Request, Status, fits};
 use tbl_outside::{Back, Bank, Failed};
 use validation::Kit;
 
@@ -79,8 +79,7 @@ fn bank_of(alloc: Global, image: &[u8], breaks: &[Break], room: Room) -> Result<
     requires { length image.now ≡ bank_size }
     ensures { IfOk result (λ bank. bank_size ≤ length bank.bytes) }
 {
-    let mut bytes = Bytes::make(alloc, image.len())?;
-    bytes.append(image);
+    let bytes = Vec::from_slice(alloc, image)?;
     MemBank::make(alloc, bytes, breaks, &[], room.writes, room.bytes)
 }
 
@@ -89,17 +88,15 @@ fn bank_of(alloc: Global, image: &[u8], breaks: &[Break], room: Room) -> Result<
 #[derive(Drop)]
 pub(crate) struct Left {
     pub(crate) played: usize,
-    pub(crate) image: Bytes,
+    pub(crate) image: Vec<u8>,
 }
 
 /// What a stop left in a bank.
 pub(crate) fn left_in(alloc: Global, bank: &MemBank, played: usize) -> Result<Left, Fault>
-    ensures image { IfOk result (λ left. left.image.list ≡ bank.now.bytes) }
+    ensures image { IfOk result (λ left. left.image.items ≡ bank.now.bytes) }
     ensures played { IfOk result (λ left. left.played ≡ played) }
 {
-    let bytes = bank.bytes();
-    let mut image = Bytes::make(alloc, bytes.len())?;
-    image.append(bytes);
+    let image = Vec::from_slice(alloc, bank.bytes())?;
     Ok(Left { played, image })
 }
 

@@ -7,7 +7,6 @@ use crate::recovery::come_back;
 use crate::tables::Back;
 use std::alloc::{AllocError, Global};
 use tbl_fakes::Span;
-use tbl_kinds::Bytes;
 
 /// In writes of so many bytes or fewer each number of bytes is tried, whatever `--every` says.
 pub(crate) const SHORT_WRITE: u32 = 64;
@@ -123,21 +122,21 @@ fn is_tried(after: u32, length: u32, every: u32) -> bool
 }
 
 /// Puts a byte at a place. The answer is whether another one stood there.
-fn put(image: &mut Bytes, at: usize, byte: u8) -> bool
-    ensures length { length image.new.list ≡ length image.old.list }
+fn put(image: &mut [u8], at: usize, byte: u8) -> bool
+    ensures length { length image.new ≡ length image.old }
     ensures same { result ≡ false → image.new ≡ image.old }
 {
-    if image.bytes().get(at).is_none_or(|old| *old == byte) {
+    if image.get(at).is_none_or(|old| *old == byte) {
         return false;
     }
-    image.write_over(at, &[byte]);
+    image[at] = byte;
     true
 }
 
 /// The bank after some number of bytes of a write, and what came back by then.
 #[derive(Drop)]
 pub(crate) struct Sweep {
-    image: Bytes,
+    image: Vec<u8>,
     /// How many requests had been made.
     pub(crate) played: usize,
     pub(crate) runs: Runs,
@@ -162,7 +161,13 @@ impl Sweep {
     fn reset(&mut self, plan: &Plan<'_>, after: u32, counts: &mut Counts) -> Result<bool, Fault> {
         let starts = self.is_changed;
         if starts {
-            come_back(plan, self.image.bytes(), self.played, after, &mut self.runs)?;
+            come_back(
+                plan,
+                self.image.as_slice(),
+                self.played,
+                after,
+                &mut self.runs,
+            )?;
             counts.starts = counts.starts.saturating_add(1);
         }
         self.is_changed = false;
@@ -186,7 +191,7 @@ impl Sweep {
         let Some(byte) = bytes.get(at) else {
             return Err(Fault::Full);
         };
-        if put(&mut self.image, at, *byte) {
+        if put(self.image.as_mut_slice(), at, *byte) {
             self.is_changed = true;
         }
         if is_tried(after, span.length, plan.every) {
@@ -228,7 +233,7 @@ pub(crate) fn try_write<R: Eprint>(
 ) -> Result<(), Fault> {
     let Write { number, span } = write;
     let behind = with_stop(plan.alloc, plan.records, number, span.length, plan.room)?;
-    try_bytes(rt, plan, write, behind.image.bytes(), sweep, counts)
+    try_bytes(rt, plan, write, behind.image.as_slice(), sweep, counts)
 }
 
 /// Says now and then on standard error how far the work is. Where that can't be written, it goes on.

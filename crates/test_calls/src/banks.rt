@@ -85,14 +85,14 @@ fn play_bank<R: Print, B: Bank + Shown>(rt: &R, bank: &mut B, calls: &str) -> io
 
 /// A bank that begins with these bytes, and never fails.
 fn calm_of(alloc: Global, word: &[u8]) -> Result<CalmBank, Memory> {
-    let bytes = kept(alloc, &word[..word.len().min(MOST)])?;
+    let bytes = Vec::from_slice(alloc, &word[..word.len().min(MOST)])?;
     Ok(CalmBank::make(bytes))
 }
 
 /// A bank, by the words that state it.
 fn mem_of(alloc: Global, words: &mut Words) -> Result<MemBank, Memory> {
     let word = words.letters();
-    let bytes = kept(alloc, &word[..word.len().min(MOST)])?;
+    let bytes = Vec::from_slice(alloc, &word[..word.len().min(MOST)])?;
     let writes = words.number();
     let room = words.number();
     let bad_read = words.number();

@@ -93,7 +93,7 @@ fn bank_over(
     requires { length bytes.now ≡ bank_size }
     ensures { IfOk result (λ bank. bank_size ≤ length bank.bytes) }
 {
-    let bytes = kept(alloc, bytes)?;
+    let bytes = Vec::from_slice(alloc, bytes)?;
     MemBank::make(alloc, bytes, breaks, bad_reads, MOST_WRITES, MOST_WRITTEN)
 }
 

@@ -3,7 +3,7 @@
 use crate::line::{Line, room_for};
 use std::alloc::Global;
 use tbl_kinds::{Actor, Name, Name20, Request, ResetKind, fits};
-use test_tables::CaseFault;
+use test_tables::{CaseFault, uplink_of};
 
 /// How many bytes the field of an application's name has.
 const FIELD: usize = 20;
@@ -29,8 +29,7 @@ fn command(alloc: Global) -> Result<Request, CaseFault> {
 
 fn file(alloc: Global) -> Result<Request, CaseFault> {
     Ok(Request::File {
-        name: Name::of(b"/a"),
-        bytes: room_for(alloc, 0)?,
+        file: uplink_of(alloc, &Name::of(b"/a"), b"")?,
     })
 }
 

@@ -55,7 +55,7 @@ fn tell_handled(line: &mut Line, request: &Request) {
         }
         Request::LoadFile { handle, name } => {
             line.numbered("LoadFile", &[u32::from(*handle)]);
-            line.name(name.bytes());
+            line.name(name.name().bytes());
         }
         Request::Edit {
             handle,
@@ -90,9 +90,9 @@ fn tell_request(line: &mut Line, request: &Request) {
             line.word("Command");
             line.bytes(bytes.bytes());
         }
-        Request::File { name, bytes } => {
-            line.named("File", name.bytes());
-            line.bytes(bytes.bytes());
+        Request::File { file } => {
+            line.named("File", file.name().bytes());
+            line.bytes(file.bytes());
         }
         Request::Start { name } => line.named("Start", name.bytes()),
         Request::Register {

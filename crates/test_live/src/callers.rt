@@ -1,7 +1,6 @@
 //! Applications that call from threads of their own.
 
-ghost use Rattle.std.specs.Prelude.{ℕ, ◌+◌, ◌<◌, ◌≤◌, ◌∷◌, All, length, slice_index_or};
-ghost use Rattle.request_effects.specs.Effects.{reply_limit};
+ghost use Rattle.std.specs.Prelude.{ℕ, ◌<◌, ◌∷◌, All, length, slice_index_or};
 ghost use Rattle.tbl_live.specs.Seats.{SeatView, AreSeats, IsAppOf, IsSame};
 ghost use Rattle.test_live.specs.Applications.{IsFromApps};
 
@@ -33,12 +32,14 @@ pub(crate) fn call<R: Wait>(
 )
     requires app { IsAppOf service.now.of seat.old }
     requires asks { IsFromApps request }
-    requires room { reply_limit ≤ out.old.spare + length out.old.list }
     ensures app { IsAppOf service.now.of seat.new }
     ensures same { IsSame seat.old seat.new }
-    ensures room { reply_limit ≤ out.new.spare + length out.new.list }
 {
     out.clear();
+    if out.reserve(REPLY_LIMIT).is_err() {
+        told.is_refused = true;
+        return;
+    }
     match service.call(rt, seat, request, out) {
         // There is room for the receipts of all calls.
         Ok(receipt) => told.is_refused |= told.receipts.push(receipt).is_err(),

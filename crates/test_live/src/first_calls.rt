@@ -1,9 +1,8 @@
 //! Calls of one thread.
 
-ghost use Rattle.std.specs.Prelude.{◌≡◌, ◌+◌, ◌≤◌, ◌∷◌, length};
+ghost use Rattle.std.specs.Prelude.{◌≡◌, ◌∷◌};
 ghost use Rattle.tbl_kinds.specs.Requests.{Fits};
 ghost use Rattle.tbl_kinds.specs.declared.request.Actor.TheVariants.{Ground};
-ghost use Rattle.request_effects.specs.Effects.{reply_limit};
 ghost use Rattle.tbl_live.specs.Seats.{AreSeats, IsOfActor, IsSame};
 
 use crate::requests::noop;
@@ -27,11 +26,10 @@ fn call<R: Wait>(
     requires own { seat.old.of ≡ service.now.of }
     requires ground { seat.old.actor ≡ Ground }
     requires fits { Fits Ground request }
-    requires room { reply_limit ≤ out.old.spare + length out.old.list }
     ensures same { IsSame seat.old seat.new }
-    ensures room { reply_limit ≤ out.new.spare + length out.new.list }
 {
     out.clear();
+    out.reserve(REPLY_LIMIT)?;
     match service.call(rt, seat, request, out) {
         Ok(receipt) => Ok(receipt),
         Err(_) => Err(CaseFault::Memory),

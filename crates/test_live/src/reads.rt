@@ -1,7 +1,6 @@
 //! An application that reads its table, in the thread of the row.
 
-ghost use Rattle.std.specs.Prelude.{◌+◌, ◌≤◌, ◌∷◌, length};
-ghost use Rattle.request_effects.specs.Effects.{reply_limit};
+ghost use Rattle.std.specs.Prelude.{◌∷◌};
 ghost use Rattle.tbl_live.specs.Seats.{AreSeats, IsAppOf, IsSame};
 
 use crate::agreeing::{Told, are_all};
@@ -26,10 +25,8 @@ fn read_once<R: Wait>(
     out: &mut Bytes,
 ) -> bool
     requires app { IsAppOf service.now.of seat.old }
-    requires room { reply_limit ≤ out.old.spare + length out.old.list }
     ensures app { IsAppOf service.now.of seat.new }
     ensures same { IsSame seat.old seat.new }
-    ensures room { reply_limit ≤ out.new.spare + length out.new.list }
 {
     call(rt, service, seat, get(), told, out);
     call(rt, service, seat, read(), told, out);

@@ -1,6 +1,6 @@
 //! A session of the service over two banks as one.
 
-ghost use Rattle.std.specs.Prelude.{◌<◌, ◌≤◌, length, IfOk, IsTrue};
+ghost use Rattle.std.specs.Prelude.{◌<◌, ◌≤◌, ◌^◌, length, IfOk, IsTrue};
 ghost use Rattle.tbl_kinds.specs.Places.{bank_size};
 ghost use Rattle.tbl_core.specs.Service.{AskedBelow};
 ghost use Rattle.shipped_kit.specs.Verdicts.{asked_of};
@@ -15,9 +15,9 @@ use shipped_kit::{Shipped, shipped_entries};
 use std::alloc::Global;
 use std::io;
 use tbl_core::Core;
-use tbl_kinds::{Actor, Admit, Bytes, Memory, Request, fits};
+use tbl_kinds::{Actor, Admit, Bytes, Entry, Memory, Request, fits};
 use tbl_outside::Bank;
-use transcript::write_entry;
+use transcript::spell_entry;
 use validation::Kit;
 
 /// The service over two banks in memory as one.
@@ -81,6 +81,18 @@ fn step_all(alloc: Global, core: &mut Service, records: &[u8]) {
     }
 }
 
+/// Appends the spelling of the entry at a place.
+fn append_entry(out: &mut Bytes, place: u32, entry: &Entry) -> Result<(), Memory>
+    requires bytes { length entry.now.reply.bytes.list < 2 ^ 32 }
+    requires packets { length entry.now.reply.packets.list < 2 ^ 32 }
+{
+    let mut room = Vec::new(out.allocator());
+    let spelling = spell_entry(&mut room, place, entry)?;
+    out.reserve(spelling.len())?;
+    out.append(spelling);
+    Ok(())
+}
+
 /// The spellings of all entries.
 fn entries_of(alloc: Global, core: &Service) -> Result<Bytes, Memory> {
     let mut out = Bytes::make(alloc, 0)?;
@@ -88,7 +100,7 @@ fn entries_of(alloc: Global, core: &Service) -> Result<Bytes, Memory> {
         let Ok(place) = u32::try_from(place) else {
             return Err(Memory);
         };
-        write_entry(&mut out, place, entry)?;
+        append_entry(&mut out, place, entry)?;
     }
     Ok(out)
 }

@@ -7,7 +7,7 @@ use crate::words::{Words, words_after};
 use cds_layout::BANK_SIZE;
 use std::alloc::{AllocError, Global};
 use tbl_fakes::{Break, MemBank};
-use tbl_kinds::{Bytes, Memory};
+use tbl_kinds::Memory;
 
 /// For how many writes a bank has room in its record.
 const MOST_WRITES: u32 = 2_048;
@@ -89,9 +89,9 @@ impl Setup {
     }
 
     /// A bank of these bytes.
-    pub(crate) fn bank(&self, alloc: Global, bytes: Bytes) -> Result<MemBank, Memory>
-        requires { length bytes.list < 2 ^ 32 }
-        ensures { IfOk result (λ bank. bank.bytes ≡ bytes.list) }
+    pub(crate) fn bank(&self, alloc: Global, bytes: Vec<u8>) -> Result<MemBank, Memory>
+        requires { length bytes.items < 2 ^ 32 }
+        ensures { IfOk result (λ bank. bank.bytes ≡ bytes.items) }
     {
         MemBank::make(
             alloc,
@@ -105,27 +105,24 @@ impl Setup {
 }
 
 /// So many zeros.
-pub(crate) fn zeros(alloc: Global, count: u32) -> Result<Bytes, Memory>
-    ensures { IfOk result (λ b. length b.list ≡ count) }
+pub(crate) fn zeros(alloc: Global, count: u32) -> Result<Vec<u8>, Memory>
+    ensures { IfOk result (λ b. length b.items ≡ count) }
 {
-    let zeros = vec![in alloc; 0; count as usize]?;
-    kept(alloc, &zeros)
+    Ok(vec![in alloc; 0; count as usize]?)
 }
 
 /// The same bytes as a bank keeps them.
-pub(crate) fn kept(alloc: Global, bytes: &[u8]) -> Result<Bytes, Memory>
-    ensures { IfOk result (λ b. b.list ≡ bytes.now) }
+pub(crate) fn kept(alloc: Global, bytes: &[u8]) -> Result<Vec<u8>, Memory>
+    ensures { IfOk result (λ b. b.items ≡ bytes.now) }
 {
-    let mut kept = Bytes::make(alloc, bytes.len())?;
-    kept.append(bytes);
-    Ok(kept)
+    Ok(Vec::from_slice(alloc, bytes)?)
 }
 
 /// The bytes of the bank of this name: `NAME BYTES` in hexadecimal, or `NAME bank` for zeros, as many as the service's has and
 /// so many more.
-pub(crate) fn bytes_of(alloc: Global, lines: &str, name: &str, more: u32) -> Result<Bytes, Memory>
+pub(crate) fn bytes_of(alloc: Global, lines: &str, name: &str, more: u32) -> Result<Vec<u8>, Memory>
     requires { more ≤ 1 }
-    ensures { IfOk result (λ b. length b.list < 2 ^ 32) }
+    ensures { IfOk result (λ b. length b.items < 2 ^ 32) }
 {
     let mut words = words_after(lines, name);
     let bytes = words.bytes(alloc);

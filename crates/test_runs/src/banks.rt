@@ -26,7 +26,7 @@ pub(crate) fn same_writes(row: &Row, at: usize, writes: &[Span]) -> Result<(), C
 /// Whether a bank holds what a cell has, and zeros elsewhere.
 fn holds(row: &Row, at: usize, bank: &[u8]) -> Result<bool, CaseFault> {
     let wanted = bank_bytes(row, at)?;
-    Ok(bank == wanted.bytes())
+    Ok(bank == wanted.as_slice())
 }
 
 /// Tells it where a bank doesn't hold what a cell has, and zeros elsewhere.

@@ -51,7 +51,7 @@ fn next_bank(alloc: Global, bank: &MemBank) -> Result<MemBank, CaseFault>
     if bytes.len() != BANK_SIZE {
         return Err(CaseFault::Unreadable);
     }
-    let bytes = kept(alloc, bytes)?;
+    let bytes = Vec::from_slice(alloc, bytes)?;
     bank_over(alloc, bytes, &[], &[])
 }
 

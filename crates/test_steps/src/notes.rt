@@ -59,13 +59,13 @@ fn tell_note(told: &mut String, note: &BankNote) -> fmt::Result {
     Ok(())
 }
 
-/// Writes the status of an entry and its note, and a blank after them. One that takes no memory tells that nothing was done.
+/// Writes the status of an entry and its note, and a blank after them. One that takes no memory tells how many calls were done.
 fn tell_entry(told: &mut String, entry: &Entry) -> fmt::Result {
     let status = entry.reply.status.0;
     write!(told, "{status}:")?;
-    match entry.note.touched() {
-        None => told.write_str("-")?,
+    match entry.given.touched() {
         Some(note) => tell_note(told, note)?,
+        None => tell_calls(told, entry.given.outcome(), entry.given.done_count())?,
     }
     told.write_str(" ")
 }

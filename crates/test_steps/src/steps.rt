@@ -4,9 +4,9 @@ use crate::notes::try_notes;
 use crate::stepping::{MOST_ENTRIES, Service, started, step, step_all};
 use std::sync::Wait;
 use std::thread::Threads;
-use tbl_kinds::{Actor, Admit, Bytes, Memory, Name64, Outcome, Request};
-use test_tables::{CaseFault, Row, RowCases, admit_of, new_bank};
-use transcript::write_entry;
+use tbl_kinds::{Actor, Admit, Bytes, Name64, Outcome, Request};
+use test_tables::{CaseFault, Row, RowCases, admit_of, new_bank, uplink_of};
+use transcript::spell_entry;
 
 /// How many bytes the field of a file's name has.
 const NAME_FIELD: usize = 64;
@@ -35,8 +35,7 @@ fn name_in(row: &Row, at: usize) -> Result<Name64, CaseFault> {
 /// Uplinks a file, for which a record may have no room.
 fn uplink_file(core: &mut Service, row: &Row) -> Result<bool, CaseFault> {
     let file = Request::File {
-        name: name_in(row, 1)?,
-        bytes: row.kept(2)?,
+        file: uplink_of(row.alloc(), &name_in(row, 1)?, row.kept(2)?.bytes())?,
     };
     step(core, Actor::Ground, file)
 }
@@ -48,11 +47,14 @@ fn tell_entry(core: &Service, place: usize, out: &mut Bytes) -> Result<(), CaseF
         return Err(CaseFault::Unreadable);
     }
     let entry = &entries[place];
-    match write_entry(out, place as u32, entry) {
-        Ok(()) if entry.note.outcome() == Outcome::Untouched => Ok(()),
-        Ok(()) => Err(CaseFault::Unreadable),
-        Err(Memory) => Err(CaseFault::Memory),
+    if entry.given.outcome() != Outcome::Untouched {
+        return Err(CaseFault::Unreadable);
     }
+    let mut room = Vec::new(out.allocator());
+    let spelling = spell_entry(&mut room, place as u32, entry)?;
+    out.reserve(spelling.len())?;
+    out.append(spelling);
+    Ok(())
 }
 
 /// Whether the entries of a live service from a place on are those of a cell.

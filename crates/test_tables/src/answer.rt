@@ -2,7 +2,7 @@ ghost use Rattle.std.specs.Prelude.{◌≡◌, IfOk};
 
 use crate::fault::CaseFault;
 use std::alloc::Global;
-use tbl_kinds::{Bytes, Memory};
+use tbl_kinds::{Bytes, FILE_NAME_LENGTH, Memory, Name64, Uplink, is_name_field};
 
 /// Whether a text is the one that is wanted, but for spaces at its end.
 pub fn same_text(came: String, wanted: &str) -> Result<(), CaseFault> {
@@ -29,6 +29,19 @@ pub fn kept(alloc: Global, bytes: &[u8]) -> Result<Bytes, Memory>
     let mut kept = Bytes::make(alloc, bytes.len())?;
     kept.append(bytes);
     Ok(kept)
+}
+
+/// An uplink of a file.
+pub fn uplink_of(alloc: Global, name: &Name64, bytes: &[u8]) -> Result<Uplink, CaseFault> {
+    let mut spelling = Bytes::make(alloc, name.field_len())?;
+    name.append_field(&mut spelling);
+    spelling.reserve(bytes.len())?;
+    spelling.append(bytes);
+    let front = spelling.bytes();
+    if front.len() < FILE_NAME_LENGTH || !is_name_field(&front[..FILE_NAME_LENGTH]) {
+        return Err(CaseFault::Unreadable);
+    }
+    Ok(Uplink::of(spelling))
 }
 
 /// One word, as a program is given words.

@@ -8,7 +8,7 @@ use crate::number::number_in;
 use crate::row::Row;
 use std::alloc::Global;
 use tbl_fakes::{Break, MemBank};
-use tbl_kinds::{Bytes, Memory};
+use tbl_kinds::Memory;
 
 /// For how many writes a bank has room in its record.
 const MOST_WRITES: u32 = 512;
@@ -24,29 +24,27 @@ pub const BANK_SIZE: usize = 262_144;
 static ZEROS: [u8; BANK_SIZE] = [0; BANK_SIZE];
 
 /// The bytes of a bank that nothing was written to.
-pub fn zeros(alloc: Global) -> Result<Bytes, Memory>
-    ensures { IfOk result (λ b. length b.list ≡ bank_size) }
+pub fn zeros(alloc: Global) -> Result<Vec<u8>, Memory>
+    ensures { IfOk result (λ b. length b.items ≡ bank_size) }
 {
-    let mut bytes = Bytes::make(alloc, BANK_SIZE)?;
-    bytes.append(&ZEROS);
-    Ok(bytes)
+    Ok(Vec::from_slice(alloc, &ZEROS)?)
 }
 
 /// Writes bytes over those of a bank from a place on, where they lie inside.
-fn patch(bytes: &mut Bytes, at: usize, content: &[u8]) -> Result<(), CaseFault>
-    ensures { length bytes.new.list ≡ length bytes.old.list }
+fn patch(bytes: &mut Vec<u8>, at: usize, content: &[u8]) -> Result<(), CaseFault>
+    ensures { length bytes.new.items ≡ length bytes.old.items }
 {
-    let size = bytes.bytes().len();
+    let size = bytes.len();
     if at <= size && content.len() <= size - at {
-        bytes.write_over(at, content);
+        bytes[at..at + content.len()].copy_from_slice(content);
         return Ok(());
     }
     Err(CaseFault::Unreadable)
 }
 
 /// Writes over the bytes of a bank what two words say: a place, and what stands there.
-fn patch_pair(alloc: Global, bytes: &mut Bytes, pair: &[&str]) -> Result<(), CaseFault>
-    ensures { length bytes.new.list ≡ length bytes.old.list }
+fn patch_pair(alloc: Global, bytes: &mut Vec<u8>, pair: &[&str]) -> Result<(), CaseFault>
+    ensures { length bytes.new.items ≡ length bytes.old.items }
 {
     match pair {
         [at, content] => {
@@ -58,8 +56,8 @@ fn patch_pair(alloc: Global, bytes: &mut Bytes, pair: &[&str]) -> Result<(), Cas
 }
 
 /// The bytes of a bank: zeros, over which stands what a cell has, as `0 43445331 16 A5`.
-pub fn bank_bytes(row: &Row, at: usize) -> Result<Bytes, CaseFault>
-    ensures { IfOk result (λ b. length b.list ≡ bank_size) }
+pub fn bank_bytes(row: &Row, at: usize) -> Result<Vec<u8>, CaseFault>
+    ensures { IfOk result (λ b. length b.items ≡ bank_size) }
 {
     let words: Vec<&str> = row.text(at)?.split_ascii_whitespace().collect(row.alloc())?;
     let mut bytes = zeros(row.alloc())?;
@@ -72,11 +70,11 @@ pub fn bank_bytes(row: &Row, at: usize) -> Result<Bytes, CaseFault>
 /// A bank of these bytes, whose writes break off and whose reads fail as it is told.
 pub fn bank_over(
     alloc: Global,
-    bytes: Bytes,
+    bytes: Vec<u8>,
     breaks: &[Break],
     bad_reads: &[u32],
 ) -> Result<MemBank, CaseFault>
-    requires { length bytes.list ≡ bank_size }
+    requires { length bytes.items ≡ bank_size }
     ensures { IfOk result (λ bank. length bank.bytes ≡ bank_size) }
 {
     match MemBank::make(alloc, bytes, breaks, bad_reads, MOST_WRITES, MOST_WRITTEN) {
@@ -117,8 +115,8 @@ fn breaks_in(alloc: Global, cell: &str) -> Result<Vec<Break>, CaseFault> {
 }
 
 /// A bank of these bytes. Which of its writes break off and which of its reads fail stands in the cells 4 and 5.
-fn broken_bank(row: &Row, bytes: Bytes) -> Result<MemBank, CaseFault>
-    requires { length bytes.list ≡ bank_size }
+fn broken_bank(row: &Row, bytes: Vec<u8>) -> Result<MemBank, CaseFault>
+    requires { length bytes.items ≡ bank_size }
     ensures { IfOk result (λ bank. length bank.bytes ≡ bank_size) }
 {
     let breaks = breaks_in(row.alloc(), row.text(4)?)?;

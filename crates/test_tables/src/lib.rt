@@ -13,7 +13,7 @@ mod row;
 mod rows;
 mod table;
 
-pub use answer::{kept, one_word, same_bytes, same_text};
+pub use answer::{kept, one_word, same_bytes, same_text, uplink_of};
 pub use banks::{BANK_SIZE, bank_bytes, bank_in, bank_over, new_bank, zeros};
 pub use fault::CaseFault;
 pub use lists::admit_of;

@@ -1,4 +1,5 @@
-ghost use Rattle.std.specs.Prelude.{◌≡◌, ◌<◌, ◌≤◌, ⊤, length, take, IfOk, OnErr};
+ghost use Rattle.std.specs.Prelude.{◌≡◌, ◌+◌, ◌<◌, ◌≤◌, ⊤, length, take, IfOk, OnErr};
+ghost use Rattle.tbl_kinds.specs.Numbers.{patched};
 ghost use Rattle.tbl_adapters.specs.Files.{written, Spoiled};
 
 use std::alloc::Global;
@@ -6,39 +7,52 @@ use std::fs;
 use std::io::{self, ErrorKind};
 use std::test::Fail;
 use tbl_adapters::{OpenFault, RandomAccess, StandardInput, StandardOutput, StoreFile};
-use tbl_kinds::{Bytes, Memory};
+use tbl_kinds::Memory;
 use tbl_outside::{Bank, Sink, Written};
 
 /// A file in memory that tells its bytes. It moves one of them in a call, and fails in the call of a number.
 #[derive(Drop)]
 struct OneByteFile {
-    bytes: Bytes,
+    bytes: Vec<u8>,
     calls: u32,
     bad: u32,
 }
 
+/// Copies bytes over others.
+fn copy_over(kept: &mut [u8], at: usize, bytes: &[u8])
+    requires { at + length bytes.now ≤ length kept.old }
+    ensures { kept.new ≡ patched kept.old at bytes.now }
+{
+    kept[at..at + bytes.len()].copy_from_slice(bytes);
+}
+
+/// Writes bytes over others in a vector.
+fn write_over(kept: &mut Vec<u8>, at: usize, bytes: &[u8])
+    requires { at + length bytes.now ≤ length kept.old.items }
+    ensures { kept.new.items ≡ patched kept.old.items at bytes.now }
+{
+    copy_over(kept, at, bytes);
+}
+
 /// Writes the first byte of a piece over the one at a place, or after the last.
 #[tactic(auto, using(crate::proofs::OneByte::written_over, crate::proofs::OneByte::written_last, crate::proofs::OneByte::spoiled_same))]
-fn put_first(kept: &mut Bytes, at: u64, piece: &[u8]) -> io::Result<usize>
+fn put_first(kept: &mut Vec<u8>, at: u64, piece: &[u8]) -> io::Result<usize>
     requires { 0 < length piece.now }
     ensures fits { IfOk result (λ n. n ≤ length piece.now) }
-    ensures written { IfOk result (λ n. kept.new.list ≡ written kept.old.list at (take n piece.now)) }
-    ensures failed { OnErr result (Spoiled at (length piece.now) kept.old.list kept.new.list) }
+    ensures written { IfOk result (λ n. kept.new.items ≡ written kept.old.items at (take n piece.now)) }
+    ensures failed { OnErr result (Spoiled at (length piece.now) kept.old.items kept.new.items) }
 {
-    let end = kept.bytes().len() as u64;
+    let end = kept.len() as u64;
     if at < end {
-        kept.write_over(at as usize, &piece[..1]);
+        write_over(kept, at as usize, &piece[..1]);
         return Ok(1);
     }
     if end < at {
         return Err(ErrorKind::InvalidInput.into());
     }
-    match kept.reserve(1) {
-        Ok(()) => {
-            kept.append(&piece[..1]);
-            Ok(1)
-        }
-        Err(Memory) => Err(ErrorKind::OutOfMemory.into()),
+    match kept.push(piece[0]) {
+        Ok(()) => Ok(1),
+        Err(_) => Err(ErrorKind::OutOfMemory.into()),
     }
 }
 
@@ -55,17 +69,17 @@ impl OneByteFile {
 impl RandomAccess for OneByteFile {
     ghost tells = { ⊤ };
 
-    ghost content = { λ f. f.bytes.list };
+    ghost content = { λ f. f.bytes.items };
 
     fn len(&mut self) -> io::Result<u64> {
-        Ok(self.bytes.bytes().len() as u64)
+        Ok(self.bytes.len() as u64)
     }
 
     fn read_some(&mut self, at: u64, into: &mut [u8]) -> io::Result<usize> {
         if self.fails_next() {
             return Err(ErrorKind::Other.into());
         }
-        let bytes = self.bytes.bytes();
+        let bytes = self.bytes.as_slice();
         if into.is_empty() || bytes.len() as u64 <= at {
             return Ok(0);
         }
@@ -87,10 +101,8 @@ impl RandomAccess for OneByteFile {
 
 /// A file that begins as `abcd`.
 fn one_byte_file(alloc: Global, bad: u32) -> Result<OneByteFile, Memory> {
-    let mut bytes = Bytes::make(alloc, 4)?;
-    bytes.append(b"abcd");
     Ok(OneByteFile {
-        bytes,
+        bytes: Vec::from_slice(alloc, b"abcd")?,
         calls: 0,
         bad,
     })

@@ -29,6 +29,7 @@ fn bytes_grow_in_reserved_room(rt: HostRuntime) -> Result<(), Fail> {
     assert!(rt; bytes.bytes() == b"abcde".as_slice() && copy.bytes() == b"abc".as_slice());
     bytes.clear();
     assert!(rt; bytes.bytes().is_empty());
+    bytes.reserve(5)?;
     bytes.append(b"fghij");
     assert!(rt; bytes.bytes() == b"fghij".as_slice());
     Ok(())
@@ -40,18 +41,18 @@ fn many_bytes_follow_few(rt: HostRuntime) -> Result<(), Fail> {
     bytes.append(b"ab");
     bytes.reserve(30)?;
     bytes.append(b"cdefghijklmnopqrstuvwxyz012345");
-    bytes.write_over(1, b"BC");
-    assert!(rt; bytes.bytes() == b"aBCdefghijklmnopqrstuvwxyz012345".as_slice());
+    assert!(rt; bytes.bytes() == b"abcdefghijklmnopqrstuvwxyz012345".as_slice());
     Ok(())
 }
 
 #[test]
-fn a_piece_is_written_over(rt: HostRuntime) -> Result<(), Fail> {
-    let mut bytes = Bytes::make(rt.alloc(), 5)?;
-    bytes.append(b"abcde");
-    bytes.write_over(1, b"xy");
-    bytes.write_over(5, b"");
-    assert!(rt; bytes.bytes() == b"axyde".as_slice());
+fn many_bytes_have_two_owners(rt: HostRuntime) -> Result<(), Fail> {
+    let mut bytes = Bytes::of(rt.alloc(), &[7; 30])?;
+    let mut copy = bytes.again()?;
+    copy.reserve(1)?;
+    copy.append(&[8]);
+    assert!(rt; bytes.bytes() == [7; 30].as_slice() && bytes.share()?.is_some());
+    assert!(rt; copy.bytes().len() == 31 && Bytes::of(rt.alloc(), &[7; 24])?.share()?.is_none());
     Ok(())
 }
 

@@ -2,13 +2,13 @@ ghost use Rattle.std.specs.Prelude.{◌≡◌, length};
 ghost use Rattle.std.specs.Option.{ForSome};
 
 use bitflags::Flags;
-use partial_load::{abort, app_load, closed_refusal, ground_load, load_image, load_part};
+use partial_load::{abort, closed_refusal, ground_load, load_image, load_part};
 use shipped_kit::FirstByte;
 use std::alloc::Global;
 use std::process::Abort;
 use std::test::Fail;
 use table_files::TableFile;
-use tbl_kinds::{Memory, Name, Name64, Options, Status};
+use tbl_kinds::{Bytes, Memory, Name, Name64, Options, Status};
 use tbl_registry::{AddFault, NewTable, Tables};
 use validation::{Kit, Pending};
 
@@ -32,13 +32,14 @@ fn take(
     alloc: Global,
     tables: &mut Tables,
     kit: &mut Kit<FirstByte>,
-    image: &[u8; 12],
+    image: &[u8],
 ) -> Result<Status, Memory> {
     match tables.row(0) {
         Some(view) if view.count < u32::MAX && view.validator.is_none() => {}
         _ => return Ok(Status::ERR_UNREGISTERED),
     }
-    let loaded = load_image(alloc, tables, kit, 0, image.as_slice())?;
+    let mut image = Bytes::of(alloc, image)?;
+    let loaded = load_image(alloc, tables, kit, 0, &mut image)?;
     Ok(loaded.answer.status)
 }
 
@@ -92,14 +93,15 @@ fn assert_image<R: Abort>(rt: &R, found: Option<&[u8]>, want: &[u8]) {
     assert_eq!(rt; found.unwrap_or(&[]), want);
 }
 
-/// Loads files and images of a table of 12 bytes by turns.
+/// Loads an image that is too short, then files and images of a table of 12 bytes by turns.
 fn load_by_turns(
     alloc: Global,
     tables: &mut Tables,
     kit: &mut Kit<FirstByte>,
-) -> Result<[Status; 5], Fail> {
+) -> Result<[Status; 6], Fail> {
     let _handle = register(tables, 12)?;
     Ok([
+        take(alloc, tables, kit, &[0; 11])?,
         load(alloc, tables, 4, b"\xAA\xAA\xAA\xAA")?,
         take(alloc, tables, kit, &[0; 12])?,
         load(alloc, tables, 4, b"\xAA\xAA\xAA\xAA")?,
@@ -117,6 +119,7 @@ fn other_bytes_stay(rt: HostRuntime) -> Result<(), Fail> {
         &rt,
         &statuses,
         &[
+            Status::ERR_IMAGE_SIZE,
             Status::ERR_PARTIAL_LOAD,
             Status::SUCCESS,
             Status::SUCCESS,
@@ -153,66 +156,6 @@ fn an_owner_loads_a_part(rt: HostRuntime) -> Result<(), Fail> {
     assert_statuses(&rt, &statuses, &want);
     let want = b"\0\0\0\0\xAA\xAA\xAA\xAA\0\0\0\0";
     assert_image(&rt, tables.last(0), want);
-    Ok(())
-}
-
-/// Loads an image by a handle, or the bytes of a file where one is given.
-fn take_by_handle(
-    alloc: Global,
-    tables: &mut Tables,
-    kit: &mut Kit<FirstByte>,
-    handle: u16,
-    parsed: Option<&TableFile>,
-    image: &[u8],
-) -> Result<Status, Memory>
-    requires { ForSome parsed (λ file. length image.now ≡ file.now.count) }
-{
-    let Some(view) = tables.handle(handle) else {
-        return Ok(Status::ERR_INVALID_HANDLE);
-    };
-    let Some(row) = view.row else {
-        return Ok(Status::ERR_UNREGISTERED);
-    };
-    match tables.row(row) {
-        Some(table) if table.count < u32::MAX && table.validator.is_none() => {}
-        _ => return Ok(Status::ERR_UNREGISTERED),
-    }
-    let loaded = app_load(alloc, tables, kit, handle, parsed, image)?;
-    Ok(loaded.answer.status)
-}
-
-/// Loads a table of 12 bytes by its handle: an image that is too short, an image, a file, and an image while a load is open.
-fn take_all_by_handle(
-    alloc: Global,
-    tables: &mut Tables,
-    kit: &mut Kit<FirstByte>,
-) -> Result<[Status; 4], Fail> {
-    let handle = register(tables, 12)?;
-    let file = file_at(4);
-    let short = take_by_handle(alloc, tables, kit, handle, None, &[0; 11])?;
-    let whole = take_by_handle(alloc, tables, kit, handle, None, &[0; 12])?;
-    let part = take_by_handle(alloc, tables, kit, handle, Some(&file), b"\xAA\xAA\xAA\xAA")?;
-    let _open = load(alloc, tables, 0, b"\xBB\xBB\xBB\xBB")?;
-    let closed = take_by_handle(alloc, tables, kit, handle, None, &[0; 12])?;
-    Ok([short, whole, part, closed])
-}
-
-#[test]
-fn an_owner_loads_by_a_handle(rt: HostRuntime) -> Result<(), Fail> {
-    let mut kit = Kit::make(rt.alloc(), Vec::new(rt.alloc()))?;
-    let mut tables = Tables::make(rt.alloc())?;
-    let statuses = take_all_by_handle(rt.alloc(), &mut tables, &mut kit)?;
-    assert_statuses(
-        &rt,
-        &statuses,
-        &[
-            Status::ERR_IMAGE_SIZE,
-            Status::SUCCESS,
-            Status::SUCCESS,
-            Status::ERR_LOAD_IN_PROGRESS,
-        ],
-    );
-    assert_image(&rt, tables.last(0), b"\0\0\0\0\xAA\xAA\xAA\xAA\0\0\0\0");
     Ok(())
 }
 

@@ -5,7 +5,7 @@ use cds_store::recover;
 use std::alloc::Global;
 use std::test::Fail;
 use tbl_fakes::MemBank;
-use tbl_kinds::{BlockKind, Bytes, Memory, Name};
+use tbl_kinds::{BlockKind, Memory, Name};
 
 /// How many bytes the bank has.
 const BANK_SIZE: usize = 262_144;
@@ -16,21 +16,11 @@ fn zeros(alloc: Global, len: usize) -> Result<Vec<u8>, Memory>
     Ok(vec![in alloc; 0; len]?)
 }
 
-/// Zeros, as many as the bank has.
-fn no_bytes(alloc: Global) -> Result<Bytes, Memory>
-    ensures { IfOk result (λ b. length b.list ≡ bank_size) }
-{
-    let zeros = zeros(alloc, BANK_SIZE)?;
-    let mut bytes = Bytes::make(alloc, BANK_SIZE)?;
-    bytes.append(&zeros);
-    Ok(bytes)
-}
-
 /// A bank of zeros.
 fn bank(alloc: Global) -> Result<MemBank, Memory>
     ensures { IfOk result (λ bank. length bank.bytes ≡ bank_size) }
 {
-    MemBank::make(alloc, no_bytes(alloc)?, &[], &[], 16, 16_384)
+    MemBank::make(alloc, zeros(alloc, BANK_SIZE)?, &[], &[], 16, 16_384)
 }
 
 /// How many writes the bank was asked for, where no image came.

@@ -3,4 +3,4 @@ use Rattle.tbl_kinds.specs.Places.{bank_size}
 use Rattle.test_tables.proofs.banks.bank_bytes.Given as goal
 
 abbrev pub invariant-runs : goal.invariant-runs
-invariant-runs l = length l.bytes.list ≡ bank_size
+invariant-runs l = length l.bytes.items ≡ bank_size
