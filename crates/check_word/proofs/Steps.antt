@@ -1,12 +1,12 @@
 -- The check word is linear over exclusive-or, so each byte of a step is added by itself, from the table of its place.
-use Rattle.std.proofs.Common.{◌≡◌, ℕ, zero, suc, ◌+◌, ◌*◌, ◌-◌, ◌/◌, ◌%◌, ◌<◌, ◌==◌, Bool, true, false, cond, List, [], ◌∷◌, map, get_or, take, drop, length, bit_xor, ap, sym, ◌∙◌, arith, refl, zero-add}
+use Rattle.std.proofs.Common.{◌≡◌, ℕ, zero, suc, ◌+◌, ◌*◌, ◌-◌, ◌/◌, ◌%◌, ◌<◌, ◌==◌, Bool, true, false, cond, List, [], ◌∷◌, map, get_or, set, take, drop, length, bit_xor, ap, sym, ◌∙◌, arith, refl, zero-add}
 use Rattle.std.specs.List.{range_with_len, fold}
 use Rattle.std.specs.Simd.{first_chunks}
 use Rattle.std.proofs.lemmas.List.{take-append-drop, drop-drop}
 use Rattle.std.proofs.lemmas.List.Sums.{fold-append, fold_more}
 use Rattle.std.proofs.lemmas.List.FromFn.{get_or-map-range_with_len}
 use lib.Bits.{xor_comm, xor_assoc, xor_shr, xor_mod, xor_shifted, xor_zero_r}
-use Rattle.tbl_kinds.specs.Check.{after_bit, after_bits, after_byte}
+use Rattle.tbl_kinds.specs.Check.{after_bit, after_bits, after_byte, check16}
 use Rattle.check_word.specs.Later.{later}
 use Rattle.check_word.specs.declared.TheConstants.{PLACES}
 
@@ -69,12 +69,6 @@ after_bits-xor (suc n) a b = ap (after_bits n) (after_bit-xor a b) ∙ after_bit
 after_byte-xor : (a b x y : ℕ) → after_byte (bit_xor a b) (bit_xor x y) ≡ bit_xor (after_byte a x) (after_byte b y)
 unfolding after_byte
 after_byte-xor a b x y = ap (after_bits 8) (swap a b x y) ∙ after_bits-xor 8 (bit_xor a x) (bit_xor b y)
-
--- two words, of which the bytes go into the second
-apart : (bytes : List ℕ) (a b : ℕ) → fold after_byte (bit_xor a b) bytes ≡ bit_xor (later (length bytes) a) (fold after_byte b bytes)
-unfolding later
-apart [] a b = refl
-apart (x ∷ bytes) a b = ap (λ word. fold after_byte word bytes) (after_byte-xor a b 0 x) ∙ apart bytes (after_byte a 0) (after_byte b x)
 
 later-xor : (n a b : ℕ) → later n (bit_xor a b) ≡ bit_xor (later n a) (later n b)
 unfolding later
@@ -141,15 +135,33 @@ more_of_step step place within h =
     ∙ sym (later-xor (suc left) word byte)
     ∙ ap (later left) (byte_in word byte ∙ sym (fold_more after_byte 0 step place 0 h))
 
-pub after_step_is : (word : ℕ) (step : List ℕ) → length step ≡ 16 →
-    bit_xor (fold after_byte 0 step) (bit_xor (later 16 (word % 256)) (later 15 (word / 256))) ≡ fold after_byte word step
-after_step_is word step sixteen =
-    let alone = fold after_byte 0 step in
-    ap (bit_xor alone) (by_bytes 15 word)
-    ∙ xor_comm alone (later 16 word)
-    ∙ ap (λ n. bit_xor (later n word) alone) (sym sixteen)
-    ∙ sym (apart step word 0)
-    ∙ ap (λ from. fold after_byte from step) (xor_zero_r word)
+-- ---- a word goes into the first two bytes after it
+
+into_first : (word a : ℕ) → after_byte word a ≡ bit_xor (after_byte 0 (bit_xor a (word % 256))) (word / 256)
+unfolding after_byte
+into_first word a =
+    let low = word % 256 in
+    let high = word / 256 in
+    (λ i. after_byte (halves word i) (sym (xor_zero_r a) i))
+    ∙ after_byte-xor low (high * 256) a 0
+    ∙ (λ i. bit_xor (after_bits 8 ((xor_comm low a ∙ sym (xor_zero_r (bit_xor a low)) ∙ xor_comm (bit_xor a low) 0) i)) (high_moves high i))
+
+into_second : (word high b : ℕ) → after_byte (bit_xor word high) b ≡ after_byte word (bit_xor b high)
+unfolding after_byte
+into_second word high b = ap (after_bits 8) (xor_assoc word high b ∙ ap (bit_xor word) (xor_comm high b))
+
+-- the step with the word in its first two bytes
+abbrev pub mixed : ℕ → List ℕ → List ℕ
+mixed word step =
+    let first = set step 0 (bit_xor (get_or step 0 0) (word % 256)) in
+    set first 1 (bit_xor (get_or first 1 0) (word / 256))
+
+pub after_step_is : (word : ℕ) (step : List ℕ) → length step ≡ 16 → check16 (mixed word step) ≡ fold after_byte word step
+after_step_is word [] h = absurd (omega (arith, h))
+after_step_is word (a ∷ []) h = absurd (omega (arith, h))
+after_step_is word (a ∷ b ∷ rest) _ =
+    ap (λ from. fold after_byte from rest)
+    (sym (ap (λ from. after_byte from b) (into_first word a) ∙ into_second (after_byte 0 (bit_xor a (word % 256))) (word / 256) b))
 
 pub by_steps : (k word : ℕ) (bytes : List ℕ) →
     fold after_byte (fold (fold after_byte) word (first_chunks 16 k bytes)) (drop (k * 16) bytes) ≡ fold after_byte word bytes

@@ -53,11 +53,14 @@ fn word_of_step(step: &[u8; 16]) -> u16
     word
 }
 
-/// The word so far goes into the first two bytes. It is added last, so that no byte of the step waits for it.
+/// The word so far goes into the first two bytes of the step.
 fn after_step(word: u16, step: &[u8; 16]) -> u16
     ensures { result ≡ fold after_byte word step.now }
 {
-    word_of_step(step) ^ (added(0, (word % 256) as u8) ^ added(1, (word / 256) as u8))
+    let mut mixed = *step;
+    mixed[0] ^= (word % 256) as u8;
+    mixed[1] ^= (word / 256) as u8;
+    word_of_step(&mixed)
 }
 
 /// A byte goes into the low byte, and eight bits go out: those above only move down.
