@@ -1,4 +1,5 @@
 pub mod Names
+mod EachByte
 pub mod NameFields
 pub mod PositionLaws
 pub mod FreeLaws

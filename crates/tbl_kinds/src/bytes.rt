@@ -168,7 +168,7 @@ impl Bytes {
     }
 
     /// Puts the bytes of a piece last, into reserved room.
-    #[inline]
+    #[inline(always)]
     pub fn append(&mut self, piece: &[u8])
         requires { length piece.now ≤ self.old.spare }
         ensures bytes { self.new.list ≡ self.old.list ++ piece.now }
@@ -176,9 +176,7 @@ impl Bytes {
     {
         match &mut self.items {
             Items::Inline(inline) => inline.append(piece),
-            Items::Allocated(allocated) => {
-                let _ = allocated.extend_from_slice(piece);
-            }
+            Items::Allocated(allocated) => append_to(allocated, piece),
             Items::Shared(_) => {}
         }
     }
@@ -236,4 +234,14 @@ fn copy_of(alloc: Global, bytes: &[u8], more: usize) -> Result<Vec<u8>, Memory>
     let mut allocated = Vec::with_capacity(alloc, room)?;
     let _ = allocated.extend_from_slice(bytes);
     Ok(allocated)
+}
+
+/// Puts the bytes of a piece last, into reserved room. It stands by itself, so that `append` is short where it is inlined.
+#[inline(never)]
+fn append_to(allocated: &mut Vec<u8>, piece: &[u8])
+    requires { length allocated.old.items + length piece.now ≤ vec_capacity allocated.old }
+    ensures bytes { allocated.new.items ≡ allocated.old.items ++ piece.now }
+    ensures room { vec_capacity allocated.old ≤ vec_capacity allocated.new }
+{
+    let _ = allocated.extend_from_slice(piece);
 }

@@ -60,6 +60,7 @@ impl InlineBytes {
     }
 
     /// Puts the bytes of a piece last, into reserved room.
+    #[inline(always)]
     pub(crate) fn append(&mut self, piece: &[u8])
         requires { length piece.now ≤ self.old.spare }
         ensures bytes { self.new.list ≡ self.old.list ++ piece.now }

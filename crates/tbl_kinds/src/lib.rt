@@ -24,7 +24,7 @@ pub use bytes::{Bytes, Memory};
 pub use entry::{Answer, Entry, Reply};
 pub use given::Given;
 pub use inline::INLINE_LIMIT;
-pub use name::{Name, Name16, Name20, Name40, Name64, is_name_field};
+pub use name::{Name, Name16, Name20, Name40, Name64};
 pub use note::{BankNote, Note, Outcome, Outside};
 pub use number::{u16_at, u32_at};
 pub use options::Options;

@@ -1,5 +1,5 @@
-ghost use Rattle.std.specs.Prelude.{◌≡◌, ◌+◌, ◌<◌, ◌≤◌, ◌++◌, length, IfSome, is_some};
-ghost use Rattle.std.specs.List.{list_all, position_or_len};
+ghost use Rattle.std.specs.Prelude.{◌≡◌, ◌+◌, ◌<◌, ◌≤◌, ◌++◌, length, drop, IfSome, is_some};
+ghost use Rattle.std.specs.List.{count_by, list_all, position_or_len};
 ghost use Rattle.std.specs.Str.{bytes_eq};
 ghost use Rattle.std.specs.Cmp.{partial_equiv_from_equiv};
 ghost use Rattle.std.specs.Cmp.Lexicographic.{nat_list_eq_equiv};
@@ -92,18 +92,31 @@ fn read_name(field: &[u8]) -> &[u8]
     &field[..first_zero(field)]
 }
 
-fn are_zeros(bytes: &[u8]) -> bool
-    ensures { result ≡ list_all is_zero bytes.now }
+// This and `all_printable` look at every byte: a loop that ends early takes one byte at a time.
+#[inline]
+fn zero_count(field: &[u8]) -> u8
+    requires { length field.now < 256 }
+    ensures { result ≡ count_by is_zero field.now }
 {
-    bytes.iter().all(|byte| *byte == 0)
+    let mut count = 0;
+    for byte in field {
+        if *byte == 0 {
+            count += 1;
+        }
+    }
+    count
 }
 
-/// Whether a field was written for a name: after its first zero byte all bytes are zero.
-pub fn is_name_field(field: &[u8]) -> bool
-    ensures { result ≡ is_name_field field.now }
+/// Whether a field of which so many bytes stand before the first zero byte has zeros alone after them.
+#[inline]
+#[tactic(auto, using(crate::proofs::Names::zeros_alone))]
+fn ends_in_zeros(field: &[u8], len: usize) -> bool
+    requires small { length field.now < 256 }
+    requires len { len ≡ position_or_len is_zero field.now }
+    requires within { len ≤ length field.now }
+    ensures { result ≡ list_all is_zero (drop len field.now) }
 {
-    let (_, behind) = field.split_at(read_name(field).len());
-    are_zeros(behind)
+    len + usize::from(zero_count(field)) == field.len()
 }
 
 fn is_printable(byte: u8) -> bool
@@ -115,7 +128,9 @@ fn is_printable(byte: u8) -> bool
 fn all_printable(bytes: &[u8]) -> bool
     ensures { result ≡ list_all is_printable_byte bytes.now }
 {
-    bytes.iter().all(|byte| is_printable(*byte))
+    bytes
+        .iter()
+        .fold(true, |so_far, byte| so_far & is_printable(*byte))
 }
 
 impl<const N: usize> Name<N> {
@@ -136,6 +151,7 @@ impl<const N: usize> Name<N> {
     }
 
     /// The name that a field of `N` bytes is written for. None where a byte after the field's first zero byte isn't zero.
+    #[inline]
     #[tactic(auto, using(crate::proofs::NameFields::whole_field, crate::proofs::NameFields::written_again))]
     pub fn exact(field: &[u8]) -> Option<Name<N>>
         requires small { N < 256 }
@@ -145,13 +161,12 @@ impl<const N: usize> Name<N> {
         ensures field { IfSome result (λ name. name_field N name ≡ field.now) }
         ensures fits { IfSome result (λ name. FitsField N name) }
     {
-        let len = read_name(field).len();
-        let (_, behind) = field.split_at(len);
-        if !are_zeros(behind) {
-            return None;
-        }
         let mut own = [0; N];
         own.copy_from_slice(field);
+        let len = read_name(field).len();
+        if !ends_in_zeros(&own, len) {
+            return None;
+        }
         Some(Name {
             field: own,
             len: len as u8,
