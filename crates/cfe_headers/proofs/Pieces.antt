@@ -7,7 +7,7 @@ use Rattle.std.proofs.Math.Seq.{drop-cons}
 use Rattle.tbl_kinds.specs.Fields.{AreBytes}
 use Rattle.tbl_kinds.specs.Numbers.{two, four, piece, byte_at, two_at, four_at}
 
-piece_fits : (place len : ℕ) (bytes : List ℕ) → AreBytes bytes → AreBytes (piece place len bytes)
+pub piece_fits : (place len : ℕ) (bytes : List ℕ) → AreBytes bytes → AreBytes (piece place len bytes)
 piece_fits place len bytes fits i =
     elim (cases_lt i len) [
       | inl lt ↦ rw (get_or-take len (drop place bytes) i 0 lt, get_or-drop place bytes i 0) (fits (place + i))

@@ -1,3 +1,4 @@
 pub mod Faults
 pub mod FileHeaders
+pub mod Fronts
 pub mod Vectors

@@ -2,10 +2,11 @@
 
 ghost use Rattle.std.specs.Prelude.{◌≡◌, ◌+◌, ◌<◌, ◌≤◌, ◌++◌, None, Some, length, bit_xor, IfOk, OnOk, IfErr};
 ghost use Rattle.std.specs.List.{fold};
+ghost use Rattle.std.specs.Int.{w64, to_le_bytes};
 ghost use Rattle.tbl_kinds.specs.Packets.{packet_flaw, packet_id, packet_code, command_packet};
 ghost use Rattle.cfe_headers.specs.Faults.{flaw_of};
 
-use crate::primary::{LENGTH_LESS, primary};
+use crate::primary::{LENGTH_LESS, PRIMARY_LENGTH, fill_primary};
 use tbl_kinds::{Bytes, u16_at};
 use thiserror::Error;
 
@@ -32,11 +33,26 @@ pub enum PacketFault {
     BadCheck,
 }
 
-/// The exclusive or of a sum and all bytes. The checksum of a packet begins with 0xFF.
+/// The exclusive or of the eight bytes of a word.
+fn xor_of_bytes(word: u64) -> u8
+    ensures { result ≡ fold bit_xor 0 (to_le_bytes w64 word) }
+{
+    let twos = word ^ (word >> 8);
+    let fours = twos ^ (twos >> 16);
+    let eights = fours ^ (fours >> 32);
+    (eights % 256) as u8
+}
+
+/// The exclusive or of a sum and all bytes, eight of them at a time. The checksum of a packet begins with 0xFF.
 fn checksum_from(sum: u8, bytes: &[u8]) -> u8
     ensures { result ≡ fold bit_xor sum bytes.now }
 {
-    bytes.iter().fold(sum, |sum, byte| sum ^ *byte)
+    let (eights, rest) = bytes.as_chunks();
+    let word = eights
+        .iter()
+        .fold(0, |word, eight| word ^ u64::from_le_bytes(*eight));
+    rest.iter()
+        .fold(sum ^ xor_of_bytes(word), |sum, byte| sum ^ *byte)
 }
 
 /// Reads the headers of a command packet, all of the bytes. The sequence flags, the sequence count and the high bit
@@ -77,7 +93,9 @@ pub fn write_cmd(out: &mut Bytes, id: u16, count: u16, code: u8, payload: &[u8])
     ensures len { length out.new.list ≡ length out.old.list + (8 + length payload.now) }
 {
     let start = out.bytes().len();
-    out.append(primary(id, count, 8 + payload.len() as u16).as_slice());
+    let mut header = [0; PRIMARY_LENGTH];
+    fill_primary(&mut header, id, count, 8 + payload.len() as u16);
+    out.append(&header);
     out.append(&[code]);
     let (_, front) = out.bytes().split_at(start);
     let sum = checksum_from(0xFF, front);

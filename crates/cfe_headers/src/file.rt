@@ -80,31 +80,55 @@ pub fn read_file_header(bytes: &[u8]) -> Result<FileHeader, HeaderFault>
     })
 }
 
-/// Appends a number in four bytes.
-fn put_u32(out: &mut Bytes, number: u32)
-    requires { 4 ≤ out.old.spare }
-    ensures bytes { out.new.list ≡ out.old.list ++ four number }
-    ensures room { out.old.spare ≤ out.new.spare + 4 }
-    ensures len { length out.new.list ≡ length out.old.list + 4 }
+/// Fills sixteen bytes with four numbers.
+#[inline]
+fn fill_numbers(out: &mut [u8], first: u32, second: u32, third: u32, fourth: u32)
+    requires { length out.old ≡ 16 }
+    ensures { out.new ≡ four first ++ four second ++ four third ++ four fourth }
 {
-    out.append(&number.to_be_bytes());
+    let (one, rest) = out.split_at_mut(4);
+    let (two, rest) = rest.split_at_mut(4);
+    let (three, last) = rest.split_at_mut(4);
+    one.copy_from_slice(&first.to_be_bytes());
+    two.copy_from_slice(&second.to_be_bytes());
+    three.copy_from_slice(&third.to_be_bytes());
+    last.copy_from_slice(&fourth.to_be_bytes());
+}
+
+/// Fills in a file header, 64 bytes. So it can be one piece with what stands after it.
+#[inline(always)]
+#[tactic(auto, unfolding(tbl_kinds::specs::Headers::file_header))]
+pub fn fill_file_header(out: &mut [u8], header: &FileHeader)
+    requires { length out.old ≡ header_len }
+    ensures { out.new ≡ file_header (header_of header.now) }
+{
+    let (kind, rest) = out.split_at_mut(16);
+    let (source, description) = rest.split_at_mut(16);
+    fill_numbers(
+        kind,
+        CONTENT_TYPE,
+        header.subtype,
+        header.length,
+        header.spacecraft,
+    );
+    fill_numbers(
+        source,
+        header.processor,
+        header.application,
+        header.seconds,
+        header.sub,
+    );
+    description.copy_from_slice(&header.description);
 }
 
 /// Appends a file header, 64 bytes.
-#[tactic(auto, unfolding(tbl_kinds::specs::Headers::file_header))]
 pub fn write_file_header(out: &mut Bytes, header: &FileHeader)
     requires { header_len ≤ out.old.spare }
     ensures bytes { out.new.list ≡ out.old.list ++ file_header (header_of header.now) }
     ensures room { out.old.spare ≤ out.new.spare + header_len }
     ensures len { length out.new.list ≡ length out.old.list + header_len }
 {
-    put_u32(out, CONTENT_TYPE);
-    put_u32(out, header.subtype);
-    put_u32(out, header.length);
-    put_u32(out, header.spacecraft);
-    put_u32(out, header.processor);
-    put_u32(out, header.application);
-    put_u32(out, header.seconds);
-    put_u32(out, header.sub);
-    out.append(&header.description);
+    let mut bytes = [0; HEADER_LENGTH];
+    fill_file_header(&mut bytes, header);
+    out.append(&bytes);
 }

@@ -9,9 +9,11 @@ mod primary;
 mod telemetry;
 
 pub use command::{CmdPacket, PacketFault, read_packet, write_cmd};
-pub use file::{FileHeader, HEADER_LENGTH, HeaderFault, read_file_header, write_file_header};
+pub use file::{
+    FileHeader, HEADER_LENGTH, HeaderFault, fill_file_header, read_file_header, write_file_header,
+};
 pub use laws::{
     command_packets_are_read, what_is_read_is_a_command_packet, what_is_read_is_a_header,
     written_commands_are_command_packets, written_headers_are_read,
 };
-pub use telemetry::write_tlm;
+pub use telemetry::{TLM_FRONT_LENGTH, fill_tlm_front, write_tlm};

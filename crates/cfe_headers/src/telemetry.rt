@@ -1,27 +1,29 @@
 //! Telemetry packets.
 
 ghost use Rattle.std.specs.Prelude.{◌≡◌, ◌+◌, ◌<◌, ◌≤◌, ◌++◌, length};
-ghost use Rattle.tbl_kinds.specs.Numbers.{two, four};
-ghost use Rattle.tbl_kinds.specs.Packets.{primary_header, telemetry_packet};
-ghost use Rattle.arrayvec.specs.ArrayVec.{array_vec_len};
+ghost use Rattle.tbl_kinds.specs.Packets.{telemetry_packet};
+ghost use Rattle.cfe_headers.specs.Fronts.{telemetry_front};
 
-use crate::primary::primary;
-use arrayvec::ArrayVec;
-use tbl_kinds::Bytes;
-use tbl_kinds::fields::put;
+use crate::primary::{PRIMARY_LENGTH, fill_primary};
+use tbl_kinds::{Bytes, TlmHead};
 
-/// The headers of a telemetry packet of `len` bytes in all.
-fn headers(id: u16, count: u16, len: u16, seconds: u32, sub: u16) -> ArrayVec<u8, 12>
-    requires count { count < 16384 }
+/// How many bytes of a telemetry packet stand before its body.
+pub const TLM_FRONT_LENGTH: usize = 12;
+
+/// Fills in what stands before the body of a telemetry packet of `len` bytes in all: the primary header and the time. So a packet of
+/// a fixed size can be put together as one piece.
+#[inline]
+pub fn fill_tlm_front(front: &mut [u8], id: u16, head: &TlmHead, len: u16)
+    requires count { head.now.count < 16384 }
     requires len { 7 ≤ len }
-    ensures bytes { result.items ≡ primary_header id count len ++ four seconds ++ two sub }
-    ensures len { array_vec_len result ≡ 12 }
+    requires room { length front.old ≡ 12 }
+    ensures { front.new ≡ telemetry_front id head.now len }
 {
-    let mut headers = ArrayVec::new();
-    put(&mut headers, primary(id, count, len).as_slice());
-    put(&mut headers, &seconds.to_be_bytes());
-    put(&mut headers, &sub.to_be_bytes());
-    headers
+    let (header, time) = front.split_at_mut(PRIMARY_LENGTH);
+    let (seconds, sub) = time.split_at_mut(4);
+    fill_primary(header, id, head.count, len);
+    seconds.copy_from_slice(&head.seconds.to_be_bytes());
+    sub.copy_from_slice(&head.sub.to_be_bytes());
 }
 
 /// Appends a telemetry packet: the primary header, the time and the body. The secondary header is cFE's
@@ -35,7 +37,13 @@ pub fn write_tlm(out: &mut Bytes, id: u16, count: u16, seconds: u32, sub: u16, b
     ensures room { out.old.spare ≤ out.new.spare + (12 + length body.now) }
     ensures len { length out.new.list ≡ length out.old.list + (12 + length body.now) }
 {
-    let headers = headers(id, count, 12 + body.len() as u16, seconds, sub);
-    out.append(headers.as_slice());
+    let head = TlmHead {
+        count,
+        seconds,
+        sub,
+    };
+    let mut front = [0; TLM_FRONT_LENGTH];
+    fill_tlm_front(&mut front, id, &head, 12 + body.len() as u16);
+    out.append(&front);
     out.append(body);
 }

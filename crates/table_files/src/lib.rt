@@ -11,4 +11,4 @@ pub use laws::{
     written_files_are_read,
 };
 pub use reading::{FileFault, IMAGE_PLACE, TABLE_SUBTYPE, TableFile, read_table_file};
-pub use writing::write_table_file;
+pub use writing::{write_image_file, write_table_file};

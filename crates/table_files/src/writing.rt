@@ -1,14 +1,17 @@
 //! Writing a table file.
 
-ghost use Rattle.std.specs.Prelude.{◌≡◌, ◌+◌, ◌≤◌, ◌++◌, length};
+ghost use Rattle.std.specs.Prelude.{◌≡◌, ◌+◌, ◌<◌, ◌≤◌, ◌^◌, ◌++◌, length};
+ghost use Rattle.tbl_kinds.specs.Names.{name_field};
+ghost use Rattle.tbl_kinds.specs.Numbers.{four};
+ghost use Rattle.tbl_kinds.specs.Records.{FitsField};
 ghost use Rattle.tbl_kinds.specs.Headers.{IsHeader};
 ghost use Rattle.tbl_kinds.specs.TableFiles.{IsWritable, table_file, table_subtype, image_place};
 ghost use Rattle.cfe_headers.specs.FileHeaders.{header_of};
 ghost use Rattle.table_files.specs.Files.{with_image};
 
-use crate::reading::TableFile;
-use cfe_headers::{FileHeader, write_file_header};
-use tbl_kinds::Bytes;
+use crate::reading::{IMAGE_PLACE, TableFile};
+use cfe_headers::{FileHeader, HEADER_LENGTH, fill_file_header};
+use tbl_kinds::{Bytes, Name40};
 
 /// The numbers of a header fit their fields, and its description fills its own.
 fn every_header_fits(header: &FileHeader)
@@ -24,11 +27,56 @@ fn every_header_fits(header: &FileHeader)
     let _sub = header.sub;
 }
 
+/// Fills in the table file header: four zeros, the offset and the number of image bytes in four bytes each, and the table's
+/// name and zeros in 40.
+#[inline]
+fn fill_table_header(out: &mut [u8], offset: u32, count: u32, name: &Name40)
+    requires { length out.old ≡ 52 }
+    ensures bytes { out.new ≡ four 0 ++ four offset ++ four count ++ name_field 40 name.now }
+    ensures fits { FitsField 40 name.now }
+{
+    let (reserved, rest) = out.split_at_mut(4);
+    let (place, rest) = rest.split_at_mut(4);
+    let (number, field) = rest.split_at_mut(4);
+    reserved.copy_from_slice(&[0; 4]);
+    place.copy_from_slice(&offset.to_be_bytes());
+    number.copy_from_slice(&count.to_be_bytes());
+    field.copy_from_slice(&name.field());
+}
+
+/// Appends a table file of these parts, as `write_table_file` does: no `TableFile` has to be made for it.
+#[inline]
+#[tactic(auto, unfolding(tbl_kinds::specs::TableFiles::file_with))]
+pub fn write_image_file(
+    out: &mut Bytes,
+    header: &FileHeader,
+    offset: u32,
+    name: &Name40,
+    image: &[u8],
+)
+    requires room { image_place + length image.now ≤ out.old.spare }
+    requires subtype { header.now.subtype ≡ table_subtype }
+    requires count { length image.now < 2 ^ 32 }
+    ensures bytes { out.new.list ≡ out.old.list ++ table_file (header_of header.now) (record { offset = offset; name = name.now; image = image.now }) }
+    ensures room { out.old.spare ≤ out.new.spare + (image_place + length image.now) }
+    ensures len { length out.new.list ≡ length out.old.list + (image_place + length image.now) }
+
+    // So it is read again as this value.
+    ensures writable { IsWritable (header_of header.now) (record { offset = offset; name = name.now; image = image.now }) }
+{
+    every_header_fits(header);
+    let mut headers = [0; IMAGE_PLACE];
+    let (file_header, table_header) = headers.split_at_mut(HEADER_LENGTH);
+    fill_file_header(file_header, header);
+    fill_table_header(table_header, offset, image.len() as u32, name);
+    out.append(&headers);
+    out.append(image);
+}
+
 /// Appends a table file, 116 bytes and the image: the file header, four zeros, the offset and the number of image bytes in
 /// four bytes each, the table's name and zeros in 40, and the image bytes (cFE's `CFE_TBL_File_Hdr_t`,
 /// cfe_tbl_extern_typedefs.h). It takes no memory, and can't fail: the room is there before. What was appended is read again
 /// under all lists that admit the header's spacecraft and its processor.
-#[tactic(auto, unfolding(tbl_kinds::specs::TableFiles::file_with))]
 pub fn write_table_file(out: &mut Bytes, header: &FileHeader, file: &TableFile, image: &[u8])
     requires room { image_place + length image.now ≤ out.old.spare }
     requires subtype { header.now.subtype ≡ table_subtype }
@@ -40,12 +88,6 @@ pub fn write_table_file(out: &mut Bytes, header: &FileHeader, file: &TableFile, 
     // So it is read again as this value.
     ensures writable { IsWritable (header_of header.now) (with_image file.now image.now) }
 {
-    every_header_fits(header);
-    write_file_header(out, header);
-    out.append(&[0; 4]);
-    out.append(&file.offset.to_be_bytes());
-    out.append(&file.count.to_be_bytes());
-    let _width = file.name.field_len();
-    file.name.append_field(out);
-    out.append(image);
+    let _count = file.count;
+    write_image_file(out, header, file.offset, &file.name, image);
 }

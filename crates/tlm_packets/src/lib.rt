@@ -14,4 +14,4 @@ pub use housekeeping::write_housekeeping;
 pub use laws::{event_packets_are_read, housekeeping_packets_are_read, registry_packets_are_read};
 pub use notice::write_notice;
 pub use reading::{read_event, read_housekeeping, read_registry};
-pub use registry::{registry_bytes, write_registry};
+pub use registry::{registry_bytes, write_registry, write_registry_front};

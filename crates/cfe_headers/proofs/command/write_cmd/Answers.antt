@@ -8,7 +8,7 @@ use Rattle.cfe_headers.proofs.command.write_cmd.Goals as goal
 
 pub returns-clause-bytes : goal.returns-clause-bytes
 returns-clause-bytes c =
-    let out-is = c.append-2.ensures.bytes ∙ ap (λ (s : List ℕ). s ++ c.args.code ∷ []) (c.append.ensures.bytes ∙ ap (λ (s : List ℕ). c.args.out.now.list ++ s) (c.as_slice.ensures.value ∙ c.primary.ensures.bytes)) in
+    let out-is = c.append-2.ensures.bytes ∙ ap (λ (s : List ℕ). s ++ c.args.code ∷ []) (c.append.ensures.bytes ∙ ap (λ (s : List ℕ). c.args.out.now.list ++ s) c.fill_primary.ensures) in
     let behind : drop (length c.bytes-start.result.now) c.bytes.result.now ≡ drop (length c.args.out.now.list) c.append-2.new.self.list = rw (c.bytes-start.ensures, c.bytes.ensures) in
     let front-is = c.checksum_from-sum.ensures ∙ ap (λ (s : List ℕ). fold bit_xor 0xFF s) (c.split_at.ensures.back ∙ behind) in
     c.append-4.ensures.bytes

@@ -1,0 +1,5 @@
+use Rattle.cfe_headers.proofs.Words.{by_halves}
+use Rattle.cfe_headers.proofs.command.xor_of_bytes.Goals as goal
+
+pub returns : goal.returns
+returns c = by_halves c.args.word
