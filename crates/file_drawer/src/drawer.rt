@@ -1,12 +1,13 @@
-ghost use Rattle.std.specs.Prelude.{◌≡◌, ◌-◌, ◌≤◌, ◌↔◌, [], Some, None, IsTrue, IsSome, IsNone, IfOk, IfNone, OnOk, OnErr, length, take, slice_get};
-ghost use Rattle.std.specs.Option.{option_map, option_copied};
+ghost use Rattle.std.specs.Prelude.{◌≡◌, ◌-◌, ◌+◌, ◌<◌, ◌↔◌, ◌++◌, ◌∷◌, [], ℕ, List, Some, None, IsTrue, IsSome, IsNone, IfOk, IfNone, IfSome, OnOk, OnErr, length, take, position, slice_get};
+ghost use Rattle.std.specs.Option.{option_copied};
 ghost use Rattle.tbl_kinds.specs.Drawer.{contents_of, names, undone, with_file, IsFullFor};
-ghost use Rattle.file_drawer.specs.Entries.{files_of};
+ghost use Rattle.file_drawer.specs.Entries.{files_of, is_named};
 
-use indexmap::IndexMap;
+use crate::contents::Contents;
 use std::alloc::Global;
 use std::marker::Model;
-use tbl_kinds::{Bytes, Memory, Name64};
+use std::mem;
+use tbl_kinds::{Memory, Name64};
 
 /// How many files there can be.
 const FILES: usize = 64;
@@ -22,64 +23,117 @@ pub enum PutFault {
     Memory,
 }
 
+/// How many numbers `hint_of` gives.
+const HINTS: usize = 256;
+
+/// The last three bytes as one number, as if they were digits.
+fn last_three(bytes: &[u8]) -> usize
+    ensures { result < 28_306 }
+{
+    let len = bytes.len();
+    if len < 3 {
+        return 0;
+    }
+    let hundreds = 100 * usize::from(bytes[len - 3]);
+    let tens = 10 * usize::from(bytes[len - 2]);
+    hundreds + tens + usize::from(bytes[len - 1])
+}
+
+/// A number that few names share. It only says which file is looked at first. Names that end alike, as in `.tbl`, mostly differ before that.
+fn hint_of(name: &[u8]) -> usize
+    ensures { result < 256 }
+{
+    let len = name.len();
+    let stem = &name[..len.saturating_sub(4)];
+    (64 * (len % 4) + last_three(name) + last_three(stem)) % HINTS
+}
+
+/// A file under its name.
+#[derive(Drop)]
+struct Entry {
+    name: Name64,
+    contents: Contents,
+}
+
+impl Entry {
+    /// Whether it has this name. Most names differ in their length, which is compared first.
+    fn has_name(&self, name: &Name64) -> bool
+        ensures { result ≡ is_named name.now self.now }
+    {
+        name.bytes() == self.name.bytes()
+    }
+}
+
+/// Whether the file of this name stands at a place.
+fn is_at(entries: &[Entry], place: usize, name: &Name64) -> bool
+    ensures at { IsTrue result → slice_get (names (files_of entries.now)) place ≡ Some name.now }
+    ensures within { IsTrue result → place < length entries.now }
+{
+    match entries.get(place) {
+        Some(entry) => entry.has_name(name),
+        None => false,
+    }
+}
+
+/// Where the first file of this name stands.
+fn first_of(entries: &[Entry], name: &Name64) -> Option<usize>
+    ensures place { result ≡ position (is_named name.now) entries.now }
+    ensures within { IfSome result (λ place. place < length entries.now) }
+{
+    entries.iter().position(|entry| entry.has_name(name))
+}
+
+/// Where the file of this name stands: the place of the hint is looked at first.
+#[tactic(auto, using(crate::proofs::Finding::first_named, crate::proofs::Finding::none_named))]
+fn find(entries: &[Entry], hint: u8, name: &Name64) -> Option<usize>
+    ensures at { IfSome result (λ place. slice_get (names (files_of entries.now)) place ≡ Some name.now) }
+    ensures within { IfSome result (λ place. place < length entries.now) }
+    ensures absent { IfNone result (contents_of (files_of entries.now) name.now ≡ None) }
+{
+    let place = usize::from(hint);
+    if is_at(entries, place, name) {
+        return Some(place);
+    }
+    first_of(entries, name)
+}
+
+/// A further file, which goes last.
+fn push(entries: &mut Vec<Entry>, name: &Name64, contents: Contents) -> Result<(), Memory>
+    ensures file { OnOk result (files_of entries.new.items ≡ files_of entries.old.items ++ (name.now, contents) ∷ []) }
+    ensures err { OnErr result (entries.new.items ≡ entries.old.items) }
+{
+    let entry = Entry {
+        name: name.copy(),
+        contents,
+    };
+    Ok(entries.push(entry)?)
+}
+
+fn drop_last(entries: &mut Vec<Entry>)
+    ensures { files_of entries.new.items ≡ take (length (files_of entries.old.items) - 1) (files_of entries.old.items) }
+{
+    let _ = entries.pop();
+}
+
 /// The uplinked files, at most 64, in order of the first uplink of their names. They stand for the file system that tables are loaded from and
 /// dumped to (cFE User's Guide, Table Services). How many bytes a file may have is the caller's rule.
 #[derive(Drop)]
 pub struct Drawer {
-    files: IndexMap<Name64, Bytes>,
+    entries: Vec<Entry>,
+    /// For each number that `hint_of` gives, the place of the latest new file with such a name.
+    hints: [u8; HINTS],
 }
 
 impl Model for Drawer {
     ghost use Rattle.std.specs.Prelude.{ℕ, ◌≤◌, List, length};
-    ghost use Rattle.tbl_kinds.specs.Drawer.{File};
-    ghost use Rattle.file_drawer.specs.Entries.{files_of};
+    ghost use Rattle.tbl_kinds.specs.Drawer.{File, names};
+    ghost use Rattle.file_drawer.specs.Entries.{files_of, AreApart};
 
     ghost Value = { List File };
 
-    ghost view = { λ d. files_of d.files.entries };
+    ghost view = { λ d. files_of d.entries.items };
 
-    ghost invariant = { λ d. length (files_of d.files.entries) ≤ 64 };
-}
-
-fn is_full_for(files: &IndexMap<Name64, Bytes>, name: &Name64) -> bool
-    ensures { IsTrue result ↔ IsFullFor (files_of files.now.entries) name.now }
-{
-    files.len() == FILES && !files.contains_key(name)
-}
-
-fn insert(
-    files: &mut IndexMap<Name64, Bytes>,
-    name: Name64,
-    contents: Bytes,
-) -> Result<Option<Bytes>, Memory>
-    ensures file { OnOk result (files_of files.new.entries ≡ with_file (files_of files.old.entries) name contents.list) }
-    ensures replaced { IfOk result (λ old. option_map (λ bytes. bytes.list) old ≡ contents_of (files_of files.old.entries) name) }
-    ensures absent { OnErr result (contents_of (files_of files.old.entries) name ≡ None) }
-    ensures err { OnErr result (files_of files.new.entries ≡ files_of files.old.entries) }
-{
-    match files.insert(name, contents) {
-        Ok(old) => Ok(old),
-        Err(_) => Err(Memory),
-    }
-}
-
-/// Other contents under a name that is there.
-fn replace(files: &mut IndexMap<Name64, Bytes>, name: Name64, contents: Bytes)
-    requires { IsSome (contents_of (files_of files.old.entries) name) }
-    ensures file { files_of files.new.entries ≡ with_file (files_of files.old.entries) name contents.list }
-    ensures size { length (files_of files.new.entries) ≡ length (files_of files.old.entries) }
-{
-    match insert(files, name, contents) {
-        Ok(_) => {}
-        Err(_) => unreachable!(),
-    }
-}
-
-fn drop_last(files: &mut IndexMap<Name64, Bytes>)
-    ensures files { files_of files.new.entries ≡ take (length (files_of files.old.entries) - 1) (files_of files.old.entries) }
-    ensures size { length (files_of files.new.entries) ≤ length (files_of files.old.entries) }
-{
-    let _ = files.pop();
+    ghost invariant = { λ d. (length (files_of d.entries.items) ≤ 64) × AreApart (names (files_of d.entries.items)) };
 }
 
 impl Drawer {
@@ -88,63 +142,107 @@ impl Drawer {
         ensures { IfOk result (λ d. d ≡ []) }
     {
         Ok(Drawer {
-            files: IndexMap::with_capacity(alloc, FILES)?,
+            entries: Vec::with_capacity(alloc, FILES)?,
+            hints: [0; HINTS],
         })
     }
 
-    /// Puts a file under its name, and gives the contents that it replaced. The contents are moved and not copied. The name is looked up by hash.
-    pub fn put(&mut self, name: &Name64, contents: Bytes) -> Result<Option<Bytes>, PutFault>
+    /// Where the file of a name stands.
+    fn place_of(&self, name: &Name64) -> Option<usize>
+        ensures at { IfSome result (λ place. slice_get (names self.now) place ≡ Some name.now) }
+        ensures within { IfSome result (λ place. place < length self.now) }
+        ensures absent { IfNone result (contents_of self.now name.now ≡ None) }
+    {
+        find(&self.entries, self.hints[hint_of(name.bytes())], name)
+    }
+
+    /// Puts a file last.
+    fn add(&mut self, name: &Name64, contents: Contents) -> Result<(), Memory>
+        requires room { length self.old < 64 }
+        requires new { contents_of self.old name.now ≡ None }
+        ensures file { OnOk result (self.new ≡ with_file self.old name.now contents) }
+        ensures err { OnErr result (self.new ≡ self.old) }
+    {
+        let place = self.entries.len() as u8;
+        push(&mut self.entries, name, contents)?;
+        self.hints[hint_of(name.bytes())] = place;
+        Ok(())
+    }
+
+    /// Other contents at a place, and those that were there.
+    fn replace(&mut self, place: usize, contents: Contents) -> Contents
+        requires { place < length self.old }
+        ensures file { (name : List ℕ) → slice_get (names self.old) place ≡ Some name → self.new ≡ with_file self.old name contents }
+        ensures replaced { (name : List ℕ) → slice_get (names self.old) place ≡ Some name → contents_of self.old name ≡ Some result }
+    {
+        mem::replace(&mut self.entries[place].contents, contents)
+    }
+
+    /// Puts a file under its name, and gives the contents that it replaced. The contents are moved and not copied.
+    pub fn put(&mut self, name: &Name64, contents: Contents) -> Result<Option<Contents>, PutFault>
         // A name that is there keeps its place, and a new one goes last.
-        ensures file { OnOk result (self.new ≡ with_file self.old name.now contents.list) }
-        ensures replaced { IfOk result (λ old. option_map (λ bytes. bytes.list) old ≡ contents_of self.old name.now) }
+        ensures file { OnOk result (self.new ≡ with_file self.old name.now contents) }
+        ensures replaced { IfOk result (λ old. old ≡ contents_of self.old name.now) }
 
         // What `undo` needs, and what it then leaves.
         ensures there { OnOk result (IsSome (contents_of self.new name.now)) }
         ensures last { IfOk result (λ old. IfNone old (slice_get (names self.new) (length self.new - 1) ≡ Some name.now)) }
-        ensures undone { IfOk result (λ old. undone self.new name.now (option_map (λ bytes. bytes.list) old) ≡ self.old) }
+        ensures undone { IfOk result (λ old. undone self.new name.now old ≡ self.old) }
 
         // A name that is there is never refused.
         ensures full { (result ≡ Err PutFault.Full) ↔ IsFullFor self.old name.now }
         ensures memory { result ≡ Err PutFault.Memory → IsNone (contents_of self.old name.now) }
         ensures err { OnErr result (self.new ≡ self.old) }
     {
-        if is_full_for(&self.files, name) {
+        if let Some(place) = self.place_of(name) {
+            return Ok(Some(self.replace(place, contents)));
+        }
+        if self.entries.len() == FILES {
             return Err(PutFault::Full);
         }
-        match insert(&mut self.files, name.copy(), contents) {
-            Ok(old) => Ok(old),
+        match self.add(name, contents) {
+            Ok(()) => Ok(None),
             Err(_) => Err(PutFault::Memory),
         }
     }
 
+    /// Other contents under a name that is there.
+    fn put_back(&mut self, name: &Name64, contents: Contents)
+        requires { IsSome (contents_of self.old name.now) }
+        ensures { self.new ≡ with_file self.old name.now contents }
+    {
+        let Some(place) = self.place_of(name) else {
+            unreachable!();
+        };
+        let _ = self.replace(place, contents);
+    }
+
     /// Takes back what `put` did to a name, by what it gave. It takes no memory.
-    pub fn undo(&mut self, name: &Name64, old: Option<Bytes>)
+    pub fn undo(&mut self, name: &Name64, old: Option<Contents>)
         requires there { IsSome (contents_of self.old name.now) }
         requires last { IfNone old (slice_get (names self.old) (length self.old - 1) ≡ Some name.now) }
-        ensures { self.new ≡ undone self.old name.now (option_map (λ bytes. bytes.list) old) }
+        ensures { self.new ≡ undone self.old name.now old }
     {
         match old {
-            Some(contents) => replace(&mut self.files, name.copy(), contents),
-            None => drop_last(&mut self.files),
+            Some(contents) => self.put_back(name, contents),
+            None => drop_last(&mut self.entries),
         }
     }
 
-    /// The contents of the file of a name, which is looked up by hash.
+    /// The contents of the file of a name.
     pub fn get(&self, name: &Name64) -> Option<&[u8]>
         ensures { option_copied result ≡ contents_of self.now name.now }
     {
-        match self.files.get(name) {
-            Some(contents) => Some(contents.bytes()),
-            None => None,
-        }
+        let place = self.place_of(name)?;
+        Some(self.entries[place].contents.bytes())
     }
 
     /// The name at a place, from 0 on, in order of first uplink.
     pub fn list(&self, place: u32) -> Option<&Name64>
         ensures { option_copied result ≡ slice_get (names self.now) place }
     {
-        match self.files.get_index(place as usize) {
-            Some((name, _)) => Some(name),
+        match self.entries.get(place as usize) {
+            Some(entry) => Some(&entry.name),
             None => None,
         }
     }
@@ -153,6 +251,6 @@ impl Drawer {
     pub fn clear(&mut self)
         ensures { self.new ≡ [] }
     {
-        self.files.clear();
+        self.entries.clear();
     }
 }

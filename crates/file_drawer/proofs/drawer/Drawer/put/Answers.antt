@@ -1,62 +1,20 @@
-use Rattle.std.proofs.Common.{List, ℕ, ◌∙◌, ap}
-use Rattle.tbl_kinds.specs.Drawer.{File, contents_of, with_file}
-use Rattle.file_drawer.specs.Entries.{files_of}
-use Rattle.file_drawer.proofs.Putting.{there_after, last_after, undone_after, within_after}
+use Rattle.std.proofs.Common.{Some, None, sym}
+use Rattle.file_drawer.proofs.Putting.{there_after, last_after, undone_after}
 use Rattle.file_drawer.proofs.drawer.Drawer.put.Goals as goal
-use Rattle.file_drawer.proofs.drawer.Drawer.put.Goals.{in-Ok, in-Err}
 
-pub invariant_of-self : goal.invariant_of-self
-invariant_of-self c =
-    elim c.match-insert.branch [
-      | in-Ok w ↦
-          let put =
-          w.in-Ok.ensures.file ∙ ap (λ (name : List ℕ). with_file (files_of c.self.inside.files.entries) name c.args.contents.list) c.copy.ensures in
-          within_after (files_of c.self.inside.files.entries) (files_of c.insert.new.files.entries) c.args.name.now c.args.contents.list put c.self.invariant
-          (λ full. let t = c.is_full_for.ensures.1 full in cc (t, c.if-is_full_for.false))
-      | in-Err w ↦ rw w.in-Err.ensures.err c.self.invariant
-    ]
+pub returns-in-Some-clause-there : goal.returns-in-Some-clause-there
+returns-in-Some-clause-there c = there_after c.args.self.now c.replace.new.self c.args.name.now c.args.contents (c.replace.ensures.file c.args.name.now c.in-Some.ensures.at)
 
-pub returns-clause-there : goal.returns-clause-there
-returns-clause-there c =
-    elim c.match-insert.branch [
-      | in-Ok w ↦
-          let put =
-          w.in-Ok.ensures.file
-          ∙ ap (λ (name : List ℕ). with_file (files_of c.self.inside.files.entries) name c.args.contents.list) c.copy.ensures
-          ∙ ap (λ (fs : List File). with_file fs c.args.name.now c.args.contents.list) c.self.view_is in
-          rw w.result-is (there_after c.args.self.now (files_of c.insert.new.files.entries) c.args.name.now c.args.contents.list put)
-      | in-Err w ↦ rw w.result-is tt
-    ]
+pub returns-in-Some-clause-undone : goal.returns-in-Some-clause-undone
+returns-in-Some-clause-undone c =
+    undone_after c.args.self.now c.replace.new.self c.args.name.now c.args.contents (c.replace.ensures.file c.args.name.now c.in-Some.ensures.at)
+    (Some c.replace.result) (sym (c.replace.ensures.replaced c.args.name.now c.in-Some.ensures.at))
 
-pub returns-clause-last : goal.returns-clause-last
-returns-clause-last c =
-    elim c.match-insert.branch [
-      | in-Ok w ↦
-          let put =
-          w.in-Ok.ensures.file
-          ∙ ap (λ (name : List ℕ). with_file (files_of c.self.inside.files.entries) name c.args.contents.list) c.copy.ensures
-          ∙ ap (λ (fs : List File). with_file fs c.args.name.now c.args.contents.list) c.self.view_is in
-          let replaced =
-          w.in-Ok.ensures.replaced
-          ∙ ap (λ (name : List ℕ). contents_of (files_of c.self.inside.files.entries) name) c.copy.ensures
-          ∙ ap (λ (fs : List File). contents_of fs c.args.name.now) c.self.view_is in
-          rw w.result-is
-          (last_after c.args.self.now (files_of c.insert.new.files.entries) c.args.name.now c.args.contents.list put w.in-Ok.old replaced)
-      | in-Err w ↦ rw w.result-is tt
-    ]
+pub returns-in-Ok-clause-there : goal.returns-in-Ok-clause-there
+returns-in-Ok-clause-there c = there_after c.args.self.now c.add.new.self c.args.name.now c.args.contents c.in-Ok.ensures.file
 
-pub returns-clause-undone : goal.returns-clause-undone
-returns-clause-undone c =
-    elim c.match-insert.branch [
-      | in-Ok w ↦
-          let put =
-          w.in-Ok.ensures.file
-          ∙ ap (λ (name : List ℕ). with_file (files_of c.self.inside.files.entries) name c.args.contents.list) c.copy.ensures
-          ∙ ap (λ (fs : List File). with_file fs c.args.name.now c.args.contents.list) c.self.view_is in
-          let replaced =
-          w.in-Ok.ensures.replaced
-          ∙ ap (λ (name : List ℕ). contents_of (files_of c.self.inside.files.entries) name) c.copy.ensures
-          ∙ ap (λ (fs : List File). contents_of fs c.args.name.now) c.self.view_is in
-          rw w.result-is (undone_after c.args.self.now (files_of c.insert.new.files.entries) c.args.name.now c.args.contents.list put _ replaced)
-      | in-Err w ↦ rw w.result-is tt
-    ]
+pub returns-in-Ok-clause-last : goal.returns-in-Ok-clause-last
+returns-in-Ok-clause-last c = last_after c.args.self.now c.add.new.self c.args.name.now c.args.contents c.in-Ok.ensures.file None (sym c.in_default.ensures.absent)
+
+pub returns-in-Ok-clause-undone : goal.returns-in-Ok-clause-undone
+returns-in-Ok-clause-undone c = undone_after c.args.self.now c.add.new.self c.args.name.now c.args.contents c.in-Ok.ensures.file None (sym c.in_default.ensures.absent)
