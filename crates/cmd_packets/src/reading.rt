@@ -1,10 +1,11 @@
 //! Reading a command.
 
-ghost use Rattle.std.specs.Prelude.{◌≡◌, ◌+◌, ◌<◌, ◌≤◌, Some, length, slice_get, Result, OnOk, IfErr};
+ghost use Rattle.std.specs.Prelude.{◌≡◌, ◌+◌, ◌<◌, ◌≤◌, Some, Ok, Err, length, slice_get, IfOk, IfErr, IfSome, IfNone};
 ghost use Rattle.std.specs.Option.{option_map};
 ghost use Rattle.tbl_kinds.specs.Numbers.{two_at};
 ghost use Rattle.tbl_kinds.specs.GroundCommands.{forms, payload_len as len_of, name_at, table_of, file_of, is_named, with_names as names_tested, by_form, by_code as by_code_lem, by_id, housekeeping_form, command_in};
-ghost use Rattle.cmd_packets.specs.Views.{command_of, Gives};
+ghost use Rattle.cmd_packets.specs.declared.commands.Ground.{Ground};
+ghost use Rattle.cmd_packets.specs.Views.{command_of, answer_of, Gives};
 
 use crate::commands::{CmdFault, Ground};
 use cfe_headers::read_packet;
@@ -57,41 +58,42 @@ fn file_at(payload: &[u8], place: usize) -> Name64
     Name::of(&payload[place..place + 64])
 }
 
-/// What a payload of the right length reads as, by the function code.
-fn fields(code: u8, payload: &[u8]) -> Ground
+/// Puts what a payload of the right length reads as into its place, by the function code. Each command is made there: one that a
+/// function gives is copied.
+fn put_fields(code: u8, payload: &[u8], command: &mut Result<Ground, CmdFault>)
     requires { len_of code ≡ Some (length payload.now) }
-    ensures { option_map (λ form. form.reads payload.now) (slice_get forms code) ≡ Some (command_of result) }
+    ensures { (read : Ground) × (command.new ≡ Ok read) × (option_map (λ form. form.reads payload.now) (slice_get forms code) ≡ Some (command_of read)) }
 {
     match code {
-        0 => Ground::Noop,
-        1 => Ground::ResetCounters,
-        2 => Ground::Load {
+        0 => *command = Ok(Ground::Noop),
+        1 => *command = Ok(Ground::ResetCounters),
+        2 => *command = Ok(Ground::Load {
             file: file_at(payload, 0),
-        },
-        3 => Ground::Dump {
+        }),
+        3 => *command = Ok(Ground::Dump {
             select: select_of(payload),
             table: table_at(payload, 2),
             file: file_at(payload, 42),
-        },
-        4 => Ground::Validate {
+        }),
+        4 => *command = Ok(Ground::Validate {
             select: select_of(payload),
             table: table_at(payload, 2),
-        },
-        5 => Ground::Activate {
+        }),
+        5 => *command = Ok(Ground::Activate {
             table: table_at(payload, 0),
-        },
-        6 => Ground::DumpRegistry {
+        }),
+        6 => *command = Ok(Ground::DumpRegistry {
             file: file_at(payload, 0),
-        },
-        7 => Ground::SendRegistry {
+        }),
+        7 => *command = Ok(Ground::SendRegistry {
             table: table_at(payload, 0),
-        },
-        8 => Ground::DeleteCds {
+        }),
+        8 => *command = Ok(Ground::DeleteCds {
             table: table_at(payload, 0),
-        },
-        9 => Ground::Abort {
+        }),
+        9 => *command = Ok(Ground::Abort {
             table: table_at(payload, 0),
-        },
+        }),
         _ => unreachable!(),
     }
 }
@@ -123,99 +125,99 @@ fn is_file_named(command: &Ground) -> bool
     }
 }
 
-/// The command, if its names are names.
-fn with_names(command: Ground) -> Result<Ground, CmdFault>
-    ensures { Gives result (names_tested (command_of command)) }
+/// The fault of a command's names, if one of them isn't a name.
+fn name_fault(command: &Ground) -> Option<CmdFault>
+    ensures none { IfNone result (names_tested (command_of command.now) ≡ Ok (command_of command.now)) }
+    ensures some { IfSome result (λ fault. names_tested (command_of command.now) ≡ Err (answer_of fault)) }
 {
-    if !is_table_named(&command) {
-        return Err(CmdFault::BadName(1));
+    if !is_table_named(command) {
+        return Some(CmdFault::BadName(1));
     }
-    if !is_file_named(&command) {
-        return Err(CmdFault::BadName(2));
+    if !is_file_named(command) {
+        return Some(CmdFault::BadName(2));
     }
-    Ok(command)
+    None
 }
 
-/// The command of a function code with its payload, by its form. It isn't inlined: a command without a payload would clear
+/// Puts the fault of a command's names, if there is one, into its place.
+fn test_names(command: &mut Result<Ground, CmdFault>)
+    ensures { (read : Ground) → command.old ≡ Ok read → Gives command.new (names_tested (command_of read)) }
+{
+    if let Ok(read) = command {
+        if let Some(fault) = name_fault(read) {
+            *command = Err(fault);
+        }
+    }
+}
+
+/// Reads the command of a function code with its payload, by its form. It isn't inlined: a command without a payload would clear
 /// and copy the memory of names.
 #[inline(never)]
-fn by_form_of(code: u8, payload: &[u8]) -> Result<Ground, CmdFault>
+fn read_by_form(code: u8, payload: &[u8], command: &mut Result<Ground, CmdFault>)
     requires { length payload.now ≤ 65534 }
-    ensures { Gives result (by_code_lem code (slice_get forms code) payload.now) }
+    ensures { Gives command.new (by_code_lem code (slice_get forms code) payload.now) }
 {
     match payload_len(code) {
-        None => Err(CmdFault::BadCode(code)),
-        Some(len) if payload.len() == len => with_names(fields(code, payload)),
-        Some(_) => Err(CmdFault::BadLength(payload.len() as u32)),
+        None => *command = Err(CmdFault::BadCode(code)),
+        Some(len) if payload.len() == len => {
+            put_fields(code, payload, command);
+            test_names(command);
+        }
+        Some(_) => *command = Err(CmdFault::BadLength(payload.len() as u32)),
     }
 }
 
-/// Whether a payload is empty, or else why it is none of a command without one.
-fn empty(payload: &[u8]) -> Result<(), CmdFault>
+/// A command without a payload, or the fault that there is one.
+fn without_payload(command: Ground, payload: &[u8]) -> Result<Ground, CmdFault>
     requires { length payload.now ≤ 65534 }
-    ensures ok { OnOk result (length payload.now ≡ 0) }
+    ensures ok { IfOk result (λ own. (own ≡ command) × (length payload.now ≡ 0)) }
     ensures err { IfErr result (λ fault. (fault ≡ CmdFault.BadLength (length payload.now)) × (0 < length payload.now)) }
 {
     if payload.is_empty() {
-        Ok(())
+        Ok(command)
     } else {
         Err(CmdFault::BadLength(payload.len() as u32))
     }
 }
 
-/// The command of a function code with its payload.
-fn by_code(code: u8, payload: &[u8]) -> Result<Ground, CmdFault>
+/// Reads the command of a function code with its payload.
+fn read_by_code(code: u8, payload: &[u8], command: &mut Result<Ground, CmdFault>)
     requires { length payload.now ≤ 65534 }
-    ensures { Gives result (by_code_lem code (slice_get forms code) payload.now) }
+    ensures { Gives command.new (by_code_lem code (slice_get forms code) payload.now) }
 {
     match code {
-        0 => {
-            empty(payload)?;
-            Ok(Ground::Noop)
-        }
-        1 => {
-            empty(payload)?;
-            Ok(Ground::ResetCounters)
-        }
-        _ => by_form_of(code, payload),
+        0 => *command = without_payload(Ground::Noop, payload),
+        1 => *command = without_payload(Ground::ResetCounters, payload),
+        _ => read_by_form(code, payload, command),
     }
 }
 
-/// The request for housekeeping, whose payload is empty.
-fn housekeeping(payload: &[u8]) -> Result<Ground, CmdFault>
+/// Reads the command of a message id and a function code with its payload. The request for housekeeping has an empty one.
+fn read_by_id(id: u16, code: u8, payload: &[u8], command: &mut Result<Ground, CmdFault>)
     requires { length payload.now ≤ 65534 }
-    ensures { Gives result (by_form housekeeping_form payload.now) }
-{
-    empty(payload)?;
-    Ok(Ground::Housekeeping)
-}
-
-/// The command of a message id and a function code with its payload.
-fn by_message_id(id: u16, code: u8, payload: &[u8]) -> Result<Ground, CmdFault>
-    requires { length payload.now ≤ 65534 }
-    ensures { Gives result (by_id id code payload.now) }
+    ensures { Gives command.new (by_id id code payload.now) }
 {
     match id {
-        HOUSEKEEPING_REQUEST_ID => housekeeping(payload),
-        COMMAND_ID => by_code(code, payload),
-        _ => Err(CmdFault::BadMessageId(id)),
+        HOUSEKEEPING_REQUEST_ID => *command = without_payload(Ground::Housekeeping, payload),
+        COMMAND_ID => read_by_code(code, payload, command),
+        _ => *command = Err(CmdFault::BadMessageId(id)),
     }
 }
 
-/// Reads a command from a packet (CCSDS 133.0-B), all of the bytes: the primary header, cFE's command secondary header,
-/// and from place 8 the payload that `Ground` tells for each command. Where it is none, the first fault in the order of
-/// `CmdFault` is answered. The selector of an image isn't tested. The sequence flags and count, the high bit of the code
+/// Reads a command from a packet (CCSDS 133.0-B), all of the bytes, into its place: the primary header, cFE's command secondary
+/// header, and from place 8 the payload that `Ground` tells for each command. Where it is none, the first fault in the order of
+/// `CmdFault` is put there. The selector of an image isn't tested. The sequence flags and count, the high bit of the code
 /// byte, what stands in a name field after the name's zero and the function code of a housekeeping request aren't looked
 /// at.
 #[tactic(auto, unfolding(tbl_kinds::specs::GroundCommands::command_in))]
-pub fn read_command(bytes: &[u8]) -> Result<Ground, CmdFault>
-    ensures { Gives result (command_in bytes.now) }
+pub fn read_command(bytes: &[u8], command: &mut Result<Ground, CmdFault>)
+    ensures { Gives command.new (command_in bytes.now) }
 {
     match read_packet(bytes) {
         Ok(packet) => {
             let (_, payload) = bytes.split_at(PAYLOAD_PLACE);
-            by_message_id(packet.id, packet.code, payload)
+            read_by_id(packet.id, packet.code, payload, command);
         }
-        Err(fault) => Err(CmdFault::BadPacket(fault)),
+        Err(fault) => *command = Err(CmdFault::BadPacket(fault)),
     }
 }

@@ -10,12 +10,12 @@ use cmd_packets::{CmdFault, Ground, read_command};
 /// What the packet of a command was read as.
 pub type ReadCommand = Result<Ground, CmdFault>;
 
-/// Reads the packet of a command.
+/// Reads the packet of a command into its place.
 #[tactic(auto, using(crate::proofs::CommandReadings::gives_read))]
-pub fn read(packet: &[u8]) -> ReadCommand
-    ensures { read_of result ≡ command_in packet.now }
+pub fn read(packet: &[u8], command: &mut ReadCommand)
+    ensures { read_of command.new ≡ command_in packet.now }
 {
-    read_command(packet)
+    read_command(packet, command);
 }
 
 /// The function code of a command, which event 1 tells; 0 of a housekeeping request.
