@@ -29,10 +29,10 @@ bytes_kinds = 0x01 ∷ 0x02 ∷ 0x14 ∷ 0x15 ∷ 0x1A ∷ 0x31 ∷ []
 abbrev pub keeps_bytes : ℕ → Bool
 keeps_bytes number = list_any (λ kind. number == kind) bytes_kinds
 
--- where a record is read, this holds of it and of the number of its bytes
-abbrev pub IfItem : Next → (Pair → ℕ → Type 0) → Type 0
-IfItem (Item actor request used) P = P (record { actor = actor; request = request }) used
-IfItem _ P = Unit {0}
+-- where a record is read, this holds of it, with the request that was put in its place, and of the number of its bytes
+abbrev pub IfItem : Request → Next → (Pair → ℕ → Type 0) → Type 0
+IfItem request (Item actor used) P = P (record { actor = actor; request = request }) used
+IfItem request _ P = Unit {0}
 
 -- the request's record has this kind and this body
 pub record IsSpelledBy (kind : ℕ) (body : List ℕ) (request : Request) : Type 0 where
@@ -42,8 +42,8 @@ pub record IsSpelledBy (kind : ℕ) (body : List ℕ) (request : Request) : Type
   pub body_is : body_of request ≡ body
 
 -- the record of this kind and body, of the head's sender; or the body isn't of the right form
-abbrev pub IsReadAs : ℕ → Head → List ℕ → Next → Type 0
-IsReadAs kind head body (Item actor request used) = (actor ≡ actor_at head.actor) × (used ≡ 4 + length body) × IsSpelledBy kind body request × (is_right_body kind body ≡ true)
-IsReadAs kind head body Bad = is_right_body kind body ≡ false
-IsReadAs kind head body Short = ⊥
-IsReadAs kind head body End = ⊥
+abbrev pub IsReadAs : ℕ → Head → List ℕ → Request → Next → Type 0
+IsReadAs kind head body request (Item actor used) = (actor ≡ actor_at head.actor) × (used ≡ 4 + length body) × IsSpelledBy kind body request × (is_right_body kind body ≡ true)
+IsReadAs kind head body request Bad = is_right_body kind body ≡ false
+IsReadAs kind head body request Short = ⊥
+IsReadAs kind head body request End = ⊥
