@@ -2,7 +2,7 @@ ghost use Rattle.std.specs.Prelude.{◌≡◌, List, ℕ, Option, None};
 ghost use Rattle.std.specs.Option.{option_copied};
 ghost use Rattle.buffer_pairs.specs.Images.{at_first, with_last, without_before, keeping_last, keeping_none, kept_of};
 
-use crate::image::Image;
+use crate::image::{Image, SPARE_LIMIT};
 use std::marker::Model;
 
 /// A table's images: the last one, and in a table with two buffers the one before it (`CFE_TBL_OPT_SNGL_BUFFER`,
@@ -13,6 +13,8 @@ pub struct Buffers {
     before: Option<Image>,
     double: bool,
     kept: Kept,
+    /// A short image that left its place. The next one may stand in its memory.
+    spare: Option<Image>,
 }
 
 /// Where the image is that is kept whatever comes.
@@ -47,22 +49,34 @@ fn own(image: Option<Image>) -> Kept
     }
 }
 
+/// Puts an image that left its place aside, if it is short.
+fn set_aside(spare: &mut Option<Image>, image: Option<Image>) {
+    if let Some(image) = image {
+        if image.bytes().len() <= SPARE_LIMIT {
+            *spare = Some(image);
+        }
+    }
+}
+
 /// Where it is once the image before the last has left its place.
-fn without_before(kept: Kept, before: Option<Image>) -> Kept
+fn without_before(kept: Kept, before: Option<Image>, spare: &mut Option<Image>) -> Kept
     ensures { (last after : Option (List ℕ)) → kept_of result last after ≡ kept_of kept last before }
 {
     match kept {
         Kept::Before => own(before),
-        kept => kept,
+        kept => {
+            set_aside(spare, before);
+            kept
+        }
     }
 }
 
 /// Empties the place before the last, and tells where the kept image is then.
-fn take_kept(kept: &mut Kept, before: &mut Option<Image>) -> Kept
+fn take_kept(kept: &mut Kept, before: &mut Option<Image>, spare: &mut Option<Image>) -> Kept
     ensures kept { (last after : Option (List ℕ)) → kept_of result last after ≡ kept_of kept.old last before.old }
     ensures before { before.new ≡ None }
 {
-    without_before(std::mem::replace(kept, Kept::Nothing), before.take())
+    without_before(std::mem::replace(kept, Kept::Nothing), before.take(), spare)
 }
 
 /// Where it is once the last image has gone to the place before it, which was empty.
@@ -77,12 +91,15 @@ fn moved_on(kept: Kept) -> Kept
 }
 
 /// Where it is once the last image has left its place, with no place before it.
-fn without_last(kept: Kept, last: Option<Image>) -> Kept
+fn without_last(kept: Kept, last: Option<Image>, spare: &mut Option<Image>) -> Kept
     ensures { (new : Option (List ℕ)) → kept_of result new None ≡ kept_of kept last None }
 {
     match kept {
         Kept::Last => own(last),
-        kept => kept,
+        kept => {
+            set_aside(spare, last);
+            kept
+        }
     }
 }
 
@@ -96,7 +113,15 @@ impl Buffers {
             before: None,
             double,
             kept: Kept::Nothing,
+            spare: None,
         }
+    }
+
+    /// An image that the table has no more, for the memory that its bytes stand in. It is given once.
+    pub fn take_spare(&mut self) -> Option<Image>
+        ensures { self.new ≡ self.old }
+    {
+        self.spare.take()
     }
 
     /// The last image, None where the table was never loaded.
@@ -117,13 +142,13 @@ impl Buffers {
     pub fn put(&mut self, image: Image)
         ensures { self.new ≡ with_last image self.old }
     {
-        let kept = take_kept(&mut self.kept, &mut self.before);
+        let kept = take_kept(&mut self.kept, &mut self.before, &mut self.spare);
         let last = self.last.replace(image);
         if self.double {
             self.kept = moved_on(kept);
             self.before = last;
         } else {
-            self.kept = without_last(kept, last);
+            self.kept = without_last(kept, last, &mut self.spare);
         }
     }
 
@@ -131,7 +156,7 @@ impl Buffers {
     pub fn drop_before(&mut self)
         ensures { self.new ≡ without_before self.old }
     {
-        self.kept = take_kept(&mut self.kept, &mut self.before);
+        self.kept = take_kept(&mut self.kept, &mut self.before, &mut self.spare);
     }
 
     /// The last image is kept from now on, whatever comes. It takes no memory.

@@ -1,4 +1,4 @@
-ghost use Rattle.std.specs.Prelude.{◌≡◌, ◌+◌, ◌≤◌, length, replicate, IfOk, if◌then◌else◌};
+ghost use Rattle.std.specs.Prelude.{◌≡◌, ◌+◌, ◌≤◌, length, replicate, true, IfOk, if◌then◌else◌};
 ghost use Rattle.std.specs.Arc.{arc_value};
 ghost use Rattle.tbl_kinds.specs.Numbers.{patched};
 
@@ -6,6 +6,10 @@ use std::alloc::{AllocError, Global};
 use std::marker::Model;
 use std::sync::Arc;
 use tbl_kinds::{Bytes, Memory};
+
+/// Up to how many bytes an image's memory is used again. To copy so many costs less than a further allocation, and what each
+/// table puts aside stays small.
+pub const SPARE_LIMIT: usize = 1_024;
 
 /// An image of a table: bytes with one owner or several, in any threads. Once it has a second owner, nobody can change it.
 #[derive(Drop)]
@@ -30,6 +34,17 @@ fn write_over(image: &mut [u8], offset: usize, bytes: &[u8])
     image[offset..offset + bytes.len()].copy_from_slice(bytes);
 }
 
+/// Writes bytes over all of the image, where it has as many. Whether it did.
+fn fill(image: &mut [u8], bytes: &[u8]) -> bool
+    ensures { result ≡ true → image.new ≡ bytes.now }
+{
+    if image.len() != bytes.len() {
+        return false;
+    }
+    image.copy_from_slice(bytes);
+    true
+}
+
 /// The base, with other bytes over some of it, each byte moved once.
 fn joined(alloc: Global, base: &[u8], offset: usize, bytes: &[u8]) -> Result<Vec<u8>, AllocError>
     requires { offset + length bytes.now ≤ length base.now }
@@ -51,6 +66,28 @@ impl Image {
         Ok(Image {
             bytes: Arc::new(alloc, bytes)?,
         })
+    }
+
+    /// An image of these bytes. It stands in the memory of the spare one where that is as long and has no other owner.
+    pub fn over(alloc: Global, spare: Option<Image>, bytes: &[u8]) -> Result<Image, Memory>
+        ensures { IfOk result (λ image. image ≡ bytes.now) }
+    {
+        if let Some(mut image) = spare {
+            if image.take_bytes(bytes) {
+                return Ok(image);
+            }
+        }
+        Image::of(alloc, bytes)
+    }
+
+    /// Writes as many bytes as it has over all of them, where it has no other owner. Whether it did.
+    fn take_bytes(&mut self, bytes: &[u8]) -> bool
+        ensures { result ≡ true → self.new ≡ bytes.now }
+    {
+        match Arc::get_mut(&mut self.bytes) {
+            Some(image) => fill(image, bytes),
+            None => false,
+        }
     }
 
     /// An image of these bytes. Where they have memory of their own it stands in that too, and no byte is copied.
@@ -81,16 +118,12 @@ impl Image {
         Image { bytes }
     }
 
-    /// A new image of the base's bytes, with other bytes over them from an offset on. Bytes over the whole base are the image.
-    #[tactic(auto, using(crate::proofs::Whole::whole_over))]
+    /// A new image of the base's bytes, with other bytes over them from an offset on.
     pub fn patched(alloc: Global, base: &[u8], offset: u32, bytes: &[u8]) -> Result<Image, Memory>
         requires { offset + length bytes.now ≤ length base.now }
         ensures image { IfOk result (λ image. image ≡ patched base.now offset bytes.now) }
         ensures size { IfOk result (λ image. length image ≡ length base.now) }
     {
-        if bytes.len() == base.len() {
-            return Image::of(alloc, bytes);
-        }
         let bytes = joined(alloc, base, offset as usize, bytes)?;
         Ok(Image {
             bytes: Arc::new(alloc, bytes)?,

@@ -5,4 +5,4 @@ mod buffers;
 mod image;
 
 pub use buffers::Buffers;
-pub use image::Image;
+pub use image::{Image, SPARE_LIMIT};

@@ -16,7 +16,7 @@ ghost use Rattle.validation.specs.Asked.{WasAsked, asks};
 ghost use Rattle.partial_load.specs.Answers.{verdict_answer, image_answered, file_answered};
 
 use crate::refusals::{file_refusal, image_refusal};
-use buffer_pairs::Image;
+use buffer_pairs::{Image, SPARE_LIMIT};
 use std::alloc::Global;
 use table_files::TableFile;
 use tbl_kinds::{Answer, Bytes, Memory, Status};
@@ -82,6 +82,24 @@ fn admit<C: Validator>(tables: &mut Tables, kit: &mut Kit<C>, row: u8, image: Im
     Loaded { answer, verdict }
 }
 
+/// An image of bytes for the table of a row. Few are copied into memory that the table has already, and many stand once.
+fn new_image(
+    alloc: Global,
+    tables: &mut Tables,
+    row: u8,
+    bytes: &mut Bytes,
+) -> Result<Image, Memory>
+    requires { IsSome (table_at tables.old row) }
+    ensures image { IfOk result (λ image. image ≡ bytes.old.list) }
+    ensures same { bytes.new ≡ bytes.old }
+    ensures tables { tables.new ≡ tables.old }
+{
+    if bytes.bytes().len() <= SPARE_LIMIT {
+        return tables.whole_image(alloc, row, bytes.bytes());
+    }
+    Image::of_bytes(alloc, bytes)
+}
+
 /// An answer without a question.
 fn refused(answer: Answer) -> Loaded
     ensures { result ≡ record { answer = answer; verdict = None } }
@@ -120,7 +138,7 @@ pub fn load_image<C: Validator>(
     if let Some(answer) = image_refusal(tables, row, image.bytes().len()) {
         return Ok(refused(answer));
     }
-    let image = Image::of_bytes(alloc, image)?;
+    let image = new_image(alloc, tables, row, image)?;
     Ok(admit(tables, kit, row, image))
 }
 
