@@ -1,11 +1,11 @@
 //! The files that dumps are written as.
 
-ghost use Rattle.std.specs.Prelude.{◌≡◌, ◌<◌, ◌≤◌, ◌+◌, ◌*◌, ◌++◌, ℕ, length, Some, None, IsSome, is_some, if◌then◌else◌, codes};
+ghost use Rattle.std.specs.Prelude.{◌≡◌, ◌<◌, ◌≤◌, ◌+◌, ◌*◌, ◌++◌, ℕ, List, length, Some, None, IsSome, is_some, if◌then◌else◌, codes};
 ghost use Rattle.std.specs.Option.{ForSome};
 ghost use Rattle.std.specs.List.{flat_map};
 ghost use Rattle.tbl_kinds.specs.Limits.{table_limit};
-ghost use Rattle.tbl_kinds.specs.Names.{HasNoZero};
-ghost use Rattle.tbl_kinds.specs.Headers.{header_len};
+ghost use Rattle.tbl_kinds.specs.Names.{name_field};
+ghost use Rattle.tbl_kinds.specs.Headers.{header_len, description_len};
 ghost use Rattle.tbl_kinds.specs.TableFiles.{image_place};
 ghost use Rattle.tbl_model.specs.State.{State};
 ghost use Rattle.tbl_model.specs.Tables.{table_at, table_count};
@@ -14,10 +14,9 @@ ghost use Rattle.cfe_headers.specs.FileHeaders.{header_of};
 ghost use Rattle.dump_control.specs.Images.{CanBeDumped, dumped_image, record_len};
 
 use cfe_headers::{FileHeader, HEADER_LENGTH, write_file_header};
-use table_files::{IMAGE_PLACE, TABLE_SUBTYPE, TableFile, write_table_file};
-use tbl_kinds::{Bytes, Name, Name40};
+use table_files::{IMAGE_PLACE, TABLE_SUBTYPE, write_image_file};
+use tbl_kinds::{Bytes, Name40};
 use tbl_registry::Tables;
-use tlm_packets::registry_bytes;
 
 /// The subtype of a registry file (cFE's `CFE_FS_SubType_TBL_REG`).
 const REGISTRY_SUBTYPE: u32 = 9;
@@ -31,11 +30,17 @@ const PROCESSOR: u32 = 1;
 /// How many bytes the record of a table has.
 const RECORD_LENGTH: usize = 144;
 
-/// The header of a file of this kind that is written at this time.
-fn header(subtype: u32, text: &[u8], seconds: u32, sub: u16) -> FileHeader
-    requires fits { length text.now ≤ 32 }
-    requires no_zero { HasNoZero text.now }
-    ensures header { (s : State) → s.seconds ≡ seconds → s.sub ≡ sub → header_of result ≡ written_header subtype text.now s }
+/// `Table image`, as the description of a file.
+const IMAGE_TEXT: [u8; 32] = *b"Table image\0\0\0\0\0\0\0\0\0\0\0\0\0\0\0\0\0\0\0\0\0";
+
+/// `Table registry`, as the description of a file.
+const REGISTRY_TEXT: [u8; 32] = *b"Table registry\0\0\0\0\0\0\0\0\0\0\0\0\0\0\0\0\0\0";
+
+/// The header of a file of this kind, with this description, that is written at this time.
+#[inline]
+fn header(subtype: u32, description: [u8; 32], seconds: u32, sub: u16) -> FileHeader
+    ensures header { (text : List ℕ) (s : State) → description ≡ name_field description_len text → s.seconds ≡ seconds → s.sub ≡ sub
+        → header_of result ≡ written_header subtype text s }
     ensures subtype { result.subtype ≡ subtype }
 {
     FileHeader {
@@ -46,11 +51,12 @@ fn header(subtype: u32, text: &[u8], seconds: u32, sub: u16) -> FileHeader
         application: 0,
         seconds,
         sub: u32::from(sub) * 0x1_0000,
-        description: Name::<32>::of(text).field(),
+        description,
     }
 }
 
 /// Appends the file of a whole image of the table of this name.
+#[inline(never)]
 #[tactic(auto, unfolding(tbl_model::specs::Dumps::dump_file))]
 pub(crate) fn write_image(out: &mut Bytes, name: &Name40, image: &[u8], seconds: u32, sub: u16)
     requires room { image_place + length image.now ≤ out.old.spare }
@@ -59,13 +65,8 @@ pub(crate) fn write_image(out: &mut Bytes, name: &Name40, image: &[u8], seconds:
     ensures room { out.old.spare ≤ out.new.spare + (image_place + length image.now) }
     ensures len { length out.new.list ≡ length out.old.list + (image_place + length image.now) }
 {
-    let header = header(TABLE_SUBTYPE, b"Table image", seconds, sub);
-    let file = TableFile {
-        offset: 0,
-        count: image.len() as u32,
-        name: name.copy(),
-    };
-    write_table_file(out, &header, &file, image);
+    let header = header(TABLE_SUBTYPE, IMAGE_TEXT, seconds, sub);
+    write_image_file(out, &header, 0, name, image);
 }
 
 /// How many bytes the file of an image of the table of a row has: 116 and those of the image.
@@ -116,7 +117,7 @@ fn write_record(tables: &Tables, row: u8, out: &mut Bytes)
     ensures len { length out.new.list ≡ length out.old.list + record_len * (if is_some (table_at tables.now row) then 1 else 0) }
 {
     if tables.name(row).is_some() {
-        registry_bytes(out, &tables.info(row));
+        tables.write_info(row, out);
     }
 }
 
@@ -141,7 +142,7 @@ pub fn registry_file(tables: &Tables, out: &mut Bytes, seconds: u32, sub: u16)
     ensures room { out.old.spare ≤ out.new.spare + (header_len + record_len * table_count tables.now) }
     ensures len { length out.new.list ≡ length out.old.list + (header_len + record_len * table_count tables.now) }
 {
-    let header = header(REGISTRY_SUBTYPE, b"Table registry", seconds, sub);
+    let header = header(REGISTRY_SUBTYPE, REGISTRY_TEXT, seconds, sub);
     write_file_header(out, &header);
     write_records(tables, out);
 }

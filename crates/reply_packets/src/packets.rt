@@ -13,7 +13,7 @@ use request_effects::Clock;
 use tbl_kinds::{Bytes, Housekeeping};
 use tbl_model::{Notice, Shown};
 use tbl_registry::Tables;
-use tlm_packets::{write_housekeeping, write_notice, write_registry};
+use tlm_packets::{write_housekeeping, write_notice, write_registry_front};
 
 /// How many of the four buffers no row uses.
 fn free_in(rows: &[Option<u8>; 4]) -> usize
@@ -89,7 +89,8 @@ fn put_registry(
     if tables.name(row).is_none() {
         return;
     }
-    write_registry(packets, &head, &tables.info(row));
+    write_registry_front(packets, &head);
+    tables.write_info(row, packets);
 }
 
 /// Appends the packet after the events, and counts it.

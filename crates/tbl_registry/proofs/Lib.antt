@@ -1,5 +1,6 @@
 pub mod Add
 pub mod Ascending
+pub mod Spares
 pub mod Start
 pub mod Changes
 pub mod Counted

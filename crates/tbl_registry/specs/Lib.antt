@@ -7,3 +7,4 @@ pub mod Views
 pub mod Adding
 pub mod Lending
 pub mod InUse
+pub mod Records

@@ -17,6 +17,8 @@ use tbl_model::Notice;
 
 mod info;
 
+pub(crate) use self::info::RECORD_LENGTH;
+
 /// What a table is registered with (`CFE_TBL_Register`).
 #[derive(Drop)]
 pub struct NewTable {
@@ -346,6 +348,13 @@ impl Row {
             Some(image) => Ok(Some(image.share()?)),
             None => Ok(None),
         }
+    }
+
+    /// An image that it has no more, for the memory that its bytes stand in.
+    pub(crate) fn take_spare(&mut self) -> Option<Image>
+        ensures { self.new ≡ self.old }
+    {
+        self.buffers.take_spare()
     }
 
     /// Takes an image as its last one.

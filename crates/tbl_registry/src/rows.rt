@@ -53,7 +53,8 @@ pub(crate) fn is_named(rows: &[Option<Row>], row: u8, name: &[u8]) -> bool
     }
 }
 
-/// The row with the table of this full name.
+/// The row with the table of this full name. It stands by itself, as a hint finds most names before it.
+#[inline(never)]
 pub(crate) fn row_of_name(rows: &[Option<Row>], name: &[u8]) -> Option<usize>
     ensures row { result ≡ position (has_name name.now) rows.now }
     ensures within { IfSome result (λ n. n < length rows.now) }

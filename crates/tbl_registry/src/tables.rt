@@ -14,12 +14,12 @@ ghost use Rattle.tbl_registry.specs.Rows.{IsTable};
 ghost use Rattle.tbl_registry.specs.Seen.{padded};
 
 use self::buffers::rows_with_buffer;
-use crate::row::{NewTable, Row, RowView};
+use crate::row::{NewTable, RECORD_LENGTH, Row, RowView};
 use crate::rows::{critical_in, free_row, free_rows, is_named, row_of_name, table_in};
 use access_desc::Handles;
 use std::alloc::Global;
 use std::marker::Model;
-use tbl_kinds::{Bytes, Memory, Name40, Name64, RegistryRow};
+use tbl_kinds::{Bytes, Memory, Name40, Name64};
 use working_buffers::Working;
 
 mod buffers;
@@ -238,17 +238,19 @@ impl Tables {
     }
 
     /// The record of the table of a row, as the registry tells it (`CFE_TBL_GetInfo`).
-    pub fn info(&self, row: u8) -> RegistryRow
+    #[inline]
+    pub fn record(&self, row: u8) -> [u8; RECORD_LENGTH]
         requires { IsSome (table_at self.now row) }
-        ensures { ForSome (table_at self.now row) (λ t. result ≡ registry_row t) }
+        ensures record { ForSome (table_at self.now row) (λ t. result ≡ registry_record (registry_row t)) }
+        ensures len { ForSome (table_at self.now row) (λ t. length (registry_record (registry_row t)) ≡ 144) }
     {
         let Some(table) = table_in(&self.rows, row) else {
             unreachable!();
         };
-        table.info()
+        table.record()
     }
 
-    /// Appends the record of the table of a row, as the registry tells it (`CFE_TBL_GetInfo`), 144 bytes.
+    /// Appends the record of the table of a row, 144 bytes.
     pub fn write_info(&self, row: u8, out: &mut Bytes)
         requires table { IsSome (table_at self.now row) }
         requires room { 144 ≤ out.old.spare }
@@ -256,10 +258,7 @@ impl Tables {
         ensures room { out.old.spare ≤ out.new.spare + 144 }
         ensures len { length out.new.list ≡ length out.old.list + 144 }
     {
-        let Some(table) = table_in(&self.rows, row) else {
-            unreachable!();
-        };
-        table.write_info(out);
+        out.append(&self.record(row));
     }
 
     /// The full name of the table of a row.

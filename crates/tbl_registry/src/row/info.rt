@@ -1,21 +1,25 @@
 //! What the registry tells of a table.
 
-ghost use Rattle.std.specs.Prelude.{◌≡◌, ◌==◌, ◌<◌, ◌≤◌, ◌+◌, ◌++◌, length, position, is_some, IfSome};
+ghost use Rattle.std.specs.Prelude.{◌≡◌, ◌==◌, ◌<◌, ◌≤◌, length, position, is_some, IfSome};
 ghost use Rattle.std.specs.Option.{option_map_or};
 ghost use Rattle.std.specs.List.{position_or_len};
-ghost use Rattle.arrayvec.specs.ArrayVec.{array_vec_len};
 ghost use Rattle.tbl_kinds.specs.Check.{check16};
 ghost use Rattle.tbl_kinds.specs.Names.{HasNoZero, name_field};
 ghost use Rattle.tbl_kinds.specs.Records.{validator_number};
 ghost use Rattle.tbl_kinds.specs.Telemetry.{registry_record};
 ghost use Rattle.tbl_model.specs.Registry.{registry_row, owner_name, bits_of, bit_at};
+ghost use Rattle.tbl_registry.specs.Records.{numbers_of, names_of};
 
 use super::Row;
-use arrayvec::ArrayVec;
 use bitflags::Flags;
 use check_word::check16;
-use tbl_kinds::fields::put;
-use tbl_kinds::{Bytes, Name20, Name40, Options, RegistryRow};
+use tbl_kinds::{Name40, Options};
+
+/// How many bytes a record of the registry has.
+pub(crate) const RECORD_LENGTH: usize = 144;
+
+/// How many of them stand before its names.
+const NUMBERS_LENGTH: usize = 20;
 
 /// Where the first dot stands.
 fn first_dot(name: &[u8]) -> Option<usize>
@@ -103,51 +107,49 @@ impl Row {
         }
     }
 
-    /// Its record in the registry.
-    pub(crate) fn info(&self) -> RegistryRow
-        ensures { result ≡ registry_row self.now }
+    /// Fills in the numbers of its record.
+    #[inline]
+    fn fill_numbers(&self, out: &mut [u8])
+        requires { length out.old ≡ 20 }
+        ensures { out.new ≡ numbers_of (registry_row self.now) }
     {
-        RegistryRow {
-            size: self.size,
-            check: self.check(),
-            count: self.count,
-            seconds: self.seconds,
-            sub: self.sub,
-            bits: self.bits(),
-            validator: self.validator_number(),
-            name: self.name.copy(),
-            owner: Name20::of(owner_in(&self.name)),
-            file: self.file.copy(),
-        }
+        let (size, rest) = out.split_at_mut(4);
+        let (check, rest) = rest.split_at_mut(4);
+        let (count, rest) = rest.split_at_mut(4);
+        let (seconds, rest) = rest.split_at_mut(4);
+        let (sub, marks) = rest.split_at_mut(2);
+        size.copy_from_slice(&self.size.to_be_bytes());
+        check.copy_from_slice(&self.check().to_be_bytes());
+        count.copy_from_slice(&self.count.to_be_bytes());
+        seconds.copy_from_slice(&self.seconds.to_be_bytes());
+        sub.copy_from_slice(&self.sub.to_be_bytes());
+        marks.copy_from_slice(&[self.bits(), self.validator_number()]);
+    }
+
+    /// Fills in the names of its record.
+    #[inline]
+    fn fill_names(&self, out: &mut [u8])
+        requires { length out.old ≡ 124 }
+        ensures { out.new ≡ names_of (registry_row self.now) }
+    {
+        let (name, rest) = out.split_at_mut(40);
+        let (owner, file) = rest.split_at_mut(20);
+        name.copy_from_slice(&self.name.field());
+        owner.copy_from_slice(&owner_field(&self.name));
+        file.copy_from_slice(&self.file.field());
     }
 
     /// Its record in the registry, as registry packets and registry files have it.
+    #[inline]
     #[tactic(auto, unfolding(tbl_kinds::specs::Telemetry::registry_record))]
-    fn record(&self) -> ArrayVec<u8, 144>
-        ensures bytes { result.items ≡ registry_record (registry_row self.now) }
-        ensures len { array_vec_len result ≡ 144 }
+    pub(crate) fn record(&self) -> [u8; RECORD_LENGTH]
+        ensures record { result ≡ registry_record (registry_row self.now) }
+        ensures len { length (registry_record (registry_row self.now)) ≡ 144 }
     {
-        let mut record = ArrayVec::new();
-        put(&mut record, &self.size.to_be_bytes());
-        put(&mut record, &self.check().to_be_bytes());
-        put(&mut record, &self.count.to_be_bytes());
-        put(&mut record, &self.seconds.to_be_bytes());
-        put(&mut record, &self.sub.to_be_bytes());
-        put(&mut record, &[self.bits(), self.validator_number()]);
-        put(&mut record, &self.name.field());
-        put(&mut record, &owner_field(&self.name));
-        put(&mut record, &self.file.field());
+        let mut record = [0; RECORD_LENGTH];
+        let (numbers, names) = record.split_at_mut(NUMBERS_LENGTH);
+        self.fill_numbers(numbers);
+        self.fill_names(names);
         record
-    }
-
-    /// Appends its record in the registry.
-    pub(crate) fn write_info(&self, out: &mut Bytes)
-        requires { 144 ≤ out.old.spare }
-        ensures bytes { out.new.list ≡ out.old.list ++ registry_record (registry_row self.now) }
-        ensures room { out.old.spare ≤ out.new.spare + 144 }
-        ensures len { length out.new.list ≡ length out.old.list + 144 }
-    {
-        let record = self.record();
-        out.append(record.as_slice());
     }
 }

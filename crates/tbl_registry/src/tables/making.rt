@@ -1,6 +1,6 @@
 //! The images that loads and edits make of those of a table.
 
-ghost use Rattle.std.specs.Prelude.{◌≡◌, ◌+◌, ◌≤◌, length, replicate, Some, None, IsSome, IfSome, IfNone, IfOk, is_some};
+ghost use Rattle.std.specs.Prelude.{◌≡◌, ◌+◌, ◌<◌, ◌≤◌, length, replicate, Some, None, IsSome, IfSome, IfNone, IfOk, is_some};
 ghost use Rattle.std.specs.Option.{ForSome};
 ghost use Rattle.tbl_kinds.specs.Limits.{table_limit};
 ghost use Rattle.tbl_kinds.specs.Numbers.{patched};
@@ -10,6 +10,7 @@ ghost use Rattle.tbl_model.specs.Validations.{judged_image};
 ghost use Rattle.tbl_registry.specs.Views.{has_image};
 
 use super::Tables;
+use crate::row::Row;
 use buffer_pairs::Image;
 use std::alloc::{AllocError, Global};
 use tbl_kinds::Memory;
@@ -22,17 +23,32 @@ fn zeros(alloc: Global, size: u32) -> Result<Vec<u8>, AllocError>
 }
 
 /// An image of this size that has these bytes from an offset on, and else zeros.
-#[tactic(auto, using(crate::proofs::Whole::whole_over_zeros))]
 fn over_zeros(alloc: Global, size: u32, offset: u32, bytes: &[u8]) -> Result<Image, Memory>
     requires { offset + length bytes.now ≤ size }
     ensures image { IfOk result (λ image. image ≡ patched (replicate size 0) offset bytes.now) }
     ensures size { IfOk result (λ image. length image ≡ size) }
 {
-    if bytes.len() == size as usize {
-        return Image::of(alloc, bytes);
-    }
     let zeros = zeros(alloc, size)?;
     Image::patched(alloc, &zeros, offset, bytes)
+}
+
+/// An image that the table of the row has no more, for the memory that its bytes stand in.
+fn spare_of(row: &mut Option<Row>) -> Option<Image>
+    ensures { row.new ≡ row.old }
+{
+    match row {
+        Some(table) => table.take_spare(),
+        None => None,
+    }
+}
+
+/// The same of the row of this number.
+#[tactic(auto, using(crate::proofs::Spares::read_back))]
+fn take_spare(rows: &mut [Option<Row>], row: usize) -> Option<Image>
+    requires { row < length rows.old }
+    ensures { rows.new ≡ rows.old }
+{
+    spare_of(&mut rows[row])
 }
 
 impl Tables {
@@ -62,26 +78,42 @@ impl Tables {
         }
     }
 
+    /// A new image of these bytes for the table of a row. It stands in the memory of one that the table had before, where
+    /// nobody has that any more and it isn't long.
+    pub fn whole_image(&mut self, alloc: Global, row: u8, bytes: &[u8]) -> Result<Image, Memory>
+        requires { IsSome (table_at self.old row) }
+        ensures image { IfOk result (λ image. image ≡ bytes.now) }
+        ensures same { self.new ≡ self.old }
+    {
+        let spare = take_spare(&mut self.rows, row as usize);
+        Image::over(alloc, spare, bytes)
+    }
+
     /// A new image for the table of a row: that of its open load, else its last one, else zeros, with these bytes over some
     /// of it. No byte is zeroed or copied that another is written over: bytes for the whole of it are the image.
+    #[tactic(auto, using(crate::proofs::Whole::whole_over_base))]
     pub fn patched(
-        &self,
+        &mut self,
         alloc: Global,
         row: u8,
         offset: u32,
         bytes: &[u8],
     ) -> Result<Image, Memory>
-        requires table { IsSome (table_at self.now row) }
-        requires within { ForSome (table_at self.now row) (λ t. offset + length bytes.now ≤ t.size) }
-        ensures image { IfOk result (λ image. ForSome (table_at self.now row) (λ t. image ≡ patched (base t) offset bytes.now)) }
-        ensures size { IfOk result (λ image. ForSome (table_at self.now row) (λ t. length image ≡ t.size)) }
+        requires table { IsSome (table_at self.old row) }
+        requires within { ForSome (table_at self.old row) (λ t. offset + length bytes.now ≤ t.size) }
+        ensures image { IfOk result (λ image. ForSome (table_at self.old row) (λ t. image ≡ patched (base t) offset bytes.now)) }
+        ensures size { IfOk result (λ image. ForSome (table_at self.old row) (λ t. length image ≡ t.size)) }
+        ensures same { self.new ≡ self.old }
     {
-        if let Some(base) = self.base(row) {
-            return Image::patched(alloc, base, offset, bytes);
-        }
         let Some(table) = self.row(row) else {
             unreachable!();
         };
-        over_zeros(alloc, table.size, offset, bytes)
+        if bytes.len() == table.size as usize {
+            return self.whole_image(alloc, row, bytes);
+        }
+        match self.base(row) {
+            Some(base) => Image::patched(alloc, base, offset, bytes),
+            None => over_zeros(alloc, table.size, offset, bytes),
+        }
     }
 }

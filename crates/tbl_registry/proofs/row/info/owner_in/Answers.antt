@@ -1,4 +1,4 @@
-use Rattle.std.proofs.Common.{◌≡◌, ◌∙◌, sym, take, refl}
+use Rattle.std.proofs.Common.{◌∙◌, sym, take, refl}
 use Rattle.std.proofs.lemmas.List.{take_all}
 use Rattle.tbl_registry.proofs.Owners.{taken_no_zero}
 use Rattle.tbl_registry.proofs.row.info.owner_in.Goals as goal
