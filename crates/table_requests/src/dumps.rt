@@ -17,7 +17,7 @@ use crate::checks::{BUFFERS, EVENT_LENGTH, put_users};
 use dump_control::{
     DumpAnswer, dump_file, dump_len, registry_file, registry_file_len, request_dump,
 };
-use file_drawer::{Drawer, PutFault};
+use file_drawer::{Contents, Drawer, PutFault};
 use request_effects::{Clock, Report, notice, subject};
 use std::alloc::Global;
 use tbl_kinds::{Answer, Bytes, Memory, Name40, Name64, Status};
@@ -29,7 +29,7 @@ fn written(
     drawer: &mut Drawer,
     row: Option<u8>,
     file: &Name64,
-    contents: Bytes,
+    mut contents: Bytes,
     bytes: &mut Bytes,
     report: &mut Report,
 ) -> Result<Answer, Memory>
@@ -43,9 +43,9 @@ fn written(
     ensures alone { OnOk result (record report.new { events = [] } ≡ nothing_reported) }
     ensures err { OnErr result (drawer.new ≡ drawer.old) }
 {
-    // The drawer keeps one copy and the reply has the other. It is made before the drawer changes.
-    let copy = contents.copy()?;
-    match drawer.put(file, copy) {
+    // Memory is taken before the drawer changes.
+    let again = Contents::again(&mut contents)?;
+    match drawer.put(file, again) {
         Ok(_) => {
             let len = contents.bytes().len() as u32;
             report.add_event(TelemetryEvent::Dumped {

@@ -5,16 +5,17 @@ ghost use Rattle.tbl_model.specs.State.{State};
 ghost use Rattle.tbl_model.specs.Effects.{answered, answered_left};
 ghost use Rattle.tbl_model.specs.Uplinks.{file_effect};
 
-use file_drawer::{Drawer, PutFault};
-use tbl_kinds::{Answer, Bytes, Memory, Status, Uplink};
+use file_drawer::{Contents, Drawer, PutFault};
+use tbl_kinds::{Answer, Memory, Status, Uplink};
 
 /// The most bytes of a file.
 const FILE_LIMIT: usize = 32_768;
 
-/// Puts a copy of a file into the drawer, or answers why not. The copy is made last, when nothing else refuses the file.
-fn put(drawer: &mut Drawer, file: &Uplink) -> Result<Status, Memory>
+/// Puts a file into the drawer, or answers why not. Memory is taken last, when nothing else refuses the file.
+fn put(drawer: &mut Drawer, file: &mut Uplink) -> Result<Status, Memory>
     ensures effect { IfOk result (λ status. (s : State) → s.drawer ≡ drawer.old
-        → file_effect s file.now.name file.now.bytes ≡ record (answered s status 0) { next = record s { drawer = drawer.new } }) }
+        → file_effect s file.old.name file.old.bytes ≡ record (answered s status 0) { next = record s { drawer = drawer.new } }) }
+    ensures file { file.new ≡ file.old }
     ensures err { OnErr result (drawer.new ≡ drawer.old) }
 {
     let name = file.name();
@@ -24,15 +25,15 @@ fn put(drawer: &mut Drawer, file: &Uplink) -> Result<Status, Memory>
     if file.bytes().len() > FILE_LIMIT {
         return Ok(Status::ERR_FILE_TOO_LARGE);
     }
-    let copy = Bytes::of(file.allocator(), file.bytes())?;
-    match drawer.put(&name, copy) {
+    let contents = Contents::uplinked(file)?;
+    match drawer.put(&name, contents) {
         Ok(_) => Ok(Status::SUCCESS),
         Err(PutFault::Full) => Ok(Status::ERR_DRAWER_FULL),
         Err(PutFault::Memory) => Err(Memory),
     }
 }
 
-/// The ground uplinks a file. The history keeps the request with its bytes, and the drawer a copy of them.
+/// The ground uplinks a file. The history and the drawer have many bytes in the same memory.
 #[inline(never)]
 pub fn file(drawer: &mut Drawer, file: &mut Uplink) -> Result<Answer, Memory>
     ensures effect { IfOk result (λ answer. (s : State) → s.drawer ≡ drawer.old

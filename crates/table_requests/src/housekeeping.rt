@@ -13,7 +13,7 @@ ghost use Rattle.table_requests.specs.Rows.{rows_in};
 
 use crate::checks::EVENT_LENGTH;
 use dump_control::{filled_len, write_filled};
-use file_drawer::{Drawer, PutFault};
+use file_drawer::{Contents, Drawer, PutFault};
 use request_effects::{Clock, Report};
 use std::alloc::Global;
 use tbl_kinds::{Answer, Bytes, Memory, Status};
@@ -52,7 +52,7 @@ fn write_row(
         unreachable!();
     };
     out.reserve(len)?;
-    match drawer.put(&name, contents) {
+    match drawer.put(&name, Contents::of(contents)) {
         Err(PutFault::Memory) => Err(Memory),
         Err(PutFault::Full) => {
             report.add_event(TelemetryEvent::NotDumped { row });

@@ -14,9 +14,6 @@ use tbl_kinds::{Answer, Bytes, Memory, Name40, Status};
 use tbl_model::Shown;
 use tbl_registry::Tables;
 
-/// The length of a registry record.
-const RECORD_LENGTH: usize = 144;
-
 /// The length of a registry packet.
 const REGISTRY_LENGTH: usize = 156;
 
@@ -35,8 +32,7 @@ pub fn get_info(
 {
     match sharing::row_of(tables, apps, app, name) {
         Ok(row) => {
-            bytes.reserve(RECORD_LENGTH)?;
-            tables.write_info(row, bytes);
+            *bytes = Bytes::of(bytes.allocator(), &tables.record(row))?;
             Ok(Answer::plain(Status::SUCCESS))
         }
         Err(status) => Ok(Answer::plain(status)),

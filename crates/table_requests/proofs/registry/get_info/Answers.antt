@@ -1,14 +1,12 @@
-use Rattle.std.proofs.Common.{◌≡◌, ◌∙◌, ◌++◌, refl, sym, ap}
-use Rattle.tbl_kinds.specs.Telemetry.{registry_record}
+use Rattle.std.proofs.Common.{◌∙◌, refl, sym}
 use Rattle.tbl_model.specs.Tables.{table_at}
-use Rattle.tbl_model.specs.Registry.{registry_row}
 use Rattle.table_requests.proofs.Places.{some_is}
 use Rattle.table_requests.proofs.registry.get_info.Goals as goal
 
-pub returns-in_ok-reserve-in-Ok-clause-effect : goal.returns-in_ok-reserve-in-Ok-clause-effect
-returns-in_ok-reserve-in-Ok-clause-effect c = λ s same_tables same_apps.
+pub returns-in_ok-bytes-in-Ok-clause-effect : goal.returns-in_ok-bytes-in-Ok-clause-effect
+returns-in_ok-bytes-in-Ok-clause-effect c = λ s same_tables same_apps.
     let t = some_is (table_at c.args.tables.now c.in-Ok.row) c.in-Ok.ensures.table in
-    let bytes = c.write_info.ensures.bytes t.0 t.1 ∙ ap (λ xs. xs ++ registry_record (registry_row t.0)) (c.reserve.ensures.bytes ∙ c.requires) in
+    let bytes = c.in_ok-bytes-in-Ok.ensures ∙ c.«record».ensures.record t.0 t.1 in
     rw (c.in-Ok.ensures.ok s same_tables same_apps t.0 t.1) (record {
       status = sym c.plain.ensures.status;
       detail = sym c.plain.ensures.detail;
