@@ -1,5 +1,5 @@
 -- A request was made in which no call of the store was stopped, and its entry has what it did.
-use Rattle.std.proofs.Common.{◌≡◌, ◌∙◌, ◌==◌, ℕ, List, [], Bool, true, false, Option, refl, sym, ap, subst, arith, inl}
+use Rattle.std.proofs.Common.{◌≡◌, ◌==◌, ℕ, [], Bool, true, false, Option, refl, ap, subst, arith, inl}
 use Rattle.std.proofs.lemmas.Bool.{eqb-true}
 use Rattle.tbl_kinds.specs.Notes.{untouched}
 use Rattle.tbl_kinds.specs.Blocks.{Store as Blocks}
@@ -12,13 +12,12 @@ use Rattle.tbl_model.specs.Effects as model
 use Rattle.tbl_model.specs.Given.{Given}
 use Rattle.tbl_model.specs.Fit.{AreFit}
 use Rattle.tbl_model.specs.BankCounts.{HasCause}
-use Rattle.tbl_model.specs.Counts.{Counts}
 use Rattle.tbl_model.specs.Dispatch.{effect_of}
 use Rattle.tbl_kinds.specs.declared.request.Request.{Request}
 use Rattle.cds_store.specs.StoreBlocks.{StandsFor as HasBlocks}
 use Rattle.tbl_session.specs.Crashes.{DuringCalls}
 use Rattle.store_requests.specs.Called.{Leaving}
-use Rattle.request_effects.specs.Reports.{Reported, nothing_reported}
+use Rattle.request_effects.specs.Reports.{nothing_reported}
 use Rattle.request_effects.specs.Effects.{Effect, told_at}
 use Rattle.reply_packets.specs.Telling.{Tells}
 use Rattle.tbl_core.specs.Answers.{Moment, effect_in, Answers}

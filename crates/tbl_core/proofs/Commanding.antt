@@ -1,5 +1,5 @@
 -- A command was done, by what its packet was read as.
-use Rattle.std.proofs.Common.{◌≡◌, ◌∙◌, List, [], ◌∷◌, Option, Some, None, Result, Ok, Err, refl, sym, ap, subst, arith}
+use Rattle.std.proofs.Common.{◌≡◌, ◌∙◌, List, [], ◌∷◌, Option, Some, None, Result, Err, refl, sym, ap, subst}
 use Rattle.tbl_kinds.specs.Buffers.{Buffer}
 use Rattle.tbl_kinds.specs.Notes.{untouched}
 use Rattle.tbl_kinds.specs.GroundCommands.{GroundCommand, command_in}
@@ -8,7 +8,6 @@ use Rattle.tbl_kinds.specs.declared.note.BankNote.{BankNote}
 use Rattle.tbl_kinds.specs.declared.request.Actor.TheVariants.{Ground}
 use Rattle.tbl_kinds.specs.declared.request.Request.TheVariants as ask
 use Rattle.tbl_model.specs.State.{State}
-use Rattle.tbl_model.specs.Effects as model
 use Rattle.tbl_model.specs.Given.{Given, nothing_given}
 use Rattle.tbl_model.specs.Commands.{effect_by}
 use Rattle.tbl_model.specs.Dispatch.{effect_of}

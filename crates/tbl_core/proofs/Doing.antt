@@ -1,5 +1,5 @@
 -- A request was done, by what is told of its effect.
-use Rattle.std.proofs.Common.{◌≡◌, ℕ, [], ◌∷◌, length, List, Option, Some, None, ap, refl, arith}
+use Rattle.std.proofs.Common.{◌≡◌, ℕ, [], ◌∷◌, length, Option, Some, None, ap, refl, arith}
 use Rattle.tbl_model.specs.State.{State}
 use Rattle.tbl_model.specs.Effects as model
 use Rattle.tbl_model.specs.Given.{Given, nothing_given}

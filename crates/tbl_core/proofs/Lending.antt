@@ -1,5 +1,5 @@
 -- Images that the core lends, and bytes that were taken of them.
-use Rattle.std.proofs.Common.{◌≡◌, ◌<◌, ℕ, List, ◌∷◌, [], ◌++◌, length, Option, Some, None, Result, Ok, refl, sym, ap, ◌∙◌, subst, inl, inr, arith}
+use Rattle.std.proofs.Common.{◌≡◌, ◌<◌, ℕ, List, ◌∷◌, [], ◌++◌, length, Option, Some, None, Ok, refl, sym, ap, ◌∙◌, subst, inl, inr, arith}
 use Rattle.std.specs.Prelude.{slice_get, IfSome, OnSome}
 use Rattle.std.specs.Option.{option_map}
 use Rattle.std.proofs.lemmas.Option.{same_Some, slice_get_within}
@@ -10,7 +10,7 @@ use Rattle.tbl_kinds.specs.declared.request.Request.{Request}
 use Rattle.tbl_kinds.specs.declared.request.Request.TheVariants as ask
 use Rattle.tbl_registry.specs.Lending.{pinned_image, name_by, lent_at}
 use Rattle.tbl_registry.specs.declared.pin.Pin.{Pin}
-use Rattle.tbl_core.specs.Pins.{handle_limit, place_in, MayBeLent, IsGetAt, IsSliceOf}
+use Rattle.tbl_core.specs.Pins.{handle_limit, place_in, MayBeLent, IsSliceOf}
 use Rattle.tbl_core.specs.Service.{CoreView, IsReady, PinsOnward, IsOfPin}
 use Rattle.tbl_core.proofs.Pinning.{IsPinnedBy, pinned_by_handle}
 use Rattle.tbl_core.proofs.Places.{earlier_at, read_is_piece, IsPiece}

@@ -1,13 +1,11 @@
 -- A request of which no packet tells adds nothing to what telemetry counts.
-use Rattle.std.proofs.Common.{◌≡◌, ◌∙◌, ◌+◌, ◌%◌, ◌<◌, ℕ, [], List, length, map, ◌&&◌, Bool, true, false, cond, Option, None, refl, sym, ap, arith}
+use Rattle.std.proofs.Common.{◌≡◌, ◌∙◌, ◌+◌, ◌%◌, ◌<◌, ℕ, [], ◌&&◌, Bool, true, false, cond, None, refl, sym, ap, arith}
 use Rattle.std.proofs.Math.Nat.{mod-lt, mod-eq_of_lt}
 use Rattle.tbl_kinds.specs.Statuses.{is_success}
 use Rattle.tbl_model.specs.State.{Tables}
-use Rattle.tbl_model.specs.Commands.{ReadCommand, read_command_in}
+use Rattle.tbl_model.specs.Commands.{read_command_in}
 use Rattle.tbl_model.specs.Counts.{Counts, no_counts, is_reset, is_stopped, asks_load, load_file_of}
 use Rattle.tbl_model.specs.CountsAfter.{Tally, bit, tally_of, counts_after, no_tally}
-use Rattle.tbl_model.specs.Replies.{packets_by}
-use Rattle.tbl_model.specs.declared.telemetry.Shown.{Shown}
 use Rattle.tbl_model.specs.declared.telemetry.Shown.TheVariants.{Nothing}
 use Rattle.tbl_kinds.specs.declared.request.Request.{Request}
 use Rattle.tbl_kinds.specs.declared.request.Request.TheVariants as ask

@@ -1,5 +1,5 @@
 -- What the owner of a table requested did not make the table another: it stays critical, or not.
-use Rattle.std.proofs.Common.{◌≡◌, ◌∙◌, ◌≤◌, ℕ, [], Bool, true, Option, Some, None, sym, ap, subst, arith}
+use Rattle.std.proofs.Common.{◌≡◌, ◌∙◌, ℕ, [], Bool, true, Option, Some, None, sym, ap, subst}
 use Rattle.std.specs.Prelude.{IfSome}
 use Rattle.std.proofs.lemmas.Option.{same_Some}
 use Rattle.tbl_model.specs.State.{State, Table, Tables}

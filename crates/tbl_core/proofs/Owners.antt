@@ -180,6 +180,11 @@ pub when_ok : {X Y P : Type 0} (r : Result X Y) → false ≡ is_err r → OnOk 
 when_ok (Ok x) is p = p
 when_ok (Err y) is p = absurd (cc is)
 
+-- what a result that is Ok ensures, as an argument
+pub by_ok : {X Y P Q : Type 0} (r : Result X Y) → false ≡ is_err r → OnOk r P → (P → Q) → Q
+by_ok (Ok x) is p next = next p
+by_ok (Err y) is p next = absurd (cc is)
+
 -- fewer events than that
 pub at_most : (least most : ℕ) (done : Done) → least ≤ most → IsWithin least done → IsWithin most done
 at_most least most done less within = let few = within.events in record { events = omega (arith, less, few); notice = within.notice; bytes = within.bytes }

@@ -1,13 +1,12 @@
 -- How requests leave pins.
-use Rattle.std.proofs.Common.{◌≡◌, ◌≢◌, ◌⊎◌, ℕ, ◌+◌, eqb, nat_lt, List, [], length, Bool, true, false, ◌&&◌, Option, Some, None, is_some, IsSome, refl, sym, ap, ◌∙◌, subst, inl, inr}
-use Rattle.std.specs.Prelude.{option_and_then, slice_index_or}
+use Rattle.std.proofs.Common.{◌≡◌, ℕ, eqb, List, [], Bool, true, false, ◌&&◌, Option, Some, None, is_some, refl, sym, ap, ◌∙◌, subst, inl, inr}
+use Rattle.std.specs.Prelude.{option_and_then}
 use Rattle.std.specs.Option.{option_map, option_map_or}
 use Rattle.std.proofs.lemmas.Bool.{eqb-true, eq-eqb, and_parts, or_parts, not-true}
 use Rattle.std.proofs.lemmas.List.{get_or-set_same}
-use Rattle.std.proofs.lemmas.Option.{same_Some}
-use Rattle.tbl_model.specs.State.{State, Load, Table, Handle, Tables, no_tables}
+use Rattle.tbl_model.specs.State.{State, Table, Handle, Tables, no_tables}
 use Rattle.tbl_model.specs.Tables.{table_at}
-use Rattle.tbl_model.specs.TableSteps.{Access, handle_at, access_of, image_of, pin_last, with_handle}
+use Rattle.tbl_model.specs.TableSteps.{Access, handle_at, image_of, pin_last, with_handle}
 use Rattle.tbl_model.specs.Effects.{Effect}
 use Rattle.tbl_model.specs.Addresses.{stepped}
 use Rattle.tbl_model.specs.Given.{Given}
@@ -25,7 +24,7 @@ use Rattle.tbl_kinds.specs.declared.status.TheConstants.Status.{INFO_STOPPED}
 use Rattle.tbl_model.proofs.RefusalLaws.{is_refusal}
 use Rattle.tbl_laws.proofs.Cases.{OfEffect, Leads, access_at, access_is, by_get}
 use Rattle.tbl_laws.proofs.Pins.{nothing_there, within, some_there, GoesOn, IsLoaded, AreLoaded, Remains, Keeps}
-use Rattle.tbl_laws.proofs.Fair.{Gets, Stays, Fair}
+use Rattle.tbl_laws.proofs.Fair.{Gets, Fair}
 use Rattle.tbl_laws.proofs.FairRequests.{request_fair}
 use Rattle.tbl_registry.specs.Lending.{pins_image, pinned_by, pinned_image}
 use Rattle.tbl_core.specs.Pins.{IsHeld, IsFilled, HaveImages, gets_address, PinsGoOn}

@@ -30,7 +30,6 @@ use Rattle.tbl_model.specs.TableSteps.{new_table}
 use Rattle.sharing.specs.Registering.{next_row, next_handle}
 use Rattle.store_requests.specs.Registering.{AtMostOne, RegistersOne}
 use Rattle.tbl_core.proofs.Pinning.{kept_pins}
-use Rattle.tbl_kinds.specs.declared.request.Actor.{Actor}
 use Rattle.tbl_kinds.specs.declared.request.Actor.TheVariants.{Ground}
 use Rattle.tbl_model.specs.AppBlocks.{delete_cds_effect}
 use Rattle.tbl_model.specs.Commands.{read_command_in, effect_by}

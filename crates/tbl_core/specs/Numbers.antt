@@ -1,5 +1,5 @@
 -- The running numbers of telemetry, each below its modulus.
-use Rattle.std.specs.Prelude.{ℕ, ◌<◌}
+use Rattle.std.specs.Prelude.{◌<◌}
 use Rattle.tbl_model.specs.Counts.{Counts}
 
 -- one byte, two bytes, and the 14 bits of a sequence count

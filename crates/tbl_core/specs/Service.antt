@@ -14,15 +14,12 @@ use Rattle.tbl_kinds.specs.Drawer.{File}
 use Rattle.tbl_model.specs.Effects as model
 use Rattle.tbl_model.specs.Dispatch.{effect_of}
 use Rattle.tbl_model.specs.Counts.{Counts, counts_of}
-use Rattle.tbl_model.specs.CountsAfter.{tally_of, counts_after}
-use Rattle.tbl_model.specs.Replies.{packets_by}
 use Rattle.tbl_model.specs.History.{Run, begins_at, onward, run_from, IsAnswered, IsLegal}
 use Rattle.tbl_outside.specs.Counts.{Still, RoseAlone}
 use Rattle.tbl_outside.specs.declared.validator.KitEntry.{KitEntry}
 use Rattle.validation.specs.Kits.{entry_at, owners, MayAskEach}
 use Rattle.validation.specs.Ready.{ArePending, HaveFunctions, HaveLoads}
 use Rattle.tbl_kinds.specs.declared.entry.Entry.{Entry}
-use Rattle.tbl_kinds.specs.declared.entry.Reply.{Reply}
 use Rattle.tbl_kinds.specs.declared.request.Actor.{Actor}
 use Rattle.tbl_kinds.specs.declared.request.Request.{Request}
 use Rattle.tbl_core.specs.Numbers.{AreCounts}

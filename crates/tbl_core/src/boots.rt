@@ -75,7 +75,8 @@ pub(crate) fn session_end(given: &Given) -> Result<(), StepFault>
 }
 
 impl<B: Bank, C: Validator> Parts<B, C> {
-    /// The service boots: no table, handle, load, dump or pending validation is left.
+    /// The service boots: no table, handle, load, dump or pending validation is left. It isn't inlined, as hardly any request boots.
+    #[inline(never)]
     fn boot(&mut self, kind: ResetKind, note: &mut BankNote)
         requires fresh { NoBoot note.now }
         ensures held { parts_view self.new ≡ record (parts_view self.old) { tables = no_tables; pending = []; store = self.new.store; ended = note.exit.now.ended } }
@@ -128,6 +129,7 @@ impl<B: Bank, C: Validator> Parts<B, C> {
 
     /// Boots as after a reset of the processor where a call of the store was stopped in the request of this note. The note tells
     /// how the boot went.
+    #[inline(always)]
     pub(crate) fn boot_if_stopped(&mut self, note: &mut Note)
         requires fresh { note.old.outcome ≡ Stopped → NoBoot note.old }
         requires live { note.old.outcome ≡ Stopped → self.old.ended ≡ false }

@@ -27,7 +27,7 @@ ghost use Rattle.tbl_core.specs.Service.{MayPlay, Does, DoesAndCopies, LeadsTo, 
 use crate::parts::Parts;
 use cmd_packets::Ground;
 use reply_packets::{Counters, tell_call, tell_command};
-use request_effects::{Clock, Effect, ReadCommand, read};
+use request_effects::{Clock, Effect, ReadCommand, Report, read};
 use store_requests::{
     cds_copy, cds_delete, cds_register, cds_restore, copy_room, delete_cds, register, then_copy,
 };
@@ -35,7 +35,9 @@ use table_requests::{
     app_validate, check, dump_to_buffer, edit, file, get, get_info, get_status, ground_command,
     load_file, load_image, manage, read_lent, release, update,
 };
-use tbl_kinds::{Actor, Answer, Bytes, Entry, Given, Memory, Note, Reply, Request, Status};
+use tbl_kinds::{
+    Actor, Answer, Bytes, Entry, Given, Memory, Note, Outcome, Reply, Request, Status,
+};
 use tbl_outside::{Bank, Validator};
 
 /// Keeps an answer in its reply.
@@ -44,6 +46,18 @@ fn put_answer(reply: &mut Reply, answer: Answer)
 {
     reply.status = answer.status;
     reply.detail = answer.detail;
+}
+
+/// Keeps in its entry what came from outside, if anything did.
+#[inline(always)]
+fn keep_given(given: &mut Given, note: Note, report: &Report)
+    requires { given.old ≡ nothing_given }
+    ensures { given.new ≡ record { note = note; verdicts = report.now.verdicts } }
+{
+    match report.verdicts() {
+        [None, None] if note.outcome() == Outcome::Untouched && note.touched().is_none() => {}
+        verdicts => *given = Given::of(note, verdicts),
+    }
 }
 
 impl<B: Bank, C: Validator> Parts<B, C> {
@@ -115,7 +129,7 @@ impl<B: Bank, C: Validator> Parts<B, C> {
         Ok(())
     }
 
-    /// Takes an uplinked file, or the time. The history and the drawer have the file in the same memory.
+    /// Takes an uplinked file, or the time. The history and the drawer have a large file in the same memory.
     fn uplink(&mut self, request: &mut Request) -> Result<Answer, Memory>
         requires fits { Fits by.Ground request.old }
         requires uplink { is_uplink request.old ≡ true }
@@ -156,7 +170,8 @@ impl<B: Bank, C: Validator> Parts<B, C> {
             unreachable!();
         };
         let clock = self.clock;
-        let command = read(bytes.bytes());
+        let mut command = Ok(Ground::Noop);
+        read(bytes.bytes(), &mut command);
         let reply = &mut entry.reply;
         let mut note = Note::untouched();
         let answer = self.command_effect(&command, reply, &mut note)?;
@@ -173,7 +188,7 @@ impl<B: Bank, C: Validator> Parts<B, C> {
             answer,
             &self.report,
         );
-        entry.given = Given::of(note, self.report.verdicts());
+        keep_given(&mut entry.given, note, &self.report);
         Ok(())
     }
 
@@ -431,7 +446,7 @@ impl<B: Bank, C: Validator> Parts<B, C> {
             answer,
             &self.report,
         );
-        entry.given = Given::of(note, self.report.verdicts());
+        keep_given(&mut entry.given, note, &self.report);
         Ok(())
     }
 

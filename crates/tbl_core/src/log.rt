@@ -1,14 +1,26 @@
 //! The history, and where in it addresses were got.
 
-ghost use Rattle.std.specs.Prelude.{◌≡◌, ◌<◌, ◌||◌, ◌==◌, ◌∷◌, [], ◌++◌, length, replicate, IfOk, OnOk, All, if◌then◌else◌, slice_set};
+ghost use Rattle.std.specs.Prelude.{◌≡◌, ◌<◌, ◌||◌, ◌==◌, ◌∷◌, [], ◌++◌, ℕ, length, replicate, false, Err, IfOk, OnOk, OnErr, All, vec_capacity, if◌then◌else◌, slice_set};
 ghost use Rattle.tbl_kinds.specs.Records.{record_limit};
+ghost use Rattle.tbl_kinds.specs.Requests.{Fits};
 ghost use Rattle.tbl_model.specs.Whole.{is_done};
-ghost use Rattle.tbl_core.specs.Log.{IsSmall};
+ghost use Rattle.tbl_model.specs.Fit.{AreFit};
+ghost use Rattle.reply_packets.specs.Counters.{counts_view};
+ghost use Rattle.tbl_core.specs.Numbers.{AreCounts};
+ghost use Rattle.tbl_core.specs.Log.{IsSmall, IsEntered};
 ghost use Rattle.tbl_core.specs.Pins.{place_in, gets_after};
+ghost use Rattle.tbl_core.specs.Ended.{OnPlayed, session_end};
+ghost use Rattle.tbl_core.specs.Answers.{IsBegun, Answers, moment_of};
+ghost use Rattle.tbl_core.specs.Service.{MayPlay, parts_view, state_of};
 
+use crate::boots::session_end;
+use crate::parts::Parts;
+use crate::service::StepFault;
+use reply_packets::Counters;
 use std::alloc::Global;
 use std::marker::Model;
 use tbl_kinds::{Entry, Memory, Request, Status};
+use tbl_outside::{Bank, Validator};
 
 /// How many handles there can be (`CFE_PLATFORM_TBL_MAX_NUM_HANDLES`).
 const HANDLES: usize = 256;
@@ -61,6 +73,37 @@ fn keep_place(gets: &mut [u32], entry: &Entry, place: u32)
         Request::Get { handle } if is_done(entry.reply.status) => keep_at(gets, *handle, place),
         _ => {}
     }
+}
+
+/// Adds a request to which nothing is answered yet, and has it answered where its entry stands. If memory runs out, it is taken back.
+#[inline(always)]
+fn push_answered<B: Bank, C: Validator>(
+    entries: &mut Vec<Entry>,
+    begun: Entry,
+    parts: &mut Parts<B, C>,
+    counters: &mut Counters,
+) -> Result<(), Memory>
+    requires room { length entries.old.items < vec_capacity entries.old }
+    requires fits { Fits begun.actor begun.request }
+    requires begun { IsBegun begun }
+    requires ready { MayPlay C.Validator (parts_view parts.old) }
+    requires fit { (so_many : ℕ) × AreFit so_many (state_of (parts_view parts.old)) }
+    requires live { parts.old.ended ≡ false }
+    requires numbers { AreCounts (counts_view counters.old) }
+    ensures answered { OnOk result ((e : Entry) × (entries.new.items ≡ entries.old.items ++ e ∷ [])
+        × Answers B.Bank C.Validator (moment_of parts.old counters.old begun) (moment_of parts.new counters.new e) parts.new.report) }
+    ensures err_entries { OnErr result (entries.new.items ≡ entries.old.items) }
+    ensures err { OnErr result (parts_view parts.new ≡ parts_view parts.old) }
+    ensures err_counts { OnErr result (counts_view counters.new ≡ counts_view counters.old) }
+{
+    let place = entries.len();
+    entries.push_reserved(begun);
+    let entry = &mut entries[place];
+    if parts.answer(entry, counters).is_err() {
+        let _ = entries.pop();
+        return Err(Memory);
+    }
+    Ok(())
 }
 
 /// A place for each handle, of no call yet.
@@ -120,5 +163,38 @@ impl Log {
     {
         keep_place(&mut self.gets, &entry, self.entries.len() as u32);
         self.entries.push_reserved(entry);
+    }
+
+    /// Enters a request to which nothing is answered yet, and has it answered where its entry stands, which is never copied. If
+    /// memory runs out, it is taken back.
+    #[inline(always)]
+    pub(crate) fn enter_answered<B: Bank, C: Validator>(
+        &mut self,
+        begun: Entry,
+        parts: &mut Parts<B, C>,
+        counters: &mut Counters,
+    ) -> Result<(), StepFault>
+        requires room { 0 < self.old.spare }
+        requires few { length self.old.entries < record_limit }
+        requires fits { Fits begun.actor begun.request }
+        requires begun { IsBegun begun }
+        requires ready { MayPlay C.Validator (parts_view parts.old) }
+        requires fit { (so_many : ℕ) × AreFit so_many (state_of (parts_view parts.old)) }
+        requires live { parts.old.ended ≡ false }
+        requires numbers { AreCounts (counts_view counters.old) }
+        ensures answered { OnPlayed result ((e : Entry) × IsEntered self.old self.new e × (result ≡ session_end e.given.note)
+            × Answers B.Bank C.Validator (moment_of parts.old counters.old begun) (moment_of parts.new counters.new e) parts.new.report) }
+        ensures err_entries { result ≡ Err StepFault.Memory → self.new.entries ≡ self.old.entries }
+        ensures err_gets { result ≡ Err StepFault.Memory → self.new.gets ≡ self.old.gets }
+        ensures err { result ≡ Err StepFault.Memory → parts_view parts.new ≡ parts_view parts.old }
+        ensures err_counts { result ≡ Err StepFault.Memory → counts_view counters.new ≡ counts_view counters.old }
+    {
+        let place = self.entries.len();
+        if push_answered(&mut self.entries, begun, parts, counters).is_err() {
+            return Err(StepFault::Memory);
+        }
+        let entry = &self.entries[place];
+        keep_place(&mut self.gets, entry, place as u32);
+        session_end(&entry.given)
     }
 }

@@ -13,7 +13,6 @@ ghost use Rattle.tbl_core.specs.Answers.{IsBegun};
 ghost use Rattle.tbl_registry.specs.Lending.{pins_image, lent_at};
 ghost use Rattle.tbl_core.specs.Service.{Plays, IsReady, parts_view, view_of};
 
-use crate::boots::session_end;
 use crate::log::Log;
 use crate::parts::Parts;
 use crate::service::StepFault;
@@ -106,8 +105,9 @@ impl<B: Bank, C: Validator> Service<B, C> {
         self.parts.tables.lend(handle, self.log.place_of(handle))
     }
 
-    /// Plays a request: begins its entry, does what it asks, and enters what came of it. If memory runs out, nothing is changed.
+    /// Plays a request: enters it, does what it asks, and keeps in its entry what came of it. If memory runs out, nothing is changed.
     /// Where the service boots in the request and that boot fails or is stopped, the entry is the last one.
+    #[inline(always)]
     pub(crate) fn play(&mut self, actor: Actor, request: Request) -> Result<(), StepFault>
         requires fits { Fits actor request }
         requires room { length self.old.log.entries < record_limit }
@@ -116,18 +116,14 @@ impl<B: Bank, C: Validator> Service<B, C> {
         ensures plays { OnPlayed result (Plays B.Bank C.Validator (view_of self.old) (view_of self.new) actor request result) }
         ensures err { result ≡ Err StepFault.Memory → view_of self.new ≡ view_of self.old }
     {
-        let Ok(mut entry) = begun(self.parts.alloc, actor, request) else {
+        let Ok(entry) = begun(self.parts.alloc, actor, request) else {
             return Err(StepFault::Memory);
         };
         if self.log.reserve().is_err() {
             return Err(StepFault::Memory);
         }
-        if self.parts.answer(&mut entry, &mut self.counters).is_err() {
-            return Err(StepFault::Memory);
-        }
-        let end = session_end(&entry.given);
-        self.log.enter(entry);
-        end
+        self.log
+            .enter_answered(entry, &mut self.parts, &mut self.counters)
     }
 
     /// Plays a Read whose bytes were lent.

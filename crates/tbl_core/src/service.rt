@@ -160,6 +160,7 @@ impl<B: Bank, C: Validator> Core<B, C> {
 
     /// Plays one request, and adds its entry to the history. Where the service boots in it and that boot fails or is stopped,
     /// it plays no further one.
+    #[inline(always)]
     pub fn step(&mut self, actor: Actor, request: Request) -> Result<(), StepFault>
         requires fits { Fits actor request }
         requires live { self.old.state.ended ≡ false }

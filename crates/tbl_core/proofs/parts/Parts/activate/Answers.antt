@@ -1,11 +1,10 @@
-use Rattle.std.proofs.Common.{◌≡◌, ◌∙◌, Bool, ap, subst, if◌then◌else◌, rules}
-use Rattle.tbl_kinds.specs.Buffers.{Buffer}
-use Rattle.tbl_model.specs.Tables.{table_at, is_critical_in}
+use Rattle.std.proofs.Common.{subst, rules}
+use Rattle.tbl_model.specs.Tables.{table_at}
 use Rattle.cds_store.specs.StoreBlocks.{StoreParts, StandsFor}
 use Rattle.tbl_model.specs.Copies.{then_copy}
 use Rattle.store_requests.specs.Called.{CallsAfter, done_first}
 use Rattle.store_requests.specs.Copying.{IsCopyCall}
-use Rattle.request_effects.specs.Effects.{told_effect, reported_effect, HasRoom}
+use Rattle.request_effects.specs.Effects.{told_effect, reported_effect}
 use Rattle.tbl_core.specs.Service.{Does, owned_in, parts_view}
 use Rattle.table_requests.proofs.Places.{some_is}
 use Rattle.tbl_core.proofs.Owned.{stays_critical}

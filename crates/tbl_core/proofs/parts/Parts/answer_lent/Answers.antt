@@ -1,6 +1,6 @@
 use Rattle.std.proofs.Common.{refl, rules}
 use Rattle.store_requests.proofs.Moments.{uncalled_leaves}
-use Rattle.tbl_core.specs.Service.{Does, parts_view}
+use Rattle.tbl_core.specs.Service.{parts_view}
 use Rattle.tbl_core.proofs.Answering.{quietly_answered}
 use Rattle.tbl_core.proofs.Doing.{quietly}
 use Rattle.tbl_core.proofs.Nothing.{silent}

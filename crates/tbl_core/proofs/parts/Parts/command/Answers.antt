@@ -1,38 +1,36 @@
-use Rattle.std.proofs.Common.{◌≡◌, ◌∙◌, Some, sym, refl, ap}
-use Rattle.tbl_kinds.specs.Buffers.{Buffer}
+use Rattle.std.proofs.Common.{◌∙◌, Some, sym, refl, ap}
 use Rattle.tbl_kinds.specs.GroundCommands.{command_in}
 use Rattle.tbl_kinds.specs.declared.request.Request.TheVariants as ask
 use Rattle.tbl_model.specs.Dispatch.{ground_effect}
-use Rattle.request_effects.specs.Requests.{read_of}
 use Rattle.tbl_core.specs.Service.{parts_view}
 use Rattle.tbl_core.proofs.BootedAfter.{is_made}
 use Rattle.tbl_core.proofs.parts.Parts.command.Goals as goal
 
 pub boot_if_stopped-requires-clause-fresh : goal.boot_if_stopped-requires-clause-fresh
-boot_if_stopped-requires-clause-fresh g c stop = ((c.in_ok-answer.ensures.makes c.in-Command.bytes (c.read-command.ensures ∙ ap command_in c.bytes.ensures)).stopped stop).1
+boot_if_stopped-requires-clause-fresh g c stop = ((c.in_ok-answer.ensures.makes c.in-Command.bytes (c.read.ensures ∙ ap command_in c.bytes.ensures)).stopped stop).1
 
 pub boot_if_stopped-requires-clause-live : goal.boot_if_stopped-requires-clause-live
 boot_if_stopped-requires-clause-live g c stop =
-    let makes = c.in_ok-answer.ensures.makes c.in-Command.bytes (c.read-command.ensures ∙ ap command_in c.bytes.ensures) in
+    let makes = c.in_ok-answer.ensures.makes c.in-Command.bytes (c.read.ensures ∙ ap command_in c.bytes.ensures) in
     makes.ended ∙ (makes.stopped stop).1.ended
 
 pub tell_command-requires-clause-few : goal.tell_command-requires-clause-few
-tell_command-requires-clause-few g c = rw c.boot_if_stopped.ensures.report (c.in_ok-answer.ensures.makes c.in-Command.bytes (c.read-command.ensures ∙ ap command_in c.bytes.ensures)).within.events
+tell_command-requires-clause-few g c = rw c.boot_if_stopped.ensures.report (c.in_ok-answer.ensures.makes c.in-Command.bytes (c.read.ensures ∙ ap command_in c.bytes.ensures)).within.events
 
 pub tell_command-requires-clause-code : goal.tell_command-requires-clause-code
-tell_command-requires-clause-code g c = rw c.boot_if_stopped.ensures.report (c.in_ok-answer.ensures.makes c.in-Command.bytes (c.read-command.ensures ∙ ap command_in c.bytes.ensures)).within.notice
+tell_command-requires-clause-code g c = rw c.boot_if_stopped.ensures.report (c.in_ok-answer.ensures.makes c.in-Command.bytes (c.read.ensures ∙ ap command_in c.bytes.ensures)).within.notice
 
 pub returns-clause-answers : goal.returns-clause-answers
 returns-clause-answers g c =
     let b = g.B.Bank in
     let v = g.C.Validator in
     let packet = c.in-Command.bytes in
-    let read = c.read-command.ensures ∙ ap command_in c.bytes.ensures in
+    let read = c.read.ensures ∙ ap command_in c.bytes.ensures in
     let boot = c.boot_if_stopped.ensures in
     let makes = c.in_ok-answer.ensures.makes packet read in
     let made = is_made b v (parts_view c.args.self.now) (parts_view c.command_effect.new.self) (parts_view c.boot_if_stopped.new.self) (ask.Command packet) (λ s given. ground_effect s (ask.Command packet) given) _ c.boot_if_stopped.new.note
     makes (c.in_ok-answer.ensures.meets packet read) boot.note boot.held boot.boots boot.found boot.moments boot.trouble boot.booted in
-    rw (c.of.ensures, c.verdicts.ensures, boot.report, c.put_answer.ensures, c.requires.actor, c.in-Command.is) (record {
+    rw (c.keep_given.ensures, boot.report, c.put_answer.ensures, c.requires.actor, c.in-Command.is) (record {
       actor_is = refl;
       request_is = refl;
       made = made;

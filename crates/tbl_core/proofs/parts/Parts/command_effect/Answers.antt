@@ -1,19 +1,16 @@
-use Rattle.std.proofs.Common.{◌≡◌, ◌∙◌, Some, Result, Ok, Err, sym, ap, subst, refl, arith, rules}
+use Rattle.std.proofs.Common.{◌≡◌, ◌∙◌, Ok, Err, sym, ap, subst, refl, arith, rules}
 use Rattle.store_requests.proofs.Both.{three}
 use Rattle.store_requests.proofs.Moments.{uncalled_leaves}
 use Rattle.store_requests.specs.Called.{IsCall, Calls, with_boot}
 use Rattle.cmd_packets.specs.Views.{command_of}
-use Rattle.tbl_kinds.specs.Notes.{untouched}
-use Rattle.tbl_kinds.specs.GroundCommands.{GroundCommand, delete_cds, command_in}
+use Rattle.tbl_kinds.specs.GroundCommands.{delete_cds, command_in}
 use Rattle.tbl_kinds.specs.declared.entry.Answer.{Answer}
 use Rattle.tbl_kinds.specs.declared.request.Actor.TheVariants.{Ground}
 use Rattle.tbl_kinds.specs.declared.request.Request.TheVariants as ask
 use Rattle.tbl_model.specs.AppBlocks.{delete_cds_effect}
-use Rattle.tbl_model.specs.Commands.{effect_by}
-use Rattle.tbl_model.specs.Effects.{answered_left}
 use Rattle.request_effects.specs.Requests.{read_of}
 use Rattle.request_effects.specs.Effects.{Effect, reported_effect}
-use Rattle.tbl_core.specs.Service.{step_of, parts_view, Meets}
+use Rattle.tbl_core.specs.Service.{parts_view}
 use Rattle.tbl_core.proofs.Commanding.{command_does, refused_does}
 use Rattle.tbl_core.proofs.StoreRequests.{block_makes, block_meets}
 use Rattle.tbl_core.proofs.Restoring.{delete_cds_holds}

@@ -1,4 +1,4 @@
-use Rattle.std.proofs.Common.{arith, ◌∙◌, refl, sym, ap, length, rules}
+use Rattle.std.proofs.Common.{arith, ◌∙◌, refl, sym, ap, length}
 use Rattle.tbl_model.specs.State.{Tables}
 use Rattle.tbl_model.specs.Tables.{table_at}
 use Rattle.tbl_model.specs.Given.{Given}

@@ -1,4 +1,4 @@
-use Rattle.std.proofs.Common.{◌≡◌, [], Some, sym, ap, subst, refl, arith}
+use Rattle.std.proofs.Common.{◌≡◌, [], Some, sym, subst, refl, arith}
 use Rattle.tbl_kinds.specs.declared.request.Request.TheVariants as ask
 use Rattle.tbl_kinds.specs.declared.note.Outcome.TheVariants.{Untouched}
 use Rattle.tbl_model.specs.Boots.{reset_effect}

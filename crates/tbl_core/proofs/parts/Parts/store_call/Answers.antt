@@ -1,5 +1,4 @@
-use Rattle.std.proofs.Common.{◌∙◌, sym, subst, refl, arith}
-use Rattle.tbl_kinds.specs.declared.request.Actor.TheVariants.{App}
+use Rattle.std.proofs.Common.{◌∙◌, sym, subst, refl}
 use Rattle.tbl_model.specs.Dispatch.{app_effect}
 use Rattle.request_effects.specs.Reports.{Reported}
 use Rattle.request_effects.specs.Effects.{Effect, reported_effect, told_at}

@@ -1,4 +1,3 @@
-use Rattle.std.proofs.Common.{refl}
 use Rattle.store_requests.proofs.Both.{both}
 use Rattle.tbl_core.proofs.Lending.{lent_each}
 use Rattle.tbl_core.proofs.service.Core.lend.Goals as goal
