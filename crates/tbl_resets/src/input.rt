@@ -1,7 +1,7 @@
 // The session, as it comes from standard input.
 use session_records::{Next, next_record};
 use std::alloc::Global;
-use tbl_kinds::Memory;
+use tbl_kinds::{Memory, Request};
 use tbl_outside::{Failed, Source};
 
 /// The most records of a session.
@@ -56,7 +56,8 @@ impl Session {
         if self.count >= MOST_RECORDS && !rest.is_empty() {
             return Ok(None);
         }
-        let next = next_record(alloc, rest)?;
+        let mut request = Request::Exit;
+        let next = next_record(alloc, rest, &mut request)?;
         Ok(self.count(&next))
     }
 

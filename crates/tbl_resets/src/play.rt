@@ -169,12 +169,9 @@ fn step_front<B: Bank>(
     core: &mut Core<B, Shipped>,
     records: &[u8],
 ) -> Result<usize, Fault> {
-    match next_record(alloc, records)? {
-        Next::Item {
-            actor,
-            request,
-            used,
-        } => Ok(if step(core, actor, request)? { used } else { 0 }),
+    let mut request = Request::Exit;
+    match next_record(alloc, records, &mut request)? {
+        Next::Item { actor, used } => Ok(if step(core, actor, request)? { used } else { 0 }),
         _ => Ok(0),
     }
 }

@@ -94,8 +94,8 @@ used_bound p used is e = omega (arith, length-spelling p, is.within)
 
 -- ---- what was read at the front of the bytes
 
-pub item_is : (next : Next) (actor : Actor) (request : Request) (used : ℕ) (P : Pair → ℕ → Type 0) → next ≡ Item actor request used → IfItem next P → P (record { actor = actor; request = request }) used
-item_is next actor request used P is fact = subst (λ n. IfItem n P) is fact
+pub item_is : (next : Next) (actor : Actor) (request : Request) (used : ℕ) (P : Pair → ℕ → Type 0) → next ≡ Item actor used → IfItem request next P → P (record { actor = actor; request = request }) used
+item_is next actor request used P is fact = subst (λ n. IfItem request n P) is fact
 
 -- the slice from a place on
 pub slice_is : (bytes : List ℕ) (at : ℕ) → take (length bytes - at) (drop at bytes) ≡ drop at bytes

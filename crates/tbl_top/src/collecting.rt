@@ -16,7 +16,7 @@ use session_records::{Next, next_record};
 use std::alloc::Global;
 use std::marker::Model;
 use tbl_crew::Scripts;
-use tbl_kinds::Memory;
+use tbl_kinds::{Memory, Request};
 use tbl_outside::{Failed, Source};
 
 /// The records that were read, and the beginning of a further one.
@@ -71,17 +71,12 @@ impl Collector {
                 Standing::Full
             });
         }
-        match next_record(self.alloc, rest) {
+        let mut request = Request::Exit;
+        match next_record(self.alloc, rest, &mut request) {
             Err(Memory) => Some(Standing::Memory),
             Ok(Next::End) | Ok(Next::Short) => Some(Standing::Open),
             Ok(Next::Bad) => Some(Standing::Bad),
-            Ok(
-                Next::Item {
-                    actor,
-                    request,
-                    used,
-                },
-            ) => match self.scripts.push(actor, request) {
+            Ok(Next::Item { actor, used }) => match self.scripts.push(actor, request) {
                 Err(Memory) => Some(Standing::Memory),
                 Ok(()) => {
                     *at += used;

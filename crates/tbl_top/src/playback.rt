@@ -184,18 +184,13 @@ impl<B: Bank, C: Validator> Playback<B, C> {
                 Standing::Full
             });
         }
-        match next_record(self.alloc, rest) {
+        let mut request = Request::Exit;
+        match next_record(self.alloc, rest, &mut request) {
             Err(Memory) => Some(Standing::Memory),
             Ok(Next::End) => Some(Standing::Open),
             Ok(Next::Short) => Some(Standing::Open),
             Ok(Next::Bad) => Some(Standing::Bad),
-            Ok(
-                Next::Item {
-                    actor,
-                    request,
-                    used,
-                },
-            ) => match self.play_record(actor, request, used, sink) {
+            Ok(Next::Item { actor, used }) => match self.play_record(actor, request, used, sink) {
                 Err(Memory) => Some(Standing::Memory),
                 Ok(stop) => {
                     *at += used;

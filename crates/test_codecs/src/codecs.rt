@@ -10,7 +10,7 @@ use crate::records::{tell_end, tell_entry, tell_record};
 use crate::telemetry::{
     tell_event, tell_housekeeping, tell_registry, try_event, try_notice, try_telemetry,
 };
-use file_drawer::Drawer;
+use file_drawer::{Contents, Drawer};
 use std::alloc::Global;
 use test_tables::{CaseFault, Cases, Pieces, kept, number_in, numbers_in};
 
@@ -123,7 +123,7 @@ impl Codecs {
         wanted: &str,
     ) -> Result<(), CaseFault> {
         let name = name_in(&pieces.bytes(name)?)?;
-        let file = kept(self.alloc, &pieces.bytes(bytes)?)?;
+        let file = Contents::of(kept(self.alloc, &pieces.bytes(bytes)?)?);
         tell_put(&mut self.line, &self.drawer.put(&name, file));
         self.line.same(self.alloc, wanted)
     }

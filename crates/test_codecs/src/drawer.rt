@@ -1,9 +1,9 @@
 //! The drawer of files.
 
 use crate::line::Line;
-use file_drawer::{Drawer, PutFault};
+use file_drawer::{Contents, Drawer, PutFault};
 use std::alloc::Global;
-use tbl_kinds::{Bytes, Name, Name64};
+use tbl_kinds::{Name, Name64};
 use test_tables::{CaseFault, kept};
 
 /// How many bytes the field of a file's name has.
@@ -19,7 +19,7 @@ pub(crate) fn name_in(field: &[u8]) -> Result<Name64, CaseFault> {
 }
 
 /// What a file replaced when it was put into the drawer.
-pub(crate) fn tell_put(line: &mut Line, put: &Result<Option<Bytes>, PutFault>) {
+pub(crate) fn tell_put(line: &mut Line, put: &Result<Option<Contents>, PutFault>) {
     match put {
         Ok(Some(old)) => line.bytes(old.bytes()),
         Ok(None) => line.word("none"),
@@ -32,7 +32,7 @@ pub(crate) fn tell_put(line: &mut Line, put: &Result<Option<Bytes>, PutFault>) {
 fn put_and_undo(
     drawer: &mut Drawer,
     name: &Name64,
-    file: Bytes,
+    file: Contents,
     contents: &[u8],
 ) -> Result<bool, PutFault> {
     let old = drawer.put(name, file)?;
@@ -49,7 +49,7 @@ pub(crate) fn try_undone(
     contents: &[u8],
 ) -> Result<(), CaseFault> {
     let name = name_in(name)?;
-    let file = kept(alloc, contents)?;
+    let file = Contents::of(kept(alloc, contents)?);
     match put_and_undo(drawer, &name, file, contents) {
         Ok(true) => Ok(()),
         _ => Err(CaseFault::Unreadable),

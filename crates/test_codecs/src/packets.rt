@@ -53,7 +53,9 @@ pub(crate) fn tell_packet(line: &mut Line, bytes: &[u8]) {
 
 /// A command is read. One that is refused is told with the status and the detail of its answer.
 pub(crate) fn tell_command(line: &mut Line, bytes: &[u8]) {
-    match read_command(bytes) {
+    let mut command = Ok(Ground::Noop);
+    read_command(bytes, &mut command);
+    match command {
         Ok(command) => tell_ground_command(line, &command),
         Err(fault) => {
             let answer = fault.answer();

@@ -136,12 +136,9 @@ fn rewrite_record(
 
 /// What stands at the front of bytes. A record is written again.
 pub(crate) fn tell_record(alloc: Global, line: &mut Line, bytes: &[u8]) -> Result<(), CaseFault> {
-    match next_record(alloc, bytes)? {
-        Next::Item {
-            actor,
-            request,
-            used,
-        } => {
+    let mut request = Request::Exit;
+    match next_record(alloc, bytes, &mut request)? {
+        Next::Item { actor, used } => {
             line.number(u32::from(actor.number()));
             tell_request(line, &request);
             rewrite_record(alloc, actor, &request, bytes.get(..used).unwrap_or(bytes))

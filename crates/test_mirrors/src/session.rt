@@ -54,14 +54,9 @@ fn step(core: &mut Service, actor: Actor, request: Request) -> bool {
 
 /// Plays the record at the front of an input, and tells its length: 0 where none was played.
 fn step_front(alloc: Global, core: &mut Service, input: &[u8]) -> usize {
-    match next_record(alloc, input) {
-        Ok(
-            Next::Item {
-                actor,
-                request,
-                used,
-            },
-        ) => if step(core, actor, request) { used } else { 0 },
+    let mut request = Request::Exit;
+    match next_record(alloc, input, &mut request) {
+        Ok(Next::Item { actor, used }) => if step(core, actor, request) { used } else { 0 },
         _ => 0,
     }
 }

@@ -68,14 +68,9 @@ pub(crate) fn step(core: &mut Service, actor: Actor, request: Request) -> Result
 
 /// Plays the record at the front of an input, and tells its length: 0 at the end of the input, and where none may follow.
 fn step_front(alloc: Global, core: &mut Service, input: &[u8]) -> Result<usize, CaseFault> {
-    match next_record(alloc, input) {
-        Ok(
-            Next::Item {
-                actor,
-                request,
-                used,
-            },
-        ) => Ok(if step(core, actor, request)? { used } else { 0 }),
+    let mut request = Request::Exit;
+    match next_record(alloc, input, &mut request) {
+        Ok(Next::Item { actor, used }) => Ok(if step(core, actor, request)? { used } else { 0 }),
         Ok(Next::End) => Ok(0),
         Ok(_) => Err(CaseFault::Unreadable),
         Err(Memory) => Err(CaseFault::Memory),

@@ -2,7 +2,7 @@ ghost use Rattle.std.specs.Prelude.{◌≡◌, IfOk};
 
 use crate::fault::CaseFault;
 use std::alloc::Global;
-use tbl_kinds::{Bytes, FILE_NAME_LENGTH, Memory, Name64, Uplink, is_name_field};
+use tbl_kinds::{Bytes, FILE_NAME_LENGTH, Memory, Name64, Uplink};
 
 /// Whether a text is the one that is wanted, but for spaces at its end.
 pub fn same_text(came: String, wanted: &str) -> Result<(), CaseFault> {
@@ -38,7 +38,7 @@ pub fn uplink_of(alloc: Global, name: &Name64, bytes: &[u8]) -> Result<Uplink, C
     spelling.reserve(bytes.len())?;
     spelling.append(bytes);
     let front = spelling.bytes();
-    if front.len() < FILE_NAME_LENGTH || !is_name_field(&front[..FILE_NAME_LENGTH]) {
+    if front.len() < FILE_NAME_LENGTH || Name64::exact(&front[..FILE_NAME_LENGTH]).is_none() {
         return Err(CaseFault::Unreadable);
     }
     Ok(Uplink::of(spelling))

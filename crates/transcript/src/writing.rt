@@ -29,6 +29,17 @@ fn write_front(front: &mut [u8], place: u32, entry: &Entry)
     len.copy_from_slice(&count.to_be_bytes());
 }
 
+/// Copies a piece to where it stands. Most replies have no bytes or no packets, and then nothing is called.
+#[inline(always)]
+fn copy_piece(place: &mut [u8], piece: &[u8])
+    requires { length place.old ≡ length piece.now }
+    ensures { place.new ≡ piece.now }
+{
+    if !piece.is_empty() {
+        place.copy_from_slice(piece);
+    }
+}
+
 /// Writes an entry with these bytes in the place of those of its reply.
 #[inline]
 fn write_around(out: &mut [u8], place: u32, entry: &Entry, between: &[u8])
@@ -42,9 +53,9 @@ fn write_around(out: &mut [u8], place: u32, entry: &Entry, between: &[u8])
     let (middle, rest) = rest.split_at_mut(between.len());
     let (count, end) = rest.split_at_mut(4);
     write_front(front, place, entry);
-    middle.copy_from_slice(between);
+    copy_piece(middle, between);
     count.copy_from_slice(&(packets.len() as u32).to_be_bytes());
-    end.copy_from_slice(packets);
+    copy_piece(end, packets);
 }
 
 /// The same, at the front of room that grows where it is too small.
