@@ -13,7 +13,7 @@ _cfetbl() {
         *:xtce | *:cosmos) words='-o --cfe-layout --big-endian --help' ;;
         *:repl | *:compare | *:explain | *:file | *:drill) words='--help' ;;
         *:store) words='--all --help' ;;
-        *:resets) words='--every --html --help' ;;
+        *:resets) words='--every --html --mirror --help' ;;
     esac
     if [ "$COMP_CWORD" -eq 1 ] || [[ $current == -* ]]; then
         mapfile -t COMPREPLY < <(compgen -W "$words" -- "$current")
