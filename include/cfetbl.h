@@ -41,8 +41,8 @@ const void *CFETBL_Bank(void);
 /* ---- applications */
 
 /* Starts an application under this name, from 1 to 16, and lets it make the calls from now on. false where it runs already, where the
- * name is none of 1 to 20 letters without a dot, or out of memory. It has at most 15 validation functions in one service, and none any
- * more once it ended: whatever starts after it should have another number. */
+ * name isn't 1 to 20 printing characters without a dot or a blank, or out of memory. It has at most 15 validation functions in one
+ * service, and none once it has ended: an application that starts after that should have another number. */
 bool CFETBL_StartApp(int app, const char *name);
 
 /* Lets an application make the calls from now on. */

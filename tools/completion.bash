@@ -3,7 +3,7 @@ _cfetbl() {
     local current=${COMP_WORDS[COMP_CWORD]} words=''
     COMPREPLY=()
     case $COMP_CWORD:${COMP_WORDS[1]} in
-        1:*) words='play crew watch drill repl show text make describe file store resets map report xtce cosmos serve compare explain test --help --version --program' ;;
+        1:*) words='play crew watch drill repl show text make describe file store resets map report xtce cosmos serve compare explain test help --help --version --program' ;;
         *:play | *:crew) words='--admit --show --text --all --json --diff --pcap --shape --help' ;;
         *:watch) words='--text --help' ;;
         *:show) words='--all --json --end --diff --pcap --shape --session-order --check --help' ;;

@@ -12,7 +12,7 @@ static int32_t first_byte(const uint8_t *image, size_t length)
     return length == 0 || image[0] == 0 ? -5 : 0;
 }
 
-/* That of an odd one wants the exclusive or of all bytes before the last one there. */
+/* That of an odd one accepts an image whose last byte is the exclusive or of all bytes before it. */
 static int32_t last_xor(const uint8_t *image, size_t length)
 {
     uint8_t sum = 0;

@@ -86,7 +86,7 @@ def _field(line, room):
         raise WrongLine(number, source, "a space and the field's value", len(source))
     raw = _value(line, at + len(name) + 1, kind, text)
     if len(raw) > room:
-        raise WrongLine(number, source, f"fields that end within {LIMIT} bytes: {len(raw)} bytes are wanted, and {room} are left")
+        raise WrongLine(number, source, f"fields that end within {LIMIT} bytes: this one has {len(raw)}, and {room} are left")
     return raw
 
 
