@@ -1,30 +1,30 @@
 -- The check word is linear over exclusive-or, so each byte of a step is added by itself, from the table of its place.
-use Rattle.std.proofs.Common.{◌≡◌, ℕ, zero, suc, ◌+◌, ◌*◌, ◌-◌, ◌/◌, ◌%◌, ◌<◌, ◌==◌, Bool, true, false, cond, List, [], ◌∷◌, map, get_or, set, take, drop, length, bit_xor, ap, sym, ◌∙◌, arith, refl, zero-add}
+use Rattle.std.proofs.Common.{◌≡◌, ℕ, zero, suc, ◌+◌, ◌*◌, ◌-◌, ◌/◌, ◌%◌, ◌<◌, ◌≤◌, ◌==◌, Bool, true, false, cond, List, [], ◌∷◌, map, get_or, take, drop, length, bit_xor, ap, sym, ◌∙◌, arith, refl, zero-add}
 use Rattle.std.specs.List.{range_with_len, fold}
 use Rattle.std.specs.Simd.{first_chunks}
 use Rattle.std.proofs.lemmas.List.{take-append-drop, drop-drop}
 use Rattle.std.proofs.lemmas.List.Sums.{fold-append, fold_more}
 use Rattle.std.proofs.lemmas.List.FromFn.{get_or-map-range_with_len}
 use lib.Bits.{xor_comm, xor_assoc, xor_shr, xor_mod, xor_shifted, xor_zero_r}
-use Rattle.tbl_kinds.specs.Check.{after_bit, after_bits, after_byte, check16}
+use Rattle.tbl_kinds.specs.Check.{after_bit, after_bits, after_byte}
 use Rattle.check_word.specs.Later.{later}
 use Rattle.check_word.specs.declared.TheConstants.{PLACES}
 
 -- ---- the tables, computed
 
 words_of : ℕ → List ℕ
-words_of place = map (later (16 - place)) (range_with_len 0 256)
+words_of place = map (later (32 - place)) (range_with_len 0 256)
 
-each_place : PLACES ≡ map words_of (range_with_len 0 16)
+each_place : PLACES ≡ map words_of (range_with_len 0 32)
 unfolding words_of later after_byte
 each_place = refl
 
-pub word_is : (place byte : ℕ) → place < 16 → byte < 256 → get_or (get_or PLACES place []) byte 0 ≡ later (16 - place) byte
+pub word_is : (place byte : ℕ) → place < 32 → byte < 256 → get_or (get_or PLACES place []) byte 0 ≡ later (32 - place) byte
 unfolding words_of
 word_is place byte h b =
     ap (λ (places : List (List ℕ)). get_or (get_or places place []) byte 0) each_place
-    ∙ ap (λ (words : List ℕ). get_or words byte 0) (get_or-map-range_with_len words_of 0 16 place place [] h (zero-add place))
-    ∙ get_or-map-range_with_len (later (16 - place)) 0 256 byte byte 0 b (zero-add byte)
+    ∙ ap (λ (words : List ℕ). get_or words byte 0) (get_or-map-range_with_len words_of 0 32 place place [] h (zero-add place))
+    ∙ get_or-map-range_with_len (later (32 - place)) 0 256 byte byte 0 b (zero-add byte)
 
 -- ---- linearity
 
@@ -69,6 +69,12 @@ after_bits-xor (suc n) a b = ap (after_bits n) (after_bit-xor a b) ∙ after_bit
 after_byte-xor : (a b x y : ℕ) → after_byte (bit_xor a b) (bit_xor x y) ≡ bit_xor (after_byte a x) (after_byte b y)
 unfolding after_byte
 after_byte-xor a b x y = ap (after_bits 8) (swap a b x y) ∙ after_bits-xor 8 (bit_xor a x) (bit_xor b y)
+
+-- two words, of which the bytes go into the second
+apart : (bytes : List ℕ) (a b : ℕ) → fold after_byte (bit_xor a b) bytes ≡ bit_xor (later (length bytes) a) (fold after_byte b bytes)
+unfolding later
+apart [] a b = refl
+apart (x ∷ bytes) a b = ap (λ word. fold after_byte word bytes) (after_byte-xor a b 0 x) ∙ apart bytes (after_byte a 0) (after_byte b x)
 
 later-xor : (n a b : ℕ) → later n (bit_xor a b) ≡ bit_xor (later n a) (later n b)
 unfolding later
@@ -122,15 +128,15 @@ pub after_byte_is : (word byte : ℕ) → bit_xor (later 1 (bit_xor word byte % 
 unfolding later
 after_byte_is word byte = by_bytes 0 (bit_xor word byte) ∙ byte_in word byte
 
-pub more_of_step : (step : List ℕ) (place : ℕ) → place < 16 → place < length step →
-    bit_xor (later (16 - place) (fold after_byte 0 (take place step))) (later (16 - place) (get_or step place 0))
-    ≡ later (16 - (place + 1)) (fold after_byte 0 (take (place + 1) step))
+pub more_of_step : (step : List ℕ) (place : ℕ) → place < 32 → place < length step →
+    bit_xor (later (32 - place) (fold after_byte 0 (take place step))) (later (32 - place) (get_or step place 0))
+    ≡ later (32 - (place + 1)) (fold after_byte 0 (take (place + 1) step))
 unfolding later
 more_of_step step place within h =
     let word = fold after_byte 0 (take place step) in
     let byte = get_or step place 0 in
-    let left = 16 - (place + 1) in
-    let one_more : 16 - place ≡ suc left = omega arith in
+    let left = 32 - (place + 1) in
+    let one_more : 32 - place ≡ suc left = omega arith in
     (λ i. bit_xor (later (one_more i) word) (later (one_more i) byte))
     ∙ sym (later-xor (suc left) word byte)
     ∙ ap (later left) (byte_in word byte ∙ sym (fold_more after_byte 0 step place 0 h))
@@ -150,28 +156,65 @@ into_second : (word high b : ℕ) → after_byte (bit_xor word high) b ≡ after
 unfolding after_byte
 into_second word high b = ap (after_bits 8) (xor_assoc word high b ∙ ap (bit_xor word) (xor_comm high b))
 
--- the step with the word in its first two bytes
-abbrev pub mixed : ℕ → List ℕ → List ℕ
-mixed word step =
-    let first = set step 0 (bit_xor (get_or step 0 0) (word % 256)) in
-    set first 1 (bit_xor (get_or first 1 0) (word / 256))
+-- the bytes of a step, without its first two
+abbrev pub rest_of : List ℕ → List ℕ
+rest_of step = 0 ∷ 0 ∷ drop 2 step
 
-pub after_step_is : (word : ℕ) (step : List ℕ) → length step ≡ 16 → check16 (mixed word step) ≡ fold after_byte word step
+rest_at : (step : List ℕ) (place : ℕ) → 2 ≤ place → get_or (rest_of step) place 0 ≡ get_or step place 0
+rest_at step zero h = absurd (omega (arith, h))
+rest_at step (suc zero) h = absurd (omega (arith, h))
+rest_at [] (suc (suc k)) h = refl
+rest_at (a ∷ []) (suc (suc k)) h = refl
+rest_at (a ∷ b ∷ rest) (suc (suc k)) h = refl
+
+pub rest_length : (step : List ℕ) → 2 ≤ length step → length (rest_of step) ≡ length step
+rest_length [] h = absurd (omega (arith, h))
+rest_length (a ∷ []) h = absurd (omega (arith, h))
+rest_length (a ∷ b ∷ rest) h = refl
+
+pub more_of_rest : (step : List ℕ) (place : ℕ) → 2 ≤ place → place < 32 → length step ≡ 32 →
+    bit_xor (later (32 - place) (fold after_byte 0 (take place (rest_of step)))) (later (32 - place) (get_or step place 0))
+    ≡ later (32 - (place + 1)) (fold after_byte 0 (take (place + 1) (rest_of step)))
+more_of_rest step place least within len =
+    ap (λ byte. bit_xor (later (32 - place) (fold after_byte 0 (take place (rest_of step)))) (later (32 - place) byte)) (sym (rest_at step place least))
+    ∙ more_of_step (rest_of step) place within (omega (arith, within, len, rest_length step (omega (arith, len))))
+
+-- a byte that goes into no word is added to those after it
+first_apart : (byte : ℕ) (bytes : List ℕ) → fold after_byte 0 (byte ∷ bytes) ≡ bit_xor (later (suc (length bytes)) byte) (fold after_byte 0 bytes)
+unfolding later after_byte
+first_apart byte bytes =
+    ap (λ word. fold after_byte word bytes) (sym (byte_in 0 byte) ∙ ap (λ word. after_byte word 0) (sym (xor_zero_r byte)))
+    ∙ apart (0 ∷ bytes) byte 0
+
+pub after_step_is : (word : ℕ) (step : List ℕ) → length step ≡ 32 →
+    let first = bit_xor (get_or step 0 0) (word % 256) in
+    let second = bit_xor (get_or step 1 0) (word / 256) in
+    bit_xor (fold after_byte 0 (rest_of step)) (bit_xor (later 32 first) (later 31 second)) ≡ fold after_byte word step
+unfolding after_byte
 after_step_is word [] h = absurd (omega (arith, h))
 after_step_is word (a ∷ []) h = absurd (omega (arith, h))
-after_step_is word (a ∷ b ∷ rest) _ =
-    ap (λ from. fold after_byte from rest)
-    (sym (ap (λ from. after_byte from b) (into_first word a) ∙ into_second (after_byte 0 (bit_xor a (word % 256))) (word / 256) b))
+after_step_is word (a ∷ b ∷ rest) h =
+    let first = bit_xor a (word % 256) in
+    let second = bit_xor b (word / 256) in
+    let alone = fold after_byte 0 rest in
+    let left : length rest ≡ 30 = omega (arith, h) in
+    xor_comm alone (bit_xor (later 32 first) (later 31 second))
+    ∙ xor_assoc (later 32 first) (later 31 second) alone
+    ∙ sym (first_apart first (second ∷ rest)
+    ∙ (λ i. bit_xor (later (suc (suc (left i))) first) (first_apart second rest i))
+    ∙ ap (λ n. bit_xor (later 32 first) (bit_xor (later (suc n) second) alone)) left)
+    ∙ sym (ap (λ from. fold after_byte from rest)
+    (ap (λ from. after_byte from b) (into_first word a) ∙ into_second (after_byte 0 first) (word / 256) b))
 
 pub by_steps : (k word : ℕ) (bytes : List ℕ) →
-    fold after_byte (fold (fold after_byte) word (first_chunks 16 k bytes)) (drop (k * 16) bytes) ≡ fold after_byte word bytes
+    fold after_byte (fold (fold after_byte) word (first_chunks 32 k bytes)) (drop (k * 32) bytes) ≡ fold after_byte word bytes
 by_steps zero word bytes = refl
 by_steps (suc k) word bytes =
-    let rest = drop 16 bytes in
-    let from = fold after_byte word (take 16 bytes) in
-    let further : suc k * 16 ≡ 16 + k * 16 = omega arith in
-    ap (λ n. fold after_byte (fold (fold after_byte) from (first_chunks 16 k rest)) (drop n bytes)) further
-    ∙ ap (fold after_byte (fold (fold after_byte) from (first_chunks 16 k rest))) (sym (drop-drop (k * 16) 16 bytes))
+    let rest = drop 32 bytes in
+    let from = fold after_byte word (take 32 bytes) in
+    let further : suc k * 32 ≡ 32 + k * 32 = omega arith in
+    ap (λ n. fold after_byte (fold (fold after_byte) from (first_chunks 32 k rest)) (drop n bytes)) further
+    ∙ ap (fold after_byte (fold (fold after_byte) from (first_chunks 32 k rest))) (sym (drop-drop (k * 32) 32 bytes))
     ∙ by_steps k from rest
-    ∙ sym (fold-append after_byte word (take 16 bytes) rest)
-    ∙ ap (fold after_byte word) (take-append-drop 16 bytes)
+    ∙ sym (fold-append after_byte word (take 32 bytes) rest)
+    ∙ ap (fold after_byte word) (take-append-drop 32 bytes)

@@ -1,7 +1,7 @@
 //! The check word of images (CRC-16/ARC): the layers above may rely on it that it is the definition's, bit by bit.
 #![tactic(auto)]
 
-ghost use Rattle.std.specs.Prelude.{◌≡◌, ◌-◌, ◌<◌};
+ghost use Rattle.std.specs.Prelude.{◌≡◌, ◌-◌, ◌<◌, ◌∷◌, drop};
 ghost use Rattle.std.specs.List.{fold};
 ghost use Rattle.tbl_kinds.specs.Check.{after_byte, check16};
 ghost use Rattle.check_word.specs.Later.{later};
@@ -14,8 +14,24 @@ macro_rules! words {
     };
 }
 
-/// For each place in a step of sixteen bytes, the word that each byte there has become at the end of the step.
-static PLACES: [[u16; 256]; 16] = [
+/// For each place in a step of 32 bytes, the word that each byte there has become at the end of the step.
+static PLACES: [[u16; 256]; 32] = [
+    words!([0] 0xAC01 0x1801 0x3002 0x6004 0xC008 0xC013 0xC025 0xC049),
+    words!([0] 0xC091 0xC121 0xC241 0xC481 0xC901 0xD201 0xE401 0x8801),
+    words!([0] 0x5001 0xA002 0x0007 0x000E 0x001C 0x0038 0x0070 0x00E0),
+    words!([0] 0x01C0 0x0380 0x0700 0x0E00 0x1C00 0x3800 0x7000 0xE000),
+    words!([0] 0x8003 0x4005 0x800A 0x4017 0x802E 0x405F 0x80BE 0x417F),
+    words!([0] 0x82FE 0x45FF 0x8BFE 0x57FF 0xAFFE 0x1FFF 0x3FFE 0x7FFC),
+    words!([0] 0xFFF8 0xBFF3 0x3FE5 0x7FCA 0xFF94 0xBF2B 0x3E55 0x7CAA),
+    words!([0] 0xF954 0xB2AB 0x2555 0x4AAA 0x9554 0x6AAB 0xD556 0xEAAF),
+    words!([0] 0x955D 0x6AB9 0xD572 0xEAE7 0x95CD 0x6B99 0xD732 0xEE67),
+    words!([0] 0x9CCD 0x7999 0xF332 0xA667 0x0CCD 0x199A 0x3334 0x6668),
+    words!([0] 0xCCD0 0xD9A3 0xF345 0xA689 0x0D11 0x1A22 0x3444 0x6888),
+    words!([0] 0xD110 0xE223 0x8445 0x4889 0x9112 0x6227 0xC44E 0xC89F),
+    words!([0] 0xD13D 0xE279 0x84F1 0x49E1 0x93C2 0x6787 0xCF0E 0xDE1F),
+    words!([0] 0xFC3D 0xB879 0x30F1 0x61E2 0xC3C4 0xC78B 0xCF15 0xDE29),
+    words!([0] 0xFC51 0xB8A1 0x3141 0x6282 0xC504 0xCA0B 0xD415 0xE829),
+    words!([0] 0x9051 0x60A1 0xC142 0xC287 0xC50D 0xCA19 0xD431 0xE861),
     words!([0] 0x90C1 0x6181 0xC302 0xC607 0xCC0D 0xD819 0xF031 0xA061),
     words!([0] 0x00C1 0x0182 0x0304 0x0608 0x0C10 0x1820 0x3040 0x6080),
     words!([0] 0xC100 0xC203 0xC405 0xC809 0xD011 0xE021 0x8041 0x4081),
@@ -36,31 +52,30 @@ static PLACES: [[u16; 256]; 16] = [
 
 /// What a byte at this place of a step adds to the word at its end.
 fn added(place: usize, byte: u8) -> u16
-    requires { place < 16 }
-    ensures { result ≡ later (16 - place) byte }
+    requires { place < 32 }
+    ensures { result ≡ later (32 - place) byte }
 {
     PLACES[place][byte as usize]
 }
 
-/// The check word of a step by itself.
-fn word_of_step(step: &[u8; 16]) -> u16
-    ensures { result ≡ check16 step.now }
+/// What the bytes of a step after its first two add to the word at its end.
+fn word_of_rest(step: &[u8; 32]) -> u16
+    ensures { result ≡ fold after_byte 0 (0 ∷ 0 ∷ drop 2 step.now) }
 {
     let mut word = 0;
-    for (place, byte) in step.iter().enumerate() {
-        word ^= added(place, *byte);
+    for place in 2..32 {
+        word ^= added(place, step[place]);
     }
     word
 }
 
-/// The word so far goes into the first two bytes of the step.
-fn after_step(word: u16, step: &[u8; 16]) -> u16
+/// The word so far goes into the first two bytes of the step. They are looked up last, so that no other byte waits for the word.
+fn after_step(word: u16, step: &[u8; 32]) -> u16
     ensures { result ≡ fold after_byte word step.now }
 {
-    let mut mixed = *step;
-    mixed[0] ^= (word % 256) as u8;
-    mixed[1] ^= (word / 256) as u8;
-    word_of_step(&mixed)
+    let first = step[0] ^ (word % 256) as u8;
+    let second = step[1] ^ (word / 256) as u8;
+    word_of_rest(step) ^ (added(0, first) ^ added(1, second))
 }
 
 /// A byte goes into the low byte, and eight bits go out: those above only move down.
@@ -68,7 +83,7 @@ fn after_byte(word: u16, byte: u8) -> u16
     ensures { result ≡ after_byte word byte }
 {
     let mixed = word ^ byte as u16;
-    added(15, (mixed % 256) as u8) ^ (mixed / 256)
+    added(31, (mixed % 256) as u8) ^ (mixed / 256)
 }
 
 /// The check word of these bytes.

@@ -11,4 +11,4 @@ returns c =
     let cut = c.as_chunks.ensures in
     tail
     ∙ (λ i. fold after_byte ((steps ∙ ap (fold (fold after_byte) 0) cut.front) i) (cut.back i))
-    ∙ by_steps (length c.args.bytes.now / 16) 0 c.args.bytes.now
+    ∙ by_steps (length c.args.bytes.now / 32) 0 c.args.bytes.now
