@@ -1,10 +1,11 @@
-ghost use Rattle.std.specs.Prelude.{◌≡◌, ◌^◌, ◌<◌, ◌↔◌, None, Some, is_some, is_none, IsSome, IsNone, IfOk, IfSome, IfNone, OnSome, map, position, count_by, length, replicate, slice_set};
+ghost use Rattle.std.specs.Prelude.{◌≡◌, ◌^◌, ◌<◌, ◌+◌, ◌↔◌, ℕ, false, None, Some, is_some, is_none, IsSome, IsNone, IfOk, IfSome, IfNone, OnSome, map, position, count_by, length, replicate, slice_set};
 ghost use Rattle.std.specs.Option.{option_map};
-ghost use Rattle.access_desc.specs.Counts.{AreCounted};
+ghost use Rattle.access_desc.specs.Counts.{AreKept};
 ghost use Rattle.access_desc.specs.Steps.{at_place, changed_at, has, new_handle, pins, pins_old, with_pin, with_no_pin, with_told, after_new_image, after_end};
 
 use crate::handle_view::HandleView;
-use crate::pins::{no_pins, put};
+use crate::pins::{put, rows_without_pins};
+use crate::row_pins::RowPins;
 use std::alloc::{AllocError, Global};
 use std::marker::Model;
 use tbl_kinds::Memory;
@@ -16,20 +17,20 @@ const PLACES: usize = 256;
 #[derive(Drop)]
 pub struct Handles {
     places: Vec<Option<HandleView>>,
-    /// How many of the handles pin an image of the table in each row: a row without pins is known without a search.
-    pins: Vec<u16>,
+    /// What is kept of the pins of the table in each row.
+    rows: Vec<RowPins>,
 }
 
 impl Model for Handles {
     ghost use Rattle.std.specs.Prelude.{List, Option};
     ghost use Rattle.access_desc.specs.declared.handle_view.HandleView.{HandleView};
-    ghost use Rattle.access_desc.specs.Counts.{AreCounted};
+    ghost use Rattle.access_desc.specs.Counts.{AreKept};
 
     ghost Value = { List (Option HandleView) };
 
     ghost view = { λ h. h.places.items };
 
-    ghost invariant = { λ h. AreCounted h.places.items h.pins.items };
+    ghost invariant = { λ h. AreKept h.places.items h.rows.items };
 }
 
 /// The first place that is free.
@@ -71,6 +72,17 @@ fn number(place: Option<usize>) -> Option<u16>
     }
 }
 
+/// A place as the number of its handle, where the places are counted from this one on.
+fn number_from(start: usize, place: Option<usize>) -> Option<u16>
+    requires { IfSome place (λ n. start + n < 2 ^ 16) }
+    ensures { result ≡ option_map (λ n. start + n) place }
+{
+    match place {
+        Some(n) => Some((start + n) as u16),
+        None => None,
+    }
+}
+
 fn place_after_new_image(place: Option<HandleView>, row: u8) -> Option<HandleView>
     ensures { result ≡ option_map (after_new_image row) place }
 {
@@ -102,25 +114,25 @@ fn end_table(places: &mut [Option<HandleView>], row: u8)
 }
 
 /// Tells the handles of a row that its table has a new image, where any of them pins one.
-fn move_row(places: &mut [Option<HandleView>], counts: &[u16], row: u8)
-    requires { AreCounted places.old counts.now }
+fn move_row(places: &mut [Option<HandleView>], rows: &[RowPins], row: u8)
+    requires { AreKept places.old rows.now }
     ensures places { places.new ≡ map (option_map (after_new_image row)) places.old }
-    ensures counted { AreCounted places.new counts.now }
+    ensures kept { AreKept places.new rows.now }
 {
     // A new image comes with each load, and seldom to a table that anybody pins.
-    if counts[row as usize] > 0 {
+    if rows[row as usize].count > 0 {
         move_pins(places, row);
     }
 }
 
 /// Takes their table and their pin from the handles of a row, of which none is counted any more.
-fn end_row(places: &mut [Option<HandleView>], counts: &mut [u16], row: u8)
-    requires { AreCounted places.old counts.old }
+fn end_row(places: &mut [Option<HandleView>], rows: &mut [RowPins], row: u8)
+    requires { AreKept places.old rows.old }
     ensures places { places.new ≡ map (option_map (after_end row)) places.old }
-    ensures counted { AreCounted places.new counts.new }
+    ensures kept { AreKept places.new rows.new }
 {
     end_table(places, row);
-    counts[row as usize] = 0;
+    rows[row as usize] = RowPins::NONE;
 }
 
 /// Frees every place.
@@ -147,7 +159,7 @@ impl Handles {
     {
         Ok(Handles {
             places: free_places(alloc)?,
-            pins: no_pins(alloc)?,
+            rows: rows_without_pins(alloc)?,
         })
     }
 
@@ -168,7 +180,7 @@ impl Handles {
             old: false,
             told: 0,
         };
-        put(&mut self.places, &mut self.pins, free, Some(handle));
+        put(&mut self.places, &mut self.rows, free, Some(handle));
         Some(free as u16)
     }
 
@@ -184,7 +196,7 @@ impl Handles {
         ensures { self.new ≡ replicate 256 None }
     {
         free_all(&mut self.places);
-        self.pins.fill(0);
+        self.rows.fill(RowPins::NONE);
     }
 
     /// Frees the number of a handle.
@@ -192,14 +204,14 @@ impl Handles {
         requires { IsSome (at_place self.old handle) }
         ensures { self.new ≡ slice_set self.old handle None }
     {
-        put(&mut self.places, &mut self.pins, handle as usize, None);
+        put(&mut self.places, &mut self.rows, handle as usize, None);
     }
 
     /// Each handle of a row loses its table and its pin.
     pub fn orphan(&mut self, row: u8)
         ensures { self.new ≡ map (option_map (after_end row)) self.old }
     {
-        end_row(&mut self.places, &mut self.pins, row);
+        end_row(&mut self.places, &mut self.rows, row);
     }
 
     /// From now on the handle pins the last image of its table.
@@ -208,7 +220,7 @@ impl Handles {
         ensures { self.new ≡ changed_at with_pin self.old handle }
     {
         let place = self.places[handle as usize].map(|entry| entry.with_pin());
-        put(&mut self.places, &mut self.pins, handle as usize, place);
+        put(&mut self.places, &mut self.rows, handle as usize, place);
     }
 
     /// From now on the handle pins nothing.
@@ -217,7 +229,7 @@ impl Handles {
         ensures { self.new ≡ changed_at with_no_pin self.old handle }
     {
         let place = self.places[handle as usize].map(|entry| entry.with_no_pin());
-        put(&mut self.places, &mut self.pins, handle as usize, place);
+        put(&mut self.places, &mut self.rows, handle as usize, place);
     }
 
     /// The handle was told of this many images.
@@ -226,21 +238,29 @@ impl Handles {
         ensures { self.new ≡ changed_at (with_told count) self.old handle }
     {
         let place = self.places[handle as usize].map(|entry| entry.with_told(count));
-        put(&mut self.places, &mut self.pins, handle as usize, place);
+        put(&mut self.places, &mut self.rows, handle as usize, place);
     }
 
-    /// How many handles pin an image of this row's table.
-    fn pin_count(&self, row: u8) -> u16
-        ensures { result ≡ count_by (has (pins row)) self.now }
+    /// A place before which no handle pins an image of this row's table, None where none does at all.
+    fn pins_start(&self, row: u8) -> Option<usize>
+        ensures none { IfNone result (count_by (has (pins row)) self.now ≡ 0) }
+        ensures none_before { IfSome result (λ start. (n : ℕ) → n < start → has (pins row) (at_place self.now n) ≡ false) }
+        ensures within { IfSome result (λ start. start < length self.now) }
+        ensures all_places { length self.now ≡ 256 }
     {
-        self.pins[row as usize]
+        let kept = self.rows[row as usize];
+        if kept.count == 0 {
+            None
+        } else {
+            Some(kept.start as usize)
+        }
     }
 
     /// The table of a row has a new image: each pin of one of its images is from now on of the image before.
     pub fn moved(&mut self, row: u8)
         ensures { self.new ≡ map (option_map (after_new_image row)) self.old }
     {
-        move_row(&mut self.places, &self.pins, row);
+        move_row(&mut self.places, &self.rows, row);
     }
 
     /// The least handle that pins an image of this row's table.
@@ -248,10 +268,8 @@ impl Handles {
         ensures least { result ≡ position (has (pins row)) self.now }
         ensures within { IfSome result (λ n. n < 256) }
     {
-        if self.pin_count(row) == 0 {
-            return None;
-        }
-        number(first_pin(&self.places, row))
+        let start = self.pins_start(row)?;
+        number_from(start, first_pin(&self.places[start..], row))
     }
 
     /// The least handle that pins an image of this row's table which isn't the last.
@@ -259,10 +277,8 @@ impl Handles {
         ensures least { result ≡ position (has (pins_old row)) self.now }
         ensures within { IfSome result (λ n. n < 256) }
     {
-        if self.pin_count(row) == 0 {
-            return None;
-        }
-        number(first_old_pin(&self.places, row))
+        let start = self.pins_start(row)?;
+        number_from(start, first_old_pin(&self.places[start..], row))
     }
 
     /// How many handles there can be.
