@@ -90,6 +90,7 @@ impl Sink for MemSink {
 
     fn write(&mut self, bytes: &[u8]) -> Result<(), Failed>
         ensures whole { OnOk result (Some self.new.taken ≡ append_known (Some self.old.taken) bytes.now) }
+        ensures still { OnOk result (self.new.calls.faults ≡ self.old.calls.faults) }
         ensures front { OnErr result (TakesFront (Some self.old.taken) (Some self.new.taken) bytes.now) }
         ensures cause { OnErr result (Rose self.old.calls.faults self.new.calls.faults) }
         ensures count { self.old.calls.faults ≤ self.new.calls.faults }

@@ -1,5 +1,5 @@
 // A source in memory.
-ghost use Rattle.std.specs.Prelude.{◌≡◌, ◌<◌, ◌≤◌, ◌++◌, ◌||◌, [], length, take, drop, min, Some, None, IfOk, OnErr, is_err};
+ghost use Rattle.std.specs.Prelude.{◌≡◌, ◌<◌, ◌≤◌, ◌++◌, ◌||◌, [], length, take, drop, min, Some, None, IfOk, OnOk, OnErr, is_err};
 ghost use Rattle.std.specs.Io.KnownBytes.{prepend_known, IsAtEnd};
 ghost use Rattle.tbl_outside.specs.Counts.{Rose};
 ghost use Rattle.tbl_fakes.specs.Calls.{is_listed, passed, failed, none_made};
@@ -111,6 +111,7 @@ impl Source for MemSource {
         ensures fits { IfOk result (λ n. n ≤ length into.old) }
         ensures moved { IfOk result (λ n. Some self.old.left ≡ prepend_known (take n into.new) (Some self.new.left)) }
         ensures end { IfOk result (λ n. n ≡ 0 → 0 < length into.old → IsAtEnd (Some self.new.left)) }
+        ensures still { OnOk result (self.new.calls.faults ≡ self.old.calls.faults) }
         ensures kept { OnErr result (Some self.new.left ≡ Some self.old.left) }
         ensures cause { OnErr result (Rose self.old.calls.faults self.new.calls.faults) }
         ensures count { self.old.calls.faults ≤ self.new.calls.faults }

@@ -23,6 +23,7 @@ pub trait Source {
         ensures moved { IfOk result (λ n. left self.old ≡ prepend_known (take n into.new) (left self.new)) }
         ensures end { IfOk result (λ n. n ≡ 0 → 0 < length into.old → IsAtEnd (left self.new)) }
 
+        ensures still { OnOk result (faults self.new ≡ faults self.old) }
         ensures kept { OnErr result (left self.new ≡ left self.old) }
         ensures cause { OnErr result (Rose (faults self.old) (faults self.new)) }
         ensures count { faults self.old ≤ faults self.new };
@@ -39,6 +40,7 @@ pub trait Sink {
     /// Takes a whole piece, or fails after some front of it.
     fn write(&mut self, bytes: &[u8]) -> Result<(), Failed>
         ensures whole { OnOk result (taken self.new ≡ append_known (taken self.old) bytes.now) }
+        ensures still { OnOk result (faults self.new ≡ faults self.old) }
 
         ensures front { OnErr result (TakesFront (taken self.old) (taken self.new) bytes.now) }
         ensures cause { OnErr result (Rose (faults self.old) (faults self.new)) }
