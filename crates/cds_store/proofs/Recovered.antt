@@ -13,6 +13,7 @@ use Rattle.tbl_kinds.specs.declared.request.ResetKind.TheVariants.{Processor}
 use Rattle.cds_layout.specs.Directory.{directory_of}
 use Rattle.cds_layout.specs.Images.{stored_in, stored_from, store_of}
 use Rattle.cds_layout.proofs.DirectoryLaws.{directory-agree_both}
+use Rattle.cds_store.specs.Moments.{ShowsIn, BootLeaves}
 use Rattle.cds_store.specs.Recovery.{Recovers}
 use Rattle.cds_store.specs.Slots.{is_open_slot, open_slot, block_of}
 use Rattle.cds_store.specs.Sound.{slot_at}
@@ -45,6 +46,10 @@ settled_all bytes found k (Some b ∷ blocks) = ap (λ (l : Blocks). Some (store
 pub booted_alike : (bytes : List ℕ) (found : List ℕ) → booted Processor found (store_of bytes) ≡ store_of bytes
 unfolding store_of
 booted_alike bytes found = settled_all bytes found 0 (directory_of bytes)
+
+pub of_processor : (blocks : Blocks) (image : List ℕ) → BootLeaves Processor blocks image → ShowsIn blocks image
+of_processor blocks image (inl shows) = shows
+of_processor blocks image (inr other) = absurd (cc other.0)
 
 -- ---- a bank shows one block of a kind and a name
 

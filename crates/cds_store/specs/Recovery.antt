@@ -1,9 +1,14 @@
 -- What comes back of a block.
-use Rattle.std.specs.Prelude.{◌≡◌, ℕ, List, Option, Some}
+use Rattle.std.specs.Prelude.{◌≡◌, ℕ, ◌≤◌, List, Option, Some}
 use Rattle.std.specs.Option.{ForSome}
 use Rattle.tbl_kinds.specs.Blocks.{Store as Blocks}
+use Rattle.tbl_kinds.specs.Places.{bank_size}
 use Rattle.tbl_kinds.specs.StoreSteps.{stored_at, open_of, MayGive}
+use Rattle.tbl_outside.specs.Bank.{LeavesOnly}
+use Rattle.tbl_outside.specs.declared.bank.Bank.{Ghosts}
 use Rattle.tbl_outside.specs.Counts.{Still, RoseAlone}
+use Rattle.cds_layout.specs.Images.{store_of}
+use Rattle.cds_store.specs.Moments.{ShowsIn}
 use Rattle.cds_store.specs.declared.recovery.RecoverFault.{RecoverFault}
 use Rattle.cds_store.specs.declared.recovery.RecoverFault.TheVariants.{Fault, Stopped, Memory}
 use Rattle.tbl_kinds.specs.declared.block.BlockKind.{BlockKind}
@@ -18,3 +23,9 @@ abbrev pub RecoverCounted : {B : Type 0} → (B → ℕ) → (B → ℕ) → B �
 RecoverCounted faults stops old new Fault = RoseAlone faults stops old new
 RecoverCounted faults stops old new Stopped = RoseAlone stops faults old new
 RecoverCounted faults stops old new Memory = Still faults stops old new
+
+-- the bank that comes back shows the same blocks, as does what a reset left meanwhile, and a further store has room in it
+pub record ShowsStill {B : Type 0} (g : Ghosts B) (old new : B) : Type 0 where
+  pub left : g.tells → ShowsIn (store_of (g.now old)) (g.now new)
+  pub moments : g.tells_moments → LeavesOnly g.clock g.left_since old new (ShowsIn (store_of (g.now old)))
+  pub room : bank_size ≤ g.size new

@@ -6,8 +6,10 @@ ghost use Rattle.tbl_kinds.specs.Blocks.{Store as Blocks};
 ghost use Rattle.tbl_kinds.specs.Places.{bank_size};
 ghost use Rattle.tbl_kinds.specs.StoreSteps.{Shows, open_of};
 ghost use Rattle.cds_layout.specs.Images.{store_of};
+ghost use Rattle.tbl_outside.specs.Bank.{LeavesOnly};
 ghost use Rattle.tbl_outside.specs.Counts.{Still};
-ghost use Rattle.cds_store.specs.Recovery.{Recovers, RecoverCounted};
+ghost use Rattle.cds_store.specs.Moments.{ShowsIn};
+ghost use Rattle.cds_store.specs.Recovery.{Recovers, RecoverCounted, ShowsStill};
 ghost use Rattle.cds_store.specs.Sound.{slot_at, IsOpenOf};
 ghost use Rattle.cds_store.specs.StoreBlocks.{StandsFor};
 
@@ -67,6 +69,11 @@ fn restore_open<B: Bank>(
     requires booted { store.old.booted ≡ true }
     ensures image { IfOk result (λ image. B.tells → (blocks : Blocks) → StandsFor B.tells B.now store.old blocks →
         Recovers kind name.now blocks (option_map (λ v. v.items) image)) }
+    ensures none { IfOk result (λ image. (blocks : Blocks) → StandsFor B.tells B.now store.old blocks →
+        open_of kind name.now blocks ≡ None → option_map (λ v. v.items) image ≡ None) }
+    ensures bytes { B.tells → B.now store.new.bank ≡ B.now store.old.bank }
+    ensures moments { B.tells_moments →
+        LeavesOnly B.clock B.left_since store.old.bank store.new.bank (λ image. image ≡ B.now store.old.bank) }
     ensures still { OnOk result (Still B.faults B.stops store.old.bank store.new.bank) }
     ensures fault { IfErr result (RecoverCounted B.faults B.stops store.old.bank store.new.bank) }
 {
@@ -91,6 +98,11 @@ fn boot_and_restore<B: Bank>(
 ) -> Result<Option<Vec<u8>>, RecoverFault>
     ensures image { IfOk result (λ image. B.tells → (blocks : Blocks) → Shows blocks (store_of (B.now store.old.bank)) →
         Recovers kind name.now blocks (option_map (λ v. v.items) image)) }
+    ensures none { IfOk result (λ image. B.tells → open_of kind name.now (store_of (B.now store.old.bank)) ≡ None →
+        option_map (λ v. v.items) image ≡ None) }
+    ensures left { B.tells → ShowsIn (store_of (B.now store.old.bank)) (B.now store.new.bank) }
+    ensures moments { B.tells_moments →
+        LeavesOnly B.clock B.left_since store.old.bank store.new.bank (ShowsIn (store_of (B.now store.old.bank))) }
     ensures still { OnOk result (Still B.faults B.stops store.old.bank store.new.bank) }
     ensures fault { IfErr result (RecoverCounted B.faults B.stops store.old.bank store.new.bank) }
 {
@@ -103,8 +115,8 @@ fn boot_and_restore<B: Bank>(
 
 /// What the block of this kind and name holds after a reset: a store is made over the bank and booted as after a reset of
 /// the processor, and the open block is restored. Whatever blocks the bank shows, and so also those that a call left which
-/// a reset broke off, an open one comes back as its last completed image, or as one whose copy broke off since. The bank
-/// comes back too.
+/// a reset broke off, an open one comes back as its last completed image, or as one whose copy broke off since. Where the
+/// bank shows none of this kind and name, nothing comes back. The bank comes back too, and can be opened again.
 pub fn recover<B: Bank>(
     alloc: Global,
     bank: B,
@@ -114,6 +126,10 @@ pub fn recover<B: Bank>(
     requires { bank_size ≤ B.size bank }
     ensures image { IfOk result (λ told. B.tells → (blocks : Blocks) → Shows blocks (store_of (B.now bank)) →
         Recovers kind name.now blocks (option_map (λ v. v.items) told.0)) }
+    ensures none { IfOk result (λ told. B.tells → open_of kind name.now (store_of (B.now bank)) ≡ None →
+        option_map (λ v. v.items) told.0 ≡ None) }
+    ensures back { IfOk result (λ told. ShowsStill B.Bank bank told.1) }
+    ensures err { IfErr result (λ back. ShowsStill B.Bank bank back.bank) }
     ensures still { IfOk result (λ told. Still B.faults B.stops bank told.1) }
     ensures fault { IfErr result (λ back. RecoverCounted B.faults B.stops bank back.bank back.cause) }
 {

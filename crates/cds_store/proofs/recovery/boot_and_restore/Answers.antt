@@ -1,10 +1,12 @@
-use Rattle.std.proofs.Common.{subst, inr, refl}
+use Rattle.std.proofs.Common.{sym, subst, inr, refl}
 use Rattle.std.specs.Option.{option_map}
 use Rattle.std.proofs.lemmas.Result.{IfOk-weaker}
 use Rattle.tbl_kinds.specs.Blocks.{Store as Blocks}
+use Rattle.tbl_outside.proofs.Moments.{goes_on, leaves_among}
 use Rattle.cds_layout.specs.Images.{store_of}
+use Rattle.cds_store.specs.Moments.{ShowsIn}
 use Rattle.cds_store.specs.StoreBlocks.{StandsFor}
-use Rattle.cds_store.proofs.Recovered.{booted_alike, shown_recovers}
+use Rattle.cds_store.proofs.Recovered.{booted_alike, of_processor, shown_recovers}
 use Rattle.cds_store.proofs.recovery.boot_and_restore.Goals as goal
 
 pub returns-in-Ok-clause-image : goal.returns-in-Ok-clause-image
@@ -17,3 +19,54 @@ returns-in-Ok-clause-image g c =
     (recovers told (store_of bytes)
     (subst (λ (l : Blocks). StandsFor b.tells b.now c.boot.new.self l) (booted_alike bytes c.in-Ok._found) (c.in-Ok.ensures.ok told (store_of bytes) (inr (told, refl))))))
     c.restore_open.ensures.image
+
+pub returns-in-Ok-clause-none : goal.returns-in-Ok-clause-none
+returns-in-Ok-clause-none g c =
+    let b = g.B.Bank in
+    let bytes = b.now c.args.store.now.bank in
+    IfOk-weaker c.restore_open.result _ _
+    (λ image none told. none (store_of bytes)
+    (subst (λ (l : Blocks). StandsFor b.tells b.now c.boot.new.self l) (booted_alike bytes c.in-Ok._found) (c.in-Ok.ensures.ok told (store_of bytes) (inr (told, refl)))))
+    c.restore_open.ensures.none
+
+pub returns-in-Ok-clause-left : goal.returns-in-Ok-clause-left
+returns-in-Ok-clause-left g c told =
+    let b = g.B.Bank in
+    let blocks = store_of (b.now c.args.store.now.bank) in
+    subst (ShowsIn blocks) (sym (c.restore_open.ensures.bytes told)) (of_processor blocks (b.now c.boot.new.self.bank) (c.boot.ensures.left told blocks (inr (told, refl))))
+
+pub returns-in-Ok-clause-moments : goal.returns-in-Ok-clause-moments
+returns-in-Ok-clause-moments g c m =
+    let b = g.B.Bank in
+    let told = g.met.B.Bank.tells_both m in
+    let blocks = store_of (b.now c.args.store.now.bank) in
+    goes_on
+    (leaves_among (c.boot.ensures.moments m blocks (inr (told, refl))) (of_processor blocks))
+    (c.restore_open.ensures.moments m)
+    (λ image is. subst (ShowsIn blocks) (sym is) (of_processor blocks (b.now c.boot.new.self.bank) (c.boot.ensures.left told blocks (inr (told, refl)))))
+
+pub returns-in-Err-Fault-clause-left : goal.returns-in-Err-Fault-clause-left
+returns-in-Err-Fault-clause-left g c told =
+    let b = g.B.Bank in
+    let blocks = store_of (b.now c.args.store.now.bank) in
+    of_processor blocks (b.now c.boot.new.self.bank) (c.boot.ensures.left told blocks (inr (told, refl)))
+
+pub returns-in-Err-Fault-clause-moments : goal.returns-in-Err-Fault-clause-moments
+returns-in-Err-Fault-clause-moments g c m =
+    let b = g.B.Bank in
+    let told = g.met.B.Bank.tells_both m in
+    let blocks = store_of (b.now c.args.store.now.bank) in
+    leaves_among (c.boot.ensures.moments m blocks (inr (told, refl))) (of_processor blocks)
+
+pub returns-in-Err-Stopped-clause-left : goal.returns-in-Err-Stopped-clause-left
+returns-in-Err-Stopped-clause-left g c told =
+    let b = g.B.Bank in
+    let blocks = store_of (b.now c.args.store.now.bank) in
+    of_processor blocks (b.now c.boot.new.self.bank) (c.boot.ensures.left told blocks (inr (told, refl)))
+
+pub returns-in-Err-Stopped-clause-moments : goal.returns-in-Err-Stopped-clause-moments
+returns-in-Err-Stopped-clause-moments g c m =
+    let b = g.B.Bank in
+    let told = g.met.B.Bank.tells_both m in
+    let blocks = store_of (b.now c.args.store.now.bank) in
+    leaves_among (c.boot.ensures.moments m blocks (inr (told, refl))) (of_processor blocks)
