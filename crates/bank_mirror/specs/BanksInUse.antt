@@ -13,6 +13,13 @@ HoldsAs FirstOut first second = is_stale (length first) second ≡ true
 HoldsAs SecondOut first second = is_stale (length first) second ≡ false
 HoldsAs Unread first second = Unit {0}
 
+-- a bank that is out is as it was and stays out; where the mark had to be read back, so is the first where it is out by that
+abbrev pub LeavesOut : {A B : Type 0} → InUse → Pair A B → Pair A B → InUse → Type 0
+LeavesOut Both old new after = Unit {0}
+LeavesOut FirstOut old new after = (after ≡ FirstOut) × (new.first ≡ old.first)
+LeavesOut SecondOut old new after = (after ≡ SecondOut) × (new.second ≡ old.second)
+LeavesOut Unread old new after = after ≡ FirstOut → new.first ≡ old.first
+
 module _ {A B : Type 0} (a : Ghosts A) (b : Ghosts B) where
   -- the same, where both tell their bytes
   abbrev pub IsHeld : InUse → Pair A B → Type 0

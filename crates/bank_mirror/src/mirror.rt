@@ -8,7 +8,7 @@ ghost use Rattle.bank_mirror.specs.Pairs.{BothTell, BothTellMoments, is_stale, b
 ghost use Rattle.bank_mirror.specs.Moments.{LeftSince};
 ghost use Rattle.bank_mirror.specs.Counts.{SecondFailed, OneFailed, IsSince, MayFail, opening_of};
 ghost use Rattle.bank_mirror.specs.Openings.{OpenCounted};
-ghost use Rattle.bank_mirror.specs.BanksInUse.{IsHeld, IsExcused};
+ghost use Rattle.bank_mirror.specs.BanksInUse.{IsHeld, IsExcused, LeavesOut};
 ghost use Rattle.bank_mirror.specs.Mirrors.{moment_of, LeftSinceOf, faults_of, stops_in, fails, SameOpening};
 
 use crate::banks::Banks;
@@ -203,6 +203,7 @@ impl<A: Bank, B: Bank> Bank for Mirror<A, B> {
         ensures fault { OnErr result (OneFailed A.Bank B.Bank (self.old.pair.first, self.old.pair.second) self.new.pair) }
         ensures cause { OnErr result (MayFail A.Bank B.Bank self.new.mark_failed (opening_of self.new.pair) self.new.pair) }
         ensures opening { SameOpening self.old self.new }
+        ensures out { LeavesOut self.old.in_use self.old.pair self.new.pair self.new.in_use }
     {
         let end = self.banks.read(self.in_use, at, into);
         self.in_use = end.in_use;
@@ -231,6 +232,7 @@ impl<A: Bank, B: Bank> Bank for Mirror<A, B> {
         ensures cause { result ≡ Written.Failed →
             MayFail A.Bank B.Bank self.new.mark_failed (opening_of self.new.pair) self.new.pair }
         ensures opening { SameOpening self.old self.new }
+        ensures out { LeavesOut self.old.in_use self.old.pair self.new.pair self.new.in_use }
     {
         let ended = self.banks.write(self.in_use, at, bytes);
         self.in_use = ended.in_use;

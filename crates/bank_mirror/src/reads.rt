@@ -5,7 +5,7 @@ ghost use Rattle.tbl_kinds.specs.Numbers.{piece};
 ghost use Rattle.bank_mirror.specs.Pairs.{BothTell, BothTellMoments, bytes_of, is_marked, SameBytes};
 ghost use Rattle.bank_mirror.specs.Moments.{Leaves};
 ghost use Rattle.bank_mirror.specs.Counts.{GoesOn, FirstFailed, SecondFailed, OneFailed, SameStops};
-ghost use Rattle.bank_mirror.specs.BanksInUse.{IsHeld, KeepsExcuse, HasCause};
+ghost use Rattle.bank_mirror.specs.BanksInUse.{IsHeld, KeepsExcuse, LeavesOut, HasCause};
 
 use crate::banks::Banks;
 use crate::in_use::InUse;
@@ -33,6 +33,7 @@ impl<A: Bank, B: Bank> Banks<A, B> {
         ensures stops { SameStops A.Bank B.Bank (self.old.first, self.old.second) self.new }
         ensures excuse { KeepsExcuse A.Bank B.Bank in_use self.old self.new result.in_use }
         ensures cause { OnErr result.read (HasCause A.Bank B.Bank in_use self.old self.new) }
+        ensures out { LeavesOut in_use self.old self.new result.in_use }
         ensures goes_on { GoesOn A.Bank B.Bank self.old self.new }
     {
         match in_use {
@@ -63,6 +64,7 @@ impl<A: Bank, B: Bank> Banks<A, B> {
             (λ image. image ≡ bytes_of A.Bank B.Bank self.old) }
         ensures failed { OnErr result (FirstFailed A.Bank B.Bank (self.old.first, self.old.second) self.new) }
         ensures stops { SameStops A.Bank B.Bank (self.old.first, self.old.second) self.new }
+        ensures other { self.new.second ≡ self.old.second }
         ensures goes_on { GoesOn A.Bank B.Bank self.old self.new }
     {
         self.read_first(at, into)
@@ -79,6 +81,7 @@ impl<A: Bank, B: Bank> Banks<A, B> {
             (λ image. image ≡ bytes_of A.Bank B.Bank self.old) }
         ensures failed { OnErr result (SecondFailed A.Bank B.Bank (self.old.first, self.old.second) self.new) }
         ensures stops { SameStops A.Bank B.Bank (self.old.first, self.old.second) self.new }
+        ensures other { self.new.first ≡ self.old.first }
         ensures goes_on { GoesOn A.Bank B.Bank self.old self.new }
     {
         self.read_second(at, into)
@@ -117,6 +120,7 @@ impl<A: Bank, B: Bank> Banks<A, B> {
         ensures stops { SameStops A.Bank B.Bank (self.old.first, self.old.second) self.new }
         ensures excuse { KeepsExcuse A.Bank B.Bank InUse.Unread self.old self.new result.in_use }
         ensures cause { OnErr result.read (HasCause A.Bank B.Bank InUse.Unread self.old self.new) }
+        ensures out { LeavesOut InUse.Unread self.old self.new result.in_use }
         ensures goes_on { GoesOn A.Bank B.Bank self.old self.new }
     {
         match self.first_is_stale() {

@@ -7,7 +7,7 @@ ghost use Rattle.tbl_outside.specs.Counts.{Rose};
 ghost use Rattle.bank_mirror.specs.Pairs.{BothTell, BothTellMoments, bytes_of, front_of, is_marked};
 ghost use Rattle.bank_mirror.specs.Moments.{Leaves};
 ghost use Rattle.bank_mirror.specs.Counts.{GoesOn, WriteCounted};
-ghost use Rattle.bank_mirror.specs.BanksInUse.{IsHeld, KeepsExcuse, ExcusesMarked, HasCause};
+ghost use Rattle.bank_mirror.specs.BanksInUse.{IsHeld, KeepsExcuse, LeavesOut, ExcusesMarked, HasCause};
 
 use crate::banks::{Banks, STALE};
 use crate::in_use::InUse;
@@ -35,6 +35,7 @@ impl<A: Bank, B: Bank> Banks<A, B> {
         ensures counted { WriteCounted A.Bank B.Bank (self.old.first, self.old.second) self.new result.written }
         ensures excuse { KeepsExcuse A.Bank B.Bank in_use self.old self.new result.in_use }
         ensures cause { result.written ≡ Written.Failed → HasCause A.Bank B.Bank in_use self.old self.new }
+        ensures out { LeavesOut in_use self.old self.new result.in_use }
         ensures goes_on { GoesOn A.Bank B.Bank self.old self.new }
     {
         match in_use {
@@ -55,6 +56,7 @@ impl<A: Bank, B: Bank> Banks<A, B> {
             Torn at (length bytes.now) (front_of A.Bank B.Bank self.old) (bytes_of A.Bank B.Bank self.new) }
         ensures held { IsHeld A.Bank B.Bank InUse.FirstOut self.new }
         ensures in_use { result.in_use ≡ InUse.FirstOut }
+        ensures other { self.new.first ≡ self.old.first }
         ensures moments { BothTellMoments A.Bank B.Bank → Leaves A.Bank B.Bank self.old self.new
             (Torn at (length bytes.now) (front_of A.Bank B.Bank self.old)) }
         ensures counted { WriteCounted A.Bank B.Bank (self.old.first, self.old.second) self.new result.written }
@@ -77,6 +79,7 @@ impl<A: Bank, B: Bank> Banks<A, B> {
             Torn at (length bytes.now) (A.now self.old.first) (bytes_of A.Bank B.Bank self.new) }
         ensures held { IsHeld A.Bank B.Bank InUse.SecondOut self.new }
         ensures in_use { result.in_use ≡ InUse.SecondOut }
+        ensures other { self.new.second ≡ self.old.second }
         ensures moments { BothTellMoments A.Bank B.Bank → Leaves A.Bank B.Bank self.old self.new
             (Torn at (length bytes.now) (A.now self.old.first)) }
         ensures counted { WriteCounted A.Bank B.Bank (self.old.first, self.old.second) self.new result.written }
@@ -102,6 +105,7 @@ impl<A: Bank, B: Bank> Banks<A, B> {
         ensures counted { WriteCounted A.Bank B.Bank (self.old.first, self.old.second) self.new result.written }
         ensures excuse { KeepsExcuse A.Bank B.Bank InUse.Unread self.old self.new result.in_use }
         ensures cause { result.written ≡ Written.Failed → HasCause A.Bank B.Bank InUse.Unread self.old self.new }
+        ensures out { LeavesOut InUse.Unread self.old self.new result.in_use }
         ensures goes_on { GoesOn A.Bank B.Bank self.old self.new }
     {
         match self.first_is_stale() {

@@ -1,7 +1,7 @@
-use Rattle.std.proofs.Common.{inl, inr, sym, subst}
+use Rattle.std.proofs.Common.{inl, inr, refl, sym, subst}
 use Rattle.std.proofs.lemmas.Result.{on_err_weaker}
 use Rattle.bank_mirror.specs.declared.in_use.InUse.TheVariants.{FirstOut, SecondOut}
-use Rattle.bank_mirror.specs.BanksInUse.{KeepsExcuse, HasCause}
+use Rattle.bank_mirror.specs.BanksInUse.{KeepsExcuse, LeavesOut, HasCause}
 use Rattle.bank_mirror.proofs.Excuses.{excused_on, first_fails, second_fails, first_out_too, second_out_too}
 use Rattle.bank_mirror.proofs.banks.Banks.read.Goals as goal
 
@@ -72,3 +72,15 @@ returns-in-Unread-clause-cause g c =
     on_err_weaker c.read_unread.result.read
     (λ cause. subst (λ in_use. HasCause g.A.Bank g.B.Bank in_use c.args.self.now c.read_unread.new.self) (sym c.in-Unread.is) cause)
     c.read_unread.ensures.cause
+
+pub returns-in-FirstOut-clause-out : goal.returns-in-FirstOut-clause-out
+returns-in-FirstOut-clause-out g c =
+    subst (λ in_use. LeavesOut in_use c.args.self.now c.read_from_second.new.self FirstOut) (sym c.in-FirstOut.is) (refl, c.read_from_second.ensures.other)
+
+pub returns-in-SecondOut-clause-out : goal.returns-in-SecondOut-clause-out
+returns-in-SecondOut-clause-out g c =
+    subst (λ in_use. LeavesOut in_use c.args.self.now c.read_from_first.new.self SecondOut) (sym c.in-SecondOut.is) (refl, c.read_from_first.ensures.other)
+
+pub returns-in-Unread-clause-out : goal.returns-in-Unread-clause-out
+returns-in-Unread-clause-out g c =
+    subst (λ in_use. LeavesOut in_use c.args.self.now c.read_unread.new.self c.read_unread.result.in_use) (sym c.in-Unread.is) c.read_unread.ensures.out

@@ -5,6 +5,7 @@ use Rattle.tbl_outside.specs.Bank.{LeavesOnly}
 use Rattle.tbl_outside.specs.Counts.{Still, RoseAlone, risen}
 use Rattle.bank_mirror.specs.Pairs.{bytes_of}
 use Rattle.bank_mirror.specs.Counts.{OneFailed}
+use Rattle.bank_mirror.specs.BanksInUse.{LeavesOut}
 use Rattle.bank_mirror.specs.Mirrors.{Mirrored, moment_of, LeftSinceOf, faults_of, stops_in}
 use Rattle.bank_mirror.proofs.Answering.{read_done, read_failed, stops_grow, of_pairs, mirror_on, has_cause}
 use Rattle.bank_mirror.proofs.mirror.MirrorBank.read_at.Goals as goal
@@ -67,3 +68,7 @@ returns-clause-failed g c =
     let new : Mirrored _ _ = record { pair = c.read-end.new.self; in_use = c.read-end.result.in_use; mark_failed = c.self.inside.mark_failed; faults = c.counted-self-inside.result } in
     subst (λ (was : Mirrored _ _). OnErr c.read-end.result.read (RoseAlone faults_of (stops_in a b) was new)) c.self.view_is
     (read_failed a b old new c.read-end.result.read c.read-end.ensures.stops (c.counted-self-inside.ensures ∙ ap (λ failed. if failed then risen old.faults else old.faults) c.is_err.ensures.value))
+
+pub returns-clause-out : goal.returns-clause-out
+returns-clause-out g c =
+    subst (λ (was : Mirrored _ _). LeavesOut was.in_use was.pair c.read-end.new.self c.read-end.result.in_use) c.self.view_is c.read-end.ensures.out

@@ -4,6 +4,7 @@ use Rattle.tbl_outside.specs.Bank.{Torn, LeavesOnly}
 use Rattle.tbl_outside.specs.Counts.{Counted, risen}
 use Rattle.bank_mirror.specs.Pairs.{bytes_of}
 use Rattle.bank_mirror.specs.Counts.{WriteCounted, OneFailed}
+use Rattle.bank_mirror.specs.BanksInUse.{LeavesOut}
 use Rattle.bank_mirror.specs.Mirrors.{Mirrored, moment_of, LeftSinceOf, faults_of, stops_in}
 use Rattle.bank_mirror.proofs.Answering.{write_counted, stops_grow, of_pairs, mirror_on, has_cause}
 use Rattle.bank_mirror.proofs.mirror.MirrorBank.write_at.Goals as goal
@@ -59,3 +60,7 @@ returns-clause-cause g c failed =
     let old : Mirrored _ _ = record { pair = c.self.inside.banks; in_use = c.self.inside.in_use; mark_failed = c.self.inside.mark_failed; faults = c.self.inside.faults } in
     let new : Mirrored _ _ = record { pair = c.write-ended.new.self; in_use = c.write-ended.result.in_use; mark_failed = c.self.inside.mark_failed; faults = c.counted-self-inside.result } in
     has_cause a b old new.pair c.self.invariant c.write-ended.ensures.goes_on (c.write-ended.ensures.cause failed)
+
+pub returns-clause-out : goal.returns-clause-out
+returns-clause-out g c =
+    subst (λ (was : Mirrored _ _). LeavesOut was.in_use was.pair c.write-ended.new.self c.write-ended.result.in_use) c.self.view_is c.write-ended.ensures.out
