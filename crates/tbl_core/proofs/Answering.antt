@@ -1,5 +1,6 @@
 -- A request was made in which no call of the store was stopped, and its entry has what it did.
-use Rattle.std.proofs.Common.{◌≡◌, ◌==◌, ℕ, [], Bool, true, false, Option, refl, ap, subst, arith, inl}
+use Rattle.std.proofs.Common.{◌≡◌, ◌==◌, [], Bool, true, false, Option, Result, Ok, Err, refl, ap, subst, arith, inl}
+use Rattle.std.specs.Result.{is_err}
 use Rattle.std.proofs.lemmas.Bool.{eqb-true}
 use Rattle.tbl_kinds.specs.Notes.{untouched}
 use Rattle.tbl_kinds.specs.Blocks.{Store as Blocks}
@@ -10,19 +11,18 @@ use Rattle.tbl_kinds.specs.declared.status.TheConstants.Status.{INFO_STOPPED}
 use Rattle.tbl_model.specs.State.{State}
 use Rattle.tbl_model.specs.Effects as model
 use Rattle.tbl_model.specs.Given.{Given}
-use Rattle.tbl_model.specs.Fit.{AreFit}
 use Rattle.tbl_model.specs.BankCounts.{HasCause}
 use Rattle.tbl_model.specs.Dispatch.{effect_of}
 use Rattle.tbl_kinds.specs.declared.request.Request.{Request}
 use Rattle.cds_store.specs.StoreBlocks.{StandsFor as HasBlocks}
 use Rattle.tbl_session.specs.Crashes.{DuringCalls}
 use Rattle.store_requests.specs.Called.{Leaving}
-use Rattle.request_effects.specs.Reports.{nothing_reported}
+use Rattle.request_effects.specs.Reports.{Reported, nothing_reported}
 use Rattle.request_effects.specs.Effects.{Effect, told_at}
 use Rattle.reply_packets.specs.Telling.{Tells}
-use Rattle.tbl_core.specs.Answers.{Moment, effect_in, Answers}
+use Rattle.tbl_core.specs.Answers.{Moment, effect_in, Answers, Answered}
 use Rattle.tbl_core.specs.Numbers.{AreCounts}
-use Rattle.tbl_core.specs.Service.{PartsView, state_of, step_of, Does, Makes, Meets, IsMade}
+use Rattle.tbl_core.specs.Service.{PartsView, step_of, AreReady, Does, Makes, Meets, IsMade}
 use Rattle.tbl_core.proofs.BootedAfter.{is_made}
 use Rattle.tbl_core.proofs.Nothing.{IsSilent, nothing_told}
 use Rattle.tbl_core.proofs.TableRequests.{table_makes, table_meets}
@@ -52,14 +52,14 @@ module _ {B C : Type 0} (g : Ghosts B) (v : ValidatorGhosts C) (old new : PartsV
 module _ {B C : Type 0} (g : Ghosts B) (v : ValidatorGhosts C) (old new : Moment B C)
     (same_actor : new.entry.actor ≡ old.entry.actor) (same_request : new.entry.request ≡ old.entry.request) (silent : IsSilent new.entry.request)
     (does : Does v 0 old.parts new.parts (λ s given. effect_of s new.entry.actor new.entry.request given) (effect_in new.entry nothing_reported))
-    (live : old.parts.ended ≡ false) (so_many : ℕ) (fits : AreFit so_many (state_of old.parts)) (booted : old.parts.store.booted ≡ true)
+    (ready : AreReady v old.parts)
     (moved : g.tells → (blocks : Blocks) → HasBlocks g.tells g.now old.parts.store blocks → Leaving g old.parts.store new.parts.store (DuringCalls [] blocks))
     (no_packets : new.entry.reply.packets.list ≡ []) (same_counts : new.counts ≡ old.counts) (are : AreCounts old.counts) where
   makes : Makes g v new.entry.request old.parts new.parts (effect_in new.entry nothing_reported)
-  makes = table_makes g v 0 old.parts new.parts new.entry.actor new.entry.request (effect_in new.entry nothing_reported) does (omega arith) live so_many fits booted silent.no_reset
+  makes = table_makes g v 0 old.parts new.parts new.entry.actor new.entry.request (effect_in new.entry nothing_reported) does (omega arith) ready silent.no_reset
 
   meets : Meets g v (step_of old.parts new.parts new.entry.request) (λ s given. effect_of s new.entry.actor new.entry.request given) (effect_in new.entry nothing_reported)
-  meets = table_meets g v 0 old.parts new.parts new.entry.actor new.entry.request (effect_in new.entry nothing_reported) does (omega arith) live so_many fits moved silent.no_reset
+  meets = table_meets g v 0 old.parts new.parts new.entry.actor new.entry.request (effect_in new.entry nothing_reported) does (omega arith) ready moved silent.no_reset
 
   told : Tells old.counts new.counts (told_at old.parts.seconds old.parts.sub new.parts.tables new.entry.request (effect_in new.entry nothing_reported)) new.entry.reply.packets.list
   told = rw (no_packets, same_counts)
@@ -73,3 +73,8 @@ module _ {B C : Type 0} (g : Ghosts B) (v : ValidatorGhosts C) (old new : Moment
     told = told;
     small = record { bytes = does.within.bytes; packets = rw no_packets (omega arith) };
   }
+
+-- what holds where a request was answered
+pub when_answered : {B C E : Type 0} (g : Ghosts B) (v : ValidatorGhosts C) (old new : Moment B C) (report : Reported) (r : Result Unit E) → false ≡ is_err r → Answered g v old new report r → Answers g v old new report
+when_answered g v old new report (Ok x) is answers = answers
+when_answered g v old new report (Err e) is kept = absurd (cc is)

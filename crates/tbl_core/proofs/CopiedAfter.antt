@@ -41,7 +41,7 @@ use Rattle.store_requests.specs.Called.{with_boot}
 use Rattle.tbl_session.specs.Restores.{RestoresHeld}
 use Rattle.request_effects.specs.Effects.{IsEffect, given_of}
 use Rattle.tbl_core.specs.Owned.{owned_effect, owned_at}
-use Rattle.tbl_core.specs.Service.{PartsView, IsStateOf, state_of, step_of, DoesAndCopies, Has, HasEffect, Makes, Meets}
+use Rattle.tbl_core.specs.Service.{PartsView, IsStateOf, state_of, step_of, DoesAndCopies, Has, HasEffect, Makes, Meets, AreReady}
 use Rattle.tbl_core.specs.Verdicts.{Judged}
 use Rattle.cds_store.specs.StoreBlocks.{StandsFor as HasBlocks}
 use Rattle.request_effects.specs.Effects.{Effect}
@@ -123,7 +123,7 @@ module _ (s : State) (row : ℕ) (one other : BankNote) (verdicts : List (Option
 
 module _ {B C : Type 0} (g : Ghosts B) (v : ValidatorGhosts C) (old new : PartsView B C) (actor : Actor) (request : Request) (row : ℕ) (done : Effect)
     (does : DoesAndCopies g v old new row request done)
-    (can : activates request ≡ true) (live : old.ended ≡ false) (so_many : ℕ) (fits : AreFit so_many (state_of old))
+    (can : activates request ≡ true) (ready : AreReady v old)
     (taken : (s : State) → IsStateOf s.store old s → (given : Given) → effect_of s actor request given ≡ option_map (then_copy row given.note) (owned_at (table_at s.tables row) s row request given)) where
   mid : PartsView B C
   mid = record new { store = old.store }
@@ -137,10 +137,10 @@ module _ {B C : Type 0} (g : Ghosts B) (v : ValidatorGhosts C) (old new : PartsV
   whole = taken (state_of old) (stands_in old) (given_of does.before) ∙ ap (option_map (then_copy row does.before.note)) left.1 ∙ ap (λ (e : model.Effect). Some e) (uncopied row does.before.note left.0 left.3.store)
 
   ordinary_left : (n : ℕ) → AreFit n (state_of old) → IsOrdinary n does.before.note left.0
-  ordinary_left n fit = subst (OfEffect (IsOrdinary n does.before.note)) whole (ordinary (state_of old) n live fit actor request (given_of does.before))
+  ordinary_left n fit = subst (OfEffect (IsOrdinary n does.before.note)) whole (ordinary (state_of old) n ready.live fit actor request (given_of does.before))
 
   goes : new.ended ≡ false
-  goes = sym left.3.ended ∙ (ordinary_left so_many fits).live (rw does.does.note refl)
+  goes = sym left.3.ended ∙ (ordinary_left ready.fit.0 ready.fit.1).live (rw does.does.note refl)
 
   -- what was answered before the copy tells of no trouble
   quiet : HasCause does.before.answer.status untouched
@@ -165,7 +165,7 @@ module _ {B C : Type 0} (g : Ghosts B) (v : ValidatorGhosts C) (old new : PartsV
   pins has =
       let noted : IsNoteOf request left.0.calls [] does.before.note = subst (λ (note : BankNote). IsNoteOf request left.0.calls [] note) (sym does.does.note) (subst (λ (calls : List StoreCall). IsNoteOf request calls [] untouched) (sym left.2.calls) (may_be_untouched request [] (activates_no_reset request can))) in
       let on : HaveImages new.tables × PinsGoOn old.tables new.tables request left.0.status = subst (λ (tables : Tables). HaveImages tables × PinsGoOn old.tables tables request left.0.status) left.3.tables
-      (law_pins (state_of old) so_many fits has actor request (given_of does.before) left.0 whole noted) in
+      (law_pins (state_of old) ready.fit.0 ready.fit.1 has actor request (given_of does.before) left.0 whole noted) in
       (on.0, pins_with old.tables new.tables request left.0.status done.answer.status (activates_no_get request can) on.1)
 
   pub copies_makes : Makes g v request old new done
@@ -207,7 +207,7 @@ module _ {B C : Type 0} (g : Ghosts B) (v : ValidatorGhosts C) (old new : PartsV
         sub = found.3.sub;
         ended = found.3.ended;
       } in
-      let c = does.copied told e found.2 found.3.tables (subst (λ (blocks : Blocks). HasBlocks g.tells g.now old.store blocks) (sym found.3.store) (holds.blocks live)) follows.ended follows.stopped follows.found in
+      let c = does.copied told e found.2 found.3.tables (subst (λ (blocks : Blocks). HasBlocks g.tells g.now old.store blocks) (sym found.3.store) (holds.blocks ready.live)) follows.ended follows.stopped follows.found in
       subst (Has g v (step_of old new request) s done note) (sym means)
       (subst (λ (n : BankNote). HasEffect g v (step_of old new request) s done n (then_copy row n e)) (sym follows.is)
       (has_called g v old new request done plain does.call.no_boot s e.next e.questions (then_copy row n e) follows.ended follows.stopped follows.found (λ goes. sym follows.is ∙ follows.same goes) c

@@ -171,15 +171,6 @@ pub on_ok : {X Y : Type 0} (P : Type 0) (r : Result X Y) → OnOk r P → IfOk r
 on_ok P (Ok x) p = p
 on_ok P (Err y) p = tt
 
-pub on_ok_then : {X Y P Q : Type 0} (r : Result X Y) → (P → Q) → OnOk r P → OnOk r Q
-on_ok_then (Ok x) then p = then p
-on_ok_then (Err y) then p = tt
-
--- and it holds where it was done
-pub when_ok : {X Y P : Type 0} (r : Result X Y) → false ≡ is_err r → OnOk r P → P
-when_ok (Ok x) is p = p
-when_ok (Err y) is p = absurd (cc is)
-
 -- what a result that is Ok ensures, as an argument
 pub by_ok : {X Y P Q : Type 0} (r : Result X Y) → false ≡ is_err r → OnOk r P → (P → Q) → Q
 by_ok (Ok x) is p next = next p

@@ -10,7 +10,7 @@ use Rattle.tbl_model.specs.Fit.{IsFit, FitAt, owner_at}
 use Rattle.tbl_outside.specs.declared.validator.KitEntry.{KitEntry}
 use Rattle.validation.specs.Kits.{entry_at, owners, MayAskEach}
 use Rattle.validation.specs.Ready.{CanBeJudged, HaveFunctions}
-use Rattle.tbl_core.specs.Service.{CoreView, IsReady, MayPlay}
+use Rattle.tbl_core.specs.Service.{CoreView, IsReady, AreReady}
 use Rattle.table_requests.specs.Limits.{AreCounted, AreSendable}
 use Rattle.tbl_outside.specs.declared.validator.Validator.{Ghosts as ValidatorGhosts}
 
@@ -57,13 +57,17 @@ module _ {B C : Type 0} (v : ValidatorGhosts C) (core : CoreView B C) (ready : I
   can row active None at pending = absurd (cc (pending, subst (FitAt (length core.entries) (owners core.state.kit) core.state.pending core.state.tables.handles row) at (ready.fit.each row) active))
   can row active (Some t) at pending = (rw at cc, λ u is. let same : t ≡ u = cc (at, is) in (of_row row u is).pends active pending)
 
-  pub may_play : core.state.ended ≡ false → MayPlay v core.state
-  may_play live = record {
-    booted = rw (ready.booted, live) refl;
-    counted = counted;
-    notices = notices;
-    functions = functions;
-    few = few;
-    pending = λ row active pending. can row active (table_at core.state.tables row) refl pending;
-    loads = λ row t is asks. open_load t ((of_row row t is).checked asks);
+  pub are_ready : core.state.ended ≡ false → AreReady v core.state
+  are_ready live = record {
+    relied = record {
+      booted = rw (ready.booted, live) refl;
+      counted = counted;
+      notices = notices;
+      functions = functions;
+      few = few;
+      pending = λ row active pending. can row active (table_at core.state.tables row) refl pending;
+      loads = λ row t is asks. open_load t ((of_row row t is).checked asks);
+    };
+    fit = (length core.entries, ready.fit);
+    live = live;
   }

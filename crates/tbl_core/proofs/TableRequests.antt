@@ -1,5 +1,5 @@
 -- A request about tables was made: the parts stand for the state that it leaves, over the same blocks.
-use Rattle.std.proofs.Common.{◌≡◌, ◌≤◌, ◌∙◌, ℕ, suc, List, [], true, false, Option, Some, None, ℤ, refl, sym, ap, subst, inl, arith}
+use Rattle.std.proofs.Common.{◌≡◌, ◌≤◌, ◌∙◌, ℕ, suc, List, [], false, Option, Some, None, ℤ, refl, sym, ap, subst, inl, arith}
 use Rattle.tbl_kinds.specs.Notes.{untouched}
 use Rattle.tbl_kinds.specs.Blocks.{Store as Blocks}
 use Rattle.tbl_kinds.specs.StoreCalls.{StoreCall}
@@ -28,7 +28,7 @@ use Rattle.cds_layout.specs.Images.{store_of}
 use Rattle.store_requests.specs.Called.{Leaving, boots_after}
 use Rattle.tbl_session.specs.Restores.{RestoresHeld}
 use Rattle.request_effects.specs.Effects.{IsEffect, given_of}
-use Rattle.tbl_core.specs.Service.{PartsView, IsStateOf, state_of, step_of, Leaves, IsJudged, Does, HasEffect, Has, Makes, Meets}
+use Rattle.tbl_core.specs.Service.{PartsView, IsStateOf, state_of, step_of, Leaves, IsJudged, Does, HasEffect, Has, Makes, Meets, AreReady}
 use Rattle.tbl_core.specs.Verdicts.{Judged}
 use Rattle.request_effects.specs.Effects.{Effect}
 use Rattle.tbl_outside.specs.declared.bank.Bank.{Ghosts}
@@ -72,16 +72,16 @@ pub judged_there : {C : Type 0} (v : ValidatorGhosts C) (old new : List (Option 
 judged_there v old new verdicts found e is asks = subst (IsJudged v old new verdicts) is asks
 
 module _ {B C : Type 0} (g : Ghosts B) (v : ValidatorGhosts C) (most : ℕ) (old new : PartsView B C) (actor : Actor) (request : Request) (done : Effect)
-    (does : Does v most old new (λ s given. effect_of s actor request given) done) (few_enough : most ≤ 8) (live : old.ended ≡ false) (so_many : ℕ) (fits : AreFit so_many (state_of old)) where
+    (does : Does v most old new (λ s given. effect_of s actor request given) done) (few_enough : most ≤ 8) (ready : AreReady v old) where
   -- without blocks
   left : (e : model.Effect) × (effect_of (state_of old) actor request (given_of done) ≡ Some e) × (IsEffect done e.questions e.next e) × (IsStateOf [] new e.next)
   left = effect_left [] done new _ (does.effect (state_of old) (stands_in old))
 
   ordinary_left : (n : ℕ) → AreFit n (state_of old) → IsOrdinary n done.note left.0
-  ordinary_left n fit = subst (OfEffect (IsOrdinary n done.note)) left.1 (ordinary (state_of old) n live fit actor request (given_of done))
+  ordinary_left n fit = subst (OfEffect (IsOrdinary n done.note)) left.1 (ordinary (state_of old) n ready.live fit actor request (given_of done))
 
   goes : new.ended ≡ false
-  goes = sym left.3.ended ∙ (ordinary_left so_many fits).live (rw does.note refl)
+  goes = sym left.3.ended ∙ (ordinary_left ready.fit.0 ready.fit.1).live (rw does.note refl)
 
   -- the pins that it leaves
   pins : is_reset request ≡ false → HaveImages old.tables → HaveImages new.tables × PinsGoOn old.tables new.tables request done.answer.status
@@ -89,15 +89,15 @@ module _ {B C : Type 0} (g : Ghosts B) (v : ValidatorGhosts C) (most : ℕ) (old
       let noted : IsNoteOf request left.0.calls [] done.note = subst (λ (note : BankNote). IsNoteOf request left.0.calls [] note) (sym does.note) (subst (λ (calls : List StoreCall). IsNoteOf request calls [] untouched) (sym left.2.calls) (may_be_untouched request [] plain)) in
       subst (λ (tables : Tables). HaveImages tables × PinsGoOn old.tables tables request done.answer.status) left.3.tables
       (subst (λ (status : Status). HaveImages left.0.next.tables × PinsGoOn old.tables left.0.next.tables request status) left.2.status
-      (law_pins (state_of old) so_many fits has actor request (given_of done) left.0 left.1 noted))
+      (law_pins (state_of old) ready.fit.0 ready.fit.1 has actor request (given_of done) left.0 left.1 noted))
 
-  pub table_makes : old.store.booted ≡ true → is_reset request ≡ false → Makes g v request old new done
-  table_makes booted plain = record {
+  pub table_makes : is_reset request ≡ false → Makes g v request old new done
+  table_makes plain = record {
     fit = λ n fit. fit_without (suc n) [] (state_of new) (subst (AreFit (suc n)) (state_is new [] left.0.next left.3) (ordinary_left n fit).fit);
     judged = (left.0.questions, judged_there v old.kit new.kit done.verdicts _ left.0 left.1 (does.judged (state_of old) (stands_in old)));
     two = does.two;
     within = let few = does.within.events in record { events = omega (arith, few, few_enough); notice = does.within.notice; bytes = does.within.bytes };
-    booted = rw (does.store, booted, goes) refl;
+    booted = rw (does.store, ready.relied.booted, goes) refl;
     ended = rw (goes, does.note) refl;
     stopped = rw does.note (λ is. absurd (cc is));
     trouble = rw (does.store, does.note) (record { fault_count = omega arith; stop_count = omega arith; fault = inl (omega arith); stop = inl (omega arith); no_fault = λ none. refl; no_stop = λ none. refl });
@@ -115,7 +115,7 @@ module _ {B C : Type 0} (g : Ghosts B) (v : ValidatorGhosts C) (most : ℕ) (old
         before = found.0.next;
         holds = record {
           parts = subst (λ (blocks : Blocks). IsStateOf blocks new found.0.next) (sym found.3.store) found.3;
-          blocks = λ is. subst (λ (kept : StoreParts B). HasBlocks g.tells g.now kept found.0.next.store) (sym does.store) (subst (λ (blocks : Blocks). HasBlocks g.tells g.now old.store blocks) (sym found.3.store) (holds.blocks live));
+          blocks = λ is. subst (λ (kept : StoreParts B). HasBlocks g.tells g.now kept found.0.next.store) (sym does.store) (subst (λ (blocks : Blocks). HasBlocks g.tells g.now old.store blocks) (sym found.3.store) (holds.blocks ready.live));
         };
         effect = record {
           status = found.2.status;
@@ -133,7 +133,7 @@ module _ {B C : Type 0} (g : Ghosts B) (v : ValidatorGhosts C) (most : ℕ) (old
         gave = subst (λ (calls : List StoreCall). RestoresHeld (g.now old.store.bank) calls s.store done.note) (sym found.2.calls) tt;
         left = λ stop. absurd (cc (stop, does.note));
         writing = λ stop. absurd (cc (stop, does.note));
-        moments = λ m. leaves_among (moved told s.store (holds.blocks live) m) (λ image during. inl (subst (λ (calls : List StoreCall). DuringCalls (writes calls) s.store (store_of image)) (sym found.2.calls) during));
+        moments = λ m. leaves_among (moved told s.store (holds.blocks ready.live) m) (λ image during. inl (subst (λ (calls : List StoreCall). DuringCalls (writes calls) s.store (store_of image)) (sym found.2.calls) during));
         noted = λ _. subst (IsNoteOf request found.0.calls s.store) noted (subst (λ (calls : List StoreCall). IsNoteOf request calls s.store untouched) (sym found.2.calls) (may_be_untouched request s.store plain));
       } in
       subst (λ (n : BankNote). Has g v (step_of old new request) s done n (effect_of s actor request (record { note = n; verdicts = done.verdicts }))) (sym same)

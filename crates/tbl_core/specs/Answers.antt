@@ -1,27 +1,33 @@
 -- What becomes of an entry, from its request to its packets.
-use Rattle.std.specs.Prelude.{◌≡◌, ◌≤◌, []}
+use Rattle.std.specs.Prelude.{◌≡◌, ◌≤◌, [], Result, Ok, Err}
 use Rattle.tbl_kinds.specs.Given.{nothing_given}
 use Rattle.tbl_model.specs.Counts.{Counts}
 use Rattle.tbl_model.specs.Dispatch.{effect_of}
 use Rattle.tbl_kinds.specs.declared.entry.Entry.{Entry}
+use Rattle.tbl_kinds.specs.declared.entry.Reply.{Reply}
 use Rattle.request_effects.specs.Reports.{Reported}
 use Rattle.request_effects.specs.Effects.{Effect, told_at}
 use Rattle.reply_packets.specs.Counters.{counts_view}
 use Rattle.reply_packets.specs.Telling.{Tells}
 use Rattle.reply_packets.specs.declared.counters.Counters.{Counters}
 use Rattle.tbl_core.specs.Log.{IsSmall}
-use Rattle.tbl_core.specs.Service.{PartsView, parts_view, step_of, IsMade}
+use Rattle.tbl_core.specs.Numbers.{AreCounts}
+use Rattle.tbl_core.specs.Service.{PartsView, parts_view, step_of, AreReady, IsMade}
 use Rattle.tbl_core.specs.declared.parts.Parts.{Parts}
 use Rattle.tbl_outside.specs.declared.bank.Bank.{Ghosts}
 use Rattle.tbl_outside.specs.declared.validator.Validator.{Ghosts as ValidatorGhosts}
 
 -- ---- an entry
 
--- nothing is answered to its request yet, and there is room for one event packet
+-- no bytes and no packets stand in it yet, and there is room for one event packet
+pub record IsEmptyReply (reply : Reply) : Type 0 where
+  pub no_bytes : reply.bytes.list ≡ []
+  pub no_packets : reply.packets.list ≡ []
+  pub one_packet : 24 ≤ reply.packets.spare
+
+-- nothing is answered to its request yet
 pub record IsBegun (e : Entry) : Type 0 where
-  pub no_bytes : e.reply.bytes.list ≡ []
-  pub no_packets : e.reply.packets.list ≡ []
-  pub one_packet : 24 ≤ e.reply.packets.spare
+  pub reply : IsEmptyReply e.reply
   pub nothing : e.given ≡ nothing_given
 
 -- the effect that an entry and its report have
@@ -51,6 +57,12 @@ moment_at parts counts entry = record { parts = parts; counts = counts; entry = 
 abbrev pub moment_of : {B C : Type 0} → Parts B C → Counters → Entry → Moment B C
 moment_of parts counters entry = moment_at (parts_view parts) (counts_view counters) entry
 
+-- the request of the entry can be answered: nothing is answered to it yet, the parts are ready, and no running number is too great
+pub record CanAnswer {B C : Type 0} (v : ValidatorGhosts C) (now : Moment B C) : Type 0 where
+  pub begun : IsBegun now.entry
+  pub ready : AreReady v now.parts
+  pub numbers : AreCounts now.counts
+
 -- the request of the entry was made, and the entry has what it did and how it is told, with this report
 pub record Answers {B C : Type 0} (g : Ghosts B) (v : ValidatorGhosts C) (old new : Moment B C) (report : Reported) : Type 0 where
   pub actor_is : new.entry.actor ≡ old.entry.actor
@@ -58,3 +70,8 @@ pub record Answers {B C : Type 0} (g : Ghosts B) (v : ValidatorGhosts C) (old ne
   pub made : IsMade g v (step_of old.parts new.parts new.entry.request) (λ s given. effect_of s new.entry.actor new.entry.request given) (effect_in new.entry report)
   pub told : Tells old.counts new.counts (told_at old.parts.seconds old.parts.sub new.parts.tables new.entry.request (effect_in new.entry report)) new.entry.reply.packets.list
   pub small : IsSmall new.entry
+
+-- and where memory ran out, the parts and what is counted are as they were
+abbrev pub Answered : {B C E : Type 0} → Ghosts B → ValidatorGhosts C → Moment B C → Moment B C → Reported → Result Unit E → Type 0
+Answered g v old new report (Ok x) = Answers g v old new report
+Answered g v old new report (Err e) = (new.parts ≡ old.parts) × (new.counts ≡ old.counts)

@@ -180,6 +180,12 @@ pub record MayPlay {B C : Type 0} (v : ValidatorGhosts C) (held : PartsView B C)
   pub pending : ArePending held.tables held.pending
   pub loads : HaveLoads held.tables
 
+-- the parts are ready for a request: it may rely on them so, their state is fit, and the service hasn't ended
+pub record AreReady {B C : Type 0} (v : ValidatorGhosts C) (held : PartsView B C) : Type 0 where
+  pub relied : MayPlay v held
+  pub fit : (so_many : ℕ) × AreFit so_many (state_of held)
+  pub live : held.ended ≡ false
+
 -- ---- what a step does
 
 -- a request, with the parts before and after it

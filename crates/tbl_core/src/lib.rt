@@ -6,6 +6,8 @@ mod dispatch;
 mod log;
 mod parts;
 mod playing;
+mod quiet;
 mod service;
+mod storing;
 
 pub use service::{Core, StartFault, StepFault};

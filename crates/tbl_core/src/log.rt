@@ -1,17 +1,15 @@
 //! The history, and where in it addresses were got.
 
-ghost use Rattle.std.specs.Prelude.{◌≡◌, ◌<◌, ◌||◌, ◌==◌, ◌∷◌, [], ◌++◌, ℕ, length, replicate, false, Err, IfOk, OnOk, OnErr, All, vec_capacity, if◌then◌else◌, slice_set};
+ghost use Rattle.std.specs.Prelude.{◌≡◌, ◌<◌, ◌||◌, ◌==◌, ◌∷◌, [], ◌++◌, length, replicate, Err, IfOk, OnOk, OnErr, All, vec_capacity, if◌then◌else◌, slice_set};
 ghost use Rattle.tbl_kinds.specs.Records.{record_limit};
 ghost use Rattle.tbl_kinds.specs.Requests.{Fits};
 ghost use Rattle.tbl_model.specs.Whole.{is_done};
-ghost use Rattle.tbl_model.specs.Fit.{AreFit};
 ghost use Rattle.reply_packets.specs.Counters.{counts_view};
-ghost use Rattle.tbl_core.specs.Numbers.{AreCounts};
 ghost use Rattle.tbl_core.specs.Log.{IsSmall, IsEntered};
 ghost use Rattle.tbl_core.specs.Pins.{place_in, gets_after};
 ghost use Rattle.tbl_core.specs.Ended.{OnPlayed, session_end};
-ghost use Rattle.tbl_core.specs.Answers.{IsBegun, Answers, moment_of};
-ghost use Rattle.tbl_core.specs.Service.{MayPlay, parts_view, state_of};
+ghost use Rattle.tbl_core.specs.Answers.{Answers, moment_of, CanAnswer};
+ghost use Rattle.tbl_core.specs.Service.{parts_view};
 
 use crate::boots::session_end;
 use crate::parts::Parts;
@@ -85,11 +83,7 @@ fn push_answered<B: Bank, C: Validator>(
 ) -> Result<(), Memory>
     requires room { length entries.old.items < vec_capacity entries.old }
     requires fits { Fits begun.actor begun.request }
-    requires begun { IsBegun begun }
-    requires ready { MayPlay C.Validator (parts_view parts.old) }
-    requires fit { (so_many : ℕ) × AreFit so_many (state_of (parts_view parts.old)) }
-    requires live { parts.old.ended ≡ false }
-    requires numbers { AreCounts (counts_view counters.old) }
+    requires stands { CanAnswer C.Validator (moment_of parts.old counters.old begun) }
     ensures answered { OnOk result ((e : Entry) × (entries.new.items ≡ entries.old.items ++ e ∷ [])
         × Answers B.Bank C.Validator (moment_of parts.old counters.old begun) (moment_of parts.new counters.new e) parts.new.report) }
     ensures err_entries { OnErr result (entries.new.items ≡ entries.old.items) }
@@ -153,7 +147,7 @@ impl Log {
         Ok(())
     }
 
-    /// Adds an entry.
+    /// Adds an entry that was answered beside the log, as that of a Read whose bytes were lent is.
     pub(crate) fn enter(&mut self, entry: Entry)
         requires room { 0 < self.old.spare }
         requires few { length self.old.entries < record_limit }
@@ -165,8 +159,8 @@ impl Log {
         self.entries.push_reserved(entry);
     }
 
-    /// Enters a request to which nothing is answered yet, and has it answered where its entry stands, which is never copied. If
-    /// memory runs out, it is taken back.
+    /// Enters a request to which nothing is answered yet, and has it answered where its entry stands. If memory runs out, it is
+    /// taken back.
     #[inline(always)]
     pub(crate) fn enter_answered<B: Bank, C: Validator>(
         &mut self,
@@ -177,11 +171,7 @@ impl Log {
         requires room { 0 < self.old.spare }
         requires few { length self.old.entries < record_limit }
         requires fits { Fits begun.actor begun.request }
-        requires begun { IsBegun begun }
-        requires ready { MayPlay C.Validator (parts_view parts.old) }
-        requires fit { (so_many : ℕ) × AreFit so_many (state_of (parts_view parts.old)) }
-        requires live { parts.old.ended ≡ false }
-        requires numbers { AreCounts (counts_view counters.old) }
+        requires stands { CanAnswer C.Validator (moment_of parts.old counters.old begun) }
         ensures answered { OnPlayed result ((e : Entry) × IsEntered self.old self.new e × (result ≡ session_end e.given.note)
             × Answers B.Bank C.Validator (moment_of parts.old counters.old begun) (moment_of parts.new counters.new e) parts.new.report) }
         ensures err_entries { result ≡ Err StepFault.Memory → self.new.entries ≡ self.old.entries }

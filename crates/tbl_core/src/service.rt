@@ -25,6 +25,7 @@ ghost use Rattle.tbl_outside.specs.Counts.{Still};
 ghost use Rattle.tbl_outside.specs.declared.validator.KitEntry.{KitEntry as Function};
 ghost use Rattle.tbl_registry.specs.Lending.{pins_image, lent_at};
 ghost use Rattle.tbl_core.specs.Pins.{place_in, IsSliceOf};
+ghost use Rattle.tbl_core.specs.declared.service.StartFault.TheVariants.{Memory as NoMemory};
 ghost use Rattle.tbl_core.specs.Service.{FollowsFrom, Vouches, AskedBelow, AddsOne, PinsOnward, IsOfPin, start_fault, StartCounted};
 ghost use Rattle.tbl_core.specs.Verdicts.{Judged};
 ghost use Rattle.tbl_session.specs.Verdicts.{questions_in, KeepsToFunctions};
@@ -115,6 +116,8 @@ impl<B: Bank, C: Validator> Core<B, C> {
         ensures crash { IfOk result (λ core. B.tells_moments → LeavesOnly B.clock B.left_since bank core.state.store.bank (ShowsIn (store_of (B.now bank)))) }
         ensures crash_err { IfErr result (λ back. B.tells_moments → LeavesOnly B.clock B.left_since bank back.bank (ShowsIn (store_of (B.now bank)))) }
         ensures cause { IfErr result (λ back. StartCounted B.Bank bank back.bank back.cause) }
+        // Out of memory comes before anything is asked of the bank.
+        ensures memory { IfErr result (λ back. back.cause ≡ NoMemory → back.bank ≡ bank) }
         ensures room_err { IfErr result (λ back. bank_size ≤ B.size back.bank) }
     {
         let mut service = match Service::make(alloc, bank, kit, admit) {

@@ -1,7 +1,7 @@
 use Rattle.std.proofs.Common.{rules, ◌≡◌, ◌∙◌, length, subst}
 use Rattle.tbl_kinds.specs.declared.entry.Entry.{Entry}
 use Rattle.tbl_core.specs.Answers.{Answers, moment_of}
-use Rattle.tbl_core.proofs.Owners.{when_ok}
+use Rattle.tbl_core.proofs.Answering.{when_answered}
 use Rattle.tbl_core.proofs.Places.{last_of, last_set}
 use Rattle.tbl_core.proofs.log.push_answered.Goals as goal
 
@@ -15,5 +15,5 @@ returns-clause-answered g c =
       entry,
       last_set before _ c.args.begun entry _ items place,
       subst (λ (e : Entry). Answers g.B.Bank g.C.Validator (moment_of c.args.parts.now c.args.counters.now e) (moment_of c.answer.new.self c.answer.new.counters entry) c.answer.new.self.report)
-          here (when_ok c.answer.result c.if-is_err.ensures.value c.answer.ensures.answers),
+          here (when_answered g.B.Bank g.C.Validator _ _ _ c.answer.result c.if-is_err.ensures.value c.answer.ensures.answered),
     )

@@ -16,8 +16,8 @@ returns g c =
           (silent _ refl refl refl)
           (rw c.requires.begun.nothing (quietly g.C.Validator 0 (parts_view c.args.self.now) (parts_view c.args.self.now) _ _
           (λ s stands. let e = is s stands.tables stands.apps in search rules) (λ s stands. let e = is s stands.tables stands.apps in search rules) refl c.read_lent-answer.ensures.quiet))
-          c.requires.live c.requires.fit.0 c.requires.fit.1 c.requires.ready.booted
+          c.requires.ready
           (λ told blocks stands. uncalled_leaves b g.met.B.Bank.leaves_only_now g.met.B.Bank.only_now c.args.self.now.store _ blocks refl (stands.shows told))
-          c.requires.begun.no_packets refl are);
+          c.requires.begun.reply.no_packets refl are);
       given = c.requires.begun.nothing;
     }

@@ -20,8 +20,8 @@ tell_command-requires-clause-few g c = rw c.boot_if_stopped.ensures.report (c.in
 pub tell_command-requires-clause-code : goal.tell_command-requires-clause-code
 tell_command-requires-clause-code g c = rw c.boot_if_stopped.ensures.report (c.in_ok-answer.ensures.makes c.in-Command.bytes (c.read.ensures ∙ ap command_in c.bytes.ensures)).within.notice
 
-pub returns-clause-answers : goal.returns-clause-answers
-returns-clause-answers g c =
+pub returns : goal.returns
+returns g c =
     let b = g.B.Bank in
     let v = g.C.Validator in
     let packet = c.in-Command.bytes in
@@ -31,9 +31,11 @@ returns-clause-answers g c =
     let made = is_made b v (parts_view c.args.self.now) (parts_view c.command_effect.new.self) (parts_view c.boot_if_stopped.new.self) (ask.Command packet) (λ s given. ground_effect s (ask.Command packet) given) _ c.boot_if_stopped.new.note
     makes (c.in_ok-answer.ensures.meets packet read) boot.note boot.held boot.boots boot.found boot.moments boot.trouble boot.booted in
     rw (c.keep_given.ensures, boot.report, c.put_answer.ensures, c.requires.actor, c.in-Command.is) (record {
-      actor_is = refl;
-      request_is = refl;
-      made = made;
-      told = rw (← boot.report) (c.tell_command.ensures.tells (ask.Command packet) (ap (λ r. Some r) (sym read)) c.command_effect.new.reply.bytes.list c.boot_if_stopped.new.note);
-      small = record { bytes = makes.within.bytes; packets = c.tell_command.ensures.len };
+      answered = record {
+        actor_is = refl;
+        request_is = refl;
+        made = made;
+        told = rw (← boot.report) (c.tell_command.ensures.tells (ask.Command packet) (ap (λ r. Some r) (sym read)) c.command_effect.new.reply.bytes.list c.boot_if_stopped.new.note);
+        small = record { bytes = makes.within.bytes; packets = c.tell_command.ensures.len };
+      };
     })

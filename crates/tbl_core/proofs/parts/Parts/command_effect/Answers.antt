@@ -19,15 +19,15 @@ use Rattle.tbl_core.proofs.parts.Parts.command_effect.Goals as goal
 
 pub returns-in-Err-clause-makes : goal.returns-in-Err-clause-makes
 returns-in-Err-clause-makes g c packet is =
-    rw (c.requires.no_bytes, c.requires.nothing, c.requires.untouched)
+    rw (c.requires.empty.no_bytes, c.requires.nothing, c.requires.untouched)
     (table_makes g.B.Bank g.C.Validator 0 _ _ Ground (ask.Command packet) _ (refused_does g.C.Validator (parts_view c.args.self.now) packet c.answer.result (sym is ∙ ap read_of c.in-Err.is ∙ ap (λ (a : Answer). Err a) (sym c.answer.ensures.answer)))
-    (omega arith) c.requires.live c.requires.fit.0 c.requires.fit.1 c.requires.ready.booted refl)
+    (omega arith) c.requires.ready refl)
 
 pub returns-in_ok-effect-in-Ok-DeleteCds-clause-makes : goal.returns-in_ok-effect-in-Ok-DeleteCds-clause-makes
 returns-in_ok-effect-in-Ok-DeleteCds-clause-makes g c packet is =
     let b = g.B.Bank in
     let call = subst (λ (e : Effect). IsCall b c.args.self.now.store c.delete_cds.new.store (reported_effect e.answer e.bytes c.delete_cds.new.report e.note)) (sym c.effect.view_is) c.in_ok-effect-in-Ok-DeleteCds.ensures.call in
-    block_makes b g.C.Validator _ _ (ask.Command packet) _ refl c.requires.live call (λ n. refl)
+    block_makes b g.C.Validator _ _ (ask.Command packet) _ refl c.requires.ready.live call (λ n. refl)
 
 pub returns-in_ok-effect-in-Ok-DeleteCds-clause-meets : goal.returns-in_ok-effect-in-Ok-DeleteCds-clause-meets
 returns-in_ok-effect-in-Ok-DeleteCds-clause-meets g c packet is =
@@ -38,8 +38,8 @@ returns-in_ok-effect-in-Ok-DeleteCds-clause-meets g c packet is =
     let call = subst (λ (e : Effect). IsCall b store new (reported_effect e.answer e.bytes c.delete_cds.new.report e.note)) (sym c.effect.view_is) c.in_ok-effect-in-Ok-DeleteCds.ensures.call in
     let deletes : read_of c.args.command.now ≡ Ok (delete_cds table) = search rules in
     let read : Ok (delete_cds table) ≡ command_in packet.list = sym deletes ∙ is in
-    rw (← read) (block_meets b g.C.Validator _ _ (ask.Command packet) _ refl c.requires.live call (λ s n. delete_cds_effect s table n)
-    (λ told s holds. subst (λ (e : Effect). Calls b store new s (reported_effect e.answer e.bytes c.delete_cds.new.report e.note) (delete_cds_effect s table)) (sym c.effect.view_is) (c.in_ok-effect-in-Ok-DeleteCds.ensures.effect told s holds.parts.tables (holds.blocks c.requires.live)))
+    rw (← read) (block_meets b g.C.Validator _ _ (ask.Command packet) _ refl c.requires.ready.live call (λ s n. delete_cds_effect s table n)
+    (λ told s holds. subst (λ (e : Effect). Calls b store new s (reported_effect e.answer e.bytes c.delete_cds.new.report e.note) (delete_cds_effect s table)) (sym c.effect.view_is) (c.in_ok-effect-in-Ok-DeleteCds.ensures.effect told s holds.parts.tables (holds.blocks c.requires.ready.live)))
     refl (λ told s holds ended stopped found. delete_cds_holds (b.now store.bank) s (with_boot ended stopped found c.effect.inside.note) table))
 
 pub returns-in-Ok : goal.returns-in-Ok
@@ -49,10 +49,10 @@ returns-in-Ok g c =
     rw c.requires.untouched (record {
       makes = three c.ground_command.result _ _ _ _ c.ground_command.ensures.effect c.ground_command.ensures.within c.ground_command.ensures.given (λ answer effect within given packet is.
           table_makes b v 4 _ _ Ground (ask.Command packet) _ (command_does v _ _ packet (Ok (command_of c.in-Ok.command)) (sym (ap read_of c.in-Ok.is) ∙ is) _
-          (λ s stood. effect s stood.tables stood.pending stood.drawer stood.admit stood.seconds stood.sub) within given refl) (omega arith) c.requires.live c.requires.fit.0 c.requires.fit.1 c.requires.ready.booted refl);
+          (λ s stood. effect s stood.tables stood.pending stood.drawer stood.admit stood.seconds stood.sub) within given refl) (omega arith) c.requires.ready refl);
       meets = three c.ground_command.result _ _ _ _ c.ground_command.ensures.effect c.ground_command.ensures.within c.ground_command.ensures.given (λ answer effect within given packet is.
           table_meets b v 4 _ _ Ground (ask.Command packet) _ (command_does v _ _ packet (Ok (command_of c.in-Ok.command)) (sym (ap read_of c.in-Ok.is) ∙ is) _
-          (λ s stood. effect s stood.tables stood.pending stood.drawer stood.admit stood.seconds stood.sub) within given refl) (omega arith) c.requires.live c.requires.fit.0 c.requires.fit.1
+          (λ s stood. effect s stood.tables stood.pending stood.drawer stood.admit stood.seconds stood.sub) within given refl) (omega arith) c.requires.ready
           (λ told blocks stands. uncalled_leaves b g.met.B.Bank.leaves_only_now g.met.B.Bank.only_now c.args.self.now.store _ blocks refl (stands.shows told)) refl);
       room = c.ground_command.ensures.room;
       err = search rules;

@@ -23,8 +23,8 @@ told_call-requires-clause-leads g c =
     rw c.requires.actor (leads_to (parts_view c.args.self.now) c.args.app c.args.handle row c.args.entry.now.request (told_owners c.args.entry.now.request c.args.handle c.requires.asks) t.0 t.1
     (λ s stood effect. c.in-Ok.ensures.ok s effect stood.tables stood.apps))
 
-pub returns-in-Err-clause-answers : goal.returns-in-Err-clause-answers
-returns-in-Err-clause-answers g c =
+pub returns-in-Err : goal.returns-in-Err
+returns-in-Err g c =
     let b = g.B.Bank in
     let v = g.C.Validator in
     let old = parts_view c.args.self.now in
@@ -33,14 +33,16 @@ returns-in-Err-clause-answers g c =
     let plain = owner_resets request c.args.handle c.requires.asks in
     let does = owner_refused v old c.args.app c.args.handle request (told_owners request c.args.handle c.requires.asks) c.in-Err.status answer c.plain-answer.ensures.status c.plain-answer.ensures.detail
     (λ s stood effect. c.in-Err.ensures.err s effect stood.tables stood.apps) in
-    let makes = table_makes b v 0 old old (App c.args.app) request (quiet_effect answer []) does (omega arith) c.requires.live c.requires.fit.0 c.requires.fit.1 c.requires.ready.booted plain in
-    let meets = table_meets b v 0 old old (App c.args.app) request (quiet_effect answer []) does (omega arith) c.requires.live c.requires.fit.0 c.requires.fit.1
+    let makes = table_makes b v 0 old old (App c.args.app) request (quiet_effect answer []) does (omega arith) c.requires.stands.ready plain in
+    let meets = table_meets b v 0 old old (App c.args.app) request (quiet_effect answer []) does (omega arith) c.requires.stands.ready
     (λ told blocks stands. uncalled_leaves b g.met.B.Bank.leaves_only_now g.met.B.Bank.only_now c.args.self.now.store _ blocks refl (stands.shows told)) plain in
-    rw (c.put_answer.ensures, c.requires.nothing, c.requires.begun.nothing, c.requires.begun.no_bytes, c.requires.actor) (record {
-      actor_is = refl;
-      request_is = refl;
-      made = made_plainly b v old old request (λ s given. app_effect s c.args.app request given) (quiet_effect answer []) makes meets refl;
-      told = subst (λ (r : Reported). Tells (counts_view c.args.counters.now) (counts_view c.tell_call.new.counters)
-          (told_at c.args.self.now.clock.seconds c.args.self.now.clock.sub c.args.self.now.tables request (reported_effect answer [] r untouched)) c.tell_call.new.packets.list) c.requires.nothing (c.tell_call.ensures.tells [] untouched);
-      small = record { bytes = omega arith; packets = c.tell_call.ensures.len };
+    rw (c.put_answer.ensures, c.requires.nothing, c.requires.stands.begun.nothing, c.requires.stands.begun.reply.no_bytes, c.requires.actor) (record {
+      answered = record {
+        actor_is = refl;
+        request_is = refl;
+        made = made_plainly b v old old request (λ s given. app_effect s c.args.app request given) (quiet_effect answer []) makes meets refl;
+        told = subst (λ (r : Reported). Tells (counts_view c.args.counters.now) (counts_view c.tell_call.new.counters)
+            (told_at c.args.self.now.clock.seconds c.args.self.now.clock.sub c.args.self.now.tables request (reported_effect answer [] r untouched)) c.tell_call.new.packets.list) c.requires.nothing (c.tell_call.ensures.tells [] untouched);
+        small = record { bytes = omega arith; packets = c.tell_call.ensures.len };
+      };
     })

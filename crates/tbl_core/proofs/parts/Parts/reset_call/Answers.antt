@@ -9,8 +9,8 @@ use Rattle.tbl_core.proofs.Answering.{made_plainly}
 use Rattle.tbl_core.proofs.Nothing.{either}
 use Rattle.tbl_core.proofs.parts.Parts.reset_call.Goals as goal
 
-pub returns-clause-answers : goal.returns-clause-answers
-returns-clause-answers g c =
+pub returns : goal.returns
+returns g c =
     let b = g.B.Bank in
     let v = g.C.Validator in
     let kind = c.in-Reset.kind in
@@ -20,10 +20,12 @@ returns-clause-answers g c =
     let makes = subst (λ (e : Effect). Makes b v (ask.Reset kind) old new e) (sym c.effect.view_is) c.in_ok-effect.ensures.makes in
     let meets = subst (λ (e : Effect). Meets b v (step_of old new (ask.Reset kind)) (λ s given. Some (reset_effect s kind given.note)) e) (sym c.effect.view_is) c.in_ok-effect.ensures.meets in
     let t = told_at c.args.self.now.clock.seconds c.args.self.now.clock.sub c.reset.new.self.tables (ask.Reset kind) done in
-    rw (c.of.ensures, c.reset.ensures.report, c.requires.nothing, c.put_answer.ensures, c.requires.actor, c.in-Reset.is, c.requires.begun.no_packets) (record {
-      actor_is = refl;
-      request_is = refl;
-      made = made_plainly b v old new (ask.Reset kind) (λ s given. Some (reset_effect s kind given.note)) done makes meets (subst (λ (e : Effect). e.note.outcome ≡ Untouched) (sym c.effect.view_is) c.in_ok-effect.ensures.no_call);
-      told = record { counts = c.begin_anew.ensures t refl; packets = sym (either (is_stopped t.effect) []) };
-      small = record { bytes = makes.within.bytes; packets = omega arith };
+    rw (c.of.ensures, c.reset.ensures.report, c.requires.nothing, c.put_answer.ensures, c.requires.actor, c.in-Reset.is, c.requires.stands.begun.reply.no_packets) (record {
+      answered = record {
+        actor_is = refl;
+        request_is = refl;
+        made = made_plainly b v old new (ask.Reset kind) (λ s given. Some (reset_effect s kind given.note)) done makes meets (subst (λ (e : Effect). e.note.outcome ≡ Untouched) (sym c.effect.view_is) c.in_ok-effect.ensures.no_call);
+        told = record { counts = c.begin_anew.ensures t refl; packets = sym (either (is_stopped t.effect) []) };
+        small = record { bytes = makes.within.bytes; packets = omega arith };
+      };
     })

@@ -8,8 +8,8 @@ use Rattle.tbl_core.specs.Service.{parts_view, step_of, Makes, Meets}
 use Rattle.tbl_core.proofs.BootedAfter.{is_made}
 use Rattle.tbl_core.proofs.parts.Parts.store_call.Goals as goal
 
-pub returns-clause-answers : goal.returns-clause-answers
-returns-clause-answers g c =
+pub returns : goal.returns
+returns g c =
     let b = g.B.Bank in
     let v = g.C.Validator in
     let request = c.args.entry.now.request in
@@ -21,11 +21,13 @@ returns-clause-answers g c =
     let made = is_made b v old mid (parts_view c.boot_if_stopped.new.self) request (λ s given. app_effect s c.args.app request given) _ c.boot_if_stopped.new.note
     makes meets boot.note boot.held boot.boots boot.found boot.moments boot.trouble boot.booted in
     rw (c.of.ensures, boot.report, c.app_store_request.ensures.report, c.requires.nothing, c.put_answer.ensures, c.requires.actor) (record {
-      actor_is = refl;
-      request_is = refl;
-      made = made;
-      told = subst (λ (r : Reported). Tells (counts_view c.args.counters.now) (counts_view c.tell_call.new.counters)
-          (told_at c.args.self.now.clock.seconds c.args.self.now.clock.sub c.boot_if_stopped.new.self.tables request (reported_effect c.effect.inside.answer c.effect.inside.bytes.list r c.boot_if_stopped.new.note)) c.tell_call.new.packets.list)
-          (boot.report ∙ c.app_store_request.ensures.report ∙ c.requires.nothing) (c.tell_call.ensures.tells c.effect.inside.bytes.list c.boot_if_stopped.new.note);
-      small = record { bytes = makes.within.bytes; packets = c.tell_call.ensures.len };
+      answered = record {
+        actor_is = refl;
+        request_is = refl;
+        made = made;
+        told = subst (λ (r : Reported). Tells (counts_view c.args.counters.now) (counts_view c.tell_call.new.counters)
+            (told_at c.args.self.now.clock.seconds c.args.self.now.clock.sub c.boot_if_stopped.new.self.tables request (reported_effect c.effect.inside.answer c.effect.inside.bytes.list r c.boot_if_stopped.new.note)) c.tell_call.new.packets.list)
+            (boot.report ∙ c.app_store_request.ensures.report ∙ c.requires.nothing) (c.tell_call.ensures.tells c.effect.inside.bytes.list c.boot_if_stopped.new.note);
+        small = record { bytes = makes.within.bytes; packets = c.tell_call.ensures.len };
+      };
     })

@@ -18,8 +18,8 @@ tell_call-requires-clause-few g c = rw c.boot_if_stopped.ensures.report (c.in_ok
 pub tell_call-requires-clause-code : goal.tell_call-requires-clause-code
 tell_call-requires-clause-code g c = rw c.boot_if_stopped.ensures.report (c.in_ok-answer.ensures.makes c.args.entry.now.actor c.requires.leads).within.notice
 
-pub returns-clause-answers : goal.returns-clause-answers
-returns-clause-answers g c =
+pub returns : goal.returns
+returns g c =
     let b = g.B.Bank in
     let v = g.C.Validator in
     let actor = c.args.entry.now.actor in
@@ -29,9 +29,11 @@ returns-clause-answers g c =
     let made = is_made b v (parts_view c.args.self.now) (parts_view c.told_effect.new.self) (parts_view c.boot_if_stopped.new.self) request (λ s given. effect_of s actor request given) _ c.boot_if_stopped.new.note
     makes (c.in_ok-answer.ensures.meets actor c.requires.leads) boot.note boot.held boot.boots boot.found boot.moments boot.trouble boot.booted in
     rw (c.keep_given.ensures, boot.report, c.put_answer.ensures, c.in_ok-answer.ensures.request) (record {
-      actor_is = refl;
-      request_is = refl;
-      made = made;
-      told = rw (← boot.report, ← c.in_ok-answer.ensures.request) (c.tell_call.ensures.tells c.told_effect.new.reply.bytes.list c.boot_if_stopped.new.note);
-      small = record { bytes = makes.within.bytes; packets = c.tell_call.ensures.len };
+      answered = record {
+        actor_is = refl;
+        request_is = refl;
+        made = made;
+        told = rw (← boot.report, ← c.in_ok-answer.ensures.request) (c.tell_call.ensures.tells c.told_effect.new.reply.bytes.list c.boot_if_stopped.new.note);
+        small = record { bytes = makes.within.bytes; packets = c.tell_call.ensures.len };
+      };
     })

@@ -1,8 +1,16 @@
 use Rattle.std.proofs.Common.{◌∙◌, List, [], ◌∷◌, ◌++◌, length, ap}
 use Rattle.tbl_kinds.specs.declared.entry.Entry.{Entry}
 use Rattle.tbl_core.specs.Pins.{gets_after}
+use Rattle.tbl_core.proofs.Ready.{are_ready}
 use Rattle.tbl_core.proofs.Steps.{did_play, on_played}
 use Rattle.tbl_core.proofs.playing.Service.play.Goals as goal
+
+pub enter_answered-requires-clause-stands : goal.enter_answered-requires-clause-stands
+enter_answered-requires-clause-stands g c = record {
+  begun = c.in-Ok.ensures.begun;
+  ready = are_ready g.C.Validator _ c.requires.ready c.requires.room c.requires.live;
+  numbers = c.requires.ready.numbers;
+}
 
 pub returns-clause-plays : goal.returns-clause-plays
 returns-clause-plays g c =

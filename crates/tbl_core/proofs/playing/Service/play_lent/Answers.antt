@@ -3,8 +3,12 @@ use Rattle.tbl_kinds.specs.declared.entry.Entry.{Entry}
 use Rattle.request_effects.specs.Reports.{nothing_reported}
 use Rattle.reply_packets.specs.Counters.{counts_view}
 use Rattle.tbl_core.specs.Pins.{gets_after}
+use Rattle.tbl_core.proofs.Ready.{are_ready}
 use Rattle.tbl_core.proofs.Steps.{did_play}
 use Rattle.tbl_core.proofs.playing.Service.play_lent.Goals as goal
+
+pub answer_lent-requires-clause-ready : goal.answer_lent-requires-clause-ready
+answer_lent-requires-clause-ready g c = are_ready g.C.Validator _ c.requires.ready c.requires.room c.requires.live
 
 pub enter-requires-clause-small : goal.enter-requires-clause-small
 enter-requires-clause-small g c = (c.answer_lent.ensures.answers (counts_view c.args.self.now.counters) c.requires.ready.numbers).small

@@ -1,0 +1,156 @@
+//! Requests of which no packet tells, and that don't call the Critical Data Store.
+
+ghost use Rattle.std.specs.Prelude.{◌≡◌, [], true, false, None, IfOk, OnOk, OnErr};
+ghost use Rattle.tbl_kinds.specs.Requests.{Fits};
+ghost use Rattle.tbl_kinds.specs.Given.{nothing_given};
+ghost use Rattle.tbl_kinds.specs.declared.request.Actor.TheVariants as by;
+ghost use Rattle.tbl_model.specs.Dispatch.{ground_effect, app_effect};
+ghost use Rattle.request_effects.specs.Requests.{asks_store};
+ghost use Rattle.request_effects.specs.Reports.{nothing_reported};
+ghost use Rattle.request_effects.specs.Effects.{quiet_effect};
+ghost use Rattle.tbl_core.specs.Numbers.{AreCounts};
+ghost use Rattle.tbl_core.specs.Pins.{MayBeLent};
+ghost use Rattle.tbl_core.specs.Answers.{IsBegun, Answers, moment_at, Answered};
+ghost use Rattle.tbl_model.specs.Counts.{Counts};
+ghost use Rattle.tbl_core.specs.Requests.{is_uplink, told_handle};
+ghost use Rattle.tbl_core.specs.Service.{MayPlay, Does, parts_view, AreReady};
+ghost use Rattle.tbl_kinds.specs.declared.request.Actor.{Actor};
+
+use crate::dispatch::put_answer;
+use crate::parts::Parts;
+use request_effects::Clock;
+use table_requests::{
+    check, dump_to_buffer, edit, file, get, get_info, get_status, read_lent, release,
+};
+use tbl_kinds::{Actor, Answer, Bytes, Entry, Memory, Request, Status};
+use tbl_outside::{Bank, Validator};
+
+impl<B: Bank, C: Validator> Parts<B, C> {
+    /// Takes an uplinked file, or the time. Nothing is told of it.
+    pub(crate) fn uplink_call(&mut self, entry: &mut Entry) -> Result<(), Memory>
+        requires uplink { is_uplink entry.old.request ≡ true }
+        requires actor { entry.old.actor ≡ by.Ground }
+        requires fits { Fits by.Ground entry.old.request }
+        requires begun { IsBegun entry.old }
+        requires ready { AreReady C.Validator (parts_view self.old) }
+        requires nothing { self.old.report ≡ nothing_reported }
+        ensures answered { (counts : Counts) → AreCounts counts
+            → Answered B.Bank C.Validator (moment_at (parts_view self.old) counts entry.old) (moment_at (parts_view self.new) counts entry.new) self.new.report result }
+    {
+        let answer = self.uplink(&mut entry.request)?;
+        put_answer(&mut entry.reply, answer);
+        Ok(())
+    }
+
+    /// Takes an uplinked file, or the time. The history and the drawer have a large file in the same memory.
+    fn uplink(&mut self, request: &mut Request) -> Result<Answer, Memory>
+        requires fits { Fits by.Ground request.old }
+        requires uplink { is_uplink request.old ≡ true }
+        requires ready { MayPlay C.Validator (parts_view self.old) }
+        ensures does { IfOk result (λ answer. Does C.Validator 0 (parts_view self.old) (parts_view self.new) (λ s given. ground_effect s request.old given) (quiet_effect answer [])) }
+        ensures request { OnOk result (request.new ≡ request.old) }
+        ensures report { self.new.report ≡ self.old.report }
+        ensures err { OnErr result (parts_view self.new ≡ parts_view self.old) }
+    {
+        match request {
+            Request::File { file: uplink } => file(&mut self.drawer, uplink),
+            Request::Time { seconds, sub } => {
+                self.clock = Clock {
+                    seconds: *seconds,
+                    sub: *sub,
+                };
+                Ok(Answer::plain(Status::SUCCESS))
+            }
+            _ => unreachable!(),
+        }
+    }
+
+    /// Does what an application asks of which no packet tells, and that doesn't call the Critical Data Store.
+    pub(crate) fn user(
+        &mut self,
+        app: u8,
+        request: &Request,
+        bytes: &mut Bytes,
+    ) -> Result<Answer, Memory>
+        requires silent { told_handle request.now ≡ None }
+        requires no_call { asks_store request.now None ≡ false }
+        requires fits { Fits (by.App app) request.now }
+        requires ready { MayPlay C.Validator (parts_view self.old) }
+        requires empty { bytes.old.list ≡ [] }
+        ensures does { IfOk result (λ answer. Does C.Validator 0 (parts_view self.old) (parts_view self.new) (λ s given. app_effect s app request.now given) (quiet_effect answer bytes.new.list)) }
+        ensures report { self.new.report ≡ self.old.report }
+        ensures err { OnErr result (parts_view self.new ≡ parts_view self.old) }
+    {
+        let tables = &mut self.tables;
+        let pending = &mut self.pending;
+        let apps = &mut self.apps;
+        match request {
+            Request::Get { handle } => Ok(get(tables, apps, app, *handle)),
+            Request::Read {
+                handle,
+                offset,
+                len,
+            } => table_requests::read(tables, apps, app, *handle, *offset, *len, bytes),
+            Request::Release { handle } => Ok(release(tables, apps, app, *handle)),
+            Request::GetStatus { handle } => Ok(get_status(tables, pending, apps, app, *handle)),
+            Request::GetInfo { name } => get_info(tables, apps, app, name, bytes),
+            Request::DumpToBuffer { handle } => match check(tables, apps, app, *handle, true) {
+                Ok(row) => Ok(dump_to_buffer(tables, row)),
+                Err(status) => Ok(Answer::plain(status)),
+            },
+            Request::Edit {
+                handle,
+                offset,
+                bytes: piece,
+            } => match check(tables, apps, app, *handle, true) {
+                Ok(row) => edit(self.alloc, tables, row, *offset, piece.bytes()),
+                Err(status) => Ok(Answer::plain(status)),
+            },
+            Request::Notify {
+                handle,
+                msg,
+                code,
+                parameter,
+            } => match check(tables, apps, app, *handle, true) {
+                Ok(row) => Ok(sharing::notify(tables, row, *msg, *code, *parameter)),
+                Err(status) => Ok(Answer::plain(status)),
+            },
+            Request::Start { name } => Ok(Answer::plain(apps.start(app, name))),
+            Request::Share { name } => Ok(sharing::share(tables, apps, app, name)),
+            Request::Unregister { handle } => {
+                Ok(sharing::unregister(tables, pending, apps, app, *handle))
+            }
+            Request::Exit => Ok(sharing::app_exit(tables, pending, &mut self.kit, apps, app)),
+            _ => unreachable!(),
+        }
+    }
+
+    /// Answers a Read whose bytes were lent.
+    pub(crate) fn answer_lent(&mut self, entry: &mut Entry, slice: Bytes)
+        requires begun { IsBegun entry.old }
+        requires fits { Fits entry.old.actor entry.old.request }
+        requires ready { AreReady C.Validator (parts_view self.old) }
+        requires lent { MayBeLent entry.old.request self.old.tables slice.list }
+        ensures answers { (counts : Counts) → AreCounts counts
+            → Answers B.Bank C.Validator (moment_at (parts_view self.old) counts entry.old) (moment_at (parts_view self.new) counts entry.new) nothing_reported }
+        ensures given { entry.new.given ≡ nothing_given }
+    {
+        let (
+            Actor::App(app),
+            Request::Read {
+                handle,
+                offset,
+                len,
+            },
+        ) = (entry.actor, &entry.request)
+        else {
+            unreachable!();
+        };
+        let tables = &self.tables;
+        let bytes = &mut entry.reply.bytes;
+        let answer = read_lent(
+            tables, &self.apps, app, *handle, *offset, *len, slice, bytes,
+        );
+        put_answer(&mut entry.reply, answer);
+    }
+}
