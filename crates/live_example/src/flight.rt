@@ -19,9 +19,9 @@ use std::sync::{Mutex, Wait};
 use std::thread::{self, Threads, join_mut};
 use tbl_core::Core;
 use tbl_fakes::CalmBank;
+use tbl_history::start;
 use tbl_kinds::{Admit, Memory};
 use tbl_live::{Board, Seats, Service, Ticket};
-use validation::Kit;
 
 /// How many bytes of preserved memory there are.
 const BANK_SIZE: u32 = 262_144;
@@ -40,9 +40,7 @@ fn bank(alloc: Global) -> Result<CalmBank, Memory>
 fn new_core(alloc: Global) -> Result<Core<CalmBank, FirstByte>, Stop>
     ensures live { IfOk result (λ core. core.state.ended ≡ false) }
 {
-    let kit = Kit::make(alloc, Vec::new(alloc))?;
-    let bank = bank(alloc)?;
-    match Core::start(alloc, bank, kit, Admit::all()) {
+    match start(alloc, bank(alloc)?, Vec::new(alloc), Admit::all()) {
         Ok(core) => Ok(core),
         Err(_) => Err(Stop::Memory),
     }

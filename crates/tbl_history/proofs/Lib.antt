@@ -3,3 +3,4 @@ pub mod CrashesOnward
 pub mod CrashLemmas
 pub mod TroubleLemmas
 pub mod ServingLemmas
+pub mod Openings

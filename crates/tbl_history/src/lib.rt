@@ -1,3 +1,7 @@
-//! In specs/ what a service keeps to from its opening on, and in proofs/ that each step of the core keeps it: whoever plays requests
-//! may rely on the whole of it after any number of them.
+//! A service at its start, and what it keeps to from its opening on: whoever plays requests may rely on the whole of it after any
+//! number of them.
 #![tactic(auto)]
+
+mod opening;
+
+pub use opening::start;
