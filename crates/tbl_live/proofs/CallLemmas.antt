@@ -47,7 +47,7 @@ module _ {B C : Type 0} (g : Ghosts B) (verdict : C → List ℕ → ℤ) (me ta
       last = z;
       idle = back_is;
       past = let base = moves.base in let past = moves.past in let more = longer g verdict (actor_number actor) y z moves in omega (arith, base, past, more);
-      tells = record { saw_at_most = omega (arith, saw_is); met_is = λ fault e. sym met_is ∙ e };
+      tells = record { saw_at_most = omega (arith, saw_is); met_is = met_is };
     }
 
     pub called : (of of' : TableId) (saw' : ℕ) (met' : Option StepFault) (request : Request) (bytes after : List ℕ) (result : Result Receipt CallFault) → of' ≡ of → saw' ≡ length z.core.entries → met' ≡ z.fault

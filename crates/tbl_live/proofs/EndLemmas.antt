@@ -34,5 +34,5 @@ module _ {B C : Type 0} (g : Ghosts B) (verdict : C → List ℕ → ℤ) (first
       record {
         calls = is.calls ∙ sym f.calls ∙ (λ i. own (base i) (sym is.number i) last.core.entries);
         saw = omega (arith, saw, more);
-        met = λ fault m. subst (λ (b : ℕ). TellsFault (Some fault) b last.core) bases (subst (λ (o : Option StepFault). TellsFault o last.base last.core) (f.fault fault (is.tells.met_is fault m)) served.tells);
+        met = λ fault m. subst (λ (b : ℕ). TellsFault (Some fault) b last.core) bases (subst (λ (o : Option StepFault). TellsFault o last.base last.core) (f.fault fault (sym is.tells.met_is ∙ m)) served.tells);
       }

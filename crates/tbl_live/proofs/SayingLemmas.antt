@@ -1,5 +1,5 @@
 -- What a call tells its caller, by what it did under the lock.
-use Rattle.std.proofs.Common.{◌≡◌, ℕ, ◌<◌, ◌≤◌, List, [], ◌∷◌, ◌++◌, length, length-append, Option, Some, None, Ok, Err, refl, ap, ◌∙◌, subst, arith, ℤ}
+use Rattle.std.proofs.Common.{◌≡◌, ℕ, ◌<◌, ◌≤◌, List, [], ◌∷◌, ◌++◌, length, length-append, Option, Some, None, Ok, Err, refl, sym, ap, ◌∙◌, subst, arith, ℤ}
 use Rattle.std.specs.Prelude.{Result}
 use Rattle.std.specs.List.{AllByRecursion}
 use Rattle.atomic_table.specs.Seated.{TableId}
@@ -67,7 +67,7 @@ module _ {B C : Type 0} (g : Ghosts B) (verdict : C → List ℕ → ℤ) (of : 
 
     -- no fault was met before
     none_met : y.fault ≡ None → met ≡ None
-    none_met went = none_of met (λ fault is. let there = follows.fault fault (last.met_is fault is) in absurd (cc (went, there)))
+    none_met went = none_of met (λ fault is. let there = follows.fault fault (sym last.met_is ∙ is) in absurd (cc (went, there)))
 
     told : (result : Result Receipt CallFault) → Answers y z actor request bytes after result → Told old new request bytes after result
     told (Ok receipt) a = (call_of (length y.core.entries) a.0, adds a.0 a.1, a.3 ∙ (λ i. record { place = length y.core.entries; actor = a.1.actor_is i; status = a.0.reply.status; detail = a.0.reply.detail }), a.2)
@@ -81,5 +81,5 @@ module _ {B C : Type 0} (g : Ghosts B) (verdict : C → List ℕ → ℤ) (of : 
       same = record { of_it = refl; actor_is = refl };
       told = told result a;
       saw = let first = extends_length x.core.entries y.core.entries follows.extends in let then = longer g verdict (actor_number actor) y z moves in let at_most = last.saw_at_most in omega (arith, at_most, first, then);
-      met = λ fault is. moves.fault fault (follows.fault fault (last.met_is fault is));
+      met = λ fault is. moves.fault fault (follows.fault fault (sym last.met_is ∙ is));
     }

@@ -198,13 +198,13 @@ module _ {T : Type 0} (m left right : Me (Option T) (View T)) (from n : ℕ) (fi
       split ∙ (λ i. (seat_view (from_is i + half_is i) (kept i), []))
 
 -- a seat by which no call was made
-module _ {B C : Type 0} (first : ServedView B C) (base : first.base ≡ length first.core.entries) (of : TableId) (me : Me (Option (ServedView B C)) (View (ServedView B C))) (number : ℕ) (one : Idle me number (first ∷ [])) where
+module _ {B C : Type 0} (first : ServedView B C) (base : first.base ≡ length first.core.entries) (calm : first.fault ≡ None) (of : TableId) (me : Me (Option (ServedView B C)) (View (ServedView B C))) (number : ℕ) (one : Idle me number (first ∷ [])) where
   pub fresh_seat : IsSeat me (actor_of number) 0 None
   fresh_seat = record {
     last = first;
     idle = one ∙ ap {B = Me (Option (ServedView B C)) (View (ServedView B C))} (λ (n : ℕ). (seat_view n (first ∷ []), [])) (sym (number_of number));
     past = omega (arith, base);
-    tells = record { saw_at_most = omega arith; met_is = λ fault e. absurd (cc e) };
+    tells = record { saw_at_most = omega arith; met_is = sym calm };
   }
 
   calls_none : calls_in (actor_number (actor_of number)) me.0.seen ≡ []

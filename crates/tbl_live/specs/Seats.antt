@@ -38,10 +38,10 @@ calls_in actor (x ∷ xs) = own x.base actor x.core.entries
 abbrev pub seat_of : {B C : Type 0} → TableId → Actor → List (ServedView B C) → ℕ → Option StepFault → SeatView B C
 seat_of of actor seen saw met = record { of = of; actor = actor; seen = seen; calls = calls_in (actor_number actor) seen; saw = saw; met = met }
 
--- it tells no more entries than there were, and no other fault
+-- it tells no more entries than there were, and the fault that was kept then
 pub record TellsLast {B C : Type 0} (saw : ℕ) (met : Option StepFault) (last : ServedView B C) : Type 0 where
   pub saw_at_most : saw ≤ length last.core.entries
-  pub met_is : (fault : StepFault) → met ≡ Some fault → last.fault ≡ Some fault
+  pub met_is : met ≡ last.fault
 
 -- the seat has one actor, who saw this last
 pub record IsSeat {B C : Type 0} (me : Me (Option (ServedView B C)) (View (ServedView B C))) (actor : Actor) (saw : ℕ) (met : Option StepFault) : Type 0 where

@@ -124,6 +124,7 @@ fn deal_all<B: Bank, C: Validator>(
     requires own { place.table_id ≡ lock.now.table.shared.table_id }
     requires all { Idle place.me 0 (replicate actor_count lock.now.table.shared.key.value) }
     requires first { lock.now.table.shared.key.value.base ≡ length lock.now.table.shared.key.value.core.entries }
+    requires calm { lock.now.table.shared.key.value.fault ≡ None }
     requires empty { seats.items ≡ [] }
     requires room { actor_count ≤ vec_capacity seats }
     ensures { AreDealt lock.now.table.shared.table_id actor_count (result.ground ∷ result.apps.items) }
@@ -149,6 +150,7 @@ fn deal<B: Bank, C: Validator>(
     requires own { place.table_id ≡ lock.now.table.shared.table_id }
     requires all { Idle place.me from (replicate count lock.now.table.shared.key.value) }
     requires first { lock.now.table.shared.key.value.base ≡ length lock.now.table.shared.key.value.core.entries }
+    requires calm { lock.now.table.shared.key.value.fault ≡ None }
     requires before { AreDealt lock.now.table.shared.table_id from seats.old.items }
     requires room { from + count ≤ vec_capacity seats.old }
     ensures dealt { AreDealt lock.now.table.shared.table_id (from + count) seats.new.items }

@@ -9,7 +9,7 @@ pub make-requires : goal.make-requires
 make-requires g t c =
     let first = c.args.lock.now.table.shared.key.value in
     let one : c.args.count ≡ 1 = search in
-    fresh_seat first c.requires.first c.args.place.table_id c.args.place.me c.args.from (subst (λ n. Idle c.args.place.me c.args.from (replicate n first)) one c.requires.all)
+    fresh_seat first c.requires.first c.requires.calm c.args.place.table_id c.args.place.me c.args.from (subst (λ n. Idle c.args.place.me c.args.from (replicate n first)) one c.requires.all)
 
 pub returns-then-count-eq1-clause-dealt : goal.returns-then-count-eq1-clause-dealt
 returns-then-count-eq1-clause-dealt g t c =
@@ -18,7 +18,7 @@ returns-then-count-eq1-clause-dealt g t c =
     let one : c.args.count ≡ 1 = search in
     let idle = subst (λ n. Idle c.args.place.me c.args.from (replicate n first)) one c.requires.all in
     let seat = c.make.result in
-    let fresh = subst (λ i. IsOfActor i c.args.from seat × IsFresh seat) c.requires.own (fresh_is first c.requires.first c.args.place.table_id c.args.place.me c.args.from idle seat c.make.ensures) in
+    let fresh = subst (λ i. IsOfActor i c.args.from seat × IsFresh seat) c.requires.own (fresh_is first c.requires.first c.requires.calm c.args.place.table_id c.args.place.me c.args.from idle seat c.make.ensures) in
     subst (λ n. AreDealt id (c.args.from + n) c.push_reserved.new.self.items) (sym one) (subst (AreDealt id (c.args.from + 1)) (sym c.push_reserved.ensures.items) (dealt_push id c.args.from c.args.seats.now.items seat c.requires.before fresh))
 
 pub deal-requires : goal.deal-requires
