@@ -25,7 +25,7 @@ use std::snapshot::Snapshot;
 use std::sync::Wait;
 use std::thread::{Threads, join};
 use tbl_core::{Core, StepFault};
-use tbl_kinds::Bytes;
+use tbl_kinds::{Bytes, INLINE_LIMIT};
 use tbl_outside::{Bank, Gate, Validator};
 use tbl_registry::Pin;
 use turn_lock::{Place, TurnLock};
@@ -121,7 +121,9 @@ pub(crate) fn keep(pins: &mut Vec<Pin>, pin: Pin)
     }
 }
 
-/// The bytes that are to be read, of the image; None where they don't lie inside it, or where memory runs out.
+/// The bytes that are to be read, of the image; None where they don't lie inside it, or where memory runs out. Where they are the
+/// whole image and more than stand in a value itself, they aren't copied: the reply has the memory of the image.
+#[tactic(auto, using(crate::proofs::Slices::whole_image))]
 fn slice_of(alloc: Global, pin: &Pin, plan: ReadPlan) -> Option<Bytes>
     ensures { IfSome result (λ slice. slice.list ≡ piece plan.offset plan.len pin.now.bytes) }
 {
@@ -130,6 +132,9 @@ fn slice_of(alloc: Global, pin: &Pin, plan: ReadPlan) -> Option<Bytes>
     let to = from + plan.len as usize;
     if to > bytes.len() {
         return None;
+    }
+    if from == 0 && to == bytes.len() && to > INLINE_LIMIT {
+        return pin.bytes_again(alloc).ok();
     }
     let mut slice = Bytes::make(alloc, to - from).ok()?;
     slice.append(&bytes[from..to]);

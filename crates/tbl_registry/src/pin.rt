@@ -1,9 +1,10 @@
 //! Images that are lent.
 
-ghost use Rattle.std.specs.Prelude.{◌≡◌};
+ghost use Rattle.std.specs.Prelude.{◌≡◌, IfOk};
 
 use buffer_pairs::Image;
-use tbl_kinds::Name40;
+use std::alloc::Global;
+use tbl_kinds::{Bytes, Memory, Name40};
 
 /// An image that a handle pinned, lent by the registry. It owns the bytes beside the table: nobody changes them while it stands,
 /// also where the handle has given its pin back since. It can be read in any thread, without the registry.
@@ -35,6 +36,14 @@ impl Pin {
         self.bytes.bytes()
     }
 
+    /// The bytes of the image once more, in the same memory. It copies none and takes no memory, and fails only where they have as
+    /// many owners as can be counted.
+    pub fn bytes_again(&self, alloc: Global) -> Result<Bytes, Memory>
+        ensures { IfOk result (λ bytes. bytes.list ≡ self.now.bytes) }
+    {
+        Ok(Bytes::from_shared(alloc, self.bytes.shared()?))
+    }
+
     /// The handle that pinned it.
     pub fn handle(&self) -> u16
         ensures { result ≡ self.now.handle }
@@ -48,6 +57,7 @@ impl Pin {
     {
         self.place
     }
+
     /// The full name of the table whose image it is: application, dot, short name (cFE User's Guide, Table Services).
     pub fn name(&self) -> &Name40
         ensures { result.now ≡ self.now.name }
