@@ -24,7 +24,7 @@ use Rattle.tbl_session.specs.Actors.{actor_count, actor_of, part, HaveActors}
 use Rattle.tbl_crew.specs.Scripts.{script_of, OfEach}
 
 -- nothing is left of a script
-all_played : (fault f : Option StepFault) (script played left : List Request) → fault ≡ f → (fault ≡ None → left ≡ []) → IsPlayed f script played left → HasPlayed f script played
+pub all_played : (fault f : Option StepFault) (script played left : List Request) → fault ≡ f → (fault ≡ None → left ≡ []) → IsPlayed f script played left → HasPlayed f script played
 all_played fault None script played left is none was = sym (was ∙ ap (λ (l : List Request). played ++ l) (none is) ∙ append-nil played)
 all_played fault (Some cause) script played left is none was = was
 

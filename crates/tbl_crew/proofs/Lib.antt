@@ -7,3 +7,4 @@ pub mod PushLemmas
 pub mod LendingLemmas
 pub mod WorkerLemmas
 pub mod WatchLemmas
+pub mod Slices

@@ -1,5 +1,5 @@
 -- What a turn leaves of the scripts, and of the kept fault.
-use Rattle.std.proofs.Common.{◌≡◌, ◌≢◌, ◌⊎◌, ℕ, suc, ◌+◌, ◌<◌, List, [], ◌∷◌, length, Bool, true, false, None, refl, sym, ap, subst, ◌∙◌, arith, inl, inr, ℤ}
+use Rattle.std.proofs.Common.{◌≡◌, ◌≢◌, ◌⊎◌, ℕ, suc, ◌+◌, ◌<◌, List, [], ◌∷◌, length, Bool, true, false, Some, None, refl, sym, ap, subst, ◌∙◌, arith, inl, inr, ℤ}
 use Rattle.std.specs.Prelude.{◌==◌}
 use mathlib.Core.Logic.{dite}
 use native.Mathlib.Decide.{ℕ_discrete}
@@ -84,6 +84,15 @@ module _ {B C : Type 0} (g : Ghosts B) (old new : CrewView B C) (actor : ℕ) wh
   grew Ended (inr before) = inl (ap (λ (h : CrewView B C). h.core.entries) before.same)
   grew Done turn = inl (ap (λ (h : CrewView B C). h.core.entries) turn.same)
 
+  -- after a fault it changes nothing
+  stopped : (result : Turn) → Turns g old new actor result → (cause : StepFault) → old.fault ≡ Some cause → new ≡ old
+  stopped Played turn cause is = absurd (let went = turn.went in cc (is, went))
+  stopped (Pinned pin) turn cause is = absurd (let went = turn.went in cc (is, went))
+  stopped PinMemory turn cause is = absurd (let went = turn.went in cc (is, went))
+  stopped Ended (inl now) cause is = absurd (let went = now.went in cc (is, went))
+  stopped Ended (inr before) cause is = before.same
+  stopped Done turn cause is = turn.same
+
   -- so it is one turn under the lock
   pub moved_by : (verdict : C → List ℕ → ℤ) (result : Turn) → Turns g old new actor result → LeadsOn g verdict old new → ((pin : Pin) → IsOfPin pin old.core → IsOfPin pin new.core) → Moves g verdict old actor new
   moved_by verdict result turn leads pins = record {
@@ -92,6 +101,7 @@ module _ {B C : Type 0} (g : Ghosts B) (old new : CrewView B C) (actor : ℕ) wh
     went = went_on result turn;
     pins = pins;
     grows = grew result turn;
+    stops = stopped result turn;
   }
 
   -- where it wasn't played, its actor has ended

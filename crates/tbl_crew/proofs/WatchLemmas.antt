@@ -1,12 +1,16 @@
 -- What the watcher has seen, from turn to turn.
-use Rattle.std.proofs.Common.{◌≡◌, ◌≢◌, ℕ, zero, suc, ◌+◌, ◌<◌, List, [], ◌∷◌, ◌++◌, length, length-append, take, drop, replicate, ◌-◌, ◌≤◌, ◌⊎◌, Bool, true, false, Option, Some, None, Result, Ok, Err, refl, sym, ap, ◌∙◌, subst, inl, inr, arith, ℤ}
-use Rattle.std.specs.Prelude.{if◌then◌else◌, OnOk}
+use Rattle.std.proofs.Common.{◌≡◌, ◌≢◌, ℕ, zero, suc, ◌+◌, ◌<◌, List, [], ◌∷◌, ◌++◌, length, length-append, append_assoc, take, drop, replicate, ◌-◌, ◌≤◌, ◌⊎◌, Bool, true, false, Option, Some, None, Result, Ok, Err, refl, sym, ap, ◌∙◌, subst, inl, inr, arith, ℤ}
+use Rattle.std.specs.Prelude.{if◌then◌else◌, OnOk, OnErr, IsErr}
+use Rattle.std.proofs.Math.Decide.{dec_lt}
+use Rattle.std.proofs.Math.Logic.{dite}
 use Rattle.std.specs.Option.{unwrap_or}
 use Rattle.std.proofs.lemmas.Bool.Decides.{nat_tests}
+use Rattle.std.proofs.lemmas.List.{append-nil, get_or_past}
+use Rattle.std.proofs.lemmas.List.Elements.{All-nil, All-push}
 use Rattle.std.proofs.lemmas.List.Sums.{fold_push}
 use lib.ListN.{get_elem?}
 use Rattle.turn_lock.specs.Turns.{Beside, Knows, Idle, IsSeat, seat_view}
-use Rattle.turn_lock.proofs.Lists.{in_drop}
+use Rattle.turn_lock.proofs.Lists.{in_take, in_drop}
 use Rattle.turn_lock.proofs.Paths.{carried}
 use Rattle.tbl_kinds.specs.Check.{check16}
 use Rattle.tbl_kinds.specs.declared.entry.Entry.{Entry}
@@ -24,24 +28,24 @@ use Rattle.table_watch.specs.declared.watch.Look.{Look}
 use Rattle.tbl_crew.specs.CrewView.{CrewView, MayGoOn, TellsFault}
 use Rattle.tbl_crew.specs.Leading.{IsPlayed, LeadsFrom, LeadsOn}
 use Rattle.tbl_crew.specs.Moves.{Grows, Moves, HasTurned, HaveTurned, HasEnded, HaveEnded, HaveLeft}
-use Rattle.tbl_crew.specs.Turns.{Turns}
-use Rattle.tbl_crew.specs.Watching.{looks_after, HasWatched, HaveWatched, CutShort, IsWatched, end_of}
+use Rattle.tbl_crew.specs.Reads.{last_got}
+use Rattle.tbl_crew.specs.Turns.{PlaysNext, Turns}
+use Rattle.tbl_crew.specs.Watching.{looks_after, AreLooks, LacksLook, HasWatched, HasMissed, HasLooked, HaveWatched, HaveMissed, HaveLooked, CutShort, IsWatched, end_of}
 use Rattle.tbl_crew.proofs.LendingLemmas.{last_of}
-use Rattle.tbl_crew.proofs.HistoryLemmas.{one_history}
+use Rattle.tbl_crew.proofs.HistoryLemmas.{all_played, one_history}
 use Rattle.tbl_crew.proofs.MoveLemmas.{left_low, left_high, all_left, ended_both, all_ended}
 use Rattle.tbl_crew.proofs.RestLemmas.{ended_next}
 use Rattle.atomic_table.specs.Table.{Me}
-use Rattle.std.proofs.Math.Seq.{drop-append_seam}
+use Rattle.std.proofs.Math.Seq.{take-append_seam, drop-append_seam}
 use Rattle.std.proofs.lemmas.List.{length-take-le, length-drop, length-replicate}
 use Rattle.std.specs.Result.{is_err}
 use Rattle.std.specs.Prelude.{slice_index}
 use Rattle.tbl_core.specs.declared.service.StepFault.{StepFault}
-use Rattle.tbl_core.specs.declared.service.StepFault.TheVariants as why
 use Rattle.tbl_history.proofs.ServingLemmas.{served_of}
 use Rattle.tbl_kinds.specs.Transcript.{pairs_of}
 use Rattle.tbl_registry.specs.declared.pin.Pin.{Pin}
 use Rattle.tbl_session.specs.Actors.{part}
-use Rattle.tbl_crew.specs.Histories.{HasPlayed, OneHistory}
+use Rattle.tbl_crew.specs.Histories.{OneHistory}
 use Rattle.tbl_crew.specs.Scripts.{script_of}
 use Rattle.turn_lock.specs.declared.rule.View.{View}
 use Rattle.tbl_crew.specs.declared.held.Turn.{Turn}
@@ -69,11 +73,12 @@ watched_push opening entries e =
     ap (λ (x : Watched). x.looks) (fold_push watch_entry (unwatched opening) entries e) ∙ (λ i. look_by (run i).state.tables (place i) w.looks (handle_watched e))
 
 -- an entry of another actor
+other_actor : (n : ℕ) → n ≢ watcher → is_by watcher (actor_of n) ≡ false
+other_actor zero apart = refl
+other_actor (suc n) apart = grind (arith, nat_tests, apart)
+
 by_other : (actor : ℕ) (e : Entry) → actor ≢ watcher → e.actor ≡ actor_of actor → handle_watched e ≡ None
-by_other actor e apart is = ap (λ (b : Bool). if b then handle_got e else None) (ap (is_by watcher) is ∙ other actor apart) where
-  other : (n : ℕ) → n ≢ watcher → is_by watcher (actor_of n) ≡ false
-  other zero apart = refl
-  other (suc n) apart = grind (arith, nat_tests, apart)
+by_other actor e apart is = ap (λ (b : Bool). if b then handle_got e else None) (ap (is_by watcher) is ∙ other_actor actor apart)
 
 -- one of the watcher
 by_watcher : (e : Entry) → e.actor ≡ actor_of watcher → handle_watched e ≡ handle_got e
@@ -91,56 +96,125 @@ same_looks : (opening : State) (old new : List Entry) (e : Entry) → new ≡ ol
 same_looks opening old new e added none =
     sym (ap (watched_by opening) added ∙ watched_push opening old e ∙ ap (look_by (tables_after opening (old ++ e ∷ [])) (length old) (watched_by opening old)) none)
 
+-- ---- the looks of a turn without one
+
+module _ {B C : Type 0} (g : Ghosts B) (o : Opening B C) (looks : List Look) where
+  all_looks : (fault : Option StepFault) (entries : List Entry) → (g.tells → looks ≡ watched_by o.state entries) → AreLooks g o fault looks entries
+  all_looks None entries are = are
+  all_looks (Some cause) entries are = (entries, [], sym (append-nil entries), omega arith, are)
+
+  looks_on : (was now : Option StepFault) (actor : ℕ) (old new : List Entry) → (now ≡ None → was ≡ None) → ((cause : StepFault) → was ≡ Some cause → new ≡ old) → Grows old actor new
+      → (now ≡ None → watched_by o.state old ≡ watched_by o.state new) → AreLooks g o was looks old → AreLooks g o now looks new
+  looks_on None None actor old new went stops grows same had = λ tells. had tells ∙ same refl
+  looks_on None (Some cause) actor old new went stops (inl is) same had = (old, [], is ∙ sym (append-nil old), omega arith, had)
+  looks_on None (Some cause) actor old new went stops (inr more) same had = (old, more.0 ∷ [], more.1, omega arith, had)
+  looks_on (Some before) None actor old new went stops grows same had = absurd (let none = went refl in cc none)
+  looks_on (Some before) (Some cause) actor old new went stops grows same had = (had.0, had.1, stops before refl ∙ had.2, had.3, had.4)
+
+  -- an entry of another actor after the call whose look is missing
+  lacks_on : (actor : ℕ) (old new : List Entry) → actor ≢ watcher → Grows old actor new → LacksLook g o looks old → LacksLook g o looks new
+  lacks_on actor old new apart (inl same) had = subst (LacksLook g o looks) (sym same) had
+  lacks_on actor old new apart (inr more) had = record {
+    before = had.before;
+    call = had.call;
+    after = had.after ++ more.0 ∷ [];
+    handle = had.handle;
+    parts = more.1 ∙ ap (λ (es : List Entry). es ++ more.0 ∷ []) had.parts ∙ append_assoc had.before (had.call ∷ had.after) (more.0 ∷ []);
+    got = had.got;
+    last = All-push (λ (e : Entry). is_by watcher e.actor ≡ false) had.after more.0 had.last (ap (is_by watcher) more.2 ∙ other_actor actor apart);
+    seen = had.seen;
+  }
+
 module _ {B C : Type 0} (g : Ghosts B) (verdict : C → List ℕ → ℤ) (first : CrewView B C) (looks : List Look) where
   abbrev Has : CrewView B C → Type 0
   Has h = HasWatched g verdict first looks h
+
+  abbrev Misses : CrewView B C → Type 0
+  Misses h = HasMissed g verdict first looks h
+
+  without : (y z : CrewView B C) (actor : ℕ) → Moves g verdict y actor z → (o : Opening B C) → (z.fault ≡ None → watched_by o.state y.core.entries ≡ watched_by o.state z.core.entries)
+      → AreLooks g o y.fault looks y.core.entries → AreLooks g o z.fault looks z.core.entries
+  without y z actor m o same had = looks_on g o looks y.fault z.fault actor y.core.entries z.core.entries m.went (λ cause is. ap (λ (h : CrewView B C). h.core.entries) (m.stops cause is)) m.grows same had
 
   -- ---- a turn of another actor
 
   pub watched_other : (y z : CrewView B C) (actor : ℕ) → actor ≢ watcher → Has y → Moves g verdict y actor z → Has z
   watched_other y z actor apart had m o scripts from =
       let was = had o scripts from in
-      (m.leads o scripts was.0, λ goes tells. was.1 (m.went goes) tells ∙ same m.grows)
+      (m.leads o scripts was.0, without y z actor m o (λ _. same m.grows) was.1)
     where
       same : Grows y.core.entries actor z.core.entries → watched_by o.state y.core.entries ≡ watched_by o.state z.core.entries
       same (inl is) = ap (watched_by o.state) (sym is)
       same (inr more) = same_looks o.state y.core.entries z.core.entries more.0 more.1 (by_other actor more.0 apart more.2)
+
+  missed_other : (y z : CrewView B C) (actor : ℕ) → actor ≢ watcher → Misses y → Moves g verdict y actor z → Misses z
+  missed_other y z actor apart had m o scripts from = lacks_on g o looks actor y.core.entries z.core.entries apart m.grows (had o scripts from)
+
+  missed_beside : (seen now : CrewView B C) → Beside (Moves g verdict) watcher seen now → Misses seen → Misses now
+  missed_beside seen now beside had = carried (Moves g verdict) (λ other. other ≢ watcher) Misses (λ y z a apart was m. missed_other y z a apart was m) seen now beside had
 
   pub watched_beside : (seen now : CrewView B C) → Beside (Moves g verdict) watcher seen now → Has seen → Has now
   watched_beside seen now beside had = carried (Moves g verdict) (λ other. other ≢ watcher) Has (λ y z a apart was m. watched_other y z a apart was m) seen now beside had
 
   -- ---- a turn of the watcher
 
-  watched_own : (y z : CrewView B C) (turn : Turn) → turn ≢ PinMemory → Has y → Turns g y z watcher turn → Moves g verdict y watcher z → HasWatched g verdict first (looks_after looks turn) z
-  watched_own y z Played ne had turned m o scripts from =
-      let was = had o scripts from in
-      let none = sym (last_of y.core.entries z.core.entries turned.adds.entry turned.adds.added) ∙ turned.lends in
-      (m.leads o scripts was.0, λ goes tells. was.1 (m.went goes) tells ∙ same_looks o.state y.core.entries z.core.entries turned.adds.entry turned.adds.added (none_got turned.adds.entry none))
-  watched_own y z (Pinned pin) ne had turned m o scripts from =
-      let was = had o scripts from in
-      let leads = m.leads o scripts was.0 in
+  pinned_looks : (y z : CrewView B C) (pin : Pin) → PlaysNext g y z watcher (Pinned pin) → (o : Opening B C) (scripts : List (List Request)) → LeadsFrom g verdict o scripts z
+      → (g.tells → looks ≡ watched_by o.state y.core.entries) → g.tells → looked looks pin.place pin.name (check16 pin.bytes) ≡ watched_by o.state z.core.entries
+  pinned_looks y z pin turned o scripts leads were tells =
       let e = turned.adds.entry in
       let added = turned.adds.added in
       let lent = turned.lends in
       let got : handle_watched e ≡ Some pin.handle = by_watcher e turned.adds.actor_is ∙ sym (last_of y.core.entries z.core.entries e added) ∙ lent.handle in
       let long : length z.core.entries ≡ length y.core.entries + 1 = ap length added ∙ omega (arith, length-append y.core.entries (e ∷ [])) in
       let place : pin.place ≡ length y.core.entries = omega (arith, long, lent.place) in
-      let after : List Entry = y.core.entries ++ e ∷ [] in (
-        leads,
-        λ goes tells.
-            let tables : tables_after o.state after ≡ z.core.state.tables = ap (tables_after o.state) (sym added) ∙ (leads.serves.vouches.stands.shows tells).state.parts.tables in
-            let name : pin.name ≡ name_by pin.handle (tables_after o.state after) = sym (ap (name_by pin.handle) tables ∙ lent.name) in
-            let bytes : pin.bytes ≡ unwrap_or (pinned_image pin.handle (tables_after o.state after)) [] = sym (ap (λ (t : Tables). unwrap_or (pinned_image pin.handle t) []) tables ∙ ap (λ (image : Option (List ℕ)). unwrap_or image []) lent.image) in
-            let were = was.1 (m.went goes) tells in
-            (λ i. looked (were i) (place i) (name i) (check16 (bytes i)))
-            ∙ sym (ap (watched_by o.state) added ∙ watched_push o.state y.core.entries e ∙ ap (look_by (tables_after o.state after) (length y.core.entries) (watched_by o.state y.core.entries)) got),
-      )
+      let after : List Entry = y.core.entries ++ e ∷ [] in
+      let tables : tables_after o.state after ≡ z.core.state.tables = ap (tables_after o.state) (sym added) ∙ (leads.serves.vouches.stands.shows tells).state.parts.tables in
+      let name : pin.name ≡ name_by pin.handle (tables_after o.state after) = sym (ap (name_by pin.handle) tables ∙ lent.name) in
+      let bytes : pin.bytes ≡ unwrap_or (pinned_image pin.handle (tables_after o.state after)) [] = sym (ap (λ (t : Tables). unwrap_or (pinned_image pin.handle t) []) tables ∙ ap (λ (image : Option (List ℕ)). unwrap_or image []) lent.image) in
+      (λ i. looked (were tells i) (place i) (name i) (check16 (bytes i)))
+      ∙ sym (ap (watched_by o.state) added ∙ watched_push o.state y.core.entries e ∙ ap (look_by (tables_after o.state after) (length y.core.entries) (watched_by o.state y.core.entries)) got)
+
+  -- before a turn by which a request was played, no step had answered a fault
+  looks_before : (y z : CrewView B C) (turn : Turn) → PlaysNext g y z watcher turn → (o : Opening B C) → AreLooks g o y.fault looks y.core.entries → g.tells → looks ≡ watched_by o.state y.core.entries
+  looks_before y z turn turned o had = subst (λ (f : Option StepFault). AreLooks g o f looks y.core.entries) turned.went had
+
+  watched_own : (y z : CrewView B C) (turn : Turn) → turn ≢ PinMemory → Has y → Turns g y z watcher turn → Moves g verdict y watcher z → HasWatched g verdict first (looks_after looks turn) z
+  watched_own y z Played ne had turned m o scripts from =
+      let was = had o scripts from in
+      let none = sym (last_of y.core.entries z.core.entries turned.adds.entry turned.adds.added) ∙ turned.lends in
+      let same = same_looks o.state y.core.entries z.core.entries turned.adds.entry turned.adds.added (none_got turned.adds.entry none) in
+      (m.leads o scripts was.0, without y z watcher m o (λ _. same) was.1)
+  watched_own y z (Pinned pin) ne had turned m o scripts from =
+      let was = had o scripts from in
+      let leads = m.leads o scripts was.0 in
+      let now = pinned_looks y z pin turned o scripts leads (looks_before y z (Pinned pin) turned o was.1) in
+      (leads, all_looks g o (looks_after looks (Pinned pin)) z.fault z.core.entries now)
   watched_own y z PinMemory ne had turned m o scripts from = absurd (ne refl)
-  watched_own y z Ended ne had (inl now) m o scripts from = (m.leads o scripts (had o scripts from).0, λ goes tells. absurd (let is = now.keeps in cc (is, goes)))
-  watched_own y z Ended ne had (inr before) m o scripts from = (m.leads o scripts (had o scripts from).0, λ goes tells. absurd (let is = before.kept in let went = m.went goes in cc (is, went)))
+  watched_own y z Ended ne had (inl now) m o scripts from =
+      let was = had o scripts from in
+      (m.leads o scripts was.0, without y z watcher m o (λ goes. absurd (let is = now.keeps in cc (is, goes))) was.1)
+  watched_own y z Ended ne had (inr before) m o scripts from =
+      let was = had o scripts from in
+      (m.leads o scripts was.0, without y z watcher m o (λ goes. ap (λ (h : CrewView B C). watched_by o.state h.core.entries) (sym before.same)) was.1)
   watched_own y z Done ne had turned m o scripts from =
       let was = had o scripts from in
-      (m.leads o scripts was.0, λ goes tells. was.1 (m.went goes) tells ∙ ap (λ (h : CrewView B C). watched_by o.state h.core.entries) (sym turned.same))
+      (m.leads o scripts was.0, without y z watcher m o (λ goes. ap (λ (h : CrewView B C). watched_by o.state h.core.entries) (sym turned.same)) was.1)
+
+  -- a turn that got an address, without a look
+  missed_own : (y z : CrewView B C) (turn : Turn) (handle : ℕ) → last_got z.core.entries ≡ Some handle → PlaysNext g y z watcher turn → Has y → Misses z
+  missed_own y z turn handle got turned had o scripts from =
+      let e = turned.adds.entry in
+      let added = turned.adds.added in
+      record {
+        before = y.core.entries;
+        call = e;
+        after = [];
+        handle = handle;
+        parts = added;
+        got = by_watcher e turned.adds.actor_is ∙ sym (last_of y.core.entries z.core.entries e added) ∙ got;
+        last = All-nil (λ (x : Entry). is_by watcher x.actor ≡ false);
+        seen = looks_before y z turn turned o (had o scripts from).1;
+      }
 
   -- by what it saw last
   watched_turned : (turn : Turn) (olds news : List (CrewView B C)) → turn ≢ PinMemory → HaveWatched g verdict first looks olds → HaveTurned g verdict watcher turn olds news → HaveWatched g verdict first (looks_after looks turn) news
@@ -159,6 +233,22 @@ module _ {B C : Type 0} (g : Ghosts B) (verdict : C → List ℕ → ℤ) (first
         let now : HaveWatched g verdict first (looked looks pin.place pin.name (check16 pin.bytes)) news = subst (λ (t : Turn). HaveWatched g verdict first (looks_after looks t) news) is (watched_turned turn olds news (λ e. cc (is, e)) had turned) in
         subst (λ (l : List Look). HaveWatched g verdict first l news) (sym more) now
 
+    -- or the look is missing
+    missed_by : (x z : CrewView B C) → Has x → HasTurned g verdict watcher turn x z → ((pin : Pin) × (turn ≡ Pinned pin)) ⊎ (turn ≡ PinMemory) → Misses z
+    missed_by x z has t (inl pinned) =
+        let turns : PlaysNext g t.taken z watcher (Pinned pinned.0) = subst (λ (u : Turn). Turns g t.taken z watcher u) pinned.1 t.turns in
+        missed_own t.taken z (Pinned pinned.0) pinned.0.handle turns.lends.handle turns (watched_beside x t.taken t.beside has)
+    missed_by x z has t (inr is) =
+        let turns : PlaysNext g t.taken z watcher PinMemory = subst (λ (u : Turn). Turns g t.taken z watcher u) is t.turns in
+        missed_own t.taken z PinMemory turns.lends.0 turns.lends.1 turns (watched_beside x t.taken t.beside has)
+
+    pub missed_turned : ((pin : Pin) × (turn ≡ Pinned pin)) ⊎ (turn ≡ PinMemory) → HaveMissed g verdict first looks news
+    missed_turned got = by olds news had turned where
+      by : (xs zs : List (CrewView B C)) → HaveWatched g verdict first looks xs → HaveTurned g verdict watcher turn xs zs → HaveMissed g verdict first looks zs
+      by [] zs has t = absurd has
+      by (x ∷ xs) [] has t = absurd t
+      by (x ∷ xs) (z ∷ zs) has t = missed_by x z has t got
+
     -- and where nothing was played
     pub watched_over : (turn ≡ Ended) ⊎ (turn ≡ Done) → HaveWatched g verdict first looks news
     watched_over (inl is) = subst (λ (t : Turn). HaveWatched g verdict first (looks_after looks t) news) is (watched_turned turn olds news (λ e. cc (is, e)) had turned)
@@ -167,22 +257,40 @@ module _ {B C : Type 0} (g : Ghosts B) (verdict : C → List ℕ → ℤ) (first
   -- ---- the beginning and the end
 
   pub watched_first : looks ≡ [] → first.core.entries ≡ [] → Has first
-  watched_first nothing empty o scripts from = (from, λ goes tells. nothing ∙ sym (ap (watched_by o.state) empty))
+  watched_first nothing empty o scripts from =
+      let none : looks ≡ watched_by o.state first.core.entries = nothing ∙ sym (ap (watched_by o.state) empty) in
+      (from, all_looks g o looks first.fault first.core.entries (λ tells. none))
 
   pub watched_begin : looks ≡ [] → first.core.entries ≡ [] → (seen : List (CrewView B C)) → seen ≡ replicate actor_count first → HaveWatched g verdict first looks (drop watcher seen)
   watched_begin nothing empty seen is = subst (λ (l : List (CrewView B C)). HaveWatched g verdict first looks (drop watcher l)) (sym is) (watched_first nothing empty)
 
-  pub watched_close : (seen : List (CrewView B C)) (now : CrewView B C) → HaveWatched g verdict first looks (drop watcher seen) → Knows (Moves g verdict) 0 seen now → Has now
-  watched_close seen now had knows = by (drop watcher seen) refl had where
-    by : (l : List (CrewView B C)) → drop watcher seen ≡ l → HaveWatched g verdict first looks l → Has now
-    by [] at had = absurd had
-    by (x ∷ xs) at had = watched_beside x now (knows watcher x (in_drop watcher seen 0 x (ap (λ (l : List (CrewView B C)). get_elem? l 0) at))) had
+  pub looked_close : {M : Type 0} (result : Result Unit M) (seen : List (CrewView B C)) (now : CrewView B C) → HaveLooked g verdict first result looks (drop watcher seen) → Knows (Moves g verdict) 0 seen now
+      → HasLooked g verdict first result looks now
+  looked_close result seen now had knows = by (drop watcher seen) refl result had where
+    seen_last : (x : CrewView B C) (xs : List (CrewView B C)) → drop watcher seen ≡ x ∷ xs → Beside (Moves g verdict) watcher x now
+    seen_last x xs at = knows watcher x (in_drop watcher seen 0 x (ap (λ (l : List (CrewView B C)). get_elem? l 0) at))
+
+    by : {M : Type 0} (l : List (CrewView B C)) → drop watcher seen ≡ l → (r : Result Unit M) → HaveLooked g verdict first r looks l → HasLooked g verdict first r looks now
+    by [] at (Ok done) has = absurd has
+    by [] at (Err memory) has = absurd has
+    by (x ∷ xs) at (Ok done) has = watched_beside x now (seen_last x xs at) has
+    by (x ∷ xs) at (Err memory) has = missed_beside x now (seen_last x xs at) has
 
 -- without the lock
 pub own_turn : {B C : Type 0} (g : Ghosts B) (verdict : C → List ℕ → ℤ) (y z : CrewView B C) (turn : Turn) → Turns g y z watcher turn → Moves g verdict y watcher z → HasTurned g verdict watcher turn y z
 own_turn g verdict y z turn turned moves = record { taken = y; beside = ([], refl); turns = turned; moves = moves }
 
--- a look for which memory didn't run out
+-- where memory ran out for a look, its answer is handed on
+pub handed_on : {B C M : Type 0} (g : Ghosts B) (verdict : C → List ℕ → ℤ) (first : CrewView B C) (r : Result Unit M) (looks : List Look) (h : CrewView B C) → IsErr r → HasMissed g verdict first looks h → HasLooked g verdict first r looks h
+handed_on g verdict first (Ok done) looks h is missed = absurd (cc is)
+handed_on g verdict first (Err memory) looks h is missed = missed
+
+-- a look for which memory ran out
+pub was_err : {T E : Type 0} {P : Type 0} (r : Result T E) → is_err r ≡ true → OnErr r P → P
+was_err (Ok x) is p = absurd (cc is)
+was_err (Err e) is p = p
+
+-- a look for which it didn't
 pub was_ok : {T E : Type 0} {P : Type 0} (r : Result T E) → is_err r ≡ false → OnOk r P → P
 was_ok (Ok x) is p = p
 was_ok (Err e) is p = absurd (cc is)
@@ -251,10 +359,15 @@ module _ {B C : Type 0} where
       let meet : watcher ≡ 0 + length low.0.seen = omega (arith, is.1) in
       subst (λ (l : List (CrewView B C)). HaveEnded 0 l) (sym (ap (λ (x : Seat' B C). x.0.seen) joined)) (ended_both 0 watcher low.0.seen last.0.seen meet ended more)
 
-  pub last_watched : {T E : Type 0} (g : Ghosts B) (verdict : C → List ℕ → ℤ) (first : CrewView B C) (looks : List Look) (result : Result T E) (low last m : Seat' B C) → IsSeat low 0 watcher → Idle m low.0.from (low.0.seen ++ last.0.seen)
-      → OnOk result (HaveWatched g verdict first looks last.0.seen) → OnOk result (HaveWatched g verdict first looks (drop watcher m.0.seen))
-  last_watched g verdict first looks (Err e) low last m is joined had = tt
-  last_watched g verdict first looks (Ok x) low last m is joined had = subst (HaveWatched g verdict first looks) (sym (all_seen low last m is joined)) had
+  pub last_looked : {M : Type 0} (g : Ghosts B) (verdict : C → List ℕ → ℤ) (first : CrewView B C) (looks : List Look) (result : Result Unit M) (low last m : Seat' B C) → IsSeat low 0 watcher → Idle m low.0.from (low.0.seen ++ last.0.seen)
+      → HaveLooked g verdict first result looks last.0.seen → HaveLooked g verdict first result looks (drop watcher m.0.seen)
+  last_looked g verdict first looks result low last m is joined had = subst (HaveLooked g verdict first result looks) (sym (all_seen low last m is joined)) had
+
+  pub others_ended : (low last m : Seat' B C) → IsSeat low 0 watcher → Idle m low.0.from (low.0.seen ++ last.0.seen) → HaveEnded 0 low.0.seen → HaveEnded 0 (take watcher m.0.seen)
+  others_ended low last m is joined ended =
+      let all : take watcher m.0.seen ≡ take watcher (low.0.seen ++ last.0.seen) = ap (λ (x : Seat' B C). take watcher x.0.seen) joined in
+      let same : take watcher m.0.seen ≡ low.0.seen = all ∙ ap (λ (n : ℕ). take n (low.0.seen ++ last.0.seen)) (sym is.1) ∙ take-append_seam low.0.seen last.0.seen in
+      subst (HaveEnded 0) (sym same) ended
 
 -- ---- how it ends
 
@@ -264,36 +377,54 @@ pub rest_ended : {B C T E : Type 0} (result : Result T E) (mid now : CrewView B 
 rest_ended (Err e) mid now before ended went kept = tt
 rest_ended (Ok x) mid now before ended went kept = λ actor within. ended_next mid now watcher before ended went kept actor within
 
+-- and the others have ended before it
+pub rest_others : {B C : Type 0} (mid now : CrewView B C) → ((actor : ℕ) → actor < watcher → HasEnded mid actor) → (now.fault ≡ None → mid.fault ≡ None)
+    → ((other : ℕ) → script_of mid.left other ≡ [] → script_of now.left other ≡ []) → (actor : ℕ) → actor < watcher → HasEnded now actor
+rest_others mid now before went kept actor within = λ goes. kept actor (before actor within (went goes))
+
 module _ {B C : Type 0} (g : Ghosts B) (verdict : C → List ℕ → ℤ) where
   -- so it is of the value that comes out of the lock
+  pub close_others : (seen : List (CrewView B C)) (now : CrewView B C) → length seen ≡ actor_count → Knows (Moves g verdict) 0 seen now → HaveEnded 0 (take watcher seen) → (actor : ℕ) → actor < watcher → HasEnded now actor
+  close_others seen now long knows ended =
+      let few : length (take watcher seen) ≡ watcher = length-take-le watcher seen (omega (arith, long)) in
+      all_ended g verdict (take watcher seen) now watcher few (λ i x at. knows i x (in_take watcher seen i x at)) ended
+
   pub close_ended : {T E : Type 0} (result : Result T E) (seen : List (CrewView B C)) (now : CrewView B C) → length seen ≡ actor_count → Knows (Moves g verdict) 0 seen now → OnOk result (HaveEnded 0 seen) → OnOk result ((actor : ℕ) → actor < actor_count → HasEnded now actor)
   close_ended (Err e) seen now long knows ended = tt
   close_ended (Ok x) seen now long knows ended = all_ended g verdict seen now actor_count long knows ended
 
-  pub close_watched : {T E : Type 0} (first : CrewView B C) (looks : List Look) (result : Result T E) (seen : List (CrewView B C)) (now : CrewView B C) → Knows (Moves g verdict) 0 seen now
-      → OnOk result (HaveWatched g verdict first looks (drop watcher seen)) → OnOk result (HasWatched g verdict first looks now)
-  close_watched first looks (Err e) seen now knows had = tt
-  close_watched first looks (Ok x) seen now knows had = watched_close g verdict first looks seen now had knows
+  -- the whole script of an actor that has nothing left
+  whole_of : (h : CrewView B C) → MayGoOn h → h.fault ≡ None → ((actor : ℕ) → actor < watcher → HasEnded h actor) → (actor : ℕ) → actor ≢ watcher → script_of h.left actor ≡ []
+  whole_of h goes_on none ended actor apart = dite (dec_lt actor watcher)
+      (λ within. ended actor within none)
+      (λ past. get_or_past h.left actor [] (omega (arith, goes_on.actors, past, apart)))
 
   -- of a crew whose watcher ended before the others
-  cut_short : (o : Opening B C) (scripts : List (List Request)) (h : CrewView B C) → MayGoOn h → h.fault ≡ None → LeadsFrom g verdict o scripts h → CutShort g verdict o scripts h.core
-  cut_short o scripts h goes_on none leads = record {
+  cut_short : (o : Opening B C) (scripts : List (List Request)) (looks : List Look) (h : CrewView B C) → MayGoOn h → h.fault ≡ None → ((actor : ℕ) → actor < watcher → HasEnded h actor) → LeadsFrom g verdict o scripts h
+      → LacksLook g o looks h.core.entries → CutShort g verdict o scripts looks h.core
+  cut_short o scripts looks h goes_on none ended leads lacks = record {
     served = served_of g verdict o h.core leads.serves;
-    played = record { parts = λ actor. begun (part actor (pairs_of h.core.entries)) (script_of h.left actor) h.fault (script_of scripts actor) none (leads.played actor); actors = leads.actors };
+    played = record { parts = λ actor. (script_of h.left actor, so_far actor); actors = leads.actors };
+    others = λ actor apart. all_played None None (script_of scripts actor) (part actor (pairs_of h.core.entries)) (script_of h.left actor) refl (λ _. whole_of h goes_on none ended actor apart) (so_far actor);
+    lacks = lacks;
     few = omega (arith, goes_on.few);
     caused = leads.serves.caused;
     live = subst (λ (f : Option StepFault). TellsFault f h.core) none goes_on.fault;
   } where
-    begun : (played left : List Request) (f : Option StepFault) (script : List Request) → f ≡ None → IsPlayed f script played left → HasPlayed (Some why.Memory) script played
-    begun played left None script is was = (left, was)
-    begun played left (Some cause) script is was = absurd (cc is)
+    so_far : (actor : ℕ) → IsPlayed None (script_of scripts actor) (part actor (pairs_of h.core.entries)) (script_of h.left actor)
+    so_far actor = subst (λ (f : Option StepFault). IsPlayed f (script_of scripts actor) (part actor (pairs_of h.core.entries)) (script_of h.left actor)) none (leads.played actor)
 
-  pub is_watched : {M : Type 0} (first h : CrewView B C) (looks : List Look) (fault : Option StepFault) (looked : Result Unit M) → h.fault ≡ fault → MayGoOn h → OnOk looked ((actor : ℕ) → actor < actor_count → HasEnded h actor)
-      → LeadsOn g verdict first h → OnOk looked (HasWatched g verdict first looks h) → (o : Opening B C) (scripts : List (List Request)) → LeadsFrom g verdict o scripts first → IsWatched g verdict o scripts (end_of fault looked) looks h.core
-  is_watched first h looks (Some cause) looked is goes_on ended leads had o scripts from =
-      subst (λ (f : Option StepFault). OneHistory g verdict o scripts f h.core) is (one_history g verdict o scripts h goes_on (λ actor within goes. absurd (cc (is, goes))) (leads o scripts from))
-  is_watched first h looks None (Ok done) is goes_on ended leads had o scripts from = (
+  -- of one that a step's fault ended
+  broken : (o : Opening B C) (scripts : List (List Request)) (h : CrewView B C) (cause : StepFault) → h.fault ≡ Some cause → MayGoOn h → LeadsFrom g verdict o scripts h → OneHistory g verdict o scripts (Some cause) h.core
+  broken o scripts h cause is goes_on leads = subst (λ (f : Option StepFault). OneHistory g verdict o scripts f h.core) is (one_history g verdict o scripts h goes_on (λ actor within goes. absurd (cc (is, goes))) leads)
+
+  pub is_watched : {M : Type 0} (first h : CrewView B C) (looks : List Look) (fault : Option StepFault) (looked : Result Unit M) → h.fault ≡ fault → MayGoOn h → ((actor : ℕ) → actor < watcher → HasEnded h actor)
+      → OnOk looked ((actor : ℕ) → actor < actor_count → HasEnded h actor) → LeadsOn g verdict first h → HasLooked g verdict first looked looks h
+      → (o : Opening B C) (scripts : List (List Request)) → LeadsFrom g verdict o scripts first → IsWatched g verdict o scripts (end_of fault looked) looks h.core
+  is_watched first h looks (Some cause) (Ok done) is goes_on others ended leads had o scripts from = (broken o scripts h cause is goes_on (leads o scripts from), inl (subst (λ (f : Option StepFault). AreLooks g o f looks h.core.entries) is (had o scripts from).1))
+  is_watched first h looks (Some cause) (Err memory) is goes_on others ended leads had o scripts from = (broken o scripts h cause is goes_on (leads o scripts from), inr (had o scripts from))
+  is_watched first h looks None (Ok done) is goes_on others ended leads had o scripts from = (
     subst (λ (f : Option StepFault). OneHistory g verdict o scripts f h.core) is (one_history g verdict o scripts h goes_on ended (leads o scripts from)),
-    (had o scripts from).1 is,
+    subst (λ (f : Option StepFault). AreLooks g o f looks h.core.entries) is (had o scripts from).1,
   )
-  is_watched first h looks None (Err memory) is goes_on ended leads had o scripts from = cut_short o scripts h goes_on is (leads o scripts from)
+  is_watched first h looks None (Err memory) is goes_on others ended leads had o scripts from = cut_short o scripts looks h goes_on is others (leads o scripts from) (had o scripts from)

@@ -4,6 +4,7 @@ use Rattle.std.proofs.Common.{ℤ}
 use mathlib.Core.Option.{some}
 use lib.ListN.{get_elem?}
 use Rattle.tbl_outside.specs.declared.bank.Bank.{Ghosts}
+use Rattle.tbl_core.specs.declared.service.StepFault.{StepFault}
 use Rattle.tbl_crew.specs.CrewView.{CrewView}
 use Rattle.tbl_crew.specs.Leading.{LeadsOn}
 use Rattle.tbl_crew.specs.Scripts.{script_of}
@@ -22,13 +23,15 @@ use Rattle.tbl_crew.specs.declared.held.Turn.TheVariants.{Played, Pinned, PinMem
 abbrev pub Grows : List Entry → ℕ → List Entry → Type 0
 Grows old actor new = (new ≡ old) ⊎ ((e : Entry) × (new ≡ old ++ e ∷ []) × (e.actor ≡ actor_of actor))
 
--- it leads on, leaves what the others have still to ask and what was lent, adds no entry but one of the actor, and forgets no fault
+-- it leads on, leaves what the others have still to ask and what was lent, adds no entry but one of the actor, forgets no fault,
+-- and changes nothing after one
 pub record Moves {B C : Type 0} (g : Ghosts B) (verdict : C → List ℕ → ℤ) (old : CrewView B C) (actor : ℕ) (new : CrewView B C) : Type 0 where
   pub leads : LeadsOn g verdict old new
   pub others : (other : ℕ) → other ≢ actor → script_of new.left other ≡ script_of old.left other
   pub went : new.fault ≡ None → old.fault ≡ None
   pub pins : (pin : Pin) → IsOfPin pin old.core → IsOfPin pin new.core
   pub grows : Grows old.core.entries actor new.core.entries
+  pub stops : (cause : StepFault) → old.fault ≡ Some cause → new ≡ old
 
 -- since the actor saw the crew, others had turns, and then it had this one
 pub record HasTurned {B C : Type 0} (g : Ghosts B) (verdict : C → List ℕ → ℤ) (actor : ℕ) (turn : Turn) (old new : CrewView B C) : Type 0 where

@@ -1,6 +1,6 @@
 //! A crew whose last application watches: its worker looks at each image that its calls pin.
 
-ghost use Rattle.std.specs.Prelude.{◌≡◌, ℕ, ◌+◌, ◌<◌, ◌≤◌, List, [], ◌∷◌, length, drop, replicate, slice_index, OnOk, Some, None, false};
+ghost use Rattle.std.specs.Prelude.{◌≡◌, ℕ, ◌+◌, ◌<◌, ◌≤◌, List, [], ◌∷◌, length, take, drop, replicate, slice_index, OnOk, OnErr, Some, None, false};
 ghost use Rattle.std.specs.Thread.{IsSync, IsSend};
 ghost use Rattle.tbl_kinds.specs.Check.{check16};
 ghost use Rattle.tbl_kinds.specs.Records.{record_limit};
@@ -15,7 +15,7 @@ ghost use Rattle.tbl_crew.specs.Leading.{LeadsFrom, LeadsOn};
 ghost use Rattle.tbl_crew.specs.Moves.{HasEnded, HaveEnded, HaveLeft};
 ghost use Rattle.tbl_crew.specs.Reads.{Keeps};
 ghost use Rattle.tbl_crew.specs.Scripts.{script_of, request_count, AllFit};
-ghost use Rattle.tbl_crew.specs.Watching.{IsWatched, HasWatched, HaveWatched, end_of};
+ghost use Rattle.tbl_crew.specs.Watching.{IsWatched, HasWatched, HasLooked, HaveWatched, HaveLooked, end_of};
 ghost use Rattle.turn_lock.specs.Turns.{Idle, IsSeat};
 
 use crate::held::{Crew, ReadPlan, Turn};
@@ -43,7 +43,8 @@ pub enum WatchEnd {
     Memory,
 }
 
-/// Looks at an image that was lent to the watcher, without the lock, and keeps its pin. An Err means that memory ran out for the look.
+/// Looks at an image that was lent to the watcher, without the lock, and keeps its pin. An Err means that memory ran out for the look:
+/// the watch is as it was.
 fn look_and_keep<G: Gate>(
     gate: &G,
     watch: &mut Watch,
@@ -51,6 +52,7 @@ fn look_and_keep<G: Gate>(
     pin: Pin,
 ) -> Result<(), Memory>
     ensures looked { OnOk result (watch.new ≡ looked watch.old pin.place pin.name (check16 pin.bytes)) }
+    ensures err { OnErr result (watch.new ≡ watch.old) }
     ensures keeps { Keeps pins.old.items pins.new.items pin }
 {
     gate.reading(WATCHER);
@@ -60,7 +62,7 @@ fn look_and_keep<G: Gate>(
 }
 
 /// Plays the watcher's script from its seat like that of any actor, and looks at each image that it is lent. Where memory runs out for
-/// that it ends early.
+/// a look it ends early, and this look alone is missing.
 fn watch_script<B: Bank, C: Validator, G: Gate, R: Wait>(
     rt: &R,
     alloc: Global,
@@ -77,7 +79,7 @@ fn watch_script<B: Bank, C: Validator, G: Gate, R: Wait>(
     ensures own { result.0.table_id ≡ place.table_id }
     ensures seat { IsSeat result.0.me watcher 1 }
     ensures ended { OnOk result.2 (HaveEnded watcher result.0.me.0.seen) }
-    ensures watched { OnOk result.2 (HaveWatched B.Bank C.verdict lock.now.table.shared.key.value result.1 result.0.me.0.seen) }
+    ensures looked { HaveLooked B.Bank C.verdict lock.now.table.shared.key.value result.2 result.1 result.0.me.0.seen }
 {
     let mut pins: Vec<Pin> = Vec::new(alloc);
     let mut plan: Option<ReadPlan> = None;
@@ -133,7 +135,7 @@ fn seats_of<B: Bank, C: Validator>(
 }
 
 /// Plays each script in a thread of its own; the watcher's thread looks at the images that it is lent.
-#[tactic(auto, using(crate::proofs::MoveLemmas::one_left, crate::proofs::WatchLemmas::both_ended, crate::proofs::WatchLemmas::last_watched))]
+#[tactic(auto, using(crate::proofs::MoveLemmas::one_left, crate::proofs::WatchLemmas::both_ended, crate::proofs::WatchLemmas::last_looked))]
 fn watch_range<B: Bank + Send, C: Validator + Send, G: Gate + Sync, R: Threads + Wait + Sync>(
     rt: &R,
     alloc: Global,
@@ -149,8 +151,9 @@ fn watch_range<B: Bank + Send, C: Validator + Send, G: Gate + Sync, R: Threads +
     requires watched { HaveWatched B.Bank C.verdict lock.now.table.shared.key.value watch (drop watcher place.me.0.seen) }
     ensures own { result.0.table_id ≡ lock.now.table.shared.table_id }
     ensures seat { IsSeat result.0.me 0 actor_count }
+    ensures others { HaveEnded 0 (take watcher result.0.me.0.seen) }
     ensures ended { OnOk result.2 (HaveEnded 0 result.0.me.0.seen) }
-    ensures watched { OnOk result.2 (HaveWatched B.Bank C.verdict lock.now.table.shared.key.value result.1 (drop watcher result.0.me.0.seen)) }
+    ensures looked { HaveLooked B.Bank C.verdict lock.now.table.shared.key.value result.2 result.1 (drop watcher result.0.me.0.seen) }
 {
     let (place, last) = seats_of(lock, counts, place, &watch);
     let others = move || -> Place<Crew<B, C>>
@@ -162,7 +165,7 @@ fn watch_range<B: Bank + Send, C: Validator + Send, G: Gate + Sync, R: Threads +
         requires { (last.table_id ≡ lock.now.table.shared.table_id) × IsSeat last.me watcher 1 × HaveLeft (slice_index counts.now) watcher last.me.0.seen
             × HaveWatched B.Bank C.verdict lock.now.table.shared.key.value watch last.me.0.seen }
         ensures { (result.0.table_id ≡ last.table_id) × IsSeat result.0.me watcher 1 × OnOk result.2 (HaveEnded watcher result.0.me.0.seen)
-            × OnOk result.2 (HaveWatched B.Bank C.verdict lock.entry.now.table.shared.key.value result.1 result.0.me.0.seen) }
+            × HaveLooked B.Bank C.verdict lock.entry.now.table.shared.key.value result.2 result.1 result.0.me.0.seen }
     {
         watch_script(
             rt,
@@ -195,8 +198,9 @@ fn watch_beside<B: Bank + Send, C: Validator + Send, G: Gate + Sync, R: Threads 
     requires empty { lock.table.shared.key.value.core.entries ≡ [] }
     requires watch { watch ≡ [] }
     ensures leads { LeadsOn B.Bank C.verdict lock.table.shared.key.value result.0 }
+    ensures others { (actor : ℕ) → actor < watcher → HasEnded result.0 actor }
     ensures ended { OnOk result.2 ((actor : ℕ) → actor < actor_count → HasEnded result.0 actor) }
-    ensures watched { OnOk result.2 (HasWatched B.Bank C.verdict lock.table.shared.key.value result.1 result.0) }
+    ensures looked { HasLooked B.Bank C.verdict lock.table.shared.key.value result.2 result.1 result.0 }
 {
     let (place, watch, looked) = watch_range(rt, alloc, &lock, gate, counts, place, watch);
     (lock.close(place), watch, looked)
@@ -211,7 +215,7 @@ fn watch_script_rest<B: Bank, C: Validator>(
     ensures ended { OnOk result (HasEnded crew.new watcher) }
     ensures went_on { crew.new.fault ≡ None → crew.old.fault ≡ None }
     ensures kept { (other : ℕ) → script_of crew.old.left other ≡ [] → script_of crew.new.left other ≡ [] }
-    ensures watched { (first : CrewView B C) → HasWatched B.Bank C.verdict first watch.old crew.old → OnOk result (HasWatched B.Bank C.verdict first watch.new crew.new) }
+    ensures looked { (first : CrewView B C) → HasWatched B.Bank C.verdict first watch.old crew.old → HasLooked B.Bank C.verdict first result watch.new crew.new }
 {
     'requests: loop {
         match crew.turn(WATCHER) {
@@ -230,8 +234,9 @@ fn watch_rest<B: Bank, C: Validator>(crew: &mut Crew<B, C>, watch: &mut Watch) -
     requires empty { crew.old.core.entries ≡ [] }
     requires watch { watch.old ≡ [] }
     ensures leads { LeadsOn B.Bank C.verdict crew.old crew.new }
+    ensures others { (actor : ℕ) → actor < watcher → HasEnded crew.new actor }
     ensures ended { OnOk result ((actor : ℕ) → actor < actor_count → HasEnded crew.new actor) }
-    ensures watched { OnOk result (HasWatched B.Bank C.verdict crew.old watch.new crew.new) }
+    ensures looked { HasLooked B.Bank C.verdict crew.old result watch.new crew.new }
 {
     play_rest(crew, WATCHER);
     watch_script_rest(crew, watch)
@@ -254,8 +259,9 @@ fn end_watched<B: Bank, C: Validator>(
     watch: Watch,
     looked: Result<(), Memory>,
 ) -> (Core<B, C>, Watch, Option<WatchEnd>)
+    requires others { (actor : ℕ) → actor < watcher → HasEnded crew actor }
     requires ended { OnOk looked ((actor : ℕ) → actor < actor_count → HasEnded crew actor) }
-    ensures history { (first : CrewView B C) → LeadsOn B.Bank C.verdict first crew → OnOk looked (HasWatched B.Bank C.verdict first watch crew)
+    ensures history { (first : CrewView B C) → LeadsOn B.Bank C.verdict first crew → HasLooked B.Bank C.verdict first looked watch crew
         → (o : Opening B C) (scripts : List (List Request)) → LeadsFrom B.Bank C.verdict o scripts first → IsWatched B.Bank C.verdict o scripts result.2 result.1 result.0 }
 {
     let (core, fault) = crew.end();
@@ -264,7 +270,7 @@ fn end_watched<B: Bank, C: Validator>(
 
 /// Plays each actor's script in a thread of its own like `crew`. Application 16 is the watcher: at each of its calls that gets the
 /// address of a table (`CFE_TBL_GetAddress`), its thread looks at the image that was lent, without the lock. Where memory runs out for
-/// a look, the watcher plays no further request, and the other actors play on.
+/// a look, the watcher plays no further request, and the other actors play their scripts to the end: this look alone is missing.
 pub fn crew_watched<B: Bank + Send, C: Validator + Send, G: Gate + Sync, R: Threads + Wait + Sync>(
     rt: &R,
     alloc: Global,

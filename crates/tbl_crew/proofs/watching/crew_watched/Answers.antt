@@ -16,10 +16,10 @@ watch_rest-looked-requires-clause-empty g c = ap (λ h. h.core.entries) c.in-Err
 
 pub returns-in-Ok : goal.returns-in-Ok
 returns-in-Ok g c = record {
-  history = λ o serves. c.end_watched.ensures.history _ c.watch_beside-crew.ensures.leads c.watch_beside-crew.ensures.watched o c.args.scripts (rw c.in-Ok.ensures.first (c.open.ensures.stands o serves));
+  history = λ o serves. c.end_watched.ensures.history _ c.watch_beside-crew.ensures.leads c.watch_beside-crew.ensures.looked o c.args.scripts (rw c.in-Ok.ensures.first (c.open.ensures.stands o serves));
 }
 
 pub returns-in-Err : goal.returns-in-Err
 returns-in-Err g c = record {
-  history = λ o serves. c.end_watched-in-Err.ensures.history _ c.watch_rest-looked.ensures.leads c.watch_rest-looked.ensures.watched o c.args.scripts (rw c.in-Err.ensures.err (c.open.ensures.stands o serves));
+  history = λ o serves. c.end_watched-in-Err.ensures.history _ c.watch_rest-looked.ensures.leads c.watch_rest-looked.ensures.looked o c.args.scripts (rw c.in-Err.ensures.err (c.open.ensures.stands o serves));
 }

@@ -1,6 +1,6 @@
 use Rattle.std.proofs.Common.{ap}
 use Rattle.tbl_crew.proofs.MoveLemmas.{since_leads}
-use Rattle.tbl_crew.proofs.WatchLemmas.{first_seat, first_left, watched_begin, close_ended, close_watched}
+use Rattle.tbl_crew.proofs.WatchLemmas.{first_seat, first_left, watched_begin, close_ended, close_others, looked_close}
 use Rattle.tbl_crew.proofs.watching.watch_beside.Goals as goal
 
 pub watch_range-place-requires-clause-seat : goal.watch_range-place-requires-clause-seat
@@ -16,12 +16,17 @@ watch_range-place-requires-clause-watched g c lifetimes outlive =
 pub returns-clause-leads : goal.returns-clause-leads
 returns-clause-leads g c = since_leads g.B.Bank g.C.Validator.verdict _ _ c.close.ensures.since
 
+pub returns-clause-others : goal.returns-clause-others
+returns-clause-others g c =
+    let played = c.watch_range-place in
+    close_others g.B.Bank g.C.Validator.verdict played.result.0.me.0.seen c.close.result played.ensures.seat.1 c.close.ensures.knows played.ensures.others
+
 pub returns-clause-ended : goal.returns-clause-ended
 returns-clause-ended g c =
     let played = c.watch_range-place in
     close_ended g.B.Bank g.C.Validator.verdict played.result.2 played.result.0.me.0.seen c.close.result played.ensures.seat.1 c.close.ensures.knows played.ensures.ended
 
-pub returns-clause-watched : goal.returns-clause-watched
-returns-clause-watched g c =
+pub returns-clause-looked : goal.returns-clause-looked
+returns-clause-looked g c =
     let played = c.watch_range-place in
-    close_watched g.B.Bank g.C.Validator.verdict c.args.lock.table.shared.key.value played.result.1 played.result.2 played.result.0.me.0.seen c.close.result c.close.ensures.knows played.ensures.watched
+    looked_close g.B.Bank g.C.Validator.verdict c.args.lock.table.shared.key.value played.result.1 played.result.2 played.result.0.me.0.seen c.close.result played.ensures.looked c.close.ensures.knows

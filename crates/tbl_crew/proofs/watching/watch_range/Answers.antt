@@ -1,7 +1,12 @@
-use Rattle.tbl_crew.proofs.WatchLemmas.{last_watched}
+use Rattle.tbl_crew.proofs.WatchLemmas.{last_looked, others_ended}
 use Rattle.tbl_crew.proofs.watching.watch_range.Goals as goal
 
-pub returns-clause-watched : goal.returns-clause-watched
-returns-clause-watched g c =
+pub returns-clause-others : goal.returns-clause-others
+returns-clause-others g c =
     let joined = c.join-place in
-    last_watched g.B.Bank g.C.Validator.verdict c.args.lock.now.table.shared.key.value joined.result.1.1 joined.result.1.2 joined.result.0.me joined.result.1.0.me c.join.new.seat.me joined.ensures.first.1 c.join.ensures.idle joined.ensures.second.3
+    others_ended joined.result.0.me joined.result.1.0.me c.join.new.seat.me joined.ensures.first.1 c.join.ensures.idle joined.ensures.first.2
+
+pub returns-clause-looked : goal.returns-clause-looked
+returns-clause-looked g c =
+    let joined = c.join-place in
+    last_looked g.B.Bank g.C.Validator.verdict c.args.lock.now.table.shared.key.value joined.result.1.1 joined.result.1.2 joined.result.0.me joined.result.1.0.me c.join.new.seat.me joined.ensures.first.1 c.join.ensures.idle joined.ensures.second.3

@@ -1,9 +1,11 @@
-use Rattle.std.proofs.Common.{◌≡◌, ◌+◌, ◌-◌, ℕ, List, sym, subst, ◌∙◌, refl, rules, arith}
+use Rattle.std.proofs.Common.{◌≡◌, ◌+◌, ◌-◌, ℕ, List, sym, subst, ◌∙◌, refl, inl, inr, rules, arith}
 use Rattle.table_watch.specs.Watching.{watcher}
+use Rattle.table_watch.specs.declared.watch.Look.{Look}
+use Rattle.tbl_crew.specs.Watching.{HaveMissed}
 use Rattle.tbl_registry.specs.declared.pin.Pin.{Pin}
 use Rattle.tbl_crew.specs.Moves.{AreKnown, AreTurned}
 use Rattle.tbl_crew.specs.declared.held.Turn.{Turn}
-use Rattle.tbl_crew.proofs.WatchLemmas.{watched_played, watched_pinned, watched_over, was_ok}
+use Rattle.tbl_crew.proofs.WatchLemmas.{watched_played, watched_pinned, watched_over, missed_turned, was_err, was_ok}
 use Rattle.tbl_crew.proofs.WorkerLemmas.{turned_of, known_kept, known_first, left_first, left_after, ended_after, ended_none}
 use Rattle.tbl_crew.proofs.watching.watch_script.Goals.{in-Pinned+else-is_err, in-Played}
 use Rattle.tbl_crew.proofs.watching.watch_script.Goals as goal
@@ -47,6 +49,19 @@ turns-preserved g c =
       ];
     }
 
+pub returns-then-is_err-clause-looked : goal.returns-then-is_err-clause-looked
+returns-then-is_err-clause-looked g c =
+    let b = g.B.Bank in
+    let first = c.args.lock.now.table.shared.key.value in
+    let seen = c.one_turn-turn.new.place.me.0.seen in
+    let missed = missed_turned b g.C.Validator.verdict first c.turns.watch c.one_turn-turn.result.0 c.turns.place.me.0.seen seen c.turns.invariant.watched c.one_turn-turn.ensures.turned (inl (c.in-Pinned.pin, c.in-Pinned.is)) in
+    let same = was_err c.look_and_keep.result (sym c.is_err.ensures.value ∙ c.if-is_err.true) c.look_and_keep.ensures.err in
+    subst (λ (looks : List Look). HaveMissed b g.C.Validator.verdict first looks seen) (sym same) missed
+
+pub returns-in-PinMemory-clause-looked : goal.returns-in-PinMemory-clause-looked
+returns-in-PinMemory-clause-looked g c =
+    missed_turned g.B.Bank g.C.Validator.verdict c.args.lock.now.table.shared.key.value c.turns.watch c.one_turn-turn.result.0 c.turns.place.me.0.seen c.one_turn-turn.new.place.me.0.seen c.turns.invariant.watched c.one_turn-turn.ensures.turned (inr c.in-PinMemory.is)
+
 pub returns-in-Ended-clause-ended : goal.returns-in-Ended-clause-ended
 returns-in-Ended-clause-ended g c =
     let e = c.one_turn-turn.ensures in
@@ -55,12 +70,12 @@ returns-in-Ended-clause-ended g c =
     let turned = turned_of g.B.Bank g.C.Validator.verdict watcher many c.one_turn-turn.result.0 c.turns.place.me.0.seen c.one_turn-turn.new.place.me.0.seen e.turned in
     ended_after watcher many c.one_turn-turn.result.0 c.one_turn-turn.new.place.me.0.seen e.seat.1 (turned (c.turns.invariant.left many all)) c.in-Ended.is
 
-pub returns-in-Ended-clause-watched : goal.returns-in-Ended-clause-watched
-returns-in-Ended-clause-watched g c =
+pub returns-in-Ended-clause-looked : goal.returns-in-Ended-clause-looked
+returns-in-Ended-clause-looked g c =
     watched_over g.B.Bank g.C.Validator.verdict c.args.lock.now.table.shared.key.value c.turns.watch c.one_turn-turn.result.0 c.turns.place.me.0.seen c.one_turn-turn.new.place.me.0.seen c.turns.invariant.watched c.one_turn-turn.ensures.turned c.in-Ended.is
 
 pub returns-clause-ended : goal.returns-clause-ended
 returns-clause-ended g c = ended_none watcher c.turns.place.me.0.seen (c.turns.invariant.left 0 (omega (arith, c.turns-test.false, c.turns.auto.nth-end)))
 
-pub returns-clause-watched : goal.returns-clause-watched
-returns-clause-watched g c = c.turns.invariant.watched
+pub returns-clause-looked : goal.returns-clause-looked
+returns-clause-looked g c = c.turns.invariant.watched

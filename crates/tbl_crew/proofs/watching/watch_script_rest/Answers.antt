@@ -1,7 +1,10 @@
-use Rattle.std.proofs.Common.{[], ◌∷◌}
+use Rattle.std.proofs.Common.{[], ◌∷◌, List, sym, subst, inl, inr, rules}
+use Rattle.std.specs.Prelude.{IsErr}
 use Rattle.table_watch.specs.Watching.{watcher}
+use Rattle.table_watch.specs.declared.watch.Look.{Look}
+use Rattle.tbl_crew.specs.Watching.{HasMissed}
 use Rattle.tbl_crew.proofs.RestLemmas.{stays_empty, went_on, ended_now, moved_by}
-use Rattle.tbl_crew.proofs.WatchLemmas.{own_turn, watched_played, watched_pinned, watched_over}
+use Rattle.tbl_crew.proofs.WatchLemmas.{own_turn, watched_played, watched_pinned, watched_over, missed_turned, handed_on}
 use Rattle.tbl_crew.proofs.watching.watch_script_rest.Goals as goal
 
 pub requests-preserved : goal.requests-preserved
@@ -44,7 +47,7 @@ returns-in-Ended g c =
       went_on = λ goes. was.went_on (went_on b c.requests.crew c.turn.new.self watcher c.turn.result turned goes);
       kept = λ other none. stays_empty b c.requests.crew c.turn.new.self watcher c.turn.result turned other (was.kept other none);
       ended = ended_now b c.requests.crew c.turn.new.self watcher c.turn.result turned c.in-Ended.is;
-      watched = λ first had. watched_over b g.C.Validator.verdict first c.requests.watch c.turn.result (c.requests.crew ∷ []) (c.turn.new.self ∷ []) (was.watched first had) own c.in-Ended.is;
+      looked = λ first had. watched_over b g.C.Validator.verdict first c.requests.watch c.turn.result (c.requests.crew ∷ []) (c.turn.new.self ∷ []) (was.watched first had) own c.in-Ended.is;
     }
 
 pub returns-in_err-look-in-Pinned-clause-leads : goal.returns-in_err-look-in-Pinned-clause-leads
@@ -64,3 +67,22 @@ returns-in-PinMemory-clause-went_on g c = λ goes. c.requests.invariant.went_on 
 
 pub returns-in-PinMemory-clause-kept : goal.returns-in-PinMemory-clause-kept
 returns-in-PinMemory-clause-kept g c = λ other none. stays_empty g.B.Bank c.requests.crew c.turn.new.self watcher c.turn.result c.turn.ensures.turns other (c.requests.invariant.kept other none)
+
+pub returns-in_err-look-in-Pinned-clause-looked : goal.returns-in_err-look-in-Pinned-clause-looked
+returns-in_err-look-in-Pinned-clause-looked g c =
+    let b = g.B.Bank in
+    let turned = c.turn.ensures.turns in
+    let moved = moved_by b c.requests.crew c.turn.new.self watcher g.C.Validator.verdict c.turn.result turned c.turn.ensures.leads c.turn.ensures.pins in
+    let own = own_turn b g.C.Validator.verdict c.requests.crew c.turn.new.self c.turn.result turned moved in
+    λ first had.
+    let missed = missed_turned b g.C.Validator.verdict first c.requests.watch c.turn.result (c.requests.crew ∷ []) (c.turn.new.self ∷ []) (c.requests.invariant.watched first had) own (inl (c.in-Pinned.pin, c.in-Pinned.is)) in
+    let is : IsErr c.from_residual.result = search rules in
+    handed_on b g.C.Validator.verdict first c.from_residual.result c.look.new.self c.turn.new.self is (subst (λ (looks : List Look). HasMissed b g.C.Validator.verdict first looks c.turn.new.self) (sym c.in_err-look-in-Pinned.ensures.err) missed)
+
+pub returns-in-PinMemory-clause-looked : goal.returns-in-PinMemory-clause-looked
+returns-in-PinMemory-clause-looked g c =
+    let b = g.B.Bank in
+    let turned = c.turn.ensures.turns in
+    let moved = moved_by b c.requests.crew c.turn.new.self watcher g.C.Validator.verdict c.turn.result turned c.turn.ensures.leads c.turn.ensures.pins in
+    let own = own_turn b g.C.Validator.verdict c.requests.crew c.turn.new.self c.turn.result turned moved in
+    λ first had. missed_turned b g.C.Validator.verdict first c.requests.watch c.turn.result (c.requests.crew ∷ []) (c.turn.new.self ∷ []) (c.requests.invariant.watched first had) own (inr c.in-PinMemory.is)
