@@ -109,14 +109,15 @@ reads_nothing fed most pairs c failed at_end end t = record {
   leaves = t.leaves;
   keeps = t.keeps;
   ended = λ _. end;
+  cut = λ _ _. refl;
   stops = stops_behind fed [] most pairs c (omega arith) t;
 }
 
 -- a piece more was read and fed, and no more can follow
-pub reads_last : (standing : Standing) (fed piece : List ℕ) (most : ℕ) (pairs more : List Pair) (old new : Collecting) (failed : Bool) (at_end : Type 0) → standing ≢ Open → length piece ≤ 4096
+pub reads_last : (standing : Standing) (fed piece : List ℕ) (most : ℕ) (pairs more : List Pair) (old new : Collecting) (at_end : Type 0) → standing ≢ Open → length piece ≤ 4096
     → HasTaken Open fed most pairs old → HasTaken standing (fed ++ piece) (length old.rest + length piece) more new
-    → HasRead standing more new.rest (fed ++ piece) failed at_end
-reads_last standing fed piece most pairs more old new failed at_end over short before t = record {
+    → HasRead standing more new.rest (fed ++ piece) false at_end
+reads_last standing fed piece most pairs more old new at_end over short before t = record {
   behind = t.behind;
   parts = t.parts;
   near = omega (arith, beginning_length (length pairs) before.behind before.leaves, ap length before.keeps, t.near);
@@ -125,6 +126,7 @@ reads_last standing fed piece most pairs more old new failed at_end over short b
   leaves = t.leaves;
   keeps = t.keeps;
   ended = λ is. absurd (over is);
+  cut = λ e. absurd cc;
   stops = stops_behind fed piece most pairs old short before;
 }
 

@@ -15,7 +15,7 @@ use Rattle.tbl_top.specs.Reading.{HasRead}
 use Rattle.tbl_session.specs.Session.{IsEnded}
 use Rattle.tbl_top.specs.Feeding.{IsKept}
 use Rattle.tbl_top.specs.Playing.{IsWritten}
-use Rattle.tbl_top.specs.Standing.{Leaves, HasPlayedAll, IsOfInput, IsStop, StandsBehind, TellsBoot, TellsWhy, TellsWritten, TellsCause, standing_behind}
+use Rattle.tbl_top.specs.Standing.{Leaves, HasPlayedAll, IsOfInput, IsStop, StandsBehind, TellsBoot, TellsWhy, TellsFront, TellsCause, standing_behind}
 use Rattle.tbl_top.specs.declared.playback.Standing.{Standing}
 use Rattle.tbl_top.specs.declared.playback.Standing.TheVariants.{Open, Bad, Full, BootFault, BootStopped, SinkFailed, Memory, Unwritten}
 use Rattle.tbl_kinds.specs.declared.entry.Entry.{Entry}
@@ -44,8 +44,8 @@ by_actor status fault scripts pairs entries same none played = record {
 
 -- what was read stays what it was where a fault or a stop goes before it
 module _ (read : Standing) (pairs : List Pair) (kept fed : List ℕ) (failed : Bool) (at_end : Type 0) (h : HasRead read pairs kept fed failed at_end) where
-  over : (standing : Standing) → Leaves standing (length pairs) h.behind → IsKept standing h.behind kept → (standing ≢ Open) → HasRead standing pairs kept fed failed at_end
-  over standing leaves keeps closed = record {
+  over : (standing : Standing) → Leaves standing (length pairs) h.behind → IsKept standing h.behind kept → (standing ≢ Open) → ¬ HasPlayedAll standing → HasRead standing pairs kept fed failed at_end
+  over standing leaves keeps closed left = record {
     behind = h.behind;
     parts = h.parts;
     near = h.near;
@@ -54,18 +54,19 @@ module _ (read : Standing) (pairs : List Pair) (kept fed : List ℕ) (failed : B
     leaves = leaves;
     keeps = keeps;
     ended = λ is. absurd (closed is);
+    cut = λ _ all. absurd (left all);
     stops = h.stops;
   }
 
   behind_fault : (fault : Option StepFault) → HasRead (standing_behind fault read) pairs kept fed failed at_end
   behind_fault None = h
-  behind_fault (Some NoMemory) = over Memory tt tt (λ e. cc)
-  behind_fault (Some Faulted) = over BootFault tt tt (λ e. cc)
-  behind_fault (Some Stopped) = over BootStopped tt tt (λ e. cc)
+  behind_fault (Some NoMemory) = over Memory tt tt (λ e. cc) (λ all. all)
+  behind_fault (Some Faulted) = over BootFault tt tt (λ e. cc) (λ all. all)
+  behind_fault (Some Stopped) = over BootStopped tt tt (λ e. cc) (λ all. all)
 
   behind_stop : (stop : Standing) → IsStop stop → HasRead stop pairs kept fed failed at_end
-  behind_stop SinkFailed is = over SinkFailed tt tt (λ e. cc)
-  behind_stop Unwritten is = over Unwritten tt tt (λ e. cc)
+  behind_stop SinkFailed is = over SinkFailed tt tt (λ e. cc) (λ all. all)
+  behind_stop Unwritten is = over Unwritten tt tt (λ e. cc) (λ all. all)
   behind_stop Open is = absurd is
   behind_stop Bad is = absurd is
   behind_stop Full is = absurd is
@@ -116,7 +117,7 @@ behind_boot (Some NoMemory) read core is told = told
 behind_boot (Some Faulted) read core is told = told
 behind_boot (Some Stopped) read core is told = told
 
-input_written : (read : Standing) (first taken : Option (List ℕ)) (entries : List Entry) → IsOfInput read → IsWritten first entries taken → TellsWritten read first entries taken
+input_written : (read : Standing) (first taken : Option (List ℕ)) (entries : List Entry) → IsOfInput read → IsWritten first entries taken → TellsFront read first entries taken
 input_written Open first taken entries is written = written
 input_written Bad first taken entries is written = written
 input_written Full first taken entries is written = written
@@ -126,27 +127,27 @@ input_written BootStopped first taken entries is written = absurd is
 input_written SinkFailed first taken entries is written = absurd is
 input_written Unwritten first taken entries is written = absurd is
 
-pub behind_written : (fault : Option StepFault) (read : Standing) (first taken : Option (List ℕ)) (entries : List Entry) → IsOfInput read → IsWritten first entries taken → TellsWritten (standing_behind fault read) first entries taken
+pub behind_written : (fault : Option StepFault) (read : Standing) (first taken : Option (List ℕ)) (entries : List Entry) → IsOfInput read → IsWritten first entries taken → TellsFront (standing_behind fault read) first entries taken
 behind_written None read first taken entries is written = input_written read first taken entries is written
 behind_written (Some NoMemory) read first taken entries is written = written
 behind_written (Some Faulted) read first taken entries is written = written
 behind_written (Some Stopped) read first taken entries is written = written
 
-input_cause : (read : Standing) (a b : ℕ) → IsOfInput read → TellsCause read a b
-input_cause Open a b is = tt
-input_cause Bad a b is = tt
-input_cause Full a b is = tt
-input_cause Memory a b is = tt
-input_cause BootFault a b is = absurd is
-input_cause BootStopped a b is = absurd is
-input_cause SinkFailed a b is = absurd is
-input_cause Unwritten a b is = absurd is
+input_cause : (read : Standing) (a b : ℕ) → IsOfInput read → b ≡ a → TellsCause read a b
+input_cause Open a b is still = still
+input_cause Bad a b is still = still
+input_cause Full a b is still = still
+input_cause Memory a b is still = still
+input_cause BootFault a b is still = absurd is
+input_cause BootStopped a b is still = absurd is
+input_cause SinkFailed a b is still = absurd is
+input_cause Unwritten a b is still = absurd is
 
-pub behind_cause : (fault : Option StepFault) (read : Standing) (a b : ℕ) → IsOfInput read → TellsCause (standing_behind fault read) a b
-behind_cause None read a b is = input_cause read a b is
-behind_cause (Some NoMemory) read a b is = tt
-behind_cause (Some Faulted) read a b is = tt
-behind_cause (Some Stopped) read a b is = tt
+pub behind_cause : (fault : Option StepFault) (read : Standing) (a b : ℕ) → IsOfInput read → b ≡ a → TellsCause (standing_behind fault read) a b
+behind_cause None read a b is still = input_cause read a b is still
+behind_cause (Some NoMemory) read a b is still = still
+behind_cause (Some Faulted) read a b is still = still
+behind_cause (Some Stopped) read a b is still = still
 
 -- a stop of the telling
 pub stop_is : (stop : Standing) (a b : ℕ) → TellsWhy (Some stop) a b → IsStop stop
@@ -161,7 +162,7 @@ stop_is Memory a b why = absurd why
 
 pub stop_cause : (stop : Standing) (a b : ℕ) → TellsWhy (Some stop) a b → TellsCause stop a b
 stop_cause SinkFailed a b why = why
-stop_cause Unwritten a b why = tt
+stop_cause Unwritten a b why = why
 stop_cause Open a b why = absurd why
 stop_cause Bad a b why = absurd why
 stop_cause Full a b why = absurd why

@@ -56,9 +56,9 @@ ending_of_script Unwritten ending = absurd ending
 -- where it was broken off nothing is written
 pub told_nothing : (standing : Standing) (text : List ℕ) (before : Taken) → IsOfScript standing → (standing ≢ Open) → TellsText (status_of standing false true) text before before
 told_nothing Open text before known other = absurd (other refl)
-told_nothing BootFault text before known other = record { whole = λ e. absurd (omega (arith, e)); broken = λ e. absurd (omega (arith, e)); silent = inr (inr refl) }
-told_nothing BootStopped text before known other = record { whole = λ e. absurd (omega (arith, e)); broken = λ e. absurd (omega (arith, e)); silent = inr (inr refl) }
-told_nothing Memory text before known other = record { whole = λ e. absurd (omega (arith, e)); broken = λ e. absurd (omega (arith, e)); silent = inr (inr refl) }
+told_nothing BootFault text before known other = record { whole = λ e. absurd (omega (arith, e)); broken = λ e. absurd (omega (arith, e)); silent = inr (inr refl); calm = λ _. refl }
+told_nothing BootStopped text before known other = record { whole = λ e. absurd (omega (arith, e)); broken = λ e. absurd (omega (arith, e)); silent = inr (inr refl); calm = λ _. refl }
+told_nothing Memory text before known other = record { whole = λ e. absurd (omega (arith, e)); broken = λ e. absurd (omega (arith, e)); silent = inr (inr refl); calm = λ _. refl }
 told_nothing Bad text before known other = absurd known
 told_nothing Full text before known other = absurd known
 told_nothing SinkFailed text before known other = absurd known
@@ -139,7 +139,7 @@ module _ {B C : Type 0} (seed rounds : ℕ) (g : Ghosts B) (verdict : C → List
 -- ---- where the service didn't begin
 
 module _ {B C : Type 0} (seed rounds : ℕ) (g : Ghosts B) (laws : Laws g) (verdict : C → List ℕ → ℤ) (o : Opening B C) (first : IsFirst o.state) (r : Ran B)
-    (crash : g.tells_moments → LeavesOnly g.clock g.left_since o.bank r.bank_then (λ image. Shows o.state.store (store_of image))) (nothing : r.taken_then ≡ r.taken) where
+    (crash : g.tells_moments → LeavesOnly g.clock g.left_since o.bank r.bank_then (λ image. Shows o.state.store (store_of image))) (nothing : r.taken_then ≡ r.taken) (still : r.unwritten_then ≡ r.unwritten) where
   empty : IsKnown r.status → (r.status ≢ 0) → (r.status ≢ 4) → Rises g o.bank r.bank_then [] → Boots g o.bank r [] [] r.status → Drills seed rounds g verdict o r
   empty known not_zero not_four rises boots = record {
     entries = [];
@@ -148,7 +148,7 @@ module _ {B C : Type 0} (seed rounds : ℕ) (g : Ghosts B) (laws : Laws g) (verd
     known = known;
     boots = boots;
     causes = record { sink = λ four. absurd (not_four four); fault = rose_at_fault g o.bank r [] [] rises boots; stop = rose_at_stop g o.bank r [] [] rises boots };
-    told = record { whole = λ zero. absurd (not_zero zero); broken = λ four. absurd (not_four four); silent = inr (inr nothing) };
+    told = record { whole = λ zero. absurd (not_zero zero); broken = λ four. absurd (not_four four); silent = inr (inr nothing); calm = λ _. still };
   }
 
   pub undrilled : (fault : StartFault) → StartCounted g o.bank r.bank_then fault → r.status ≡ unbegun_status fault → Drills seed rounds g verdict o r

@@ -6,7 +6,9 @@ pub mod FeedingLemmas
 pub mod ReadingLemmas
 pub mod CollectingLemmas
 pub mod StatusLemmas
+pub mod FailureLemmas
 pub mod SessionLemmas
+pub mod OrderLemmas
 pub mod CompletenessLemmas
 pub mod RecoveredLaws
 pub mod CrewLemmas

@@ -15,7 +15,7 @@ module _ {B : Type 0} (g : Ghosts B) (bank bank_then : B) (before : Taken) (kept
     known = inr (inl refl);
     text = text_of (store_of (g.now bank));
     shown = λ _. refl;
-    told = record { whole = λ e. absurd (omega (arith, e)); broken = λ e. absurd (omega (arith, e)); silent = inr (inr refl) };
+    told = record { whole = λ e. absurd (omega (arith, e)); broken = λ e. absurd (omega (arith, e)); silent = inr (inr refl); calm = λ _. refl };
     fault = λ e. absurd (omega (arith, e));
     kept = kept;
     moments = moments;
@@ -26,7 +26,7 @@ module _ {B : Type 0} (g : Ghosts B) (bank bank_then : B) (before : Taken) (kept
     known = inr (inr (inr refl));
     text = text_of (store_of (g.now bank));
     shown = λ _. refl;
-    told = record { whole = λ e. absurd (omega (arith, e)); broken = λ e. absurd (omega (arith, e)); silent = inr (inr refl) };
+    told = record { whole = λ e. absurd (omega (arith, e)); broken = λ e. absurd (omega (arith, e)); silent = inr (inr refl); calm = λ _. refl };
     fault = λ _. rose;
     kept = kept;
     moments = moments;

@@ -65,12 +65,12 @@ stop_leaves (Some Bad) a b played behind why = absurd why
 stop_leaves (Some Full) a b played behind why = absurd why
 stop_leaves (Some Memory) a b played behind why = absurd why
 
-pub stop_cause : (stop : Option Standing) (a b : ℕ) → TellsLast stop a b → MatchOption stop ⊤ (λ standing. TellsCause standing a b)
-stop_cause None a b why = tt
-stop_cause (Some BootFault) a b why = tt
-stop_cause (Some BootStopped) a b why = tt
+pub stop_cause : (stop : Option Standing) (a b : ℕ) → TellsLast stop a b → MatchOption stop (b ≡ a) (λ standing. TellsCause standing a b)
+stop_cause None a b why = why
+stop_cause (Some BootFault) a b why = why
+stop_cause (Some BootStopped) a b why = why
 stop_cause (Some SinkFailed) a b why = why
-stop_cause (Some Unwritten) a b why = tt
+stop_cause (Some Unwritten) a b why = why
 stop_cause (Some Open) a b why = absurd why
 stop_cause (Some Bad) a b why = absurd why
 stop_cause (Some Full) a b why = absurd why

@@ -53,17 +53,19 @@ pub ends_here : {B C : Type 0} (p : Playing B C) (failed : Bool) (at_end : Type 
 ends_here p failed at_end is session begun end = record {
   feeds = feeds_more p.standing (bytes_fed p) (bytes_fed p ++ []) 36931 36931 p.core p.rest (sym (append-nil (bytes_fed p))) (omega arith) (here p.standing p is begun);
   ended = λ _. end;
+  cut = λ _. is;
   stops = stops p [] session begun (omega arith);
 }
 
 -- a piece more was read and fed, and the session is over
-pub ends_over : {B C : Type 0} (old new : Playing B C) (piece : List ℕ) (failed : Bool) (at_end : Type 0) → new.standing ≢ Open → IsSession old.core → IsBeginning (length old.core.entries) old.rest → length piece ≤ 4096
+pub ends_over : {B C : Type 0} (old new : Playing B C) (piece : List ℕ) (at_end : Type 0) → new.standing ≢ Open → IsSession old.core → IsBeginning (length old.core.entries) old.rest → length piece ≤ 4096
     → Feeds new.standing (bytes_fed old ++ piece) (length old.rest + length piece) new.core new.rest
-    → EndsReading new (bytes_fed old ++ piece) failed at_end
-ends_over old new piece failed at_end over session begun short feeds = record {
+    → EndsReading new (bytes_fed old ++ piece) false at_end
+ends_over old new piece at_end over session begun short feeds = record {
   feeds = feeds_more new.standing (bytes_fed old ++ piece) (bytes_fed old ++ piece) (length old.rest + length piece) 36931 new.core new.rest refl
       (omega (arith, beginning_length (length old.core.entries) old.rest begun)) feeds;
   ended = λ is. absurd (over is);
+  cut = λ e. absurd cc;
   stops = stops old piece session begun short;
 }
 

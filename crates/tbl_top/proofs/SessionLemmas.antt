@@ -4,15 +4,12 @@ use Rattle.std.proofs.lemmas.List.{length-map}
 use mathlib.Core.Logic.{dite}
 use native.Mathlib.Decide.{ℕ_discrete}
 use Rattle.std.specs.Io.KnownBytes.{prepend_known, IsAtEnd}
-use Rattle.tbl_kinds.specs.Admitted.{Admitted}
 use Rattle.tbl_kinds.specs.StoreSteps.{Shows}
 use Rattle.cds_layout.specs.Images.{store_of}
-use Rattle.cds_layout.proofs.SingleBlocks.{store-single}
 use Rattle.tbl_kinds.proofs.RecordLaws.{are_records}
 use Rattle.tbl_kinds.specs.Records.{Pair}
 use Rattle.tbl_kinds.specs.Transcript.{pair_of, pairs_of, entries_bytes}
 use Rattle.tbl_outside.specs.declared.bank.Bank.{Ghosts}
-use Rattle.tbl_outside.specs.declared.validator.KitEntry.{KitEntry}
 use Rattle.tbl_core.specs.Service.{CoreView, StartCounted}
 use Rattle.tbl_core.specs.declared.service.StartFault.{StartFault}
 use Rattle.tbl_core.specs.declared.service.StartFault.TheVariants.{Memory as NoMemory, BootFault as FirstFault, BootStopped as FirstStopped}
@@ -27,19 +24,20 @@ use Rattle.tbl_outside.proofs.Streams.{append_known-nil}
 use Rattle.tbl_session.specs.Inputs.{StopsReading}
 use Rattle.tbl_session.specs.Openings.{Opening, IsFirst}
 use Rattle.tbl_session.specs.Served.{IsServed}
-use Rattle.tbl_session.specs.Session.{Ran, IsStatus, IsEnded, IsBooted, IsBrokenOff, WouldEnd, Tells, Ends, Boots, Session, state_from}
+use Rattle.tbl_session.specs.Session.{Ran, IsStatus, IsEnded, IsBooted, IsBrokenOff, WouldEnd, Tells, Ends, Boots, Session}
 use Rattle.tbl_session.specs.Trouble.{Rises}
 use Rattle.tbl_history.specs.Trouble.{IsCaused}
 use Rattle.tbl_history.proofs.CrashLemmas.{no_moments, no_exit}
 use Rattle.tbl_history.proofs.Laws.{Laws}
 use Rattle.tbl_history.proofs.TroubleLemmas.{no_last, rose_never, rose_once, rose_by_fault, rose_by_stop}
 use Rattle.tbl_top.specs.Playing.{Playing, IsSession, IsWritten}
-use Rattle.tbl_top.specs.Standing.{Leaves, HasPlayedAll, TellsWritten, TellsCause, TellsBoot}
+use Rattle.tbl_top.specs.Standing.{Leaves, HasPlayedAll, TellsFront, TellsCause, TellsBoot}
 use Rattle.tbl_top.specs.Finishing.{status_of, WritesEnd, WritesEndAlone, Finishes, FinishesUnbegun}
-use Rattle.tbl_top.specs.Reading.{EndsReading, HasRead}
+use Rattle.tbl_top.specs.Reading.{EndsReading, HasFailed, HasRead}
 use Rattle.tbl_top.specs.declared.playback.Standing.{Standing}
 use Rattle.tbl_top.specs.declared.playback.Standing.TheVariants.{Open, Bad, Full, BootFault, BootStopped, SinkFailed, Memory, Unwritten}
 use Rattle.tbl_kinds.specs.declared.entry.Entry.{Entry}
+use Rattle.tbl_top.proofs.FailureLemmas.{failed_rose}
 use Rattle.tbl_top.proofs.ReadingLemmas.{prepend_nothing}
 use Rattle.tbl_top.proofs.StatusLemmas.{not_ended, booted_not_ended, tells_none, no_boot, ends_as, boots_as, exact_of, ends_before, status_is, would_end, not_sink, ended_standing, tells_end, tells_front, tells_starved}
 
@@ -64,7 +62,7 @@ rose_further a b c le (inr top) up = dite (ℕ_discrete c b)
 module _ {B C : Type 0} (plays : ℕ → List Pair → List Entry → Type 0) (g : Ghosts B) (verdict : C → List ℕ → ℤ) (o : Opening B C) (core : CoreView B C) (standing : Standing) (pairs : List Pair) (kept read : List ℕ) (failed : Bool) (r : Ran B) (mid : Option (List ℕ)) (mid_faults : ℕ)
     (bank_is : r.bank_then ≡ core.state.store.bank) (came : r.left ≡ prepend_known read r.left_then)
     (served : IsServed g verdict o core.state.store.bank core.entries) (caused : IsCaused g o.bank core) (requested : (IsEnded r.status → HasPlayedAll standing) → plays r.status pairs core.entries)
-    (has : HasRead standing pairs kept read failed (IsAtEnd r.left_then)) (cause : failed ≡ true → Rose r.unread r.unread_then) (boot : TellsBoot standing core)
+    (has : HasRead standing pairs kept read failed (IsAtEnd r.left_then)) (cause : HasFailed failed r.unread r.unread_then) (boot : TellsBoot standing core)
     (sink_up : r.unwritten ≤ mid_faults) where
   abbrev Ending : ℕ → Type 0
   Ending n = Ends r (length pairs) has.behind n
@@ -116,7 +114,7 @@ module _ {B C : Type 0} (plays : ℕ → List Pair → List Entry → Type 0) (g
   ended is written w =
       let whole = eqb (length kept) 0 in
       let status = status_of standing failed whole in
-      let tells : Ending status = ends_as standing failed (length pairs) has.behind kept _ _ has.leaves has.keeps has.ended cause in
+      let tells : Ending status = ends_as standing failed (length pairs) has.behind kept _ _ has.leaves has.keeps has.ended (failed_rose failed r.unread r.unread_then cause) in
       let boots : Booting status = boots_as standing failed whole g o.bank core read _ _ caused boot in
       let known : IsStatus status = status_is standing failed whole in
       let not_four : status ≢ 4 = not_sink standing failed whole is in
@@ -138,10 +136,10 @@ module _ {B C : Type 0} (plays : ℕ → List Pair → List Entry → Type 0) (g
   without_end : (r.status ≡ 4) × (r.taken_then ≡ mid) → Rose r.unwritten r.unwritten_then → TakesFront r.taken mid (entries_bytes 0 core.entries) → Is
   without_end w rose told = broken_off (inr w.0) (λ four. rose) (tells_front 4 r.status core.entries (λ other. WouldEnd other Ending Booting) r.taken mid r.taken_then mid_faults r.unwritten_then w told)
 
-  without_memory : (r.status ≡ 1) × (r.taken_then ≡ mid) → TakesFront r.taken mid (entries_bytes 0 core.entries) → Is
+  without_memory : (r.status ≡ 1) × (r.taken_then ≡ mid) × (r.unwritten_then ≡ mid_faults) → TakesFront r.taken mid (entries_bytes 0 core.entries) → Is
   without_memory w told = broken_off (inl w.0) (λ four. absurd (omega (arith, w.0, four))) (tells_starved 1 r.status core.entries (λ other. WouldEnd other Ending Booting) r.taken mid r.taken_then mid_faults r.unwritten_then w told)
 
-  by_standing : (s : Standing) → standing ≡ s → TellsWritten s r.taken core.entries mid → TellsCause s r.unwritten mid_faults → mid_faults ≤ r.unwritten_then
+  by_standing : (s : Standing) → standing ≡ s → TellsFront s r.taken core.entries mid → TellsCause s r.unwritten mid_faults → mid_faults ≤ r.unwritten_then
       → Finishes s (status_of standing failed (eqb (length kept) 0)) r.status core.entries (mid, mid_faults) (r.taken_then, r.unwritten_then) → Is
   by_standing Open is told why up w = ended (λ e. cc) told w
   by_standing Bad is told why up w = ended (λ e. cc) told w
@@ -152,7 +150,7 @@ module _ {B C : Type 0} (plays : ℕ → List Pair → List Entry → Type 0) (g
   by_standing SinkFailed is told why up w = without_end w (rose_further r.unwritten mid_faults r.unwritten_then sink_up why up) told
   by_standing Unwritten is told why up w = without_memory w told
 
-  pub session_of : TellsWritten standing r.taken core.entries mid → TellsCause standing r.unwritten mid_faults → mid_faults ≤ r.unwritten_then
+  pub session_of : TellsFront standing r.taken core.entries mid → TellsCause standing r.unwritten mid_faults → mid_faults ≤ r.unwritten_then
       → Finishes standing (status_of standing failed (eqb (length kept) 0)) r.status core.entries (mid, mid_faults) (r.taken_then, r.unwritten_then)
       → Session plays g verdict o r
   session_of told why up w = by_standing standing refl told why up w
@@ -168,12 +166,9 @@ has_read p read failed at_end session ends = record {
   leaves = subst (λ n. Leaves p.standing n ends.feeds.behind) (sym (length-map p.core.entries pair_of)) ends.feeds.leaves;
   keeps = ends.feeds.keeps;
   ended = ends.ended;
+  cut = λ failed all. ends.cut failed;
   stops = ends.stops;
 }
-
--- a session begins without a table, and with the blocks that the bank shows
-pub first_opening : {C : Type 0} (bytes : List ℕ) (kit : List (KitEntry C)) (admit : Admitted) → IsFirst (state_from bytes kit admit)
-first_opening bytes kit admit = record { tables = refl; pending = refl; single = store-single bytes }
 
 -- at first nothing is written
 pub nothing_written : (taken : Option (List ℕ)) (entries : List Entry) → entries ≡ [] → IsWritten taken entries taken
@@ -251,7 +246,7 @@ module _ {B C : Type 0} (plays : ℕ → List Pair → List Entry → Type 0) (g
   }
 
   -- out of memory
-  starved : Rises g o.bank r.bank_then [] → (r.status ≡ 1) × (r.taken_then ≡ r.taken) → Session plays g verdict o r
+  starved : Rises g o.bank r.bank_then [] → (r.status ≡ 1) × (r.taken_then ≡ r.taken) × (r.unwritten_then ≡ r.unwritten) → Session plays g verdict o r
   starved rises w = empty rises (inr (inr (inl w.0))) (not_ended r.status (inl w.0)) (no_boot r.status [] [] _ _ (inl w.0)) (λ four. absurd (omega (arith, w.0, four)))
       (tells_starved 1 r.status [] (λ other. WouldEnd other Empty First) r.taken r.taken r.taken_then r.unwritten r.unwritten_then w (front_of_nothing r.taken (entries_bytes 0 [])))
 

@@ -203,7 +203,7 @@ module _ (status result : ℕ) (entries : List Entry) (would_end : ℕ → Type 
   }
 
   -- or memory ran out for it
-  pub tells_starved : (result ≡ 1) × (after ≡ mid) → TakesFront before mid (entries_bytes 0 entries) → Tells result entries would_end before after
+  pub tells_starved : (result ≡ 1) × (after ≡ mid) × (faults_then ≡ faults) → TakesFront before mid (entries_bytes 0 entries) → Tells result entries would_end before after
   tells_starved w told = record {
     whole = λ ended. absurd (not_told result (inl w.0) ended);
     broken = λ four. absurd (omega (arith, w.0, four));

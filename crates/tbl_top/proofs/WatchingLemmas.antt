@@ -26,17 +26,19 @@ use Rattle.tbl_history.proofs.Laws.{Laws}
 use Rattle.tbl_session.specs.Actors.{part}
 use Rattle.tbl_session.specs.Openings.{Opening, IsFirst}
 use Rattle.tbl_session.specs.Served.{IsServed}
-use Rattle.tbl_session.specs.Session.{Ran, Session}
+use Rattle.tbl_session.specs.Session.{Ran, IsEnded, Session}
+use Rattle.tbl_top.specs.Failures.{TellsFailures}
 use Rattle.tbl_top.specs.Finishing.{Taken, Finishes, FinishesUnbegun, status_of, unbegun_status}
 use Rattle.tbl_top.specs.Listing.{TellsText}
-use Rattle.tbl_top.specs.Reading.{HasRead}
-use Rattle.tbl_top.specs.Standing.{IsOfInput, StandsBehind, TellsBoot, TellsCause, TellsWritten, standing_behind}
+use Rattle.tbl_top.specs.Reading.{HasFailed, HasRead}
+use Rattle.tbl_top.specs.Standing.{HasPlayedAll, IsOfInput, StandsBehind, TellsBoot, TellsCause, TellsFront, standing_behind}
 use Rattle.tbl_top.specs.Watching.{ReportsAs, Watched, Watches, but_for_sink, fault_of}
 use Rattle.tbl_top.specs.declared.playback.Standing.{Standing}
 use Rattle.tbl_top.specs.declared.playback.Standing.TheVariants.{Open, Bad, Full, BootFault, BootStopped, SinkFailed, Memory, Unwritten}
 use Rattle.tbl_top.proofs.CrewLemmas.{behind_boot, behind_cause, by_actor, none_behind, nothing_requested, read_behind}
+use Rattle.tbl_top.proofs.FailureLemmas.{reads_of}
 use Rattle.tbl_top.proofs.SessionLemmas.{session_of, unbegun}
-use Rattle.tbl_top.proofs.StatusLemmas.{known_not_usage, status_is}
+use Rattle.tbl_top.proofs.StatusLemmas.{known_not_usage, not_ended, not_sink, status_is}
 use Rattle.tbl_kinds.specs.declared.entry.Entry.{Entry}
 use Rattle.tbl_kinds.specs.declared.request.Request.{Request}
 
@@ -45,22 +47,22 @@ use Rattle.tbl_kinds.specs.declared.request.Request.{Request}
 module _ {B C : Type 0} (g : Ghosts B) (verdict : C → List ℕ → ℤ) (o : Opening B C) (scripts : List (List Request)) (core : CoreView B C) where
   served : (end : Option WatchEnd) (looks : List Look) → IsWatched g verdict o scripts end looks core → IsServed g verdict o core.state.store.bank core.entries
   served None looks is = is.0.served
-  served (Some (Step cause)) looks is = is.served
+  served (Some (Step cause)) looks is = is.0.served
   served (Some NoLook) looks is = is.served
 
   have_played : (end : Option WatchEnd) (looks : List Look) → IsWatched g verdict o scripts end looks core → HavePlayed (fault_of end) scripts core.entries
   have_played None looks is = is.0.played
-  have_played (Some (Step cause)) looks is = is.played
+  have_played (Some (Step cause)) looks is = is.0.played
   have_played (Some NoLook) looks is = is.played
 
   caused : (end : Option WatchEnd) (looks : List Look) → IsWatched g verdict o scripts end looks core → IsCaused g o.bank core
   caused None looks is = is.0.caused
-  caused (Some (Step cause)) looks is = is.caused
+  caused (Some (Step cause)) looks is = is.0.caused
   caused (Some NoLook) looks is = is.caused
 
   tells_fault : (end : Option WatchEnd) (looks : List Look) → IsWatched g verdict o scripts end looks core → TellsFault (fault_of end) core
   tells_fault None looks is = is.0.ended
-  tells_fault (Some (Step cause)) looks is = is.ended
+  tells_fault (Some (Step cause)) looks is = is.0.ended
   tells_fault (Some NoLook) looks is = is.live
 
 -- the looks of the report: those of the watch, unless something ended the crew
@@ -91,11 +93,11 @@ text_told None watched all read failed whole result before after ends told = tol
 text_told (Some why) watched all read failed whole result before after ends told =
     let status = fault_status why read failed whole in
     let no = no_report _ result ends status.0 status.1 in
-    record { whole = λ zero. absurd (no.0 zero); broken = λ four. absurd (no.1 four); silent = told.silent }
+    record { whole = λ zero. absurd (no.0 zero); broken = λ four. absurd (no.1 four); silent = told.silent; calm = told.calm }
 
 -- ---- beside a sink that doesn't tell what it took
 
-untold : (s : Standing) (entries : List Entry) → TellsWritten s None entries None
+untold : (s : Standing) (entries : List Entry) → TellsFront s None entries None
 untold Open entries = refl
 untold Bad entries = refl
 untold Full entries = refl
@@ -105,15 +107,15 @@ untold Memory entries = refl
 untold SinkFailed entries = record { count = 0; grown = refl }
 untold Unwritten entries = record { count = 0; grown = refl }
 
-finishes : (s : Standing) (failed whole : Bool) (result : ℕ) (entries : List Entry) (faults faults_then : ℕ) → result ≡ status_of s failed whole → Finishes s (status_of s failed whole) result entries (None, faults) (None, faults_then)
-finishes Open failed whole result entries faults faults_then is = inl (is, refl)
-finishes Bad failed whole result entries faults faults_then is = inl (is, refl)
-finishes Full failed whole result entries faults faults_then is = inl (is, refl)
-finishes BootFault failed whole result entries faults faults_then is = inl (is, refl)
-finishes BootStopped failed whole result entries faults faults_then is = inl (is, refl)
-finishes Memory failed whole result entries faults faults_then is = inl (is, refl)
-finishes SinkFailed failed whole result entries faults faults_then is = (is, refl)
-finishes Unwritten failed whole result entries faults faults_then is = (is, refl)
+finishes : (s : Standing) (failed whole : Bool) (result : ℕ) (entries : List Entry) (faults faults_then : ℕ) → result ≡ status_of s failed whole → faults_then ≡ faults → Finishes s (status_of s failed whole) result entries (None, faults) (None, faults_then)
+finishes Open failed whole result entries faults faults_then is still = inl (is, refl, still)
+finishes Bad failed whole result entries faults faults_then is still = inl (is, refl, still)
+finishes Full failed whole result entries faults faults_then is still = inl (is, refl, still)
+finishes BootFault failed whole result entries faults faults_then is still = inl (is, refl, still)
+finishes BootStopped failed whole result entries faults faults_then is still = inl (is, refl, still)
+finishes Memory failed whole result entries faults faults_then is still = inl (is, refl, still)
+finishes SinkFailed failed whole result entries faults faults_then is still = (is, refl)
+finishes Unwritten failed whole result entries faults faults_then is still = (is, refl, still)
 
 -- the sink failed
 breaks : (s : Standing) (failed whole : Bool) (result : ℕ) (entries : List Entry) (faults faults_then : ℕ) → status_of s failed whole ≡ 0 → result ≡ 4 → Rose faults faults_then
@@ -127,12 +129,27 @@ breaks Memory failed whole result entries faults faults_then zero four rose = ab
 breaks SinkFailed failed whole result entries faults faults_then zero four rose = absurd (omega (arith, zero))
 breaks Unwritten failed whole result entries faults faults_then zero four rose = absurd (omega (arith, zero))
 
+-- a session stands by no failure of the sink before anything is written
+pub not_sink_failed : (end : Option WatchEnd) (read : Standing) → IsOfInput read → standing_behind (fault_of end) read ≢ SinkFailed
+not_sink_failed None Open is e = absurd (cc)
+not_sink_failed None Bad is e = absurd (cc)
+not_sink_failed None Full is e = absurd (cc)
+not_sink_failed None Memory is e = absurd (cc)
+not_sink_failed None BootFault is e = absurd is
+not_sink_failed None BootStopped is e = absurd is
+not_sink_failed None SinkFailed is e = absurd is
+not_sink_failed None Unwritten is e = absurd is
+not_sink_failed (Some (Step NoMemory)) read is e = absurd (cc)
+not_sink_failed (Some (Step Faulted)) read is e = absurd (cc)
+not_sink_failed (Some (Step Stopped)) read is e = absurd (cc)
+not_sink_failed (Some NoLook) read is e = absurd (cc)
+
 -- ---- the session
 
 module _ {B C : Type 0} (g : Ghosts B) (verdict : C → List ℕ → ℤ) (o : Opening B C) (scripts : List (List Request)) (core : CoreView B C) (end : Option WatchEnd) (looks : List Look)
     (is : IsWatched g verdict o scripts end looks core) (read : Standing) (pairs : List Pair) (kept bytes : List ℕ) (failed : Bool) (r : Ran B)
     (bank_is : r.bank_then ≡ core.state.store.bank) (came : r.left ≡ prepend_known bytes r.left_then) (same : (actor : ℕ) → script_of scripts actor ≡ part actor pairs)
-    (has : HasRead read pairs kept bytes failed (IsAtEnd r.left_then)) (input : IsOfInput read) (cause : failed ≡ true → Rose r.unread r.unread_then) (up : r.unwritten ≤ r.unwritten_then) where
+    (has : HasRead read pairs kept bytes failed (IsAtEnd r.left_then)) (input : IsOfInput read) (cause : HasFailed failed r.unread r.unread_then) (up : r.unwritten ≤ r.unwritten_then) where
   abbrev Looks : List Look
   Looks = looks_told end looks (watched_by o.state core.entries)
 
@@ -158,46 +175,51 @@ module _ {B C : Type 0} (g : Ghosts B) (verdict : C → List ℕ → ℤ) (o : O
   stands_boot = behind_boot (fault_of end) read core input (tells_fault g verdict o scripts core end looks is)
 
   stands_cause : TellsCause Stands r.unwritten r.unwritten
-  stands_cause = behind_cause (fault_of end) read r.unwritten r.unwritten input
+  stands_cause = behind_cause (fault_of end) read r.unwritten r.unwritten input refl
 
-  session_by : ReportsAs (status_at Stands) r.status → (r.status ≡ 4 → Rose r.unwritten r.unwritten_then) → Session (Watched g o Looks) g verdict o (but_for_sink r)
-  session_by (inl status) rose = session_at Stands (inl refl) stands_boot stands_cause (finishes Stands failed (eqb (length kept) 0) r.status core.entries r.unwritten r.unwritten_then status)
-  session_by (inr (zero, inl one)) rose = session_at Unwritten (inr tt) tt tt (one, refl)
-  session_by (inr (zero, inr four)) rose = session_at Stands (inl refl) stands_boot stands_cause (breaks Stands failed (eqb (length kept) 0) r.status core.entries r.unwritten r.unwritten_then zero four (rose four))
+  not_four : r.status ≡ status_at Stands → r.status ≢ 4
+  not_four status four = not_sink Stands failed (eqb (length kept) 0) (not_sink_failed end read input) (sym status ∙ four)
+
+  session_by : ReportsAs (status_at Stands) r.status → (r.status ≡ 4 → Rose r.unwritten r.unwritten_then) → (r.status ≢ 4 → r.unwritten_then ≡ r.unwritten) → Session (Watched g o Looks) g verdict o (but_for_sink r)
+  session_by (inl status) rose calm = session_at Stands (inl refl) stands_boot stands_cause (finishes Stands failed (eqb (length kept) 0) r.status core.entries r.unwritten r.unwritten_then status (calm (not_four status)))
+  session_by (inr (zero, inl one)) rose calm = session_at Unwritten (inr tt) tt refl (one, refl, calm (λ four. omega (arith, one, four)))
+  session_by (inr (zero, inr four)) rose calm = session_at Stands (inl refl) stands_boot stands_cause (breaks Stands failed (eqb (length kept) 0) r.status core.entries r.unwritten r.unwritten_then zero four (rose four))
 
   pub watches : ReportsAs (status_at Stands) r.status → TellsText r.status (report looks) (r.taken, r.unwritten) (r.taken_then, r.unwritten_then) → Watches g verdict o r
   watches ends told = record {
     looks = Looks;
-    session = session_by ends (λ four. (told.broken four).1);
+    session = session_by ends (λ four. (told.broken four).1) told.calm;
     told = text_told end looks (watched_by o.state core.entries) read failed (eqb (length kept) 0) r.status (r.taken, r.unwritten) (r.taken_then, r.unwritten_then) ends told;
   }
+
+-- a read that failed is told by it, and a write
+reads_told : {B : Type 0} (standing : Standing) (failed whole : Bool) (r : Ran B) → HasFailed failed r.unread r.unread_then → (failed ≡ true → HasPlayedAll standing → standing ≡ Open) → ReportsAs (status_of standing failed whole) r.status
+    → IsEnded r.status → (r.status ≢ 3) → r.unread_then ≡ r.unread
+reads_told standing failed whole r cause cut (inl status) ended other =
+    reads_of standing failed whole r.status [] r.unread r.unread_then (None, 0) (None, 0) cause cut (finishes standing failed whole r.status [] 0 0 status refl) ended other
+reads_told standing failed whole r cause cut (inr (zero, inl one)) ended other = absurd (not_ended r.status (inl one) ended)
+reads_told standing failed whole r cause cut (inr (zero, inr four)) ended other = absurd (not_ended r.status (inr four) ended)
+
+pub watch_failures : {B : Type 0} (end : Option WatchEnd) (read : Standing) (pairs : List Pair) (kept bytes text : List ℕ) (failed : Bool) (at_end : Type 0) (r : Ran B) → HasRead read pairs kept bytes failed at_end → HasFailed failed r.unread r.unread_then
+    → ReportsAs (status_of (standing_behind (fault_of end) read) failed (eqb (length kept) 0)) r.status → TellsText r.status text (r.taken, r.unwritten) (r.taken_then, r.unwritten_then) → TellsFailures r
+watch_failures end read pairs kept bytes text failed at_end r has cause ends told =
+    let stands = standing_behind (fault_of end) read in
+    record {
+      reads = reads_told stands failed (eqb (length kept) 0) r cause (read_behind read pairs kept bytes failed at_end has (fault_of end) stands (inl refl)).cut ends;
+      writes = told.calm;
+    }
 
 pub ends_not_usage : (s : Standing) (failed whole : Bool) (result : ℕ) → ReportsAs (status_of s failed whole) result → result ≢ 2
 ends_not_usage s failed whole result (inl same) two = known_not_usage (status_of s failed whole) (status_is s failed whole) (sym same ∙ two)
 ends_not_usage s failed whole result (inr (zero, inl one)) two = omega (arith, one, two)
 ends_not_usage s failed whole result (inr (zero, inr four)) two = omega (arith, four, two)
 
--- a session stands by no failure of the sink before anything is written
-pub not_sink_failed : (end : Option WatchEnd) (read : Standing) → IsOfInput read → standing_behind (fault_of end) read ≢ SinkFailed
-not_sink_failed None Open is e = absurd (cc)
-not_sink_failed None Bad is e = absurd (cc)
-not_sink_failed None Full is e = absurd (cc)
-not_sink_failed None Memory is e = absurd (cc)
-not_sink_failed None BootFault is e = absurd is
-not_sink_failed None BootStopped is e = absurd is
-not_sink_failed None SinkFailed is e = absurd is
-not_sink_failed None Unwritten is e = absurd is
-not_sink_failed (Some (Step NoMemory)) read is e = absurd (cc)
-not_sink_failed (Some (Step Faulted)) read is e = absurd (cc)
-not_sink_failed (Some (Step Stopped)) read is e = absurd (cc)
-not_sink_failed (Some NoLook) read is e = absurd (cc)
-
 -- ---- where the service didn't begin
 
-unbegun_finishes : (fault : StartFault) (result faults faults_then : ℕ) → result ≡ unbegun_status fault → FinishesUnbegun fault result (None, faults) (None, faults_then)
-unbegun_finishes NoStart result faults faults_then is = (is, refl)
-unbegun_finishes FirstFault result faults faults_then is = inl (inl (is, refl))
-unbegun_finishes FirstStopped result faults faults_then is = inl (inl (is, refl))
+unbegun_finishes : (fault : StartFault) (result faults faults_then : ℕ) → result ≡ unbegun_status fault → faults_then ≡ faults → FinishesUnbegun fault result (None, faults) (None, faults_then)
+unbegun_finishes NoStart result faults faults_then is still = (is, refl, still)
+unbegun_finishes FirstFault result faults faults_then is still = inl (inl (is, refl, still))
+unbegun_finishes FirstStopped result faults faults_then is still = inl (inl (is, refl, still))
 
 unbegun_silent : (fault : StartFault) → (unbegun_status fault ≢ 0) × (unbegun_status fault ≢ 4)
 unbegun_silent NoStart = (λ e. omega (arith, e), λ e. omega (arith, e))
@@ -210,13 +232,13 @@ unbegun_not_usage FirstFault = λ e. omega (arith, e)
 unbegun_not_usage FirstStopped = λ e. omega (arith, e)
 
 pub unwatched : {B C : Type 0} (g : Ghosts B) (laws : Laws g) (verdict : C → List ℕ → ℤ) (o : Opening B C) (first : IsFirst o.state) (r : Ran B) → r.left_then ≡ r.left
-    → (g.tells_moments → LeavesOnly g.clock g.left_since o.bank r.bank_then (λ image. Shows o.state.store (store_of image))) → r.taken_then ≡ r.taken
+    → (g.tells_moments → LeavesOnly g.clock g.left_since o.bank r.bank_then (λ image. Shows o.state.store (store_of image))) → r.taken_then ≡ r.taken → r.unwritten_then ≡ r.unwritten
     → (fault : StartFault) → StartCounted g o.bank r.bank_then fault → r.status ≡ unbegun_status fault → Watches g verdict o r
-unwatched g laws verdict o first r same crash nothing fault counted status =
+unwatched g laws verdict o first r same crash nothing still fault counted status =
     let none = watched_by o.state [] in
     let no = unbegun_silent fault in
     record {
       looks = none;
-      session = unbegun (Watched g o none) g laws verdict o first (but_for_sink r) same crash (nothing_requested r.status, λ _. refl) fault counted (unbegun_finishes fault r.status r.unwritten r.unwritten_then status);
-      told = record { whole = λ zero. absurd (no.0 (sym status ∙ zero)); broken = λ four. absurd (no.1 (sym status ∙ four)); silent = inr (inr nothing) };
+      session = unbegun (Watched g o none) g laws verdict o first (but_for_sink r) same crash (nothing_requested r.status, λ _. refl) fault counted (unbegun_finishes fault r.status r.unwritten r.unwritten_then status still);
+      told = record { whole = λ zero. absurd (no.0 (sym status ∙ zero)); broken = λ four. absurd (no.1 (sym status ∙ four)); silent = inr (inr nothing); calm = λ _. still };
     }

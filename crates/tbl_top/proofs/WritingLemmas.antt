@@ -1,5 +1,5 @@
 -- One entry more in the transcript.
-use Rattle.std.proofs.Common.{◌≡◌, ℕ, List, [], ◌∷◌, ◌++◌, length, get_or, ◌-◌, Option, Some, None, sym, ap, subst, ◌∙◌, arith}
+use Rattle.std.proofs.Common.{◌≡◌, ℕ, List, [], ◌∷◌, ◌++◌, length, get_or, take, ◌-◌, Option, Some, None, refl, sym, ap, subst, ◌∙◌, arith}
 use Rattle.std.proofs.lemmas.List.{length-append}
 use Rattle.std.proofs.Math.Seq.{get_or-append_seam}
 use Rattle.std.specs.Prelude.{MatchOption}
@@ -7,10 +7,10 @@ use Rattle.std.specs.Io.KnownBytes.{append_known}
 use Rattle.tbl_kinds.specs.Transcript.{entry_bytes, entries_bytes}
 use Rattle.tbl_kinds.proofs.TranscriptLaws.{entries_bytes-snoc}
 use Rattle.tbl_outside.specs.Streams.{TakesFront}
-use Rattle.tbl_outside.proofs.Streams.{written_more, front_of_first, front_of_second, front_of_whole}
+use Rattle.tbl_outside.proofs.Streams.{append_known-nil, append_known-twice, written_more, front_of_second}
 use Rattle.tbl_core.specs.Service.{CoreView}
-use Rattle.tbl_top.specs.Playing.{IsWritten, IsFrontWritten}
-use Rattle.tbl_top.specs.Standing.{TellsWritten, TellsBoot, IsEnding, TellsStop, TellsWhy, TellsLast}
+use Rattle.tbl_top.specs.Playing.{IsWritten, IsCutShort, IsFrontWritten}
+use Rattle.tbl_top.specs.Standing.{TellsWritten, TellsFront, TellsBoot, IsEnding, TellsStop, TellsWhy, TellsLast}
 use Rattle.tbl_top.specs.declared.playback.Standing.{Standing}
 use Rattle.tbl_top.specs.declared.playback.Standing.TheVariants.{Open, Bad, Full, BootFault, BootStopped, SinkFailed, Memory, Unwritten}
 use Rattle.tbl_kinds.specs.declared.entry.Entry.{Entry}
@@ -24,16 +24,39 @@ pub is_written_push : (first before after : Option (List ℕ)) (entries : List E
 is_written_push first before after entries e written more =
     written_more first before after (entries_bytes 0 entries) (entry_bytes (length entries) e) written more ∙ ap (append_known first) (sym (entries_push entries e))
 
-pub is_front_push : (first before after : Option (List ℕ)) (entries : List Entry) (e : Entry) → IsWritten first entries before
-    → TakesFront before after (entry_bytes (length entries) e) → IsFrontWritten first (entries ++ e ∷ []) after
-is_front_push first before after entries e written front =
-    subst (λ (xs : List ℕ). TakesFront first after xs) (sym (entries_push entries e)) (front_of_second first before after (entries_bytes 0 entries) (entry_bytes (length entries) e) written front)
+cut_push : (first before after : Option (List ℕ)) (entries : List Entry) (e : Entry) → IsWritten first entries before
+    → TakesFront before after (entry_bytes (length entries) e) → IsCutShort first (entries ++ e ∷ []) after
+cut_push first before after entries e written front = record {
+  front = entries;
+  last = e;
+  parts = refl;
+  count = front.count;
+  grown = written_more first before after (entries_bytes 0 entries) (take front.count (entry_bytes (length entries) e)) written front.grown;
+}
 
-pub is_front_stays : (first before after : Option (List ℕ)) (entries : List Entry) (e : Entry) → IsWritten first entries before
-    → after ≡ before → IsFrontWritten first (entries ++ e ∷ []) after
-is_front_stays first before after entries e written same =
-    subst (λ (xs : List ℕ). TakesFront first after xs) (sym (entries_push entries e))
-    (front_of_first first after (entries_bytes 0 entries) (entry_bytes (length entries) e) (front_of_whole first after (entries_bytes 0 entries) (same ∙ written)))
+-- nothing of it was written
+cut_stays : (first before after : Option (List ℕ)) (entries : List Entry) (e : Entry) → IsWritten first entries before
+    → after ≡ before → IsCutShort first (entries ++ e ∷ []) after
+cut_stays first before after entries e written same =
+    cut_push first before after entries e written (record { count = 0; grown = same ∙ sym (append_known-nil before) })
+
+-- what was cut short is a front of all
+pub cut_front : (first taken : Option (List ℕ)) (entries : List Entry) → IsCutShort first entries taken → IsFrontWritten first entries taken
+cut_front first taken entries cut =
+    subst (λ (es : List Entry). IsFrontWritten first es taken) (sym cut.parts)
+    (subst (λ (xs : List ℕ). TakesFront first taken xs) (sym (entries_push cut.front cut.last))
+    (front_of_second first (append_known first (entries_bytes 0 cut.front)) taken (entries_bytes 0 cut.front) (entry_bytes (length cut.front) cut.last) refl
+    (record { count = cut.count; grown = cut.grown ∙ sym (append_known-twice first (entries_bytes 0 cut.front) (take cut.count (entry_bytes (length cut.front) cut.last))) })))
+
+pub written_front : (standing : Standing) (first taken : Option (List ℕ)) (entries : List Entry) → TellsWritten standing first entries taken → TellsFront standing first entries taken
+written_front Open first taken entries written = written
+written_front Bad first taken entries written = written
+written_front Full first taken entries written = written
+written_front BootFault first taken entries written = written
+written_front BootStopped first taken entries written = written
+written_front Memory first taken entries written = written
+written_front SinkFailed first taken entries cut = cut_front first taken entries cut
+written_front Unwritten first taken entries cut = cut_front first taken entries cut
 
 -- what a write of the last entry left
 pub wrote : (stop : Option Standing) (first before after : Option (List ℕ)) (old new : List Entry) (e : Entry) → new ≡ old ++ e ∷ []
@@ -43,9 +66,9 @@ pub wrote : (stop : Option Standing) (first before after : Option (List ℕ)) (o
 wrote None first before after old new e added stopped written =
     subst (λ (es : List Entry). IsWritten first es after) (sym added) (is_written_push first before after old e written stopped)
 wrote (Some SinkFailed) first before after old new e added stopped written =
-    subst (λ (es : List Entry). IsFrontWritten first es after) (sym added) (is_front_push first before after old e written stopped)
+    subst (λ (es : List Entry). IsCutShort first es after) (sym added) (cut_push first before after old e written stopped)
 wrote (Some Unwritten) first before after old new e added stopped written =
-    subst (λ (es : List Entry). IsFrontWritten first es after) (sym added) (is_front_stays first before after old e written stopped)
+    subst (λ (es : List Entry). IsCutShort first es after) (sym added) (cut_stays first before after old e written stopped)
 wrote (Some BootFault) first before after old new e added stopped written = absurd stopped
 wrote (Some BootStopped) first before after old new e added stopped written = absurd stopped
 wrote (Some Open) first before after old new e added stopped written = absurd stopped
@@ -87,21 +110,21 @@ ending_written (Some SinkFailed) first taken entries is written = absurd is
 ending_written (Some Memory) first taken entries is written = absurd is
 ending_written (Some Unwritten) first taken entries is written = absurd is
 
-pub ending_why : (ending : Option Standing) (a b : ℕ) → IsEnding ending → TellsLast ending a b
-ending_why None a b is = tt
-ending_why (Some BootFault) a b is = tt
-ending_why (Some BootStopped) a b is = tt
-ending_why (Some Open) a b is = absurd is
-ending_why (Some Bad) a b is = absurd is
-ending_why (Some Full) a b is = absurd is
-ending_why (Some SinkFailed) a b is = absurd is
-ending_why (Some Memory) a b is = absurd is
-ending_why (Some Unwritten) a b is = absurd is
+pub ending_why : (ending : Option Standing) (a b : ℕ) → IsEnding ending → b ≡ a → TellsLast ending a b
+ending_why None a b is still = still
+ending_why (Some BootFault) a b is still = still
+ending_why (Some BootStopped) a b is still = still
+ending_why (Some Open) a b is still = absurd is
+ending_why (Some Bad) a b is still = absurd is
+ending_why (Some Full) a b is still = absurd is
+ending_why (Some SinkFailed) a b is still = absurd is
+ending_why (Some Memory) a b is still = absurd is
+ending_why (Some Unwritten) a b is still = absurd is
 
 -- where it wasn't, why
 pub stop_why : (standing : Standing) (a b : ℕ) → TellsWhy (Some standing) a b → TellsLast (Some standing) a b
 stop_why SinkFailed a b why = why
-stop_why Unwritten a b why = tt
+stop_why Unwritten a b why = why
 stop_why BootFault a b why = absurd why
 stop_why BootStopped a b why = absurd why
 stop_why Open a b why = absurd why

@@ -28,23 +28,23 @@ Taken = Option (List ℕ) × ℕ
 -- the end record with this status was written, or the sink failed inside it
 abbrev pub WritesEnd : ℕ → ℕ → List Entry → Taken → Taken → Type 0
 WritesEnd status result entries before after =
-    ((result ≡ status) × (after.0 ≡ append_known before.0 (end_bytes status (length entries) (offset_of entries))))
+    ((result ≡ status) × (after.0 ≡ append_known before.0 (end_bytes status (length entries) (offset_of entries))) × (after.1 ≡ before.1))
     ⊎ ((result ≡ 4) × TakesFront before.0 after.0 (end_bytes status (length entries) (offset_of entries)) × Rose before.1 after.1)
 
 -- or memory ran out for it
 abbrev pub WritesEndAlone : ℕ → ℕ → Taken → Taken → Type 0
-WritesEndAlone status result before after = WritesEnd status result [] before after ⊎ ((result ≡ 1) × (after.0 ≡ before.0))
+WritesEndAlone status result before after = WritesEnd status result [] before after ⊎ ((result ≡ 1) × (after.0 ≡ before.0) × (after.1 ≡ before.1))
 
 -- the end of a session whose service didn't begin
 abbrev pub FinishesUnbegun : StartFault → ℕ → Taken → Taken → Type 0
-FinishesUnbegun NoMemory result before after = (result ≡ 1) × (after.0 ≡ before.0)
+FinishesUnbegun NoMemory result before after = (result ≡ 1) × (after.0 ≡ before.0) × (after.1 ≡ before.1)
 FinishesUnbegun FirstFault result before after = WritesEndAlone 7 result before after
 FinishesUnbegun FirstStopped result before after = WritesEndAlone 8 result before after
 
 -- how the telling ended: without an end record where an entry wasn't written whole
 abbrev pub Finishes : Standing → ℕ → ℕ → List Entry → Taken → Taken → Type 0
 Finishes SinkFailed status result entries before after = (result ≡ 4) × (after.0 ≡ before.0)
-Finishes Unwritten status result entries before after = (result ≡ 1) × (after.0 ≡ before.0)
+Finishes Unwritten status result entries before after = (result ≡ 1) × (after.0 ≡ before.0) × (after.1 ≡ before.1)
 Finishes _ status result entries before after = WritesEnd status result entries before after
 
 -- the status of a session whose service didn't begin

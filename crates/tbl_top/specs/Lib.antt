@@ -5,6 +5,8 @@ pub mod Playing
 pub mod Standing
 pub mod Feeding
 pub mod Finishing
+pub mod Failures
+pub mod InTurn
 pub mod Reading
 pub mod Collecting
 pub mod Listing

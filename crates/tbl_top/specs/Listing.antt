@@ -1,5 +1,5 @@
 -- The store of a bank, written as text.
-use Rattle.std.specs.Prelude.{◌≡◌, ◌⊎◌, ℕ, List}
+use Rattle.std.specs.Prelude.{◌≡◌, ◌≢◌, ◌⊎◌, ℕ, List}
 use Rattle.std.specs.Io.KnownBytes.{append_known}
 use Rattle.cds_layout.specs.Images.{store_of}
 use Rattle.cds_layout.specs.Texts.{text_of}
@@ -9,11 +9,13 @@ use Rattle.tbl_outside.specs.Streams.{TakesFront}
 use Rattle.tbl_outside.specs.declared.bank.Bank.{Ghosts}
 use Rattle.tbl_top.specs.Finishing.{Taken}
 
--- What a sink took of a text, by the status: after 0 all of it, after 4 a front of it, where the sink failed, and else nothing.
+-- What a sink took of a text, by the status: after 0 all of it, after 4 a front of it, where the sink failed, and else nothing. A write
+-- that fails is told by 4.
 pub record TellsText (status : ℕ) (text : List ℕ) (before after : Taken) : Type 0 where
   pub whole : status ≡ 0 → after.0 ≡ append_known before.0 text
   pub broken : status ≡ 4 → TakesFront before.0 after.0 text × Rose before.1 after.1
   pub silent : (status ≡ 0) ⊎ (status ≡ 4) ⊎ (after.0 ≡ before.0)
+  pub calm : status ≢ 4 → after.1 ≡ before.1
 
 -- The text is that of the store that the bank's bytes show. The bank is read and not written.
 pub record ListsStore {B : Type 0} (g : Ghosts B) (bank bank_then : B) (status : ℕ) (before after : Taken) : Type 0 where

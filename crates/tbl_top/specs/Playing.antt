@@ -1,9 +1,9 @@
 -- A session that is being played: the core, and the bytes that were fed and not yet played.
-use Rattle.std.specs.Prelude.{◌≡◌, ℕ, ◌≤◌, List, ◌++◌, length, Option}
+use Rattle.std.specs.Prelude.{◌≡◌, ℕ, ◌≤◌, List, [], ◌∷◌, ◌++◌, length, take, Option}
 use Rattle.std.specs.Io.KnownBytes.{append_known}
 use Rattle.std.specs.List.{AllByRecursion}
 use Rattle.tbl_kinds.specs.Records.{IsRecord, joined, record_limit}
-use Rattle.tbl_kinds.specs.Transcript.{pairs_of, entries_bytes}
+use Rattle.tbl_kinds.specs.Transcript.{pairs_of, entry_bytes, entries_bytes}
 use Rattle.tbl_outside.specs.Streams.{TakesFront}
 use Rattle.tbl_core.specs.Service.{CoreView}
 use Rattle.tbl_kinds.specs.declared.entry.Entry.{Entry}
@@ -31,6 +31,14 @@ pub record IsSession {B C : Type 0} (core : CoreView B C) : Type 0 where
 abbrev pub IsWritten : Option (List ℕ) → List Entry → Option (List ℕ) → Type 0
 IsWritten first entries taken = taken ≡ append_known first (entries_bytes 0 entries)
 
--- or a front of them
+-- or those of all but the last, and a front of that one's
+pub record IsCutShort (first : Option (List ℕ)) (entries : List Entry) (taken : Option (List ℕ)) : Type 0 where
+  pub front : List Entry
+  pub last : Entry
+  pub parts : entries ≡ front ++ last ∷ []
+  pub count : ℕ
+  pub grown : taken ≡ append_known first (entries_bytes 0 front ++ take count (entry_bytes (length front) last))
+
+-- or a front of them, where all were played before the first was written
 abbrev pub IsFrontWritten : Option (List ℕ) → List Entry → Option (List ℕ) → Type 0
 IsFrontWritten first entries taken = TakesFront first taken (entries_bytes 0 entries)

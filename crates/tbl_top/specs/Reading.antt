@@ -1,16 +1,27 @@
 -- What was read of the input.
-use Rattle.std.specs.Prelude.{◌≡◌, ℕ, ◌<◌, ◌≤◌, List, ◌++◌, length, Bool, false, Option, Some, None}
+use Rattle.std.specs.Prelude.{◌≡◌, ℕ, ◌<◌, ◌≤◌, List, ◌++◌, length, Bool, true, false, Option, Some, None}
 use Rattle.std.specs.List.{AllByRecursion}
 use Rattle.tbl_kinds.specs.Records.{Pair, IsRecord, joined, record_limit}
 use Rattle.tbl_top.specs.Playing.{Playing, bytes_fed}
 use Rattle.tbl_session.specs.Inputs.{IsBeginning, StopsReading}
 use Rattle.tbl_top.specs.Feeding.{Feeds, IsKept}
-use Rattle.tbl_top.specs.Standing.{Leaves}
+use Rattle.tbl_outside.specs.Counts.{Rose}
+use Rattle.tbl_top.specs.Standing.{Leaves, HasPlayedAll}
 use Rattle.tbl_top.specs.declared.playback.Standing.{Standing}
 use Rattle.tbl_top.specs.declared.playback.Standing.TheVariants.{Open}
 
+-- whether a read failed, by the count of those that did
+abbrev pub HasFailed : Bool → ℕ → ℕ → Type 0
+HasFailed true before after = Rose before after
+HasFailed false before after = after ≡ before
+
+-- the same where the reading may go on
+abbrev pub HasFailedAtEnd : Option Bool → ℕ → ℕ → Type 0
+HasFailedAtEnd None before after = after ≡ before
+HasFailedAtEnd (Some failed) before after = HasFailed failed before after
+
 -- This was read: these records, and after them what a standing tells. What is kept of it is what stands after them as long as more
--- could follow; and more could only where the input ended or a read failed.
+-- could follow; and more could only where the input ended or a read failed. Nothing is found out of the input after a failed read.
 pub record HasRead (standing : Standing) (pairs : List Pair) (kept read : List ℕ) (failed : Bool) (at_end : Type 0) : Type 0 where
   pub behind : List ℕ
   pub parts : read ≡ joined pairs ++ behind
@@ -20,12 +31,14 @@ pub record HasRead (standing : Standing) (pairs : List Pair) (kept read : List �
   pub leaves : Leaves standing (length pairs) behind
   pub keeps : IsKept standing behind kept
   pub ended : standing ≡ Open → failed ≡ false → at_end
+  pub cut : failed ≡ true → HasPlayedAll standing → standing ≡ Open
   pub stops : StopsReading read
 
 -- as a session that is played: it was fed, and the session is open still only where the input ended or a read failed
 pub record EndsReading {B C : Type 0} (p : Playing B C) (read : List ℕ) (failed : Bool) (at_end : Type 0) : Type 0 where
   pub feeds : Feeds p.standing read 36931 p.core p.rest
   pub ended : p.standing ≡ Open → failed ≡ false → at_end
+  pub cut : failed ≡ true → p.standing ≡ Open
   pub stops : StopsReading read
 
 -- a piece more was read, a byte or more, and the session is open still

@@ -7,7 +7,7 @@ use Rattle.tbl_core.specs.Service.{CoreView}
 use Rattle.tbl_outside.specs.Counts.{Rose}
 use Rattle.tbl_session.specs.Trouble.{EndsInBoot}
 use Rattle.tbl_session.specs.Inputs.{IsBeginning}
-use Rattle.tbl_top.specs.Playing.{IsWritten, IsFrontWritten}
+use Rattle.tbl_top.specs.Playing.{IsWritten, IsCutShort, IsFrontWritten}
 use Rattle.tbl_top.specs.declared.playback.Standing.{Standing}
 use Rattle.tbl_top.specs.declared.playback.Standing.TheVariants.{Open, Bad, Full, BootFault, BootStopped, SinkFailed, Memory, Unwritten}
 use Rattle.tbl_core.specs.declared.service.StepFault.{StepFault}
@@ -48,7 +48,7 @@ HasPlayedAll Bad = Unit {0}
 HasPlayedAll Full = Unit {0}
 HasPlayedAll _ = ⊥
 
--- what of the entries was written
+-- what of the entries was written, each before the next record was looked for
 abbrev pub TellsWritten : Standing → Option (List ℕ) → List Entry → Option (List ℕ) → Type 0
 TellsWritten Open first entries taken = IsWritten first entries taken
 TellsWritten Bad first entries taken = IsWritten first entries taken
@@ -56,13 +56,19 @@ TellsWritten Full first entries taken = IsWritten first entries taken
 TellsWritten BootFault first entries taken = IsWritten first entries taken
 TellsWritten BootStopped first entries taken = IsWritten first entries taken
 TellsWritten Memory first entries taken = IsWritten first entries taken
-TellsWritten SinkFailed first entries taken = IsFrontWritten first entries taken
-TellsWritten Unwritten first entries taken = IsFrontWritten first entries taken
+TellsWritten SinkFailed first entries taken = IsCutShort first entries taken
+TellsWritten Unwritten first entries taken = IsCutShort first entries taken
 
--- only the sink's failure has a cause outside
+-- the same of a crew, which played all of them before
+abbrev pub TellsFront : Standing → Option (List ℕ) → List Entry → Option (List ℕ) → Type 0
+TellsFront SinkFailed first entries taken = IsFrontWritten first entries taken
+TellsFront Unwritten first entries taken = IsFrontWritten first entries taken
+TellsFront _ first entries taken = IsWritten first entries taken
+
+-- only the sink's failure has a cause outside, and no write failed without it
 abbrev pub TellsCause : Standing → ℕ → ℕ → Type 0
 TellsCause SinkFailed before after = Rose before after
-TellsCause _ before after = Unit {0}
+TellsCause _ before after = after ≡ before
 
 -- a boot that ended the service is told. Else it goes on, unless the last entry wasn't written
 abbrev pub TellsBoot : {B C : Type 0} → Standing → CoreView B C → Type 0
@@ -110,18 +116,18 @@ TellsStop SinkFailed before after piece = TakesFront before after piece
 TellsStop Unwritten before after piece = after ≡ before
 TellsStop _ before after piece = ⊥
 
--- a stop is the sink's failure, or no memory for a spelling
+-- a stop is the sink's failure, or no memory for a spelling; where it isn't the first, no write failed
 abbrev pub TellsWhy : Option Standing → ℕ → ℕ → Type 0
-TellsWhy None before after = Unit {0}
+TellsWhy None before after = after ≡ before
 TellsWhy (Some SinkFailed) before after = Rose before after
-TellsWhy (Some Unwritten) before after = Unit {0}
+TellsWhy (Some Unwritten) before after = after ≡ before
 TellsWhy (Some _) before after = ⊥
 
 -- a session ends with a record that was played by such a stop, or by a boot
 abbrev pub TellsLast : Option Standing → ℕ → ℕ → Type 0
-TellsLast None before after = Unit {0}
+TellsLast None before after = after ≡ before
 TellsLast (Some SinkFailed) before after = Rose before after
-TellsLast (Some Unwritten) before after = Unit {0}
-TellsLast (Some BootFault) before after = Unit {0}
-TellsLast (Some BootStopped) before after = Unit {0}
+TellsLast (Some Unwritten) before after = after ≡ before
+TellsLast (Some BootFault) before after = after ≡ before
+TellsLast (Some BootStopped) before after = after ≡ before
 TellsLast (Some _) before after = ⊥

@@ -7,10 +7,12 @@ use Rattle.tbl_kinds.specs.Buffers.{Buffer}
 use Rattle.admit_lists.specs.Lists.{SpellsAdmit}
 use Rattle.tbl_outside.specs.declared.bank.Bank.{Ghosts}
 use Rattle.tbl_session.specs.Openings.{Opening}
-use Rattle.tbl_session.specs.Orders.{InOrder, ByActor}
+use Rattle.tbl_session.specs.Orders.{ByActor}
 use Rattle.tbl_session.specs.Session.{Ran, Session, IsComplete}
 use Rattle.tbl_top.specs.Drilling.{Drills, DrillsThrough}
 use Rattle.tbl_maker.specs.Shapes.{is_shape, shape_word}
+use Rattle.tbl_top.specs.Failures.{TellsFailures}
+use Rattle.tbl_top.specs.InTurn.{Plays}
 use Rattle.tbl_top.specs.Listing.{ListsStore, ListsThrough}
 use Rattle.tbl_top.specs.Maker.{MakesFile, DescribesFile, MakesAlways, DescribesAlways}
 use Rattle.tbl_top.specs.Watching.{Watches}
@@ -56,9 +58,9 @@ IsUnknown words status = (status ≡ 2) ⊎ ((status ≡ 1) × AsksWithShape wor
 -- `watch` does so too, and writes a report of the images that application 16 got; `store` writes the store as text; `drill` plays the session of a seed, and writes a line that sums it up; `make` makes the table file
 -- of a description, and `describe` describes one by a shape
 abbrev pub Outcome : {B C : Type 0} → Word → Ghosts B → (C → List ℕ → ℤ) → Opening B C → Ran B → Type 0
-Outcome Play g verdict o r = Session InOrder g verdict o r
-Outcome Crew g verdict o r = Session ByActor g verdict o r
-Outcome Watch g verdict o r = Watches g verdict o r
+Outcome Play g verdict o r = Plays g verdict o r × TellsFailures r
+Outcome Crew g verdict o r = Session ByActor g verdict o r × TellsFailures r
+Outcome Watch g verdict o r = Watches g verdict o r × TellsFailures r
 Outcome Store g verdict o r = ListsStore g o.bank r.bank_then r.status (r.taken, r.unwritten) (r.taken_then, r.unwritten_then)
 Outcome (Drill seed rounds) g verdict o r = Drills seed rounds g verdict o r
 Outcome Make g verdict o r = MakesFile o.bank r

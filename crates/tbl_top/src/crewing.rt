@@ -13,7 +13,8 @@ ghost use Rattle.tbl_session.specs.Session.{Session, opening_of, ran};
 ghost use Rattle.tbl_history.specs.Serving.{Serves};
 ghost use Rattle.tbl_crew.specs.CrewView.{TellsFault};
 ghost use Rattle.tbl_top.specs.Collecting.{HasTaken};
-ghost use Rattle.tbl_top.specs.Standing.{IsOfInput, StandsBehind, TellsBoot, TellsCause, TellsWritten, standing_behind};
+ghost use Rattle.tbl_top.specs.Failures.{TellsFailures};
+ghost use Rattle.tbl_top.specs.Standing.{IsOfInput, StandsBehind, TellsBoot, TellsCause, TellsFront, standing_behind};
 ghost use Rattle.tbl_top.specs.declared.playback.Standing.TheVariants.{Open};
 
 use crate::collecting::Collector;
@@ -50,7 +51,7 @@ fn tell_crew<B: Bank, C: Validator, K: Sink>(
     requires boot { TellsFault fault playback.old }
     ensures same { playback.new ≡ playback.old }
     ensures behind { StandsBehind fault read result }
-    ensures written { TellsWritten result (K.taken sink.old) playback.old.entries (K.taken sink.new) }
+    ensures written { TellsFront result (K.taken sink.old) playback.old.entries (K.taken sink.new) }
     ensures boot { TellsBoot result playback.old }
     ensures cause { TellsCause result (K.faults sink.old) (K.faults sink.new) }
     ensures count { K.faults sink.old ≤ K.faults sink.new }
@@ -84,6 +85,7 @@ pub(crate) fn play_crew<
     requires fresh { HasTaken Open [] 0 [] collector }
     ensures session { (o : Opening B C) → Serves B.Bank C.verdict o playback
         → Session ByActor B.Bank C.verdict o (ran S.Source K.Sink (source.old, sink.old) (source.new, sink.new) (result.0, result.1.state.store.bank)) }
+    ensures failures { TellsFailures (ran S.Source K.Sink (source.old, sink.old) (source.new, sink.new) (result.0, result.1.state.store.bank)) }
     ensures not_usage { result.0 ≢ 2 }
 {
     let (read, read_failed) = collector.read_all(source);
@@ -142,6 +144,7 @@ pub(crate) fn run_crew<
     requires asked { All (λ (e : Entry C). C.asked e.check < 2 ^ 62) kit.items }
     ensures not_usage { result.0 ≢ 2 }
     ensures session { Session ByActor B.Bank C.verdict (opening_of B.Bank bank kit.items admit) (ran S.Source K.Sink (source.old, sink.old) (source.new, sink.new) result) }
+    ensures failures { TellsFailures (ran S.Source K.Sink (source.old, sink.old) (source.new, sink.new) result) }
     ensures room { bank_size ≤ B.size result.1 }
 {
     match begin_crew(alloc, bank, kit, admit) {

@@ -17,12 +17,12 @@ ghost use Rattle.tbl_top.specs.declared.playback.Standing.TheVariants.{Open};
 use crate::finishing::{NO_MEMORY, end_status, unbegun_status};
 use crate::listing::write_text;
 use crate::playback::Standing;
-use crate::session::start;
 use crate::stepping::step;
 use crate::summary::sum_up;
 use std::alloc::Global;
 use tbl_core::Core;
 use tbl_drill::{Scripted, drill_session};
+use tbl_history::start;
 use tbl_kinds::{Admit, Memory};
 use tbl_outside::{Back, Bank, KitEntry, Sink, Validator};
 

@@ -9,7 +9,7 @@ ghost use Rattle.tbl_outside.specs.Streams.{TakesFront};
 ghost use Rattle.tbl_session.specs.Openings.{Opening};
 ghost use Rattle.tbl_history.specs.Serving.{Continues, Serves};
 ghost use Rattle.tbl_top.specs.Playing.{played_before, IsSession, IsWritten};
-ghost use Rattle.tbl_top.specs.Standing.{Leaves, TellsWritten, TellsCause, TellsBoot, TellsService, TellsWhy, TellsLast};
+ghost use Rattle.tbl_top.specs.Standing.{Leaves, TellsFront, TellsWritten, TellsCause, TellsBoot, TellsService, TellsWhy, TellsLast};
 ghost use Rattle.std.specs.List.{AllByRecursion};
 ghost use Rattle.tbl_crew.specs.Histories.{OneHistory};
 ghost use Rattle.tbl_crew.specs.Scripts.{request_count, AllFit, OfEach};
@@ -105,7 +105,7 @@ impl<B: Bank, C: Validator> Playback<B, C> {
     pub(crate) fn tell_all<K: Sink>(&mut self, sink: &mut K) -> Option<Standing>
         ensures same { self.new ≡ self.old }
         ensures written { MatchOption result (IsWritten (K.taken sink.old) self.old.entries (K.taken sink.new))
-            (λ standing. TellsWritten standing (K.taken sink.old) self.old.entries (K.taken sink.new)) }
+            (λ standing. TellsFront standing (K.taken sink.old) self.old.entries (K.taken sink.new)) }
         ensures why { TellsWhy result (K.faults sink.old) (K.faults sink.new) }
         ensures count { K.faults sink.old ≤ K.faults sink.new }
     {
@@ -171,7 +171,7 @@ impl<B: Bank, C: Validator> Playback<B, C> {
         ensures boot { TellsService result self.new }
         ensures written { (first : Option (List ℕ)) → IsWritten first self.old.entries (K.taken sink.old)
             → MatchOption result (IsWritten first self.new.entries (K.taken sink.new)) (λ standing. TellsWritten standing first self.new.entries (K.taken sink.new)) }
-        ensures why { MatchOption result ⊤ (λ standing. TellsCause standing (K.faults sink.old) (K.faults sink.new)) }
+        ensures why { MatchOption result (K.faults sink.new ≡ K.faults sink.old) (λ standing. TellsCause standing (K.faults sink.old) (K.faults sink.new)) }
         ensures count { K.faults sink.old ≤ K.faults sink.new }
         ensures session { IsSession self.new }
     {
@@ -231,6 +231,7 @@ impl<B: Bank, C: Validator> Playback<B, C> {
     pub(crate) fn tell_end<K: Sink>(&self, status: u8, sink: &mut K) -> Result<(), Failed>
         ensures ok { OnOk result (K.taken sink.new ≡ append_known (K.taken sink.old) (end_bytes status (length self.now.entries) (offset_of self.now.entries))) }
         ensures err { OnErr result (TakesFront (K.taken sink.old) (K.taken sink.new) (end_bytes status (length self.now.entries) (offset_of self.now.entries))) }
+        ensures still { OnOk result (K.faults sink.new ≡ K.faults sink.old) }
         ensures cause { OnErr result (Rose (K.faults sink.old) (K.faults sink.new)) }
         ensures count { K.faults sink.old ≤ K.faults sink.new }
     {

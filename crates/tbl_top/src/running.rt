@@ -45,8 +45,8 @@ pub fn run<
 ) -> (u8, B)
     requires room { bank_size ≤ B.size bank }
     requires asked { All (λ (e : Entry C). C.asked e.check < 2 ^ 62) kit.items }
-    // 2 only where the words are none that it knows; then it comes always, but where memory runs out for the word after `describe`.
-    // Nothing is read or written then.
+    // 2 comes only where it doesn't know the words, and always then, but where memory runs out for the word after `describe`. Nothing
+    // is read or written then.
     ensures usage { result.0 ≡ 2 → (word : CommandWord) (admit : Admitted) → ¬ Asks words.now word admit }
     ensures unknown { ((word : CommandWord) (admit : Admitted) → ¬ Asks words.now word admit) → IsUnknown words.now result.0 }
     ensures untouched { ((word : CommandWord) (admit : Admitted) → ¬ Asks words.now word admit) → (source.new ≡ source.old) × (sink.new ≡ sink.old) × (result.1 ≡ bank) }

@@ -8,13 +8,13 @@ ghost use Rattle.tbl_kinds.specs.StoreSteps.{Shows};
 ghost use Rattle.cds_layout.specs.Images.{store_of};
 ghost use Rattle.tbl_core.specs.Service.{StartCounted};
 ghost use Rattle.tbl_outside.specs.Bank.{LeavesOnly};
-ghost use Rattle.tbl_outside.specs.Counts.{Still};
 ghost use Rattle.tbl_outside.specs.declared.validator.KitEntry.{KitEntry as Entry};
 ghost use Rattle.tbl_session.specs.Openings.{Opening};
-ghost use Rattle.tbl_session.specs.Orders.{InOrder};
-ghost use Rattle.tbl_session.specs.Session.{Session, opening_of, ran};
+ghost use Rattle.tbl_session.specs.Session.{opening_of, ran};
 ghost use Rattle.tbl_history.specs.Serving.{Serves};
 ghost use Rattle.tbl_top.specs.Playing.{bytes_fed, IsSession};
+ghost use Rattle.tbl_top.specs.Failures.{TellsFailures};
+ghost use Rattle.tbl_top.specs.InTurn.{Plays};
 ghost use Rattle.tbl_top.specs.Words.{Asks, HasThreads, IsUnknown, Outcome, Completes, ReadsNothing};
 ghost use Rattle.tbl_top.specs.declared.playback.Standing.TheVariants.{Open};
 ghost use Rattle.tbl_top.specs.declared.words.Word.{Word as CommandWord};
@@ -28,40 +28,13 @@ use crate::reading::read_all;
 use crate::words::{Word, word_of};
 use maker_words::{describe_input, make_input};
 use std::alloc::Global;
-use tbl_core::{Core, StartFault};
+use tbl_core::StartFault;
+use tbl_history::start;
 use tbl_kinds::{Admit, Bytes};
 use tbl_outside::{Back, Bank, KitEntry, Sink, Source, Validator};
-use validation::Kit;
 
 /// The words aren't those that the program knows.
 pub(crate) const USAGE: u8 = 2;
-
-/// A service at its start, with these validation functions, under these lists; or the bank again.
-pub(crate) fn start<B: Bank, C: Validator>(
-    alloc: Global,
-    bank: B,
-    kit: Vec<KitEntry<C>>,
-    admit: Admit,
-) -> Result<Core<B, C>, Back<StartFault, B>>
-    requires room { bank_size ≤ B.size bank }
-    requires asked { All (λ (e : Entry C). C.asked e.check < 2 ^ 62) kit.items }
-    ensures empty { IfOk result (λ core. core.entries ≡ []) }
-    ensures live { IfOk result (λ core. core.state.ended ≡ false) }
-    ensures serves { IfOk result (λ core. Serves B.Bank C.verdict (opening_of B.Bank bank kit.items admit) core) }
-    ensures counts { IfOk result (λ core. Still B.faults B.stops bank core.state.store.bank) }
-    ensures crash { IfOk result (λ core. B.tells_moments → LeavesOnly B.clock B.left_since bank core.state.store.bank (λ image. Shows (store_of (B.now bank)) (store_of image))) }
-    ensures crash_err { IfErr result (λ back. B.tells_moments → LeavesOnly B.clock B.left_since bank back.bank (λ image. Shows (store_of (B.now bank)) (store_of image))) }
-    ensures cause { IfErr result (λ back. StartCounted B.Bank bank back.bank back.cause) }
-    ensures room_err { IfErr result (λ back. bank_size ≤ B.size back.bank) }
-{
-    let Ok(kit) = Kit::make(alloc, kit) else {
-        return Err(Back {
-            cause: StartFault::Memory,
-            bank,
-        });
-    };
-    Ok(Core::start(alloc, bank, kit, admit)?)
-}
 
 /// A session in which nothing was read yet, over a service at its start; or the bank again.
 pub(crate) fn begin<B: Bank, C: Validator>(
@@ -103,7 +76,8 @@ fn play<B: Bank, C: Validator, S: Source, K: Sink>(
     requires session { IsSession player.old.core }
     requires live { player.old.core.state.ended ≡ false }
     ensures session { (o : Opening B C) → Serves B.Bank C.verdict o player.old.core
-        → Session InOrder B.Bank C.verdict o (ran S.Source K.Sink (source.old, sink.old) (source.new, sink.new) (result, player.new.core.state.store.bank)) }
+        → Plays B.Bank C.verdict o (ran S.Source K.Sink (source.old, sink.old) (source.new, sink.new) (result, player.new.core.state.store.bank)) }
+    ensures failures { TellsFailures (ran S.Source K.Sink (source.old, sink.old) (source.new, sink.new) (result, player.new.core.state.store.bank)) }
     ensures not_usage { result ≢ 2 }
 {
     let read_failed = read_all(player, source, sink);
@@ -122,7 +96,8 @@ pub(crate) fn play_in_order<S: Source, K: Sink, B: Bank, C: Validator>(
     requires room { bank_size ≤ B.size bank }
     requires asked { All (λ (e : Entry C). C.asked e.check < 2 ^ 62) kit.items }
     ensures not_usage { result.0 ≢ 2 }
-    ensures session { Session InOrder B.Bank C.verdict (opening_of B.Bank bank kit.items admit) (ran S.Source K.Sink (source.old, sink.old) (source.new, sink.new) result) }
+    ensures session { Plays B.Bank C.verdict (opening_of B.Bank bank kit.items admit) (ran S.Source K.Sink (source.old, sink.old) (source.new, sink.new) result) }
+    ensures failures { TellsFailures (ran S.Source K.Sink (source.old, sink.old) (source.new, sink.new) result) }
     ensures room { bank_size ≤ B.size result.1 }
 {
     match begin(alloc, bank, kit, admit) {
@@ -134,7 +109,7 @@ pub(crate) fn play_in_order<S: Source, K: Sink, B: Bank, C: Validator>(
     }
 }
 
-/// Does what one of the words asks for, but for those that need threads, which are usage to it.
+/// Does what one of the words asks for, but for those that need threads, which it answers with 2.
 fn do_word<S: Source, K: Sink, B: Bank, C: Validator>(
     alloc: Global,
     word: Word,
@@ -169,7 +144,7 @@ fn do_word<S: Source, K: Sink, B: Bank, C: Validator>(
     }
 }
 
-/// Does what `run` does with each word but `crew` and `watch`, which are usage to it. It takes no handle for waiting.
+/// Does what `run` does with each word but `crew` and `watch`, which it answers with 2. It takes no handle for waiting.
 pub fn run_in_order<S: Source, K: Sink, B: Bank, C: Validator>(
     alloc: Global,
     words: &[Bytes],

@@ -3,9 +3,9 @@
 ghost use Rattle.std.specs.Prelude.{◌≡◌, ◌≤◌, ◌<◌, ◌^◌, All};
 ghost use Rattle.tbl_kinds.specs.Places.{bank_size};
 ghost use Rattle.tbl_outside.specs.declared.validator.KitEntry.{KitEntry as Entry};
-ghost use Rattle.tbl_session.specs.Orders.{InOrder};
 ghost use Rattle.tbl_session.specs.Recovered.{RecoversBoth};
-ghost use Rattle.tbl_session.specs.Session.{Session, opening_of, ran, state_from};
+ghost use Rattle.tbl_session.specs.Session.{IsComplete, opening_of, ran, state_from};
+ghost use Rattle.tbl_top.specs.InTurn.{Plays};
 
 use crate::session::play_in_order;
 use std::alloc::Global;
@@ -56,10 +56,13 @@ pub fn run_again<S: Source, K: Sink, B: Bank, C: Validator, N: Bank, D: Validato
     requires asked { All (λ (e : Entry C). C.asked e.check < 2 ^ 62) kit.items }
     requires next_asked { All (λ (e : Entry D). D.asked e.check < 2 ^ 62) next_kit.items }
     ensures recovers { (bank_then : B) × (next : N)
-        × (first : Session InOrder B.Bank C.verdict (opening_of B.Bank bank kit.items admit) (ran S.Source K.Sink (source.old, sink.old) (source.new, sink.new) (result.0, bank_then)))
-        × (second : Session InOrder N.Bank D.verdict (opening_of N.Bank next next_kit.items next_admit)
+        × (first : Plays B.Bank C.verdict (opening_of B.Bank bank kit.items admit) (ran S.Source K.Sink (source.old, sink.old) (source.new, sink.new) (result.0, bank_then)))
+        × (second : Plays N.Bank D.verdict (opening_of N.Bank next next_kit.items next_admit)
         (ran S.Source K.Sink (next_source.old, next_sink.old) (next_source.new, next_sink.new) result.1))
-        × (B.tells_moments → N.tells → RecoversBoth (state_from (B.now bank) kit.items admit) first.entries (N.now next) next_kit.items next_admit second.entries) }
+        × (B.tells_moments → N.tells → RecoversBoth (state_from (B.now bank) kit.items admit) first.entries (N.now next) next_kit.items next_admit second.entries)
+        × IsComplete B.Bank bank (ran S.Source K.Sink (source.old, sink.old) (source.new, sink.new) (result.0, bank_then))
+        × IsComplete N.Bank next (ran S.Source K.Sink (next_source.old, next_sink.old) (next_source.new, next_sink.new) result.1) }
+    ensures room { bank_size ≤ N.size result.1.1 }
 {
     let began = Snapshot::of(&bank);
     let (status, bank) = play_in_order(alloc, source, sink, bank, kit, admit);

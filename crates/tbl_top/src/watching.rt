@@ -12,6 +12,7 @@ ghost use Rattle.tbl_session.specs.Openings.{Opening};
 ghost use Rattle.tbl_session.specs.Session.{opening_of, ran};
 ghost use Rattle.tbl_history.specs.Serving.{Serves};
 ghost use Rattle.tbl_top.specs.Collecting.{HasTaken};
+ghost use Rattle.tbl_top.specs.Failures.{TellsFailures};
 ghost use Rattle.tbl_top.specs.Finishing.{status_of};
 ghost use Rattle.tbl_top.specs.Listing.{TellsText};
 ghost use Rattle.tbl_top.specs.Watching.{ReportsAs, Watches, fault_of};
@@ -22,13 +23,13 @@ use crate::crewing::standing_behind;
 use crate::finishing::{DONE, NO_MEMORY, end_status, unbegun_status};
 use crate::listing::write_text;
 use crate::playback::Standing;
-use crate::session::start;
 use std::alloc::Global;
 use std::sync::Wait;
 use std::thread::Threads;
 use table_watch::Watch;
 use tbl_core::{Core, StartFault, StepFault};
 use tbl_crew::{WatchEnd, crew_watched};
+use tbl_history::start;
 use tbl_kinds::{Admit, Memory};
 use tbl_outside::{Back, Bank, Gate, KitEntry, Sink, Source, Validator};
 
@@ -90,6 +91,7 @@ fn play_watched<
     requires unwatched { watch ≡ [] }
     ensures watches { (o : Opening B C) → Serves B.Bank C.verdict o core
         → Watches B.Bank C.verdict o (ran S.Source K.Sink (source.old, sink.old) (source.new, sink.new) (result.0, result.1.state.store.bank)) }
+    ensures failures { TellsFailures (ran S.Source K.Sink (source.old, sink.old) (source.new, sink.new) (result.0, result.1.state.store.bank)) }
     ensures not_usage { result.0 ≢ 2 }
 {
     let (read, read_failed) = collector.read_all(source);
@@ -157,6 +159,7 @@ pub(crate) fn run_watch<
     requires asked { All (λ (e : Entry C). C.asked e.check < 2 ^ 62) kit.items }
     ensures not_usage { result.0 ≢ 2 }
     ensures watches { Watches B.Bank C.verdict (opening_of B.Bank bank kit.items admit) (ran S.Source K.Sink (source.old, sink.old) (source.new, sink.new) result) }
+    ensures failures { TellsFailures (ran S.Source K.Sink (source.old, sink.old) (source.new, sink.new) result) }
     ensures room { bank_size ≤ B.size result.1 }
 {
     match begin_watch(alloc, bank, kit, admit) {

@@ -126,8 +126,8 @@ fn two_words(alloc: Global, word: &[u8], shape: &[u8]) -> Result<Option<(Word, A
     }
 }
 
-/// What the words ask for, and from which spacecraft and processors files are admitted then; None where they are none that the
-/// program knows. Memory may run out for a shape.
+/// What the words ask for, and from which spacecraft and processors files are admitted then; None where the program doesn't know
+/// them. Memory may run out for a shape.
 pub(crate) fn word_of(alloc: Global, words: &[Bytes]) -> Result<Option<(Word, Admit)>, Memory>
     ensures told { IfOk result (λ found. (given : CommandWord) (admit : Admitted) → (found ≡ Some (given, admit)) ↔ Asks words.now given admit) }
     ensures memory { IfErr result (λ _. AsksWithShape words.now) }

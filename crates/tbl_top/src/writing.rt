@@ -27,6 +27,7 @@ fn write_pieces<K: Sink>(
 ) -> Result<(), Failed>
     ensures ok { OnOk result (K.taken sink.new ≡ append_known (K.taken sink.old) (first.now ++ second.now ++ third.now)) }
     ensures front { OnErr result (TakesFront (K.taken sink.old) (K.taken sink.new) (first.now ++ second.now ++ third.now)) }
+    ensures still { OnOk result (K.faults sink.new ≡ K.faults sink.old) }
     ensures cause { OnErr result (Rose (K.faults sink.old) (K.faults sink.new)) }
     ensures count { K.faults sink.old ≤ K.faults sink.new }
 {
@@ -45,6 +46,7 @@ fn write_parts<K: Sink>(
     requires { around.now ≡ front_of (fields_of place entry.now) ++ rest_of (fields_of place entry.now) }
     ensures ok { OnOk result (K.taken sink.new ≡ append_known (K.taken sink.old) (entry_bytes place entry.now)) }
     ensures front { OnErr result (TakesFront (K.taken sink.old) (K.taken sink.new) (entry_bytes place entry.now)) }
+    ensures still { OnOk result (K.faults sink.new ≡ K.faults sink.old) }
     ensures cause { OnErr result (Rose (K.faults sink.old) (K.faults sink.new)) }
     ensures count { K.faults sink.old ≤ K.faults sink.new }
 {

@@ -4,6 +4,7 @@ use Rattle.tbl_kinds.specs.Buffers.{Buffer}
 use Rattle.tbl_outside.specs.declared.validator.KitEntry.{KitEntry}
 use Rattle.tbl_session.specs.Orders.{InOrder}
 use Rattle.tbl_session.specs.Session.{Session, opening_of, ran}
+use Rattle.tbl_top.proofs.OrderLemmas.{session_in_order}
 use Rattle.tbl_top.specs.declared.words.Word.TheVariants.{Play}
 use Rattle.handed_kit.specs.Handed.{verdict_of}
 use Rattle.handed_kit.specs.declared.handed.Handed.{Handed}
@@ -22,7 +23,7 @@ returns-clause-session g c =
     let r = ran g.S.Source g.K.Sink (c.args.source.now, c.args.sink.now) (c.run_in_order.new.source, c.run_in_order.new.sink) c.run_in_order.result in
     let asks = asks_play c.deref.result.now (ap texts c.deref.ensures.value ∙ c.in_ok-words.ensures) in
     subst (λ (entries : List (KitEntry Handed)). Session InOrder b verdict_of (opening_of b c.args.bank entries all_admitted) r) c.in_ok-kit.ensures.entries
-    (c.run_in_order.ensures.outcome Play all_admitted asks without_threads)
+    (session_in_order b verdict_of (opening_of b c.args.bank c.in_ok-kit.kit.items all_admitted) r (c.run_in_order.ensures.outcome Play all_admitted asks without_threads).0)
 
 pub returns-clause-complete : goal.returns-clause-complete
 returns-clause-complete g c = c.run_in_order.ensures.complete Play all_admitted (asks_play c.deref.result.now (ap texts c.deref.ensures.value ∙ c.in_ok-words.ensures)) without_threads

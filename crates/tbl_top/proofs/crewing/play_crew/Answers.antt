@@ -1,10 +1,11 @@
-use Rattle.std.proofs.Common.{ap, ◌∙◌, sym, subst, arith}
+use Rattle.std.proofs.Common.{eqb, length, ap, ◌∙◌, sym, subst, arith}
 use Rattle.std.specs.Io.KnownBytes.{IsAtEnd}
 use Rattle.tbl_kinds.specs.Records.{IsRecord}
 use Rattle.tbl_session.specs.Session.{ran}
 use Rattle.tbl_crew.specs.Scripts.{script_of, request_count, AllFit, OfEach}
 use Rattle.tbl_session.specs.Orders.{ByActor}
 use Rattle.tbl_top.proofs.CrewLemmas.{by_actor, none_behind, read_behind}
+use Rattle.tbl_top.proofs.FailureLemmas.{failures_of}
 use Rattle.tbl_top.proofs.ScriptsLemmas.{scripts_fit, scripts_count, scripts_each, scripts_part}
 use Rattle.tbl_top.proofs.SessionLemmas.{session_of}
 use Rattle.tbl_top.proofs.StatusLemmas.{finished_not_usage}
@@ -48,7 +49,21 @@ returns-clause-session g c o serves =
     one.served one.caused
     (λ all. by_actor c.finish-status.result fault c.scripts.result pairs played.entries (λ actor. ap (λ s. script_of s actor) scripts ∙ scripts_part pairs reads.4.each actor) (λ ended. none_behind fault read tells.result tells.ensures.behind (all ended)) one.played)
     (read_behind read pairs c.read_all-read.new.self.rest reads.0 failed at_end reads.4 fault tells.result tells.ensures.behind)
-    c.read_all-read.ensures.source_failed tells.ensures.boot tells.ensures.count tells.ensures.written tells.ensures.cause c.finish-status.ensures.count (rw (← c.is_whole-is_whole.ensures, ← tells.ensures.same) c.finish-status.ensures.finishes)
+    c.read_all-read.ensures.source_cause tells.ensures.boot tells.ensures.count tells.ensures.written tells.ensures.cause c.finish-status.ensures.count (rw (← c.is_whole-is_whole.ensures, ← tells.ensures.same) c.finish-status.ensures.finishes)
+
+pub returns-clause-failures : goal.returns-clause-failures
+returns-clause-failures g c =
+    let reads = c.read_all-read.ensures.reads in
+    let tells = c.tell_crew-standing in
+    let failed = c.read_all-read.result.1 in
+    let kept = c.read_all-read.new.self.rest in
+    let fault = c.play_beside-playback.result.1 in
+    let at_end = IsAtEnd (g.S.Source.left c.read_all-read.new.source) in
+    failures_of tells.result failed (eqb (length kept) 0) c.play_beside-playback.result.0.entries
+    (ran g.S.Source g.K.Sink (c.args.source.now, c.args.sink.now) (c.read_all-read.new.source, c.finish-status.new.sink) (c.finish-status.result, c.end.result.state.store.bank))
+    (g.K.Sink.taken tells.new.sink, g.K.Sink.faults tells.new.sink) c.read_all-read.ensures.source_cause
+    (read_behind c.read_all-read.result.0 reads.2 kept reads.0 failed at_end reads.4 fault tells.result tells.ensures.behind).cut tells.ensures.cause
+    (rw (← c.is_whole-is_whole.ensures, ← tells.ensures.same) c.finish-status.ensures.finishes)
 
 pub returns-clause-not_usage : goal.returns-clause-not_usage
 returns-clause-not_usage g c =

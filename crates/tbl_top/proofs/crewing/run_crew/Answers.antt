@@ -3,7 +3,9 @@ use Rattle.tbl_session.specs.Orders.{ByActor}
 use Rattle.tbl_session.specs.Session.{opening_of, ran}
 use Rattle.tbl_history.proofs.Laws.{Laws}
 use Rattle.tbl_top.proofs.CrewLemmas.{nothing_requested}
-use Rattle.tbl_top.proofs.SessionLemmas.{unbegun, first_opening}
+use Rattle.tbl_top.proofs.FailureLemmas.{unbegun_failures}
+use Rattle.tbl_top.proofs.SessionLemmas.{unbegun}
+use Rattle.tbl_history.proofs.Openings.{first_opening}
 use Rattle.tbl_top.proofs.crewing.run_crew.Goals as goal
 
 pub returns-in-Err-clause-session : goal.returns-in-Err-clause-session
@@ -25,3 +27,11 @@ pub play_crew-status-requires-clause-begun : goal.play_crew-status-requires-clau
 play_crew-status-requires-clause-begun g c =
     let b = g.B.Bank in
     λ lifetimes outlive. (opening_of b c.args.bank c.args.kit.items c.args.admit, c.in-Ok.ensures.serves)
+
+pub returns-in-Err-clause-failures : goal.returns-in-Err-clause-failures
+returns-in-Err-clause-failures g c =
+    unbegun_failures c.in-Err.field-0.cause (ran g.S.Source g.K.Sink (c.args.source.now, c.args.sink.now) (c.args.source.now, c.finish_unbegun.new.sink) (c.finish_unbegun.result, c.in-Err.field-0.bank))
+    refl c.finish_unbegun.ensures.finishes
+
+pub returns-in-Ok-clause-failures : goal.returns-in-Ok-clause-failures
+returns-in-Ok-clause-failures g c = rw (c.end.ensures.bank) c.play_crew-status.ensures.failures

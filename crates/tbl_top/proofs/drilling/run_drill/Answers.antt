@@ -8,7 +8,7 @@ use Rattle.tbl_history.proofs.ServingLemmas.{serves_on}
 use Rattle.tbl_session.specs.Session.{opening_of}
 use Rattle.tbl_top.specs.Drilling.{unread}
 use Rattle.tbl_top.proofs.DrillLemmas.{drilled, undrilled}
-use Rattle.tbl_top.proofs.SessionLemmas.{first_opening}
+use Rattle.tbl_history.proofs.Openings.{first_opening}
 use Rattle.tbl_top.proofs.drilling.run_drill.Goals as goal
 
 -- out of memory before the service began, nothing was asked of the bank
@@ -19,7 +19,7 @@ returns-in_default-clause-drill g c = λ left faults.
     let laws : Laws b = record { tells_both = g.met.B.Bank.tells_both; leaves_now = g.met.B.Bank.leaves_now; leaves_only_now = g.met.B.Bank.leaves_only_now; counts_now = g.met.B.Bank.counts_now } in
     undrilled c.args.seed c.args.rounds b laws g.C.Validator.verdict (opening_of b c.args.bank kit c.args.admit) (first_opening (b.now c.args.bank) kit c.args.admit)
     (unread g.K.Sink left faults c.args.sink.now c.args.sink.now (1, c.args.bank))
-    (stays_shown b g.met.B.Bank.leaves_only_now g.met.B.Bank.only_now c.args.bank) refl NoMemory (refl, refl) refl
+    (stays_shown b g.met.B.Bank.leaves_only_now g.met.B.Bank.only_now c.args.bank) refl refl NoMemory (refl, refl) refl
 
 pub returns-in-Err-clause-drill : goal.returns-in-Err-clause-drill
 returns-in-Err-clause-drill g c = λ left faults.
@@ -28,7 +28,7 @@ returns-in-Err-clause-drill g c = λ left faults.
     let laws : Laws b = record { tells_both = g.met.B.Bank.tells_both; leaves_now = g.met.B.Bank.leaves_now; leaves_only_now = g.met.B.Bank.leaves_only_now; counts_now = g.met.B.Bank.counts_now } in
     undrilled c.args.seed c.args.rounds b laws g.C.Validator.verdict (opening_of b c.args.bank kit c.args.admit) (first_opening (b.now c.args.bank) kit c.args.admit)
     (unread g.K.Sink left faults c.args.sink.now c.args.sink.now (c.unbegun_status.result, c.in-Err.field-0.bank))
-    c.in-Err.ensures.crash_err refl c.in-Err.field-0.cause c.in-Err.ensures.cause c.unbegun_status.ensures
+    c.in-Err.ensures.crash_err refl refl c.in-Err.field-0.cause c.in-Err.ensures.cause c.unbegun_status.ensures
 
 pub returns-clause-drill : goal.returns-clause-drill
 returns-clause-drill g c = λ left faults.

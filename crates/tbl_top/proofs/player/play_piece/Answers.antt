@@ -20,7 +20,7 @@ completes-preserved g c = record {
   continues = then_continues g.B.Bank g.C.Validator.verdict _ _ _ c.completes.invariant.continues c.in-Open.ensures.continues;
   live = search rules;
   written = search rules;
-  count = search rules;
+  still = c.in-Open.ensures.cause ∙ c.completes.invariant.still;
 }
 
 pub returns-in_default-clause-continues : goal.returns-in_default-clause-continues

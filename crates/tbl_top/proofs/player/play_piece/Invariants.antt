@@ -14,7 +14,7 @@ invariant-completes g l = record {
   continues : Continues g.B.Bank g.C.Validator.verdict l.fn.playback l.playback;
   live : l.playback.state.ended ≡ false;
   written : (first : Option (List ℕ)) → IsWritten first l.fn.playback.entries (g.K.Sink.taken l.fn.sink) → IsWritten first l.playback.entries (g.K.Sink.taken l.sink);
-  count : g.K.Sink.faults l.fn.sink ≤ g.K.Sink.faults l.sink;
+  still : g.K.Sink.faults l.sink ≡ g.K.Sink.faults l.fn.sink;
 }
 
 abbrev pub decreases-completes : goal.decreases-completes

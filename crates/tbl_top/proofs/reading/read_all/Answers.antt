@@ -1,9 +1,11 @@
-use Rattle.std.proofs.Common.{◌++◌, ◌∙◌, length, arith, ap, refl, sym, rules}
+use Rattle.std.proofs.Common.{◌++◌, ◌∙◌, length, arith, ap, refl, subst, sym, rules}
 use Rattle.std.proofs.lemmas.List.{length-append}
 use Rattle.std.specs.Io.KnownBytes.{prepend_known}
 use Rattle.tbl_outside.proofs.Streams.{read_more}
 use Rattle.tbl_history.proofs.ServingLemmas.{continues_same, then_continues}
 use Rattle.tbl_top.specs.Playing.{bytes_fed}
+use Rattle.tbl_top.specs.Standing.{TellsCause}
+use Rattle.tbl_top.specs.declared.playback.Standing.{Standing}
 use Rattle.tbl_top.proofs.ReadingLemmas.{left_at_first, begins_empty, session_bound}
 use Rattle.tbl_top.proofs.reading.read_all.Goals as goal
 
@@ -18,8 +20,8 @@ reads-init g c = record {
   continues = continues_same g.B.Bank g.C.Validator.verdict c.args.player.now.core;
   live = c.requires.live;
   written = λ first written. written;
-  source_count = omega arith;
-  sink_count = omega arith;
+  source_still = refl;
+  sink_still = refl;
 }
 
 pub returns-in-Some-clause-reads : goal.returns-in-Some-clause-reads
@@ -56,6 +58,6 @@ reads-preserved g c = record {
   continues = then_continues g.B.Bank g.C.Validator.verdict _ _ _ c.reads.invariant.continues c.in_default.ensures.continues;
   live = search rules;
   written = search rules;
-  source_count = search rules;
-  sink_count = search rules;
+  source_still = c.in_default.ensures.source_cause ∙ c.reads.invariant.source_still;
+  sink_still = subst (λ (s : Standing). TellsCause s (g.K.Sink.faults c.reads.sink) (g.K.Sink.faults c.read_piece.new.sink)) c.in_default.ensures.reads.2.is_open c.in_default.ensures.cause ∙ c.reads.invariant.sink_still;
 }

@@ -17,6 +17,6 @@ invariant-reads g l = record {
   continues : Continues g.B.Bank g.C.Validator.verdict l.fn.player.core l.player.core;
   live : l.player.core.state.ended ≡ false;
   written : (first : Option (List ℕ)) → IsWritten first l.fn.player.core.entries (g.K.Sink.taken l.fn.sink) → IsWritten first l.player.core.entries (g.K.Sink.taken l.sink);
-  source_count : g.S.Source.faults l.fn.source ≤ g.S.Source.faults l.source;
-  sink_count : g.K.Sink.faults l.fn.sink ≤ g.K.Sink.faults l.sink;
+  source_still : g.S.Source.faults l.source ≡ g.S.Source.faults l.fn.source;
+  sink_still : g.K.Sink.faults l.sink ≡ g.K.Sink.faults l.fn.sink;
 }

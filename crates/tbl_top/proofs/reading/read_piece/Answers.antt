@@ -18,7 +18,7 @@ returns-in-Over-clause-reads g c =
     let piece = take c.in-Ok.count c.read.new.into in (
       piece,
       c.in-Ok.ensures.moved,
-      ends_over c.args.player.now c.feed.new.self piece false (IsAtEnd (g.S.Source.left c.read.new.self))
+      ends_over c.args.player.now c.feed.new.self piece (IsAtEnd (g.S.Source.left c.read.new.self))
           (⊎_elim (λ e. over_is c.feed.new.self.standing (sym e ∙ c.feed.ensures.answer)) (λ e. memory_is c.feed.new.self.standing (sym e ∙ c.feed.ensures.answer)) c.in-Over.is)
           c.requires.session c.requires.begun (omega (arith, length-take c.in-Ok.count c.read.new.into, c.in-Ok.ensures.fits, c.requires.room)) c.feed.ensures.feeds,
     )

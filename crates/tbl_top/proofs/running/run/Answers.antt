@@ -36,7 +36,7 @@ returns-in-Some-Transcript-default-clause-outcome g c word admit asks =
     let b = g.B.Bank in
     let r = ran g.S.Source g.K.Sink (c.args.source.now, c.args.sink.now) (c.run_crew.new.source, c.run_crew.new.sink) c.run_crew.result in
     of_threads c.args.words.now Crew tt Transcript c.threads_of.result c.in-Some-Transcript-default.admit is c.threads_of.ensures.crew (λ w lists. Outcome w b g.C.Validator.verdict (opening_of b c.args.bank c.args.kit.items lists) r) word admit asks
-    c.run_crew.ensures.session
+    (c.run_crew.ensures.session, c.run_crew.ensures.failures)
 
 pub returns-in-Some-Transcript-default-clause-complete : goal.returns-in-Some-Transcript-default-clause-complete
 returns-in-Some-Transcript-default-clause-complete g c word admit asks =
@@ -72,7 +72,7 @@ returns-in-Some-Report-default-clause-outcome g c word admit asks =
     let b = g.B.Bank in
     let r = ran g.S.Source g.K.Sink (c.args.source.now, c.args.sink.now) (c.run_watch.new.source, c.run_watch.new.sink) c.run_watch.result in
     of_threads c.args.words.now Watch tt Report c.threads_of.result c.in-Some-Report-default.admit is c.threads_of.ensures.watch (λ w lists. Outcome w b g.C.Validator.verdict (opening_of b c.args.bank c.args.kit.items lists) r) word admit asks
-    c.run_watch.ensures.watches
+    (c.run_watch.ensures.watches, c.run_watch.ensures.failures)
 
 pub returns-in-Some-Report-default-clause-complete : goal.returns-in-Some-Report-default-clause-complete
 returns-in-Some-Report-default-clause-complete g c word admit asks =

@@ -1,7 +1,7 @@
 use Rattle.std.proofs.Common.{None, refl, sym, subst}
-use Rattle.tbl_session.specs.Orders.{InOrder}
 use Rattle.tbl_session.specs.Session.{opening_of, ran}
 use Rattle.maker_words.proofs.Answering.{makes_not_usage, describes_not_usage}
+use Rattle.tbl_top.specs.InTurn.{InTurn}
 use Rattle.tbl_top.specs.Words.{Completes, HasThreads, Outcome}
 use Rattle.tbl_top.specs.declared.words.Word.{Word}
 use Rattle.tbl_top.proofs.CompletenessLemmas.{complete}
@@ -21,14 +21,14 @@ pub returns-in-Play-clause-outcome : goal.returns-in-Play-clause-outcome
 returns-in-Play-clause-outcome g c other =
     let b = g.B.Bank in
     let r = ran g.S.Source g.K.Sink (c.args.source.now, c.args.sink.now) (c.play_in_order.new.source, c.play_in_order.new.sink) c.play_in_order.result in
-    subst (λ (w : Word). Outcome w b g.C.Validator.verdict (opening_of b c.args.bank c.args.kit.items c.args.admit) r) (sym c.in-Play.is) c.play_in_order.ensures.session
+    subst (λ (w : Word). Outcome w b g.C.Validator.verdict (opening_of b c.args.bank c.args.kit.items c.args.admit) r) (sym c.in-Play.is) (c.play_in_order.ensures.session, c.play_in_order.ensures.failures)
 
 pub returns-in-Play-clause-complete : goal.returns-in-Play-clause-complete
 returns-in-Play-clause-complete g c other =
     let b = g.B.Bank in
     let r = ran g.S.Source g.K.Sink (c.args.source.now, c.args.sink.now) (c.play_in_order.new.source, c.play_in_order.new.sink) c.play_in_order.result in
     subst (λ (w : Word). Completes w b c.args.bank r) (sym c.in-Play.is)
-    (complete InOrder b g.C.Validator.verdict (opening_of b c.args.bank c.args.kit.items c.args.admit) r c.play_in_order.ensures.session)
+    (complete (InTurn r) b g.C.Validator.verdict (opening_of b c.args.bank c.args.kit.items c.args.admit) r c.play_in_order.ensures.session)
 
 -- ---- store
 

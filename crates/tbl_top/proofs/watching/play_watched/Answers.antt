@@ -1,9 +1,11 @@
 use Rattle.std.proofs.Common.{◌≡◌, ap, ◌∙◌, sym, subst, arith}
+use Rattle.std.specs.Io.KnownBytes.{IsAtEnd}
 use Rattle.tbl_kinds.specs.Records.{Pair}
+use Rattle.table_watch.specs.Report.{report}
 use Rattle.tbl_session.specs.Session.{ran}
 use Rattle.tbl_crew.specs.Scripts.{script_of, request_count, AllFit}
 use Rattle.tbl_top.proofs.ScriptsLemmas.{scripts_fit, scripts_count, scripts_part}
-use Rattle.tbl_top.proofs.WatchingLemmas.{ends_not_usage, not_sink_failed, watches}
+use Rattle.tbl_top.proofs.WatchingLemmas.{ends_not_usage, not_sink_failed, watch_failures, watches}
 use Rattle.tbl_top.proofs.watching.play_watched.Goals as goal
 
 pub crew_watched-core-requires-clause-fits : goal.crew_watched-core-requires-clause-fits
@@ -33,7 +35,17 @@ returns-clause-watches g c o serves =
     c.read_all-read.result.0 pairs c.read_all-read.new.self.rest reads.0 c.read_all-read.result.1
     (ran g.S.Source g.K.Sink (c.args.source.now, c.args.sink.now) (c.read_all-read.new.source, told.new.sink) (told.result, core.state.store.bank))
     (λ i. core.state.store.bank) reads.1 (λ actor. ap (λ s. script_of s actor) scripts ∙ scripts_part pairs reads.4.each actor) reads.4
-    c.read_all-read.ensures.input c.read_all-read.ensures.source_failed told.ensures.count
+    c.read_all-read.ensures.input c.read_all-read.ensures.source_cause told.ensures.count
+    (rw (← c.fault_of.ensures, ← c.standing_behind-standing.ensures, ← c.is_whole-is_whole.ensures) told.ensures.ends)
+    told.ensures.told
+
+pub returns-clause-failures : goal.returns-clause-failures
+returns-clause-failures g c =
+    let reads = c.read_all-read.ensures.reads in
+    let told = c.tell_report-status in
+    watch_failures c.crew_watched-core.result.2 c.read_all-read.result.0 reads.2 c.read_all-read.new.self.rest reads.0 (report c.crew_watched-core.result.1) c.read_all-read.result.1 (IsAtEnd (g.S.Source.left c.read_all-read.new.source))
+    (ran g.S.Source g.K.Sink (c.args.source.now, c.args.sink.now) (c.read_all-read.new.source, told.new.sink) (told.result, c.crew_watched-core.result.0.state.store.bank))
+    reads.4 c.read_all-read.ensures.source_cause
     (rw (← c.fault_of.ensures, ← c.standing_behind-standing.ensures, ← c.is_whole-is_whole.ensures) told.ensures.ends)
     told.ensures.told
 

@@ -1,4 +1,4 @@
-use Rattle.std.proofs.Common.{◌++◌, arith, rules}
+use Rattle.std.proofs.Common.{◌++◌, ◌∙◌, arith, rules}
 use Rattle.std.proofs.lemmas.List.{length-append}
 use Rattle.tbl_outside.proofs.Streams.{read_more}
 use Rattle.tbl_top.proofs.CollectingLemmas.{taken_bound}
@@ -25,7 +25,7 @@ reads-preserved g c = record {
         more.2,
         more.3,
       );
-  count = search rules;
+  still = c.in_default.ensures.source_cause ∙ c.reads.invariant.still;
 }
 
 pub unreachable-requires : goal.unreachable-requires

@@ -11,5 +11,5 @@ invariant-reads g l = record {
   room : length l.piece ≡ piece_limit;
   takes : (fed : List ℕ) × (g.S.Source.left l.fn.source ≡ prepend_known fed (g.S.Source.left l.source)) × (l.counter ≤ length fed)
       × (most : ℕ) × (pairs : List Pair) × HasTaken Open fed most pairs l.self;
-  count : g.S.Source.faults l.fn.source ≤ g.S.Source.faults l.source;
+  still : g.S.Source.faults l.source ≡ g.S.Source.faults l.fn.source;
 }

@@ -37,7 +37,7 @@ returns-in_default-clause-reads g c =
           let more = c.feed.ensures.takes fed most pairs taken in (
             more.0,
             more.1.scripts,
-            reads_last c.feed.result fed piece most pairs more.0 c.args.self.now c.feed.new.self false (IsAtEnd (g.S.Source.left c.read.new.self)) c.in_default.not-Open
+            reads_last c.feed.result fed piece most pairs more.0 c.args.self.now c.feed.new.self (IsAtEnd (g.S.Source.left c.read.new.self)) c.in_default.not-Open
                 (omega (arith, length-take c.in-Ok.count c.read.new.into, c.in-Ok.ensures.fits, c.requires.room)) taken more.1,
           ),
     )

@@ -1,4 +1,4 @@
-use Rattle.std.proofs.Common.{rules}
+use Rattle.std.proofs.Common.{◌∙◌, rules}
 use Rattle.tbl_history.proofs.ServingLemmas.{then_continues}
 use Rattle.tbl_top.proofs.playback.Playback.play_whole.Goals as goal
 
@@ -13,5 +13,5 @@ records-preserved g c = record {
   continues = then_continues g.B.Bank g.C.Validator.verdict _ _ _ c.records.invariant.continues c.in_default.ensures.continues;
   live = search rules;
   written = search rules;
-  count = search rules;
+  still = c.in_default.ensures.why ∙ c.records.invariant.still;
 }

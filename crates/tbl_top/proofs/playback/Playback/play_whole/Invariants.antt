@@ -11,7 +11,7 @@ invariant-records g l = record {
   continues : Continues g.B.Bank g.C.Validator.verdict l.fn.self l.self;
   live : l.self.state.ended ≡ false;
   written : (first : Option (List ℕ)) → IsWritten first l.fn.self.entries (g.K.Sink.taken l.fn.sink) → IsWritten first l.self.entries (g.K.Sink.taken l.sink);
-  count : g.K.Sink.faults l.fn.sink ≤ g.K.Sink.faults l.sink;
+  still : g.K.Sink.faults l.sink ≡ g.K.Sink.faults l.fn.sink;
 }
 
 abbrev pub decreases-records : goal.decreases-records
