@@ -24,6 +24,7 @@ tbl play       reads session records from standard input and writes the transcri
                Critical Data Store are kept in the file cds.store of the working folder, which is made where it isn't there
 tbl crew       does the same with a thread for each actor: it reads all records, plays them, and then writes the transcript.
                Each actor's records are played in their order, and the order between actors differs from run to run
+tbl watch      plays as tbl crew does, and writes a report of the images that application 16 got in the place of the transcript
 tbl play admit S P, tbl crew admit S P
                does the same, and loads table files from the spacecraft S and the processors P alone: each is any, or one or
                two numbers with a comma between them
@@ -38,9 +39,9 @@ tbl --help     writes this text to standard output
 tbl --version  writes the version to standard output
 
 It ends with one of these statuses:
-0  the work is done, and of play and crew the input was read to its end
+0  the work is done, and of play, crew and watch the input was read to its end
 1  memory ran out
-2  the words are none of the above, and nothing was read or written
+2  the words aren't any of the above, and nothing was read or written
 3  reading failed
 4  writing failed
 5  a record of the input is bad or cut short; the records before it were played

@@ -69,7 +69,7 @@ fn play_calls<R: Print + AllocGlobal>(rt: &R, script: &str, store: &mut Served) 
 fn show_end<R: Print + AllocGlobal>(rt: &R, script: &str, bank: &mut MemBank) -> io::Result<()>
     requires { bank_size ≤ length bank.old.bytes }
 {
-    if has_line(script, "text-behind") {
+    if has_line(script, "text-after") {
         look(rt, bank)?;
     }
     println!(rt; "{} writes", bank.write_count())?;

@@ -43,7 +43,7 @@ fn play_lines<R: Print + AllocGlobal + Threads + Wait + Sync, C: RowCases>(
     Ok(())
 }
 
-/// Tries the table on standard input as [`play_table`](crate::play_table) does, by cases that may start threads.
+/// Tries the table on standard input as `play_table` does, by cases that may start threads.
 pub fn play_rows<R: Input + Print + AllocGlobal + Threads + Wait + Sync, C: RowCases>(
     rt: &R,
     cases: &mut C,
