@@ -1,5 +1,5 @@
 -- A session that was played over what was handed in.
-use Rattle.std.proofs.Common.{◌≡◌, ℕ, List, [], Some, refl, subst}
+use Rattle.std.proofs.Common.{◌≡◌, ◌⊎◌, ℕ, ◌≤◌, length, List, [], Some, refl, subst}
 use Rattle.tbl_outside.specs.declared.bank.Bank.{Ghosts}
 use Rattle.tbl_session.specs.Orders.{InOrder}
 use Rattle.tbl_session.specs.Session.{Ran, Session, IsComplete}
@@ -27,9 +27,9 @@ module _ (g : Ghosts (List ℕ)) (first : Handed) (left : List ℕ) (status : �
   IsSeen bank records taken faults =
       Session InOrder g verdict_of (opening g bank first) (ran_from records taken faults) × IsComplete g bank (ran_from records taken faults)
 
-  pub played : (bank records : List ℕ) (b s t : List ℕ) (f : ℕ) → b ≡ bank → s ≡ records → t ≡ [] → f ≡ 0 → IsSeen b s t f
-      → IsPlayed g (record { bank = bank; records = records; verdicts = first.given.now; images = first.images.now }) status bank_then transcript
-  played bank records b s t f over from empty none seen =
+  pub played : (bank records : List ℕ) (room : ℕ) → (refused ≡ 0) ⊎ (room ≤ length transcript) → (b s t : List ℕ) (f : ℕ) → b ≡ bank → s ≡ records → t ≡ [] → f ≡ 0 → IsSeen b s t f
+      → IsPlayed g (record { bank = bank; records = records; verdicts = first.given.now; images = first.images.now }) room status bank_then transcript
+  played bank records room full b s t f over from empty none seen =
       let no_faults = subst (λ (x : ℕ). IsSeen b s t x) none seen in
       let fresh = subst (λ (x : List ℕ). IsSeen b s x 0) empty no_faults in
       let of_records = subst (λ (x : List ℕ). IsSeen b x [] 0) from fresh in
@@ -40,6 +40,7 @@ module _ (g : Ghosts (List ℕ)) (first : Handed) (left : List ℕ) (status : �
         images = refl;
         left = left;
         refused = refused;
+        full = full;
         session = whole.0;
         complete = whole.1;
       }

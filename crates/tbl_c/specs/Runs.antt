@@ -1,5 +1,5 @@
 -- What a run for C plays, and what C is told of it.
-use Rattle.std.specs.Prelude.{◌≡◌, ℕ, List, [], Some, ◌++◌, length, take, drop}
+use Rattle.std.specs.Prelude.{◌≡◌, ◌⊎◌, ℕ, ◌+◌, ◌≤◌, List, [], Some, ◌++◌, length, take, drop}
 use Rattle.tbl_kinds.specs.Admitted.{all_admitted}
 use Rattle.tbl_outside.specs.declared.bank.Bank.{Ghosts}
 use Rattle.tbl_session.specs.Openings.{Opening}
@@ -49,14 +49,15 @@ seen records left status bank_then transcript refused = record {
   status = status;
 }
 
--- The input was played in order, as the program plays a session, with this status, and to its end unless there was no room for the
--- transcript or memory ran out. Validation functions answered by the verdicts that were handed in.
-pub record IsPlayed (g : Ghosts (List ℕ)) (input : Input) (status : ℕ) (bank_then transcript : List ℕ) : Type 0 where
+-- The input was played in order, as the program plays a session, with this status, and to its end unless the transcript fills the room
+-- for it or memory ran out. Validation functions answered by the verdicts that were handed in.
+pub record IsPlayed (g : Ghosts (List ℕ)) (input : Input) (room status : ℕ) (bank_then transcript : List ℕ) : Type 0 where
   pub first : Handed
   pub verdicts : first.given.now ≡ input.verdicts
   pub images : first.images.now ≡ input.images
   pub left : List ℕ
   pub refused : ℕ
+  pub full : (refused ≡ 0) ⊎ (room ≤ length transcript)
   pub session : Session InOrder g verdict_of (opening g input.bank first) (seen input.records left status bank_then transcript refused)
   pub complete : IsComplete g input.bank (seen input.records left status bank_then transcript refused)
 
@@ -65,7 +66,7 @@ pub record IsPlayed (g : Ghosts (List ℕ)) (input : Input) (status : ℕ) (bank
 pub record Answers (g : Ghosts (List ℕ)) (input : Input) (from : ℕ) (old : List ℕ) (output : Output) : Type 0 where
   pub bank_then : List ℕ
   pub transcript : List ℕ
-  pub played : IsPlayed g input output.status bank_then transcript
+  pub played : IsPlayed g input (from + length old) output.status bank_then transcript
   pub told : output.length_told ≡ length transcript
   pub bytes : output.bytes ≡ over_front (drop from transcript) old
   pub bank : output.status ≡ 0 → output.bank ≡ take (length input.bank) bank_then

@@ -35,7 +35,7 @@ pub extern "C" fn tbl_run(
     told: &mut Told,
 ) -> u8
     // Unless memory ran out, C is told of a session that was played over what it handed in, or which verdict is missing for one.
-    ensures answers { result < 16 → result ≢ 1 → Answers ⟦<CalmBank as Bank>⟧
+    ensures answers { result ≢ 1 → result ≢ 16 → result ≢ 17 → Answers ⟦<CalmBank as Bank>⟧
         (record { bank = bank.old; records = records.now; verdicts = given.now; images = images.now }) from out.old
         (record { status = result; bank = bank.new; length_told = told.new.length; bytes = out.new }) }
     ensures bad_bank { (result ≡ 17) ↔ (length bank.old ≢ bank_size) }

@@ -1,6 +1,6 @@
 //! A session over bytes that C hands in, and what of it goes out to C.
 
-ghost use Rattle.std.specs.Prelude.{◌≡◌, ◌≢◌, ◌↔◌, ◌≤◌, ◌<◌, ◌^◌, ◌++◌, [], length, take, drop, IfOk, IfErr};
+ghost use Rattle.std.specs.Prelude.{◌≡◌, ◌≢◌, ◌↔◌, ◌≤◌, ◌<◌, ◌^◌, ◌++◌, ◌⊎◌, [], length, take, drop, true, IfOk, IfErr};
 ghost use Rattle.tbl_kinds.specs.Places.{bank_size};
 ghost use Rattle.tbl_c.specs.Runs.{over_front, IsPlayed, Answers};
 
@@ -90,6 +90,13 @@ fn sink_of(alloc: Global, room: usize) -> Result<MemSink, Memory>
     MemSink::make(alloc, u32::try_from(room).unwrap_or(u32::MAX), &[])
 }
 
+/// Whether no write failed, or there is no more room.
+fn took_all_it_could(sink: &MemSink, room: usize) -> bool
+    ensures { result ≡ true → (sink.now.calls.faults ≡ 0) ⊎ (room ≤ length sink.now.taken) }
+{
+    sink.faults() == 0 || room <= sink.taken().len()
+}
+
 /// A session that was played: its status, preserved memory after it, and its transcript.
 #[derive(Drop)]
 struct Played {
@@ -110,13 +117,16 @@ fn play_over(
     requires fresh { first.now.asked ≡ 0 }
     ensures played { IfOk result (λ played. IsPlayed ⟦<CalmBank as Bank>⟧
         (record { bank = bank.now; records = records.now; verdicts = first.now.given.now; images = first.now.images.now })
-        played.status played.bank played.sink.taken) }
+        room played.status played.bank played.sink.taken) }
     ensures room { IfOk result (λ played. length bank.now ≤ length played.bank) }
 {
     let mut source = source_of(alloc, records)?;
     let mut sink = sink_of(alloc, room)?;
     let bank = bank_of(alloc, bank)?;
     let (status, bank) = play(alloc, &mut source, &mut sink, bank, first)?;
+    if !took_all_it_could(&sink, room) {
+        return Err(Memory);
+    }
     Ok(Played { status, bank, sink })
 }
 
@@ -163,7 +173,7 @@ pub(crate) fn run(
     out: &mut [u8],
     told: &mut Told,
 ) -> Result<u8, Memory>
-    ensures answers { IfOk result (λ status. status < 16 → Answers ⟦<CalmBank as Bank>⟧
+    ensures answers { IfOk result (λ status. status ≢ 16 → status ≢ 17 → Answers ⟦<CalmBank as Bank>⟧
         (record { bank = bank.old; records = records.now; verdicts = given.now; images = images.now }) from out.old
         (record { status = status; bank = bank.new; length_told = told.new.length; bytes = out.new })) }
     ensures bad_bank { IfOk result (λ status. (status ≡ 17) ↔ (length bank.old ≢ bank_size)) }
@@ -176,7 +186,9 @@ pub(crate) fn run(
     }
     let open = OnceCell::new();
     let first = Handed::first(alloc, given, images, &open);
-    let room = from.saturating_add(out.len());
+    let Some(room) = from.checked_add(out.len()) else {
+        return Err(Memory);
+    };
     let played = play_over(alloc, bank, records, room, &first)?;
     match open.get() {
         Some(question) => tell_question(question, out, told),
