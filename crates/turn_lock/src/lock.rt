@@ -9,6 +9,13 @@ use std::alloc::Global;
 use std::snapshot::Snapshot;
 use std::sync::Wait;
 use std::thread;
+use std::time::Duration;
+
+/// How often a waiter gives its processor away and tries again before it sleeps.
+const YIELDS: u32 = 20;
+
+/// How many microseconds a waiter sleeps before it tries again.
+const NAP: u64 = 100;
 
 /// The lock. A turn moves the value out and back, so a large one belongs into a box.
 #[derive(Drop)]
@@ -41,8 +48,9 @@ impl<T: Turns> TurnLock<T> {
         }
     }
 
-    /// Takes the turn, and the value with it. Waits while another seat has it. Since an actor of the seat saw the value last, only
-    /// others had turns.
+    /// Takes the turn, and the value with it. Waits while another seat has it: it yields its processor some twenty times, and then
+    /// sleeps for 100 microseconds at a time. So a thread that waits leaves its processor to the one that has the turn, whatever
+    /// their priorities are. Since an actor of the seat saw the value last, only others had turns.
     pub fn take<R: Wait>(&self, rt: &R, seat: &mut Place<T>) -> T
         requires own { seat.old.table_id ≡ self.now.table.shared.table_id }
         requires idle { Idle seat.old.me seat.old.me.0.from seat.old.me.0.seen }
@@ -52,11 +60,17 @@ impl<T: Turns> TurnLock<T> {
         ensures knows { Knows T.moves seat.old.me.0.from seat.old.me.0.seen result }
     {
         let shared = &self.table.shared;
+        let mut tries: u32 = 0;
         for _ in rt.forever() {
             if shared.compare_exchange::<TakeTurn>(seat, 0, 0, 1) == 0 {
                 return shared.exchange(seat, 0, None).unwrap();
             }
-            thread::yield_now();
+            if tries < YIELDS {
+                tries += 1;
+                thread::yield_now();
+            } else {
+                shared.park_timeout(rt, 0, 1, Duration::from_micros(NAP));
+            }
         }
         unreachable!()
     }
