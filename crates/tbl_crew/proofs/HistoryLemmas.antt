@@ -1,5 +1,5 @@
 -- From what a crew stands for to what is promised of its history.
-use Rattle.std.proofs.Common.{◌≡◌, ℕ, ◌<◌, List, [], ◌∷◌, ◌++◌, Bool, true, false, Option, Some, None, refl, sym, ap, subst, ◌∙◌, ℤ, arith}
+use Rattle.std.proofs.Common.{◌≡◌, ℕ, ◌<◌, List, [], ◌∷◌, ◌++◌, length, Bool, true, false, Option, Some, None, refl, sym, ap, subst, ◌∙◌, ℤ, arith}
 use Rattle.std.specs.Prelude.{◌==◌, if◌then◌else◌, All}
 use Rattle.std.specs.List.{AllByRecursion}
 use Rattle.std.proofs.lemmas.Bool.Decides.{nat_tests}
@@ -12,13 +12,16 @@ use Rattle.tbl_kinds.specs.Transcript.{pairs_of}
 use Rattle.tbl_kinds.specs.declared.entry.Entry.{Entry}
 use Rattle.tbl_kinds.specs.declared.request.Actor.{Actor}
 use Rattle.tbl_kinds.specs.declared.request.Request.{Request}
+use Rattle.tbl_core.specs.Service.{CoreView}
 use Rattle.tbl_core.specs.declared.service.StepFault.{StepFault}
+use Rattle.tbl_core.specs.declared.service.StepFault.TheVariants.{Memory}
+use Rattle.tbl_history.specs.Serving.{Serves}
 use Rattle.tbl_crew.specs.Histories.{HasPlayed, HavePlayed, OneHistory}
-use Rattle.tbl_crew.specs.CrewView.{CrewView, MayGoOn}
+use Rattle.tbl_crew.specs.CrewView.{CrewView, MayGoOn, TellsFault}
 use Rattle.tbl_outside.specs.declared.bank.Bank.{Ghosts}
 use Rattle.tbl_session.specs.Openings.{Opening}
 use Rattle.tbl_history.proofs.ServingLemmas.{served_of}
-use Rattle.tbl_crew.specs.Leading.{IsPlayed, LeadsFrom}
+use Rattle.tbl_crew.specs.Leading.{IsPlayed, LacksOne, LacksAfter, LeadsFrom}
 use Rattle.tbl_crew.specs.Moves.{HasEnded}
 use Rattle.tbl_session.specs.Actors.{actor_count, actor_of, part, HaveActors}
 use Rattle.tbl_crew.specs.Scripts.{script_of, OfEach}
@@ -47,6 +50,27 @@ module _ {B C : Type 0} (g : Ghosts B) (verdict : C → List ℕ → ℤ) where
     caused = leads.serves.caused;
     ended = goes_on.fault;
   }
+
+  -- ---- nothing was played
+
+  nothing : (o : Opening B C) (scripts : List (List Request)) (fault : Option StepFault) (core : CoreView B C) → Serves g verdict o core → core.entries ≡ [] → HavePlayed fault scripts [] → LacksAfter fault scripts [] → TellsFault fault core
+      → OneHistory g verdict o scripts fault core
+  nothing o scripts fault core serves empty played lacks ended = record {
+    served = served_of g verdict o core serves;
+    played = subst (HavePlayed fault scripts) (sym empty) played;
+    lacks = subst (LacksAfter fault scripts) (sym empty) lacks;
+    few = omega (arith, ap length empty);
+    caused = serves.caused;
+    ended = ended;
+  }
+
+  -- since there was nothing to play
+  pub nothing_asked : (o : Opening B C) (scripts : List (List Request)) (core : CoreView B C) → Serves g verdict o core → core.entries ≡ [] → core.state.ended ≡ false → ((actor : ℕ) → script_of scripts actor ≡ []) → OneHistory g verdict o scripts None core
+  nothing_asked o scripts core serves empty live none = nothing o scripts None core serves empty (record { parts = λ actor. sym (none actor); actors = tt }) tt live
+
+  -- since memory ran out
+  pub nothing_played : (o : Opening B C) (scripts : List (List Request)) (core : CoreView B C) → Serves g verdict o core → core.entries ≡ [] → core.state.ended ≡ false → LacksOne scripts [] → OneHistory g verdict o scripts (Some Memory) core
+  nothing_played o scripts core serves empty live lacks = nothing o scripts (Some Memory) core serves empty (record { parts = λ actor. (script_of scripts actor, refl); actors = tt }) lacks live
 
 -- ---- what holds of each request that was given holds of each that was played
 

@@ -7,4 +7,3 @@ pub mod PushLemmas
 pub mod LendingLemmas
 pub mod WorkerLemmas
 pub mod WatchLemmas
-pub mod Slices

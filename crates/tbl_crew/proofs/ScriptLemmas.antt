@@ -110,3 +110,13 @@ module _ (old new : List (List Request)) (actor : ℕ) (request : Request) (with
         let plays : part other (pairs_of (entries ++ e ∷ [])) ≡ part other (pairs_of entries) =
         part-push other entries e ∙ ap (λ (l : List Request). part other (pairs_of entries) ++ l) (part-other actor other e own apart) ∙ append-nil (part other (pairs_of entries)) in
         was ∙ ap (λ (l : List Request). part other (pairs_of entries) ++ l) (sym (taken_other other apart)) ∙ sym (ap (λ (l : List Request). l ++ script_of new other) plays)
+
+-- ---- by how many requests there are
+
+pub counts_none : (script : List Request) (count : ℕ) → count ≡ min (length script) record_limit → count ≡ 0 → script ≡ []
+counts_none [] count is none = refl
+counts_none (request ∷ rest) count is none = absurd (omega (arith, is, none))
+
+pub counts_some : (script : List Request) (count : ℕ) → count ≡ min (length script) record_limit → count ≢ 0 → (request : Request) × (rest : List Request) × (script ≡ request ∷ rest)
+counts_some [] count is some = absurd (some (omega (arith, is)))
+counts_some (request ∷ rest) count is some = (request, rest, refl)

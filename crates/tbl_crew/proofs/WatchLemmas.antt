@@ -40,6 +40,7 @@ use Rattle.std.proofs.Math.Seq.{take-append_seam, drop-append_seam}
 use Rattle.std.proofs.lemmas.List.{length-take-le, length-drop, length-replicate}
 use Rattle.std.specs.Result.{is_err}
 use Rattle.std.specs.Prelude.{slice_index}
+use Rattle.tbl_core.specs.Service.{CoreView}
 use Rattle.tbl_core.specs.declared.service.StepFault.{StepFault}
 use Rattle.tbl_history.proofs.ServingLemmas.{served_of}
 use Rattle.tbl_kinds.specs.Transcript.{pairs_of}
@@ -428,3 +429,9 @@ module _ {B C : Type 0} (g : Ghosts B) (verdict : C → List ℕ → ℤ) where
     subst (λ (f : Option StepFault). AreLooks g o f looks h.core.entries) is (had o scripts from).1,
   )
   is_watched first h looks None (Err memory) is goes_on others ended leads had o scripts from = cut_short o scripts looks h goes_on is others (leads o scripts from) (had o scripts from)
+
+  -- of one that played nothing
+  pub nothing_watched : (M : Type 0) (o : Opening B C) (scripts : List (List Request)) (fault : Option StepFault) (looks : List Look) (core : CoreView B C) → looks ≡ [] → core.entries ≡ [] → OneHistory g verdict o scripts fault core
+      → IsWatched g verdict o scripts (end_of {M = M} fault (Ok tt)) looks core
+  nothing_watched M o scripts None looks core none empty one = (one, λ tells. none ∙ sym (ap (watched_by o.state) empty))
+  nothing_watched M o scripts (Some cause) looks core none empty one = (one, inl ([], [], empty, omega arith, λ tells. none))

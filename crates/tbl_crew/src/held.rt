@@ -1,6 +1,6 @@
 //! What the lock holds, and one turn of an actor.
 
-ghost use Rattle.std.specs.Prelude.{◌≡◌, ℕ, ◌+◌, ◌<◌, ◌≤◌, List, [], ◌∷◌, length, None, false};
+ghost use Rattle.std.specs.Prelude.{◌≡◌, ℕ, ◌+◌, ◌<◌, ◌≤◌, List, [], ◌∷◌, length, None, false, IfOk, IfErr};
 ghost use Rattle.tbl_kinds.specs.Records.{record_limit};
 ghost use Rattle.tbl_kinds.specs.declared.request.Request.{Request as AnyRequest};
 ghost use Rattle.tbl_session.specs.Actors.{actor_count, actor_of};
@@ -17,6 +17,7 @@ ghost use Rattle.tbl_model.specs.Whole.{is_done};
 ghost use Rattle.tbl_registry.specs.declared.pin.Pin.{Pin};
 
 use crate::scripts::Scripts;
+use std::alloc::{AllocFailed, Global};
 use std::marker::Model;
 use tbl_core::{Core, StepFault};
 use tbl_kinds::{Actor, Bytes, Entry, Request, Status};
@@ -47,10 +48,11 @@ pub struct ReadPlan {
     pub len: u32,
 }
 
-/// The core, why it plays no further request, and what each actor still has to request.
+/// The core, why it plays no further request, and what each actor still has to request. The core lies in a box, since a turn at the
+/// lock moves this value out and back.
 #[derive(Drop)]
 pub struct Crew<B: Bank, C: Validator> {
-    core: Core<B, C>,
+    core: Box<Core<B, C>>,
     fault: Option<StepFault>,
     left: Scripts,
 }
@@ -60,9 +62,9 @@ impl<B: Bank, C: Validator> Model for Crew<B, C> {
 
     ghost Value = { CrewView B C };
 
-    ghost view = { λ c. record { core = c.core; fault = c.fault; left = c.left } };
+    ghost view = { λ c. record { core = c.core.value; fault = c.fault; left = c.left } };
 
-    ghost invariant = { λ c. MayGoOn (record { core = c.core; fault = c.fault; left = c.left }) };
+    ghost invariant = { λ c. MayGoOn (record { core = c.core.value; fault = c.fault; left = c.left }) };
 }
 
 impl<B: Bank, C: Validator> turn_lock::Turns for Crew<B, C> {
@@ -75,22 +77,30 @@ impl<B: Bank, C: Validator> turn_lock::Turns for Crew<B, C> {
 }
 
 impl<B: Bank, C: Validator> Crew<B, C> {
-    /// A crew over a service that played nothing yet.
-    pub fn open(core: Core<B, C>, scripts: Scripts) -> Crew<B, C>
+    /// A crew over a service that played nothing yet. An Err means out of memory, with the service and the scripts.
+    pub fn open(
+        alloc: Global,
+        core: Core<B, C>,
+        scripts: Scripts,
+    ) -> Result<Crew<B, C>, (Core<B, C>, Scripts)>
         requires live { core.state.ended ≡ false }
         requires empty { core.entries ≡ [] }
         requires fits { AllFit scripts }
         requires few { request_count scripts ≤ record_limit }
-        ensures core { result.core ≡ core }
-        ensures fault { result.fault ≡ None }
-        ensures left { result.left ≡ scripts }
+        ensures core { IfOk result (λ crew. crew.core ≡ core) }
+        ensures fault { IfOk result (λ crew. crew.fault ≡ None) }
+        ensures left { IfOk result (λ crew. crew.left ≡ scripts) }
         // Whatever the service began with, the crew stands for it, with these scripts and nothing played.
-        ensures stands { (o : Opening B C) → Serves B.Bank C.verdict o core → LeadsFrom B.Bank C.verdict o scripts result }
+        ensures stands { IfOk result (λ crew. (o : Opening B C) → Serves B.Bank C.verdict o core → LeadsFrom B.Bank C.verdict o scripts crew) }
+        ensures err { IfErr result (λ back. (back.0 ≡ core) × (back.1 ≡ scripts)) }
     {
-        Crew {
-            core,
-            fault: None,
-            left: scripts,
+        match Box::new(alloc, core) {
+            Ok(core) => Ok(Crew {
+                core,
+                fault: None,
+                left: scripts,
+            }),
+            Err(AllocFailed { value }) => Err((value, scripts)),
         }
     }
 
@@ -98,7 +108,7 @@ impl<B: Bank, C: Validator> Crew<B, C> {
     pub fn core(&self) -> &Core<B, C>
         ensures { result.now ≡ self.now.core }
     {
-        &self.core
+        self.core.as_ref()
     }
 
     /// The service as it is, and the fault that a step answered.
@@ -107,7 +117,7 @@ impl<B: Bank, C: Validator> Crew<B, C> {
         ensures fault { result.1 ≡ self.fault }
         ensures goes_on { MayGoOn self }
     {
-        (self.core, self.fault)
+        (Box::into_inner(self.core), self.fault)
     }
 
     /// Plays the next request of an actor: 0 is the ground, 1 to 16 are the applications. Where the step answers a fault, this
@@ -120,7 +130,8 @@ impl<B: Bank, C: Validator> Crew<B, C> {
         // And whatever was lent.
         ensures pins { (pin : Pin) → IsOfPin pin self.old.core → IsOfPin pin self.new.core }
     {
-        turn_fields(&mut self.core, &mut self.fault, &mut self.left, actor)
+        let core = self.core.as_mut();
+        turn_fields(core, &mut self.fault, &mut self.left, actor)
     }
 
     /// The bytes that the actor's next request reads; None where it isn't a Read. Only the actor's own turns change the answer.
@@ -155,7 +166,7 @@ impl<B: Bank, C: Validator> Crew<B, C> {
         ensures pins { (other : Pin) → IsOfPin other self.old.core → IsOfPin other self.new.core }
     {
         read_fields(
-            &mut self.core,
+            self.core.as_mut(),
             &mut self.fault,
             &mut self.left,
             actor,

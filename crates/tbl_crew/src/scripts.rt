@@ -1,9 +1,10 @@
 //! What each actor asks, in order.
 
-ghost use Rattle.std.specs.Prelude.{◌≡◌, ℕ, ◌≤◌, ◌<◌, [], ◌∷◌, ◌++◌, length, replicate, min, slice_index, IfOk, OnOk, OnErr, MatchOption};
+ghost use Rattle.std.specs.Prelude.{◌≡◌, ℕ, ◌≤◌, ◌<◌, [], ◌∷◌, ◌++◌, length, replicate, min, slice_index, IfOk, OnOk, OnErr, MatchBool, MatchOption};
 ghost use Rattle.tbl_kinds.specs.Records.{actor_number, record_limit};
 ghost use Rattle.tbl_session.specs.Actors.{actor_count};
 ghost use Rattle.std.specs.Option.{option_copied};
+ghost use Rattle.tbl_crew.specs.Leading.{LacksOne};
 ghost use Rattle.tbl_crew.specs.Scripts.{script_of, first_of, pushed, with_script};
 
 use std::alloc::Global;
@@ -122,6 +123,19 @@ impl Scripts {
             counts[actor] = self.scripts[actor].len();
         }
         counts
+    }
+
+    /// Whether no actor has a request.
+    pub(crate) fn is_empty(&self) -> bool
+        ensures { MatchBool result ((actor : ℕ) → script_of self.now actor ≡ []) (LacksOne self.now []) }
+    {
+        'actors: for actor in 0..ACTOR_COUNT {
+            let count = self.scripts[actor].len();
+            if count != 0 {
+                return false;
+            }
+        }
+        true
     }
 
     /// The first request of an actor's script.

@@ -20,7 +20,7 @@ ghost use Rattle.turn_lock.specs.Turns.{Idle, IsSeat};
 
 use crate::held::{Crew, ReadPlan, Turn};
 use crate::scripts::{ACTOR_COUNT, Scripts};
-use crate::workers::{keep, one_turn, play_range, play_rest};
+use crate::workers::{keep, one_turn, play_range, play_rest, unplayed};
 use std::alloc::Global;
 use std::sync::Wait;
 use std::thread::{Threads, join};
@@ -268,6 +268,49 @@ fn end_watched<B: Bank, C: Validator>(
     (core, watch, end_of(fault, looked))
 }
 
+/// What comes of a watched crew for which there is no memory: nothing is played, and nothing was looked at.
+fn unwatched<B: Bank, C: Validator>(
+    core: Core<B, C>,
+    scripts: &Scripts,
+    watch: Watch,
+) -> (Core<B, C>, Watch, Option<WatchEnd>)
+    requires live { core.state.ended ≡ false }
+    requires empty { core.entries ≡ [] }
+    requires watch { watch ≡ [] }
+    ensures history { (o : Opening B C) → Serves B.Bank C.verdict o core → IsWatched B.Bank C.verdict o scripts.now result.2 result.1 result.0 }
+{
+    let (core, fault) = unplayed(core, scripts);
+    (core, watch, end_of(fault, Ok(())))
+}
+
+/// Plays each script of a crew in a thread of its own; where there is no memory for the lock, the caller plays them. The watcher looks
+/// at each image that it is lent.
+fn watch_all<B: Bank + Send, C: Validator + Send, G: Gate + Sync, R: Threads + Wait + Sync>(
+    rt: &R,
+    alloc: Global,
+    crew: Crew<B, C>,
+    counts: &[u32; ACTOR_COUNT],
+    gate: &G,
+    watch: Watch,
+) -> (Core<B, C>, Watch, Option<WatchEnd>)
+    requires left { (actor : ℕ) → actor < actor_count → length (script_of crew.left actor) ≡ slice_index counts.now actor }
+    requires empty { crew.core.entries ≡ [] }
+    requires watch { watch ≡ [] }
+    ensures history { (o : Opening B C) (scripts : List (List Request)) → LeadsFrom B.Bank C.verdict o scripts crew → IsWatched B.Bank C.verdict o scripts result.2 result.1 result.0 }
+{
+    match TurnLock::make(alloc, crew) {
+        Ok((lock, place)) => {
+            let (crew, watch, looked) = watch_beside(rt, alloc, lock, place, counts, gate, watch);
+            end_watched(crew, watch, looked)
+        }
+        Err(mut crew) => {
+            let mut watch = watch;
+            let looked = watch_rest(&mut crew, &mut watch);
+            end_watched(crew, watch, looked)
+        }
+    }
+}
+
 /// Plays each actor's script in a thread of its own like `crew`. Application 16 is the watcher: at each of its calls that gets the
 /// address of a table (`CFE_TBL_GetAddress`), its thread looks at the image that was lent, without the lock. Where memory runs out for
 /// a look, the watcher plays no further request, and the other actors play their scripts to the end: this look alone is missing.
@@ -287,15 +330,8 @@ pub fn crew_watched<B: Bank + Send, C: Validator + Send, G: Gate + Sync, R: Thre
     ensures history { (o : Opening B C) → Serves B.Bank C.verdict o core → IsWatched B.Bank C.verdict o scripts result.2 result.1 result.0 }
 {
     let counts = scripts.counts();
-    match TurnLock::make(alloc, Crew::open(core, scripts)) {
-        Ok((lock, place)) => {
-            let (crew, watch, looked) = watch_beside(rt, alloc, lock, place, &counts, gate, watch);
-            end_watched(crew, watch, looked)
-        }
-        Err(mut crew) => {
-            let mut watch = watch;
-            let looked = watch_rest(&mut crew, &mut watch);
-            end_watched(crew, watch, looked)
-        }
+    match Crew::open(alloc, core, scripts) {
+        Ok(crew) => watch_all(rt, alloc, crew, &counts, gate, watch),
+        Err((core, scripts)) => unwatched(core, &scripts, watch),
     }
 }

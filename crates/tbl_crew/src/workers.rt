@@ -3,11 +3,12 @@
 ghost use Rattle.std.specs.Prelude.{◌≡◌, ◌≢◌, ℕ, ◌+◌, ◌-◌, ◌/◌, ◌<◌, ◌≤◌, List, [], length, replicate, slice_index, Contains, IfSome, Some, None, false};
 ghost use Rattle.std.specs.Thread.{IsSync, IsSend};
 ghost use Rattle.tbl_kinds.specs.Records.{record_limit};
+ghost use Rattle.tbl_kinds.specs.declared.request.Request.{Request};
 ghost use Rattle.tbl_session.specs.Actors.{actor_count};
 ghost use Rattle.tbl_session.specs.Openings.{Opening};
 ghost use Rattle.tbl_history.specs.Serving.{Serves};
 ghost use Rattle.tbl_crew.specs.Histories.{OneHistory};
-ghost use Rattle.tbl_crew.specs.Leading.{LeadsOn};
+ghost use Rattle.tbl_crew.specs.Leading.{LeadsFrom, LeadsOn};
 ghost use Rattle.tbl_kinds.specs.Numbers.{piece};
 ghost use Rattle.tbl_crew.specs.Moves.{HasEnded, HaveEnded, HaveLeft, HaveTurned, AreKnown};
 ghost use Rattle.tbl_crew.specs.CrewView.{CrewView};
@@ -20,12 +21,13 @@ ghost use Rattle.turn_lock.specs.Turns.{Idle, IsSeat};
 
 use crate::held::{Crew, ReadPlan, Turn};
 use crate::scripts::{ACTOR_COUNT, Scripts};
+use lent_images::slice_of;
 use std::alloc::Global;
 use std::snapshot::Snapshot;
 use std::sync::Wait;
 use std::thread::{Threads, join};
 use tbl_core::{Core, StepFault};
-use tbl_kinds::{Bytes, INLINE_LIMIT};
+use tbl_kinds::Bytes;
 use tbl_outside::{Bank, Gate, Validator};
 use tbl_registry::Pin;
 use turn_lock::{Place, TurnLock};
@@ -121,26 +123,6 @@ pub(crate) fn keep(pins: &mut Vec<Pin>, pin: Pin)
     }
 }
 
-/// The bytes that are to be read, of the image; None where they don't lie inside it, or where memory runs out. Where they are the
-/// whole image and more than stand in a value itself, they aren't copied: the reply has the memory of the image.
-#[tactic(auto, using(crate::proofs::Slices::whole_image))]
-fn slice_of(alloc: Global, pin: &Pin, plan: ReadPlan) -> Option<Bytes>
-    ensures { IfSome result (λ slice. slice.list ≡ piece plan.offset plan.len pin.now.bytes) }
-{
-    let bytes = pin.bytes();
-    let from = plan.offset as usize;
-    let to = from + plan.len as usize;
-    if to > bytes.len() {
-        return None;
-    }
-    if from == 0 && to == bytes.len() && to > INLINE_LIMIT {
-        return pin.bytes_again(alloc).ok();
-    }
-    let mut slice = Bytes::make(alloc, to - from).ok()?;
-    slice.append(&bytes[from..to]);
-    Some(slice)
-}
-
 /// One turn. What it reads of a lent image is taken before, without the lock.
 pub(crate) fn one_turn<B: Bank, C: Validator, G: Gate, R: Wait>(
     rt: &R,
@@ -164,7 +146,7 @@ pub(crate) fn one_turn<B: Bank, C: Validator, G: Gate, R: Wait>(
     if let Some(read) = plan {
         if let Some(pin) = pin_of(pins, read.handle) {
             gate.reading(actor);
-            if let Some(slice) = slice_of(alloc, pin, read) {
+            if let Some(slice) = slice_of(alloc, pin, read.offset, read.len) {
                 return read_turn(rt, lock, place, actor, pins, read, pin, slice);
             }
         }
@@ -348,6 +330,43 @@ pub(crate) fn play_rest<B: Bank, C: Validator>(crew: &mut Crew<B, C>, count: u8)
     }
 }
 
+/// What comes of a crew for which there is no memory: nothing is played. That is a fault unless no actor has a request.
+pub(crate) fn unplayed<B: Bank, C: Validator>(
+    core: Core<B, C>,
+    scripts: &Scripts,
+) -> (Core<B, C>, Option<StepFault>)
+    requires live { core.state.ended ≡ false }
+    requires empty { core.entries ≡ [] }
+    ensures core { result.0 ≡ core }
+    ensures history { (o : Opening B C) → Serves B.Bank C.verdict o core → OneHistory B.Bank C.verdict o scripts.now result.1 core }
+{
+    if scripts.is_empty() {
+        (core, None)
+    } else {
+        (core, Some(StepFault::Memory))
+    }
+}
+
+/// Plays each script of a crew in a thread of its own; where there is no memory for the lock, the caller plays them.
+fn play_all<B: Bank + Send, C: Validator + Send, G: Gate + Sync, R: Threads + Wait + Sync>(
+    rt: &R,
+    alloc: Global,
+    crew: Crew<B, C>,
+    counts: &[u32; ACTOR_COUNT],
+    gate: &G,
+) -> (Core<B, C>, Option<StepFault>)
+    requires left { (actor : ℕ) → actor < actor_count → length (script_of crew.left actor) ≡ slice_index counts.now actor }
+    ensures history { (o : Opening B C) (scripts : List (List Request)) → LeadsFrom B.Bank C.verdict o scripts crew → OneHistory B.Bank C.verdict o scripts result.1 result.0 }
+{
+    match TurnLock::make(alloc, crew) {
+        Ok((lock, place)) => play_beside(rt, alloc, lock, place, counts, gate).end(),
+        Err(mut crew) => {
+            play_rest(&mut crew, ACTOR_COUNT as u8);
+            crew.end()
+        }
+    }
+}
+
 /// Plays each actor's script in a thread of its own; where there is no memory for the lock, the caller plays them. The entries stand
 /// in the order of the turns. Where a step answers a fault, no further request is played.
 pub fn crew<B: Bank + Send, C: Validator + Send, G: Gate + Sync, R: Threads + Wait + Sync>(
@@ -364,11 +383,8 @@ pub fn crew<B: Bank + Send, C: Validator + Send, G: Gate + Sync, R: Threads + Wa
     ensures history { (o : Opening B C) → Serves B.Bank C.verdict o core → OneHistory B.Bank C.verdict o scripts result.1 result.0 }
 {
     let counts = scripts.counts();
-    match TurnLock::make(alloc, Crew::open(core, scripts)) {
-        Ok((lock, place)) => play_beside(rt, alloc, lock, place, &counts, gate).end(),
-        Err(mut crew) => {
-            play_rest(&mut crew, ACTOR_COUNT as u8);
-            crew.end()
-        }
+    match Crew::open(alloc, core, scripts) {
+        Ok(crew) => play_all(rt, alloc, crew, &counts, gate),
+        Err((core, scripts)) => unplayed(core, &scripts),
     }
 }
