@@ -1,6 +1,6 @@
 -- A call by a seat, from the seat before to the seat after.
 use Rattle.std.proofs.Common.{◌≡◌, ◌≢◌, ℕ, ◌+◌, List, [], ◌∷◌, length, Option, refl, sym, ap, ◌∙◌, subst, arith, ℤ}
-use Rattle.std.specs.Prelude.{Result}
+use Rattle.std.specs.Prelude.{Result, Some, None, IfSome}
 use Rattle.atomic_table.specs.Seated.{TableId}
 use Rattle.atomic_table.specs.Table.{Me}
 use Rattle.turn_lock.specs.Turns.{Idle, Holds, Knows, Leads}
@@ -12,13 +12,22 @@ use Rattle.tbl_outside.specs.declared.bank.Bank.{Ghosts}
 use Rattle.tbl_core.specs.declared.service.StepFault.{StepFault}
 use Rattle.tbl_live.specs.Answers.{Answers}
 use Rattle.tbl_live.specs.Moves.{Moves}
-use Rattle.tbl_live.specs.Saying.{Says}
+use Rattle.tbl_registry.specs.declared.pin.Pin.{Pin}
+use Rattle.tbl_core.specs.Service.{IsOfPin}
+use Rattle.tbl_core.specs.Pins.{IsSliceOf}
+use Rattle.tbl_live.specs.Lent.{IsLentIn, IsTaken}
+use Rattle.tbl_live.specs.Saying.{Says, CallsNothing}
 use Rattle.tbl_live.specs.Seats.{SeatView, IsSeat, seat_of}
 use Rattle.tbl_live.specs.ServedView.{ServedView}
 use Rattle.tbl_live.specs.declared.receipts.CallFault.{CallFault}
 use Rattle.tbl_live.specs.declared.receipts.Receipt.{Receipt}
 use Rattle.tbl_live.proofs.FollowingLemmas.{follows, longer}
-use Rattle.tbl_live.proofs.SayingLemmas.{says}
+use Rattle.tbl_live.proofs.SayingLemmas.{says, calls_nothing}
+
+-- what holds of what is there
+on_some : {A : Type 0} {P Q : A → Type 0} → ((a : A) → P a → Q a) → (found : Option A) → IfSome found P → IfSome found Q
+on_some each (Some a) is = each a is
+on_some each None is = tt
 
 module _ {B C : Type 0} (g : Ghosts B) (verdict : C → List ℕ → ℤ) (me taken : Me (Option (ServedView B C)) (View (ServedView B C))) (actor : Actor) (saw : ℕ) (met : Option StepFault) (y : ServedView B C)
     (inv : IsSeat me actor saw met) (knows : Knows (Moves g verdict) me.0.from me.0.seen y) (holds : Holds taken me.0.from me.0.seen y) where
@@ -30,6 +39,15 @@ module _ {B C : Type 0} (g : Ghosts B) (verdict : C → List ℕ → ℤ) (me ta
 
   seen_is : me.0.seen ≡ inv.last ∷ []
   seen_is = ap (λ (m : Me (Option (ServedView B C)) (View (ServedView B C))). m.0.seen) inv.idle
+
+  -- what was lent to the seat's holder is lent still
+  still_lent : (pin : Pin) → IsLentIn me.0.seen pin → IsOfPin pin y.core
+  still_lent pin is = (follows g verdict (actor_number actor) inv.last y led).pins pin (subst (λ (seen : List (ServedView B C)). IsLentIn seen pin) seen_is is)
+
+  -- and what was taken of it are the bytes that the request asks for
+  pub still_taken : {A : Type 0} (request : Request) (found : Option A) (pin : A → Pin) (slice : A → List ℕ) → IfSome found (λ (a : A). IsLentIn me.0.seen (pin a) × IsSliceOf (pin a) request (slice a))
+      → IfSome found (λ (a : A). IsTaken (pin a) (slice a) request y.core)
+  still_taken {A} request found pin slice is = on_some {P = λ (a : A). IsLentIn me.0.seen (pin a) × IsSliceOf (pin a) request (slice a)} {Q = λ (a : A). IsTaken (pin a) (slice a) request y.core} (λ a both. (still_lent (pin a) both.0, both.1)) found is
 
   -- the turn that was taken is the actor's
   pub taken_from : taken.0.from ≡ actor_number actor
@@ -57,3 +75,10 @@ module _ {B C : Type 0} (g : Ghosts B) (verdict : C → List ℕ → ℤ) (me ta
         let old_is : seat_of of actor me.0.seen saw met ≡ seat_of of actor (inv.last ∷ []) saw met = ap (λ (s : List (ServedView B C)). seat_of of actor s saw met) seen_is in
         let new_is : seat_of of' actor back.0.seen saw' met' ≡ seat_of of actor (z ∷ []) (length z.core.entries) z.fault = λ i. seat_of (of_is i) actor (back_seen i) (saw_is i) (met_is i) in
         subst (λ (p : SeatView B C × SeatView B C). Says p.0 p.1 request bytes after result) (λ i. (sym old_is i, sym new_is i)) said
+
+    pub looked : (of of' : TableId) (saw' : ℕ) (met' : Option StepFault) → of' ≡ of → saw' ≡ length z.core.entries → met' ≡ z.fault → z ≡ y → CallsNothing (seat_of of actor me.0.seen saw met) (seat_of of' actor back.0.seen saw' met')
+    looked of of' saw' met' of_is saw_is met_is same =
+        let told = calls_nothing g verdict of actor saw met inv.last y z inv.past inv.tells (follows g verdict (actor_number actor) inv.last y led) moves same in
+        let old_is : seat_of of actor me.0.seen saw met ≡ seat_of of actor (inv.last ∷ []) saw met = ap (λ (s : List (ServedView B C)). seat_of of actor s saw met) seen_is in
+        let new_is : seat_of of' actor back.0.seen saw' met' ≡ seat_of of actor (z ∷ []) (length z.core.entries) z.fault = λ i. seat_of (of_is i) actor (back_seen i) (saw_is i) (met_is i) in
+        subst (λ (p : SeatView B C × SeatView B C). CallsNothing p.0 p.1) (λ i. (sym old_is i, sym new_is i)) told

@@ -7,6 +7,8 @@ use Rattle.tbl_kinds.specs.declared.entry.Entry.{Entry}
 use Rattle.tbl_outside.specs.declared.bank.Bank.{Ghosts}
 use Rattle.tbl_history.specs.Serving.{Continues}
 use Rattle.tbl_history.proofs.ServingLemmas.{continues_same, then_continues}
+use Rattle.tbl_registry.specs.declared.pin.Pin.{Pin}
+use Rattle.tbl_core.specs.Service.{IsOfPin}
 use Rattle.tbl_core.specs.declared.service.StepFault.{StepFault}
 use Rattle.turn_lock.specs.Turns.{Leads}
 use Rattle.turn_lock.proofs.Paths.{carried}
@@ -42,6 +44,7 @@ pub record Follows {B C : Type 0} (actor : ℕ) (x y : ServedView B C) : Type 0 
   pub calls : own x.base actor y.core.entries ≡ own x.base actor x.core.entries
   pub extends : Extends x.core.entries y.core.entries
   pub fault : (fault : StepFault) → x.fault ≡ Some fault → y.fault ≡ Some fault
+  pub pins : (pin : Pin) → IsOfPin pin x.core → IsOfPin pin y.core
 
 -- turns of whomever
 pub record Goes {B C : Type 0} (g : Ghosts B) (verdict : C → List ℕ → ℤ) (x y : ServedView B C) : Type 0 where
@@ -54,7 +57,7 @@ module _ {B C : Type 0} (g : Ghosts B) (verdict : C → List ℕ → ℤ) where
   Moved old actor new = Moves g verdict old actor new
 
   follows_itself : (actor : ℕ) (x : ServedView B C) → Follows actor x x
-  follows_itself actor x = record { base = refl; calls = refl; extends = extends_itself x.core.entries; fault = λ f e. e }
+  follows_itself actor x = record { base = refl; calls = refl; extends = extends_itself x.core.entries; fault = λ f e. e; pins = λ pin is. is }
 
   follows_on : (actor : ℕ) (x y z : ServedView B C) (other : ℕ) → other ≢ actor → Follows actor x y → Moved y other z → Follows actor x z
   follows_on actor x y z other ne f m =
@@ -68,6 +71,7 @@ module _ {B C : Type 0} (g : Ghosts B) (verdict : C → List ℕ → ℤ) where
             m.grows;
         extends = extends_on x.core.entries y.core.entries z.core.entries other f.extends m.grows;
         fault = λ h e. m.fault h (f.fault h e);
+        pins = λ pin is. m.pins pin (f.pins pin is);
       }
 
   pub follows : (actor : ℕ) (x y : ServedView B C) → Leads Moved (λ other. other ≢ actor) x y → Follows actor x y

@@ -12,8 +12,8 @@ use Rattle.tbl_core.specs.declared.service.StepFault.{StepFault}
 use Rattle.tbl_live.specs.Answers.{Adds, Refuses, Answers}
 use Rattle.tbl_live.specs.Calls.{Call, call_of, own}
 use Rattle.tbl_live.specs.Moves.{Moves}
-use Rattle.tbl_live.specs.Saying.{AddsCall, Stays, Told, Says}
-use Rattle.tbl_live.specs.Seats.{SeatView, TellsLast}
+use Rattle.tbl_live.specs.Saying.{AddsCall, Stays, Told, GoesOn, Says, CallsNothing}
+use Rattle.tbl_live.specs.Seats.{SeatView, IsSame, TellsLast}
 use Rattle.tbl_live.specs.ServedView.{ServedView}
 use Rattle.tbl_live.specs.declared.receipts.CallFault.{CallFault}
 use Rattle.tbl_live.specs.declared.receipts.CallFault.TheVariants.{Ended, Full, Step, Memory}
@@ -41,6 +41,22 @@ module _ {B C : Type 0} (g : Ghosts B) (verdict : C → List ℕ → ℤ) (of : 
   past_y : x.base ≤ length y.core.entries
   past_y = subst (λ (n : ℕ). n ≤ length y.core.entries) follows.base moves.past
 
+  still_same : IsSame old new
+  still_same = record { of_it = refl; actor_is = refl }
+
+  calls_stay : z ≡ y → new.calls ≡ old.calls
+  calls_stay same = ap (λ (n : ℕ). own n (actor_number actor) z.core.entries) bases ∙ ap (λ (v : ServedView B C). own x.base (actor_number actor) v.core.entries) same ∙ follows.calls
+
+  goes_on : GoesOn old new
+  goes_on = record {
+    saw = let first = extends_length x.core.entries y.core.entries follows.extends in let then = longer g verdict (actor_number actor) y z moves in let at_most = last.saw_at_most in omega (arith, at_most, first, then);
+    met = λ fault is. moves.fault fault (follows.fault fault (sym last.met_is ∙ is));
+    pins = λ pin is. moves.pins pin (follows.pins pin is);
+  }
+
+  pub calls_nothing : z ≡ y → CallsNothing old new
+  calls_nothing same = record { same = still_same; calls = calls_stay same; goes_on = goes_on }
+
   module _ (request : Request) (bytes after : List ℕ) where
     adds : (e : Entry) → Adds y z actor request e bytes after → AddsCall old new request (call_of (length y.core.entries) e) bytes after
     adds e one = record {
@@ -55,7 +71,7 @@ module _ {B C : Type 0} (g : Ghosts B) (verdict : C → List ℕ → ℤ) (of : 
 
     stays : Refuses y z bytes after → Stays old new bytes after
     stays no_one = record {
-      calls = ap (λ (n : ℕ). own n (actor_number actor) z.core.entries) bases ∙ ap (λ (v : ServedView B C). own x.base (actor_number actor) v.core.entries) no_one.same ∙ follows.calls;
+      calls = calls_stay no_one.same;
       none = no_one.none;
     }
 
@@ -77,9 +93,4 @@ module _ {B C : Type 0} (g : Ghosts B) (verdict : C → List ℕ → ℤ) (of : 
     told (Err Memory) a = (stays a.1, still_fault a.1.same ∙ a.0.went, let same = still_count a.1.same in let room = a.0.room in omega (arith, same, room))
 
     pub says : (result : Result Receipt CallFault) → Answers y z actor request bytes after result → Says old new request bytes after result
-    says result a = record {
-      same = record { of_it = refl; actor_is = refl };
-      told = told result a;
-      saw = let first = extends_length x.core.entries y.core.entries follows.extends in let then = longer g verdict (actor_number actor) y z moves in let at_most = last.saw_at_most in omega (arith, at_most, first, then);
-      met = λ fault is. moves.fault fault (follows.fault fault (sym last.met_is ∙ is));
-    }
+    says result a = record { same = still_same; told = told result a; goes_on = goes_on }

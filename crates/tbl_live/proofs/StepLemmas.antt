@@ -19,7 +19,8 @@ use Rattle.tbl_kinds.specs.declared.note.BankNote.{BankNote}
 use Rattle.request_effects.specs.Effects.{reply_limit}
 use Rattle.tbl_core.specs.Ended.{OnPlayed, session_end}
 use Rattle.tbl_core.specs.Log.{IsSmall}
-use Rattle.tbl_core.specs.Service.{CoreView, AddsOne, FollowsFrom, Vouches}
+use Rattle.tbl_core.specs.Service.{CoreView, AddsOne, PinsOnward, FollowsFrom, Vouches}
+use Rattle.tbl_core.proofs.Lending.{pin_stays}
 use Rattle.tbl_core.specs.declared.service.StepFault.{StepFault}
 use Rattle.tbl_core.specs.declared.service.StepFault.TheVariants.{Memory as NoMemory, BootFault, BootStopped}
 use Rattle.tbl_history.specs.Serving.{Continues}
@@ -42,6 +43,13 @@ takes_last entries place found bytes after at is appended before e parts =
     let here : place ≡ length before = omega (arith, is, ap length parts, length-append before (e ∷ [])) in
     let same : found ≡ e = at ∙ (λ i. slice_index_or (parts i) (here i) found) ∙ get_or_at before e [] found (length before) (omega arith) in
     ((λ i. receipt_of (here i) (same i)), appended ∙ ap (λ (x : Entry). bytes ++ x.reply.bytes.list) same)
+
+-- what a call answers after a step that answered a fault in a boot
+pub outcome_fault : (entries : List Entry) (done : Result Unit StepFault) (receipt : Receipt) (bytes after : List ℕ) → done ≡ Err BootFault → TakesLast entries receipt bytes after → IsOutcome entries done bytes after (Err (Step BootFault))
+outcome_fault entries done receipt bytes after is takes = subst (λ (d : Result Unit StepFault). IsOutcome entries d bytes after (Err (Step BootFault))) (sym is) (receipt, refl, takes)
+
+pub outcome_stop : (entries : List Entry) (done : Result Unit StepFault) (receipt : Receipt) (bytes after : List ℕ) → done ≡ Err BootStopped → TakesLast entries receipt bytes after → IsOutcome entries done bytes after (Err (Step BootStopped))
+outcome_stop entries done receipt bytes after is takes = subst (λ (d : Result Unit StepFault). IsOutcome entries d bytes after (Err (Step BootStopped))) (sym is) (receipt, refl, takes)
 
 -- there is room for the bytes of its reply
 pub has_room : (entries : List Entry) (place spare : ℕ) (found : Entry) → All IsSmall entries → found ≡ slice_index_or entries place found → place < length entries → reply_limit ≤ spare → length found.reply.bytes.list ≤ spare
@@ -109,6 +117,7 @@ module _ {B C : Type 0} (g : Ghosts B) (verdict : C → List ℕ → ℤ) (old n
     past = served.past;
     grows = inl refl;
     fault = λ fault is. is;
+    pins = λ pin is. is;
   }
 
   pub refused : (actor : Actor) (request : Request) (bytes : List ℕ) (cause : CallFault) → IsRefusal old.fault old.core cause → Answers old old actor request bytes bytes (Err cause)
@@ -127,13 +136,14 @@ module _ {B C : Type 0} (g : Ghosts B) (verdict : C → List ℕ → ℤ) (old n
     longer e added = ap length added ∙ length-append old.core.entries (e ∷ [])
 
     moves_with : (actor : Actor) (request : Request) (done : Result Unit StepFault) → Fits actor request → Continues g verdict old.core new.core → AddsOne g old.core new.core actor request done
-        → Moves g verdict old (actor_number actor) new
-    moves_with actor request done fits continues one = record {
+        → PinsOnward old.core new.core → Moves g verdict old (actor_number actor) new
+    moves_with actor request done fits continues one onward = record {
       continues = continues;
       base = base;
       past = served.past;
       grows = inr (one.entry, ap actor_number one.actor_is, subst (λ (p : Actor × Request). Fits p.0 p.1) (λ i. (sym one.actor_is i, sym one.request_is i)) fits, one.added);
       fault = λ fault is. absurd (fresh fault is);
+      pins = λ pin is. pin_stays old.core new.core one.entry one.added onward pin is;
     }
 
     served_with : (e : Entry) → new.core.entries ≡ old.core.entries ++ e ∷ [] → TellsFault new.fault new.base new.core → IsServed new
@@ -165,11 +175,11 @@ module _ {B C : Type 0} (g : Ghosts B) (verdict : C → List ℕ → ℤ) (old n
         tells_end BootStopped one.entry one.added (record { ended = one.ended ∙ ended_by BootStopped one.entry.given.note one.entry.given.note.ended refl one.ends; boot = boot; later = later one.entry one.added }) kept
 
     pub moves_on : (actor : Actor) (request : Request) (done : Result Unit StepFault) → Fits actor request → new.fault ≡ kept_of done → OnPlayed done (AddsOne g old.core new.core actor request done) → OnPlayed done (Continues g verdict old.core new.core)
-        → (done ≡ Err NoMemory → new.core ≡ old.core) → Moves g verdict old (actor_number actor) new
-    moves_on actor request (Ok x) fits kept one continues err = moves_with actor request (Ok x) fits continues one
-    moves_on actor request (Err NoMemory) fits kept one continues err = subst (Moves g verdict old (actor_number actor)) (sym (same_view old new (err refl) (kept ∙ sym may.went) base)) (moves_itself (actor_number actor))
-    moves_on actor request (Err BootFault) fits kept one continues err = moves_with actor request (Err BootFault) fits continues one
-    moves_on actor request (Err BootStopped) fits kept one continues err = moves_with actor request (Err BootStopped) fits continues one
+        → OnPlayed done (PinsOnward old.core new.core) → (done ≡ Err NoMemory → new.core ≡ old.core) → Moves g verdict old (actor_number actor) new
+    moves_on actor request (Ok x) fits kept one continues onward err = moves_with actor request (Ok x) fits continues one onward
+    moves_on actor request (Err NoMemory) fits kept one continues onward err = subst (Moves g verdict old (actor_number actor)) (sym (same_view old new (err refl) (kept ∙ sym may.went) base)) (moves_itself (actor_number actor))
+    moves_on actor request (Err BootFault) fits kept one continues onward err = moves_with actor request (Err BootFault) fits continues one onward
+    moves_on actor request (Err BootStopped) fits kept one continues onward err = moves_with actor request (Err BootStopped) fits continues one onward
 
     -- ---- what is answered
 

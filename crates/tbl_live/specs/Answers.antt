@@ -1,5 +1,6 @@
 -- What one call does to what the lock holds, and what it answers.
 use Rattle.std.specs.Prelude.{◌≡◌, ℕ, ◌<◌, ◌≤◌, List, [], ◌∷◌, ◌++◌, length, Some, None, Result, Ok, Err, Option}
+use Rattle.tbl_kinds.specs.Buffers.{Buffer}
 use Rattle.tbl_kinds.specs.Records.{record_limit}
 use Rattle.tbl_kinds.specs.declared.entry.Entry.{Entry}
 use Rattle.tbl_kinds.specs.declared.request.Actor.{Actor}
@@ -60,6 +61,18 @@ kept_of (Ok x) = None
 kept_of (Err NoMemory) = None
 kept_of (Err BootFault) = Some BootFault
 kept_of (Err BootStopped) = Some BootStopped
+
+-- ---- what is appended later
+
+-- these bytes, and after them those that are still to be appended
+abbrev pub with_later : List ℕ → Option Buffer → List ℕ
+with_later bytes None = bytes
+with_later bytes (Some later) = bytes ++ later.list
+
+-- there is room for those
+abbrev pub HasRoomFor : Option Buffer → Buffer → Type 0
+HasRoomFor None out = Unit {0}
+HasRoomFor (Some later) out = length later.list ≤ out.spare
 
 -- ---- the whole
 

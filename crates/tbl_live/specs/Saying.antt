@@ -6,6 +6,8 @@ use Rattle.tbl_kinds.specs.declared.request.Actor.{Actor}
 use Rattle.tbl_kinds.specs.declared.request.Request.{Request}
 use Rattle.tbl_core.specs.declared.service.StepFault.{StepFault}
 use Rattle.tbl_live.specs.Calls.{Call}
+use Rattle.tbl_registry.specs.declared.pin.Pin.{Pin}
+use Rattle.tbl_live.specs.Lent.{IsLentTo}
 use Rattle.tbl_live.specs.Seats.{SeatView, IsSame}
 use Rattle.tbl_live.specs.declared.receipts.Receipt.{Receipt}
 use Rattle.tbl_live.specs.declared.receipts.CallFault.{CallFault}
@@ -38,9 +40,20 @@ Told old new request bytes after (Err (Full count)) = Stays old new bytes after 
 Told old new request bytes after (Err (Step fault)) = ((call : Call) × AddsCall old new request call bytes after) × (old.met ≡ None) × (new.met ≡ Some fault)
 Told old new request bytes after (Err Memory) = Stays old new bytes after × (new.met ≡ None) × (new.saw < record_limit)
 
--- the seat is still of its service and its actor, the number that it saw doesn't fall, and a fault that it met stays
+-- the number that the seat saw doesn't fall, a fault that it met stays, and what was lent to its holder is lent still
+pub record GoesOn {B C : Type 0} (old new : SeatView B C) : Type 0 where
+  pub saw : old.saw ≤ new.saw
+  pub met : (fault : StepFault) → old.met ≡ Some fault → new.met ≡ Some fault
+  pub pins : (pin : Pin) → IsLentTo old pin → IsLentTo new pin
+
+-- the seat is still of its service and its actor, it goes on, and this is what its call told
 pub record Says {B C : Type 0} (old new : SeatView B C) (request : Request) (bytes after : List ℕ) (result : Result Receipt CallFault) : Type 0 where
   pub same : IsSame old new
   pub told : Told old new request bytes after result
-  pub saw : old.saw ≤ new.saw
-  pub met : (fault : StepFault) → old.met ≡ Some fault → new.met ≡ Some fault
+  pub goes_on : GoesOn old new
+
+-- so it is where no call was made
+pub record CallsNothing {B C : Type 0} (old new : SeatView B C) : Type 0 where
+  pub same : IsSame old new
+  pub calls : new.calls ≡ old.calls
+  pub goes_on : GoesOn old new

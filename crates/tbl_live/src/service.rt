@@ -1,8 +1,10 @@
 //! The service that a program's threads share.
 
-ghost use Rattle.std.specs.Prelude.{◌≡◌, ℕ, ◌+◌, ◌<◌, ◌≤◌, false, None, List, [], ◌∷◌, length, replicate, IfOk, IfErr, vec_capacity};
+ghost use Rattle.std.specs.Prelude.{◌≡◌, ℕ, ◌+◌, ◌<◌, ◌≤◌, false, None, List, [], ◌∷◌, length, replicate, IfOk, IfErr, IfSome, vec_capacity};
 ghost use Rattle.tbl_kinds.specs.Records.{record_limit};
+ghost use Rattle.tbl_core.specs.Pins.{IsSliceOf};
 ghost use Rattle.tbl_kinds.specs.Requests.{Fits};
+ghost use Rattle.tbl_kinds.specs.declared.request.Request.TheVariants as ask;
 ghost use Rattle.request_effects.specs.Effects.{reply_limit};
 ghost use Rattle.tbl_session.specs.Actors.{actor_count};
 ghost use Rattle.tbl_session.specs.Openings.{Opening};
@@ -10,21 +12,24 @@ ghost use Rattle.tbl_session.specs.Served.{IsServed};
 ghost use Rattle.tbl_history.specs.Serving.{Serves};
 ghost use Rattle.turn_lock.specs.Turns.{Idle};
 ghost use Rattle.tbl_live.specs.Moves.{Extends};
-ghost use Rattle.tbl_live.specs.Saying.{Says};
+ghost use Rattle.tbl_live.specs.Lent.{IsLentTo, LendsTo};
+ghost use Rattle.tbl_live.specs.Saying.{Says, CallsNothing};
 ghost use Rattle.tbl_live.specs.Seats.{SeatView, AreSeats, AreFresh, AreDealt, AreOf, TellsOf};
 ghost use mathlib.Core.Option.{some};
 ghost use lib.ListN.{get_elem?};
 
 use crate::receipts::{CallFault, Receipt};
 use crate::seats::{Seat, Seats};
-use crate::served::Served;
+use crate::served::{Served, Taken, append_later};
+use lent_images::slice_of;
 use std::alloc::Global;
 use std::marker::Model;
 use std::snapshot::Snapshot;
 use std::sync::Wait;
 use tbl_core::Core;
-use tbl_kinds::{Bytes, Request};
+use tbl_kinds::{Bytes, Memory, Request};
 use tbl_outside::{Bank, Validator};
+use tbl_registry::Pin;
 use turn_lock::{Place, TurnLock};
 
 /// How many actors there are: the ground and 16 applications.
@@ -73,7 +78,7 @@ impl<B: Bank, C: Validator> Service<B, C> {
     }
 
     /// Plays a request as the actor of a seat: waits for the lock, makes one step, and appends the bytes of the reply to `out`. It
-    /// takes no memory but what the step does.
+    /// takes no memory but what the step does, and a further owner of a long reply, whose bytes are appended after the lock is free.
     pub fn call<R: Wait>(
         &self,
         rt: &R,
@@ -87,13 +92,87 @@ impl<B: Bank, C: Validator> Service<B, C> {
         ensures says { Says seat.old seat.new request out.old.list out.new.list result }
         ensures room { out.old.spare + length out.old.list ≤ out.new.spare + length out.new.list }
     {
-        let actor = seat.actor;
-        let mut served = self.lock.take(rt, &mut seat.place);
+        self.turn(rt, seat, request, None, out)
+    }
+
+    /// Lends the image that a handle pins, as from the call that got its address (`CFE_TBL_GetAddress`) on, and plays no request. None
+    /// where the handle leads to no table, or pins no image. An Err means that the image has as many owners as can be counted. The
+    /// pin can be read in any thread without the lock, also after the address was released.
+    pub fn lend<R: Wait>(
+        &self,
+        rt: &R,
+        seat: &mut Seat<B, C>,
+        handle: u16,
+    ) -> Result<Option<Pin>, Memory>
+        requires own { seat.old.of ≡ self.now.of }
+        ensures stays { CallsNothing seat.old seat.new }
+        ensures lent { IfOk result (LendsTo handle seat.new) }
+        ensures pin { IfOk result (λ lent. IfSome lent (IsLentTo seat.new)) }
+    {
+        let served = self.lock.take(rt, &mut seat.place);
         let before = Snapshot::of(&served);
-        let answer = served.answer(actor, request, out);
+        let lent = served.lend(handle);
         seat.saw = served.count();
         seat.met = served.fault();
         self.lock.put_back(&mut seat.place, &before, served);
+        lent
+    }
+
+    /// Plays a Read by the handle of a lent image, of so many bytes from an offset on, like `call`. Its bytes are taken of the image
+    /// before the lock, and where the handle still pins by the call that the pin was lent after, the step reads none. They are
+    /// appended to `out` after the lock is free. So threads that read beside each other don't wait for each other's bytes.
+    pub fn read_pinned<R: Wait>(
+        &self,
+        rt: &R,
+        seat: &mut Seat<B, C>,
+        pin: &Pin,
+        offset: u32,
+        len: u32,
+        out: &mut Bytes,
+    ) -> Result<Receipt, CallFault>
+        requires own { seat.old.of ≡ self.now.of }
+        requires lent { IsLentTo seat.old pin.now }
+        requires fits { Fits seat.old.actor (ask.Read pin.now.handle offset len) }
+        requires room { reply_limit ≤ out.old.spare }
+        ensures says { Says seat.old seat.new (ask.Read pin.now.handle offset len) out.old.list out.new.list result }
+        ensures room { out.old.spare + length out.old.list ≤ out.new.spare + length out.new.list }
+    {
+        let request = Request::Read {
+            handle: pin.handle(),
+            offset,
+            len,
+        };
+        let taken = match slice_of(out.allocator(), pin, offset, len) {
+            Some(slice) => Some(Taken { pin, slice }),
+            None => None,
+        };
+        self.turn(rt, seat, request, taken, out)
+    }
+
+    /// A turn of a seat, in which its request is played; a Read with what was taken of a lent image, if anything was.
+    fn turn<R: Wait>(
+        &self,
+        rt: &R,
+        seat: &mut Seat<B, C>,
+        request: Request,
+        taken: Option<Taken<'_>>,
+        out: &mut Bytes,
+    ) -> Result<Receipt, CallFault>
+        requires own { seat.old.of ≡ self.now.of }
+        requires fits { Fits seat.old.actor request }
+        requires taken { IfSome taken (λ taken. IsLentTo seat.old taken.pin.now × IsSliceOf taken.pin.now request taken.slice.list) }
+        requires room { reply_limit ≤ out.old.spare }
+        ensures says { Says seat.old seat.new request out.old.list out.new.list result }
+        ensures room { out.old.spare + length out.old.list ≤ out.new.spare + length out.new.list }
+    {
+        let actor = seat.actor;
+        let mut served = self.lock.take(rt, &mut seat.place);
+        let before = Snapshot::of(&served);
+        let (answer, later) = served.answer(actor, request, taken, out);
+        seat.saw = served.count();
+        seat.met = served.fault();
+        self.lock.put_back(&mut seat.place, &before, served);
+        append_later(later, out);
         answer
     }
 

@@ -8,6 +8,18 @@ use tbl_live::Receipt;
 pub(crate) struct Told {
     pub(crate) receipts: Vec<Receipt>,
     pub(crate) is_refused: bool,
+    /// Whether a read gave other bytes than those of the image.
+    pub(crate) is_torn: bool,
+}
+
+impl Told {
+    /// What the last receipt is about: of a table that was registered its handle; 0 where there is none.
+    pub(crate) fn last_detail(&self) -> u16 {
+        match self.receipts.last() {
+            Some(receipt) => receipt.detail().min(u32::from(u16::MAX)) as u16,
+            None => 0,
+        }
+    }
 }
 
 /// Whether a receipt is that of an entry at this place.

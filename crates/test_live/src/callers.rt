@@ -5,6 +5,7 @@ ghost use Rattle.tbl_live.specs.Seats.{SeatView, AreSeats, IsAppOf, IsSame};
 ghost use Rattle.test_live.specs.Applications.{IsFromApps};
 
 use crate::agreeing::{Told, are_all};
+use crate::pinned::read_pinned;
 use crate::requests::{get_info, start};
 use crate::services::new_core;
 use shipped_kit::FirstByte;
@@ -19,6 +20,23 @@ use test_tables::{CaseFault, Row};
 
 /// How many threads there may be.
 const THREADS: usize = 16;
+
+/// What each caller does after it has started.
+#[derive(Clone, Copy)]
+enum Job {
+    /// It asks for the registry record of a table that isn't there.
+    Ask,
+    /// It reads a large image through a pin, after three more calls.
+    ReadPinned,
+}
+
+/// The job of a row, by its first cell.
+fn job_of(row: &Row) -> Result<Job, CaseFault> {
+    match row.text(0)? {
+        "pinned" => Ok(Job::ReadPinned),
+        _ => Ok(Job::Ask),
+    }
+}
 
 /// Makes one call of an application, and keeps its receipt.
 #[tactic(auto, using(tbl_live::proofs::SeatLemmas::fits_actor, tbl_live::proofs::SeatLemmas::still_app))]
@@ -75,12 +93,36 @@ fn rooms(alloc: Global, callers: u32, count: u32) -> Result<Vec<Mutex<Told>>, Me
     let mut rooms = Vec::new(alloc);
     for _ in 0..callers {
         let told = Told {
-            receipts: Vec::with_capacity(alloc, count as usize + 1)?,
+            receipts: Vec::with_capacity(alloc, count as usize + 4)?,
             is_refused: false,
+            is_torn: false,
         };
         rooms.push(Mutex::new(told))?;
     }
     Ok(rooms)
+}
+
+/// Does the job of one caller, with so many calls.
+fn do_job<R: Wait>(
+    rt: &R,
+    alloc: Global,
+    service: &Service<CalmBank, FirstByte>,
+    seat: &mut Seat<CalmBank, FirstByte>,
+    place: usize,
+    job: (Job, u32),
+    told: &mut Told,
+)
+    requires app { IsAppOf service.now.of seat.old }
+    ensures same { IsSame seat.old seat.new }
+{
+    let (kind, count) = job;
+    match kind {
+        Job::Ask => call_all(rt, alloc, service, seat, count, told),
+        Job::ReadPinned => {
+            let number = place.min(THREADS) as u8;
+            read_pinned(rt, alloc, service, seat, number, count, told);
+        }
+    }
 }
 
 /// Lets the applications call that have rooms, with a thread each.
@@ -89,7 +131,7 @@ fn call_each<R: Threads + Wait + Sync>(
     alloc: Global,
     service: &Service<CalmBank, FirstByte>,
     apps: &mut [Seat<CalmBank, FirstByte>],
-    count: u32,
+    job: (Job, u32),
     rooms: &Vec<Mutex<Told>>,
 )
     requires apps { All (IsAppOf service.now.of) apps.old }
@@ -104,7 +146,7 @@ fn call_each<R: Threads + Wait + Sync>(
             ensures { IsSame seat.entry.now seat.exit.now }
         {
             if let Some(room) = rooms.get(place) {
-                call_all(rt, alloc, service, seat, count, &mut room.lock(rt));
+                do_job(rt, alloc, service, seat, place, job, &mut room.lock(rt));
             }
         },
     );
@@ -116,13 +158,13 @@ fn call_beside<R: Threads + Wait + Sync>(
     alloc: Global,
     service: &Service<CalmBank, FirstByte>,
     seats: &mut Seats<CalmBank, FirstByte>,
-    count: u32,
+    job: (Job, u32),
     rooms: &Vec<Mutex<Told>>,
 )
     requires seats { AreSeats service.now.of (seats.old.ground ∷ seats.old.apps.items) }
     ensures seats { AreSeats service.now.of (seats.new.ground ∷ seats.new.apps.items) }
 {
-    call_each(rt, alloc, service, seats.apps.as_mut_slice(), count, rooms);
+    call_each(rt, alloc, service, seats.apps.as_mut_slice(), job, rooms);
 }
 
 /// Whether each caller was told of all its entries of the history, and whether a call of any of them was refused.
@@ -133,7 +175,7 @@ fn look<R: Wait>(rt: &R, entries: &[Entry], rooms: &Vec<Mutex<Told>>) -> (bool, 
     for room in rooms {
         let told = room.lock(rt);
         actor = actor.saturating_add(1);
-        agrees &= are_all(&told.receipts, entries, actor);
+        agrees &= are_all(&told.receipts, entries, actor) && !told.is_torn;
         is_refused |= told.is_refused;
     }
     (agrees, is_refused)
@@ -149,7 +191,10 @@ fn compare<R: Wait>(
 ) -> Result<(), CaseFault> {
     match look(rt, entries, rooms) {
         (false, _) => {
-            let text = String::from_str(row.alloc(), "a receipt isn't that of its entry")?;
+            let text = String::from_str(
+                row.alloc(),
+                "a receipt isn't that of its entry, or an image came torn",
+            )?;
             Err(CaseFault::Differs(text))
         }
         (true, true) => Err(CaseFault::Memory),
@@ -165,7 +210,8 @@ fn try_once<R: Threads + Wait + Sync>(rt: &R, row: &Row) -> Result<(), CaseFault
     let Ok((service, mut seats)) = Service::open(row.alloc(), core) else {
         return Err(CaseFault::Memory);
     };
-    call_beside(rt, row.alloc(), &service, &mut seats, count, &rooms);
+    let job = (job_of(row)?, count);
+    call_beside(rt, row.alloc(), &service, &mut seats, job, &rooms);
     let core = service.close(seats);
     let compared = compare(rt, row, core.history(), &rooms);
     let _bank = core.end();

@@ -83,6 +83,7 @@ pub(crate) fn try_reads<R: Wait>(rt: &R, row: &Row) -> Result<u32, CaseFault> {
     let mut told = Told {
         receipts: Vec::new(row.alloc()),
         is_refused: false,
+        is_torn: false,
     };
     let core = new_core(row.alloc())?;
     let Ok((service, mut seats)) = Service::open(row.alloc(), core) else {

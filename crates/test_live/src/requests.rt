@@ -21,6 +21,12 @@ const DOUBLE_BUFFERED: u16 = 0x0001;
 /// The packet of a NOOP.
 const NOOP: [u8; 8] = [0x18, 0x04, 0xC0, 0x00, 0x00, 0x01, 0x00, 0x22];
 
+/// How many bytes a table has that is read through a pin.
+pub(crate) const LARGE: usize = 16_384;
+
+/// The byte of which the image of that table is made.
+pub(crate) const FILL: u8 = 0x5A;
+
 /// The ground sends a NOOP.
 pub(crate) fn noop(alloc: Global) -> Result<Request, Memory>
     ensures { IfOk result (Fits Ground) }
@@ -97,4 +103,44 @@ pub(crate) fn release() -> Request
     ensures { IsFromApps result }
 {
     Request::Release { handle: 0 }
+}
+
+/// An application starts under a name of its own, by a number below 17.
+pub(crate) fn start_as(number: u8) -> Request
+    ensures { IsFromApps result }
+{
+    let mut field = [0; 20];
+    field[0] = b'B'.saturating_add(number);
+    Request::Start {
+        name: Name20::of(&field),
+    }
+}
+
+/// An application registers a large table with one buffer.
+pub(crate) fn register_large() -> Request
+    ensures { IsFromApps result }
+{
+    Request::Register {
+        name: Name16::of(b"L"),
+        size: LARGE as u32,
+        flags: 0,
+        validator: None,
+    }
+}
+
+/// It loads an image into it.
+pub(crate) fn load_large(alloc: Global, handle: u16) -> Result<Request, Memory>
+    ensures { IfOk result IsFromApps }
+{
+    Ok(Request::LoadImage {
+        handle,
+        image: kept(alloc, &[FILL; LARGE])?,
+    })
+}
+
+/// It gets the address of the image by a handle.
+pub(crate) fn get_by(handle: u16) -> Request
+    ensures { IsFromApps result }
+{
+    Request::Get { handle }
 }

@@ -15,13 +15,13 @@ impl RowCases for Calls {
     /// A row is `ground | PLACE/STATUS PLACE/STATUS`: the ground sets the time and sends a NOOP through its seat, and these are the
     /// receipts. `reads | TIMES | ENTRIES`: application 1 starts, registers a table, loads it, and gets, reads and releases it so
     /// often; its image comes whole each time. `callers | APPLICATIONS | CALLS | TIMES | ENTRIES`: so many applications, with a thread each, start and then make so
-    /// many calls, and the whole so many times. The number is that of all entries of the history each time. Of each application the
+    /// many calls, and the whole so many times. `pinned | ..` is the same, and each reads a large image of its own through a pin. The number is that of all entries of the history each time. Of each application the
     /// receipts are compared with its entries of the history.
     fn try_row<R: Threads + Wait + Sync>(&mut self, rt: &R, row: &Row) -> Result<u32, CaseFault> {
         match (row.text(0)?, row.len()) {
             ("ground", 2) => try_first(rt, row),
             ("reads", 3) => try_reads(rt, row),
-            ("callers", 5) => try_callers(rt, row),
+            ("callers" | "pinned", 5) => try_callers(rt, row),
             _ => Err(CaseFault::Unreadable),
         }
     }
