@@ -9,6 +9,7 @@ ghost use Rattle.tbl_session.specs.Inputs.{piece_limit};
 ghost use Rattle.tbl_top.specs.Standing.{IsOfInput};
 ghost use Rattle.tbl_top.specs.declared.playback.Standing.TheVariants.{Open};
 
+use crate::kept::drop_front;
 use crate::playback::{RECORD_LIMIT, Standing};
 use crate::reading::{MOST_READS, PIECE_LENGTH};
 use session_records::{Next, next_record};
@@ -99,7 +100,7 @@ impl Collector {
         let mut at = 0;
         'records: loop {
             if let Some(standing) = self.take_next(&mut at) {
-                self.kept.drain(..at);
+                drop_front(&mut self.kept, at);
                 return standing;
             }
         }

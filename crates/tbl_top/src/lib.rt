@@ -5,6 +5,7 @@ mod collecting;
 mod crewing;
 mod drilling;
 mod finishing;
+mod kept;
 mod listing;
 mod playback;
 mod player;

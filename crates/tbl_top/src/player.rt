@@ -19,6 +19,7 @@ ghost use Rattle.tbl_top.specs.Finishing.{Finishes, status_of};
 ghost use Rattle.tbl_top.specs.declared.playback.Standing.TheVariants.{Open};
 
 use crate::finishing::finish;
+use crate::kept::drop_front;
 use crate::playback::{Playback, Standing};
 use session_records::bytes_lacking;
 use std::alloc::Global;
@@ -261,18 +262,6 @@ fn complete<B: Bank, C: Validator, K: Sink>(
             *at += count;
             play_kept(playback, kept, sink)
         }
-    }
-}
-
-/// Drops so many bytes at the front. Where that is all of them, as mostly it is, none is moved.
-fn drop_front(kept: &mut Vec<u8>, count: usize)
-    requires { count ≤ length kept.old.items }
-    ensures { kept.new.items ≡ drop count kept.old.items }
-{
-    if count == kept.len() {
-        kept.clear();
-    } else {
-        kept.drain(..count);
     }
 }
 

@@ -14,11 +14,11 @@ returns-in-Some-clause-takes c = λ fed most pairs taken.
     let same = c.self-in-records.view_is ∙ last.same in
     let before = c.records.invariant.takes fed most pairs taken in (
       before.0,
-      takes_last c.in-Some.standing (fed ++ piece) c.records.at (length rest + length piece) before.0 c.records.self (record { scripts = inside.scripts; count = inside.count; rest = c.drop-drain.new.self.0.items }) last.leaves
+      takes_last c.in-Some.standing (fed ++ piece) c.records.at (length rest + length piece) before.0 c.records.self (record { scripts = inside.scripts; count = inside.count; rest = c.drop_front.new.kept.items }) last.leaves
           (omega (arith, ap length c.records.invariant.rest, length-append rest piece))
           (ap (λ (v : Collecting). v.scripts) same)
           (ap (λ (v : Collecting). v.count) same)
-          (c.drop-drain.ensures.items ∙ c.drain.ensures.kept ∙ ap (λ n. drop n inside.kept.items) last.stays ∙ ap (λ (v : Collecting). drop c.records.at v.rest) same)
+          (c.drop_front.ensures ∙ ap (λ n. drop n inside.kept.items) last.stays ∙ ap (λ (v : Collecting). drop c.records.at v.rest) same)
           before.1,
     )
 
