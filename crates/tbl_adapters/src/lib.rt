@@ -7,8 +7,10 @@ mod moving;
 mod random_access;
 mod standard;
 mod store_file;
+mod system_file;
 
 pub use fault::OpenFault;
 pub use random_access::RandomAccess;
 pub use standard::{StandardInput, StandardOutput};
 pub use store_file::StoreFile;
+pub use system_file::{Syncing, SystemFile};

@@ -1,12 +1,10 @@
 //! What a bank needs of the file that it stands in.
 
-ghost use Rattle.std.specs.Prelude.{◌≡◌, ◌≤◌, ℕ, List, [], length, take, IfOk, OnErr};
+ghost use Rattle.std.specs.Prelude.{◌≡◌, ◌≤◌, ℕ, List, length, take, IfOk, OnErr};
 ghost use Rattle.tbl_kinds.specs.Numbers.{piece};
 ghost use Rattle.tbl_adapters.specs.Files.{written, Spoiled};
 
-use std::fs::File;
 use std::io;
-use std::os::unix::fs::FileExt;
 
 /// A file that is read and written at any place. A call may move fewer bytes than it was asked for.
 pub trait RandomAccess: Drop {
@@ -32,22 +30,4 @@ pub trait RandomAccess: Drop {
         ensures fits { IfOk result (λ n. n ≤ length bytes.now) }
         ensures written { tells → IfOk result (λ n. content self.new ≡ written (content self.old) at (take n bytes.now)) }
         ensures failed { tells → OnErr result (Spoiled at (length bytes.now) (content self.old) (content self.new)) };
-}
-
-impl RandomAccess for File {
-    ghost tells = { ⊥ };
-
-    ghost content = { λ _. [] };
-
-    fn len(&mut self) -> io::Result<u64> {
-        Ok(self.metadata()?.len())
-    }
-
-    fn read_some(&mut self, at: u64, into: &mut [u8]) -> io::Result<usize> {
-        self.read_at(into, at)
-    }
-
-    fn write_some(&mut self, at: u64, bytes: &[u8]) -> io::Result<usize> {
-        self.write_at(bytes, at)
-    }
 }

@@ -10,22 +10,16 @@ ghost use Rattle.tbl_adapters.specs.StoreFile.{StoreFileParts};
 use crate::fault::OpenFault;
 use crate::moving::{lengthen, read_all, write_all};
 use crate::random_access::RandomAccess;
-use std::fs::{File, Files, OpenOptions};
+use crate::system_file::{Syncing, SystemFile};
+use std::fs::{File, Files};
 use std::marker::Model;
-use std::os::fd::AsRawFd;
 use tbl_outside::{Bank, Failed, Written};
-
-/// The name of the store file, in the working folder.
-const NAME: &str = "cds.store";
-
-/// The last descriptor of a standard stream, that of standard error.
-const LAST_STREAM: i32 = 2;
 
 /// Preserved memory in a file: the bank's bytes are the file's first ones. Each write goes to its place in the file at
 /// once and is handed to the system before the call answers, so a process that is killed loses none that was done. A call
 /// of the system that fails counts once, isn't tried again, and ends the call of the bank. It is never stopped.
 #[derive(Drop)]
-pub struct StoreFile<F: RandomAccess = File> {
+pub struct StoreFile<F: RandomAccess = SystemFile> {
     file: F,
     size: u32,
     faults: u64,
@@ -39,29 +33,24 @@ impl<F: RandomAccess> Model for StoreFile<F> {
     ghost view = { λ s. record { file = s.file; size = s.size; faults = s.faults } };
 }
 
-/// The store file, for reading and writing. It is made where it isn't there.
-fn open_file<R: Files<File = File>>(rt: &R) -> Result<File, OpenFault> {
-    let file = OpenOptions::new()
-        .read(true)
-        .write(true)
-        .create(true)
-        .open(rt, NAME)
-        .map_err(OpenFault::Open)?;
-    // Where a standard stream is closed its descriptor is free, and what is meant for the stream must not go into the file.
-    if file.as_raw_fd() <= LAST_STREAM {
-        return file.try_clone().map_err(OpenFault::Open);
-    }
-    Ok(file)
-}
-
-impl StoreFile<File> {
-    /// Opens `cds.store` in the working folder, and makes it where it isn't there. Where it has fewer bytes than the bank,
-    /// zeros are written after its end; bytes after the bank stay as they are.
-    pub fn open<R: Files<File = File>>(rt: &R, size: u32) -> Result<StoreFile<File>, OpenFault>
+impl StoreFile<SystemFile> {
+    /// Opens the file of this name, and makes it where it isn't there. Where it has fewer bytes than the bank, zeros are written
+    /// after its end; bytes after the bank stay as they are. It is locked as long as it is open: where another program has it, the
+    /// answer is `InUse`, and nothing was written.
+    pub fn open<R: Files<File = File>>(
+        rt: &R,
+        path: &str,
+        size: u32,
+        syncing: Syncing,
+    ) -> Result<StoreFile<SystemFile>, OpenFault>
         ensures size { IfOk result (λ store. store.size ≡ size) }
         ensures faults { IfOk result (λ store. store.faults ≡ 0) }
     {
-        StoreFile::over(open_file(rt)?, size)
+        let mut store = StoreFile::over(SystemFile::open(rt, path)?, size)?;
+        if syncing == Syncing::EachWrite {
+            store.file.sync_from_now()?;
+        }
+        Ok(store)
     }
 }
 

@@ -15,13 +15,13 @@ use tbl_adapters::{StandardInput, StandardOutput, StoreFile};
 use tbl_kinds::{Bytes, Memory};
 use tbl_outside::{Bank, Gate, Sink, Source};
 use tbl_top::run;
-use words::{WordsFault, given_words};
+use words::{CommandLine, WordsFault, command_line};
 
 /// What `--help` answers.
 const HELP: &str = "tbl: the cFE table service, played from a session
 
 tbl play       reads session records from standard input and writes the transcript to standard output. Blocks of the
-               Critical Data Store are kept in the file cds.store of the working folder, which is made where it isn't there
+               Critical Data Store are kept in the file cds.store of the working folder, which is made if it isn't there
 tbl crew       does the same with a thread for each actor: it reads all records, plays them, and then writes the transcript.
                Each actor's records are played in their order, and the order between actors differs from run to run
 tbl watch      plays as tbl crew does, and writes a report of the images that application 16 got in the place of the transcript
@@ -38,6 +38,11 @@ tbl describe SHAPE
 tbl --help     writes this text to standard output
 tbl --version  writes the version to standard output
 
+Before these words may stand:
+--store FILE   the Critical Data Store is in this file, in the place of cds.store
+--durable      each write of that file is synced to the disk before it counts as done
+The file is locked while the program runs.
+
 It ends with one of these statuses:
 0  the work is done, and of play, crew and watch the input was read to its end
 1  memory ran out
@@ -46,7 +51,8 @@ It ends with one of these statuses:
 4  writing failed
 5  a record of the input is bad or cut short; the records before it were played
 6  the input goes on after 32,768 records, which were played
-7  the store file can't be opened or made longer, or failed in a boot; no record was played after it
+7  the store file can't be opened or made longer, is in use by another program, or failed in a boot; no record was played
+   after that. Standard error says why it can't be opened
 9  the input of make is no description; its first bad line was written, as in line 3
 10 the input of describe is no table file that can be described
 11 the shape has another length than the image of the file
@@ -54,7 +60,7 @@ It ends with one of these statuses:
 ";
 
 /// What `--version` answers.
-const VERSION: &str = "tbl 0.1.0\n";
+const VERSION: &str = "tbl 1.0.0\n";
 
 /// The text that a word asks for, where it stands alone.
 fn text_for(words: &[Bytes]) -> Option<&'static str> {
@@ -103,21 +109,39 @@ fn play<R: Threads + Wait + Sync, S: Source, K: Sink, B: Bank + Send>(
     Ok(status)
 }
 
+/// The name of the store file where none is given: it is in the working folder.
+const STORE_NAME: &str = "cds.store";
+
+/// Opens the store file. Where that fails, standard error says why.
+fn open_store(rt: &HostRuntime, line: &CommandLine) -> Option<StoreFile> {
+    let name = match &line.store {
+        Some(name) => name.as_str(),
+        None => STORE_NAME,
+    };
+    match StoreFile::open(rt, name, BANK_SIZE, line.syncing) {
+        Ok(store) => Some(store),
+        Err(fault) => {
+            let _ = eprintln!(rt; "tbl: {name} {fault}");
+            None
+        }
+    }
+}
+
 fn main(rt: HostRuntime) -> ExitCode {
-    let words = match given_words(&rt) {
-        Ok(words) => words,
+    let line = match command_line(&rt) {
+        Ok(line) => line,
         Err(WordsFault::Memory) => return ExitCode::from(1),
-        Err(WordsFault::Unreadable) => return ExitCode::from(2),
+        Err(WordsFault::Unreadable | WordsFault::NoName) => return ExitCode::from(2),
     };
     let mut sink = StandardOutput::of(rt.stdout());
-    if let Some(text) = text_for(&words) {
+    if let Some(text) = text_for(&line.words) {
         return ExitCode::from(tell(text, &mut sink));
     }
-    let Ok(bank) = StoreFile::open(&rt, BANK_SIZE) else {
+    let Some(bank) = open_store(&rt, &line) else {
         return ExitCode::from(7);
     };
     let mut source = StandardInput::of(rt.stdin());
-    match play(&rt, rt.alloc(), &words, &mut source, &mut sink, bank) {
+    match play(&rt, rt.alloc(), &line.words, &mut source, &mut sink, bank) {
         Ok(status) => ExitCode::from(status),
         Err(Memory) => ExitCode::from(1),
     }

@@ -2,21 +2,36 @@
 
 use crate::words::{Words, dotted};
 use std::alloc::AllocError;
-use tbl_adapters::StoreFile;
+use tbl_adapters::{OpenFault, StoreFile, Syncing};
 use tbl_outside::{Bank, Written};
 
 /// How many bytes a read gives at most.
 const MOST: usize = 16;
 
-/// `open SIZE`
-fn open(rt: &HostRuntime, store: &mut Option<StoreFile>, size: u32) -> Result<String, AllocError> {
-    match StoreFile::open(rt, size) {
-        Ok(opened) => {
-            *store = Some(opened);
-            "opened".to_string(rt.alloc())
-        }
-        Err(fault) => fault.to_string(rt.alloc()),
+/// The name of the store file.
+const NAME: &str = "cds.store";
+
+/// What an opening answers.
+fn told(rt: &HostRuntime, opened: &Result<StoreFile, OpenFault>) -> Result<String, AllocError> {
+    match opened {
+        Ok(_) => "opened".to_string(rt.alloc()),
+        Err(fault) => format!(in rt.alloc(); "{NAME} {fault}"),
     }
+}
+
+/// `open SIZE`, `open-durable SIZE`
+fn open(
+    rt: &HostRuntime,
+    store: &mut Option<StoreFile>,
+    size: u32,
+    syncing: Syncing,
+) -> Result<String, AllocError> {
+    // The one that was opened before has a lock.
+    *store = None;
+    let opened = StoreFile::open(rt, NAME, size, syncing);
+    let answer = told(rt, &opened);
+    *store = opened.ok();
+    answer
 }
 
 /// `read AT N`
@@ -57,16 +72,22 @@ fn write_at(
     told.to_string(rt.alloc())
 }
 
-/// `open SIZE` opens the store file, and the other calls are of the one that was opened last: `read AT N`, `write AT BYTES`,
-/// `faults`, or `close`.
+/// `open SIZE` opens the store file, `open-durable SIZE` one whose writes are synced; the other calls are of the one that was opened
+/// last: `read AT N`, `write AT BYTES`, `faults`, or `close`. `open-beside SIZE` opens it once more, and lets go of it at once.
 pub(crate) fn call(
     rt: &HostRuntime,
     store: &mut Option<StoreFile>,
     call: &str,
     words: &mut Words,
 ) -> Result<String, AllocError> {
-    if call == "open" {
-        return open(rt, store, words.number());
+    match call {
+        "open" => return open(rt, store, words.number(), Syncing::Later),
+        "open-durable" => return open(rt, store, words.number(), Syncing::EachWrite),
+        "open-beside" => {
+            let opened = StoreFile::open(rt, NAME, words.number(), Syncing::Later);
+            return told(rt, &opened);
+        }
+        _ => {}
     }
     let Some(bank) = store else {
         return "not open".to_string(rt.alloc());

@@ -36,7 +36,8 @@ fn answer(
     let mut words = Words::of(line);
     let call = words.next();
     match call {
-        "open" | "read" | "write" | "faults" | "close" => bank::call(rt, store, call, &mut words),
+        "open" | "open-durable" | "open-beside" | "read" | "write" | "faults" | "close" =>
+            bank::call(rt, store, call, &mut words),
         _ => file::call(rt, call, &mut words),
     }
 }

@@ -6,7 +6,7 @@ use std::alloc::Global;
 use std::fs;
 use std::io::{self, ErrorKind};
 use std::test::Fail;
-use tbl_adapters::{OpenFault, RandomAccess, StandardInput, StandardOutput, StoreFile};
+use tbl_adapters::{OpenFault, RandomAccess, StandardInput, StandardOutput, StoreFile, Syncing};
 use tbl_kinds::Memory;
 use tbl_outside::{Bank, Sink, Written};
 
@@ -170,7 +170,7 @@ fn is_kept(store: &mut StoreFile) -> bool {
 
 #[test]
 fn the_store_file(rt: HostRuntime) -> Result<(), Fail> {
-    let mut store = StoreFile::open(&rt, 8)?;
+    let mut store = StoreFile::open(&rt, "cds.store", 8, Syncing::EachWrite)?;
     assert!(rt; is_kept(&mut store));
     fs::remove_file(&rt, "cds.store")?;
     Ok(())
