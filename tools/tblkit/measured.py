@@ -13,6 +13,7 @@ import subprocess
 import tempfile
 import termios
 import time
+from typing import NamedTuple
 
 from . import callgrind
 from .programs import TOP
@@ -97,9 +98,16 @@ def functions(program, work):
 # ---- time
 
 
+class Run(NamedTuple):
+    """How many milliseconds a run took, by the clock and of all processors, and how many bytes it had at most."""
+
+    took: float
+    processor: float
+    memory: int
+
+
 def timed(way, source):
-    """How many milliseconds a program takes by its words for the session in a file, over a new store file, and how many bytes it
-    has at most."""
+    """What a program takes by its words for the session in a file, over a new store file."""
     source.seek(0)
     with tempfile.TemporaryDirectory() as folder, tempfile.TemporaryFile() as said:
         begun = time.perf_counter()
@@ -110,18 +118,24 @@ def timed(way, source):
         if started.returncode:
             said.seek(0)
             raise OSError(f"{' '.join(way)} ended with status {started.returncode}\n{said.read().decode(errors='replace').strip()}")
-        return took, 1_024 * used.ru_maxrss
+        return Run(took, 1_000 * (used.ru_utime + used.ru_stime), 1_024 * used.ru_maxrss)
 
 
 def least(runs):
-    """The least time of those runs that did the whole work. Of a crew an application may have to do without its handle, so that its
-    requests are refused: the history is smaller then."""
-    most = max(memory for _, memory in runs)
-    return min(took for took, memory in runs if memory > WHOLE * most)
+    """The least times of those runs that did the whole work, and the most memory. Of a crew an application may have to do without
+    its handle, so that its requests are refused: the history is smaller then."""
+    most = max(run.memory for run in runs)
+    whole = [run for run in runs if run.memory > WHOLE * most]
+    return Run(min(run.took for run in whole), min(run.processor for run in whole), most)
 
 
 def least_times(ways, *sessions):
     """How long each way takes for each session, the least of a few runs in turns: a list for each session."""
+    return [[run.took for run in of_session] for of_session in least_runs(ways, *sessions)]
+
+
+def least_runs(ways, *sessions):
+    """What each way takes for each session, the least of a few runs in turns: a list for each session."""
     sources = [file_of(it) for it in sessions]
     try:
         runs = [[[timed(way, source) for way in ways] for source in sources] for _ in range(RUNS)]

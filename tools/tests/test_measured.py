@@ -143,11 +143,12 @@ def handles_after(scripts, order):
 
 class Times(unittest.TestCase):
     def test_a_run_that_did_less_is_left_out(self):
-        self.assertEqual(measured.least([(9.0, 1_000), (2.0, 700), (8.0, 990), (8.5, 1_010)]), 8.0)
+        runs = [measured.Run(*it) for it in ((9.0, 7.5, 1_000), (2.0, 1.0, 700), (8.0, 9.0, 990), (8.5, 8.0, 1_010))]
+        self.assertEqual(measured.least(runs), measured.Run(8.0, 7.5, 1_010))
 
     def test_a_program_that_fails(self):
         with tempfile.TemporaryFile() as source:
-            took, memory = measured.timed((sys.executable, "-c", "print(1)"), source)
+            took, processor, memory = measured.timed((sys.executable, "-c", "print(1)"), source)
             self.assertGreater(min(took, memory), 0)
             with self.assertRaisesRegex(OSError, "ended with status 3\nno room"):
                 measured.timed((sys.executable, "-c", "import sys; print('no room', file=sys.stderr); sys.exit(3)"), source)
