@@ -3,6 +3,8 @@ use Rattle.std.specs.Prelude.{◌≡◌, ◌⊎◌, Bool, true, false, List, ℕ
 use Rattle.tbl_outside.specs.declared.bank.Bank.{Ghosts}
 use Rattle.bank_mirror.specs.declared.in_use.InUse.{InUse}
 use Rattle.bank_mirror.specs.declared.in_use.InUse.TheVariants.{Both, FirstOut, SecondOut, Unread}
+use Rattle.bank_mirror.specs.declared.in_use.Alone.{Alone}
+use Rattle.bank_mirror.specs.declared.in_use.Alone.TheVariants.{First, Second}
 use Rattle.bank_mirror.specs.Pairs.{Pair, BothTell, is_stale}
 use Rattle.bank_mirror.specs.Counts.{IsSince, FirstFailed, SecondFailed, OneStopped, MayFail}
 
@@ -19,6 +21,20 @@ LeavesOut Both old new after = Unit {0}
 LeavesOut FirstOut old new after = (after ≡ FirstOut) × (new.first ≡ old.first)
 LeavesOut SecondOut old new after = (after ≡ SecondOut) × (new.second ≡ old.second)
 LeavesOut Unread old new after = after ≡ FirstOut → new.first ≡ old.first
+
+-- which is in where one goes on alone, and the bytes that this one holds
+abbrev pub in_use_alone : Alone → InUse
+in_use_alone First = SecondOut
+in_use_alone Second = FirstOut
+
+abbrev pub bytes_alone : Alone → List ℕ → List ℕ → List ℕ
+bytes_alone First first second = first
+bytes_alone Second first second = take (length first) second
+
+-- the other one isn't written; the first alone needs no call of either
+abbrev pub OtherIsLeft : {A B : Type 0} → Alone → A → B → Pair A B → Type 0
+OtherIsLeft First first second pair = (pair.first ≡ first) × (pair.second ≡ second)
+OtherIsLeft Second first second pair = pair.first ≡ first
 
 module _ {A B : Type 0} (a : Ghosts A) (b : Ghosts B) where
   -- the same, where both tell their bytes

@@ -1,5 +1,5 @@
 -- The bytes of two banks as one.
-use Rattle.std.specs.Prelude.{◌≡◌, ℕ, ◌==◌, Bool, if◌then◌else◌, List, length, take}
+use Rattle.std.specs.Prelude.{◌≡◌, ◌⊎◌, ℕ, ◌==◌, Bool, if◌then◌else◌, List, length, take}
 use Rattle.tbl_kinds.specs.Numbers.{byte_at}
 use Rattle.tbl_outside.specs.declared.bank.Bank.{Ghosts}
 
@@ -41,3 +41,7 @@ is_marked a b pair = is_stale (length (a.now pair.first)) (b.now pair.second)
 -- neither bank's bytes changed
 abbrev pub SameBytes : {A B : Type 0} → Ghosts A → Ghosts B → Pair A B → Pair A B → Type 0
 SameBytes a b old new = BothTell a b → (a.now new.first ≡ a.now old.first) × (b.now new.second ≡ b.now old.second)
+
+-- an image of both is what they held as one, or this
+abbrev pub AsWas : {A B : Type 0} → Ghosts A → Ghosts B → A → B → List ℕ → List ℕ → Type 0
+AsWas a b first second bytes image = (image ≡ pair_of (a.now first) (b.now second)) ⊎ (image ≡ bytes)

@@ -4,10 +4,12 @@
 ghost use Rattle.std.specs.Prelude.{◌≡◌, ◌+◌, ◌<◌, ◌≤◌, [], ◌∷◌, length, OnOk, OnErr, IfOk};
 ghost use Rattle.tbl_kinds.specs.Numbers.{piece, patched};
 ghost use Rattle.tbl_outside.specs.Bank.{Torn};
+ghost use Rattle.tbl_outside.specs.BankCalls.{write};
 ghost use Rattle.tbl_outside.specs.Counts.{Still, RoseAlone, Counted};
 ghost use Rattle.bank_mirror.specs.Pairs.{Pair, BothTellMoments, stale, is_stale};
 ghost use Rattle.bank_mirror.specs.Moments.{OfFirst, OfSecond, Leaves};
 ghost use Rattle.bank_mirror.specs.Counts.{GoesOn};
+ghost use Rattle.bank_mirror.specs.LastCalls.{LastReadFailed};
 
 use http_server::Log;
 use std::marker::Model;
@@ -76,6 +78,7 @@ impl<A: Bank, B: Bank> Banks<A, B> {
             (OfFirst (λ image. image ≡ A.now self.old.first) (B.now self.old.second)) }
         ensures done { OnOk result (Still A.faults A.stops self.old.first self.new.first) }
         ensures failed { OnErr result (RoseAlone A.faults A.stops self.old.first self.new.first) }
+        ensures last { OnErr result (LastReadFailed A.Bank B.Bank self.new) }
         ensures goes_on { GoesOn A.Bank B.Bank self.old self.new }
     {
         let past = self.past.and(&self.first, &self.second);
@@ -95,6 +98,7 @@ impl<A: Bank, B: Bank> Banks<A, B> {
             (OfSecond (A.now self.old.first) (λ image. image ≡ B.now self.old.second)) }
         ensures done { OnOk result (Still B.faults B.stops self.old.second self.new.second) }
         ensures failed { OnErr result (RoseAlone B.faults B.stops self.old.second self.new.second) }
+        ensures last { OnErr result (LastReadFailed A.Bank B.Bank self.new) }
         ensures goes_on { GoesOn A.Bank B.Bank self.old self.new }
     {
         let past = self.past.and(&self.first, &self.second);
@@ -112,6 +116,7 @@ impl<A: Bank, B: Bank> Banks<A, B> {
         ensures moments { BothTellMoments A.Bank B.Bank → Leaves A.Bank B.Bank self.old self.new
             (OfFirst (Torn at (length bytes.now) (A.now self.old.first)) (B.now self.old.second)) }
         ensures counted { Counted A.faults A.stops self.old.first self.new.first result }
+        ensures once { A.tells_calls self.new.first → A.calls self.new.first ≡ write at bytes.now ∷ A.calls self.old.first }
         ensures goes_on { GoesOn A.Bank B.Bank self.old self.new }
     {
         let past = self.past.and(&self.first, &self.second);

@@ -4,6 +4,7 @@ ghost use Rattle.std.specs.Prelude.{◌≡◌, ◌+◌, ◌≤◌, Ok, true, fal
 ghost use Rattle.bank_mirror.specs.Pairs.{BothTell, BothTellMoments, front_of, is_marked};
 ghost use Rattle.bank_mirror.specs.Moments.{Leaves};
 ghost use Rattle.bank_mirror.specs.Counts.{GoesOn, FirstFailed, SecondFailed, FirstBroke, SecondBroke};
+ghost use Rattle.bank_mirror.specs.LastCalls.{LastReadFailed};
 
 use crate::banks::Banks;
 use tbl_outside::{Bank, Failed, Written};
@@ -25,6 +26,7 @@ impl<A: Bank, B: Bank> Banks<A, B> {
             (λ image. image ≡ front_of A.Bank B.Bank self.old) }
         ensures broke { IfOk result (FirstBroke A.Bank B.Bank (self.old.first, self.old.second) self.new) }
         ensures unread { OnErr result (SecondFailed A.Bank B.Bank (self.old.first, self.old.second) self.new) }
+        ensures last { OnErr result (LastReadFailed A.Bank B.Bank self.new) }
         ensures goes_on { GoesOn A.Bank B.Bank self.old self.new }
     {
         let size = self.size();
@@ -55,6 +57,7 @@ impl<A: Bank, B: Bank> Banks<A, B> {
             (λ image. image ≡ front_of A.Bank B.Bank self.old) }
         ensures broke { IfOk result (FirstBroke A.Bank B.Bank (self.old.first, self.old.second) self.new) }
         ensures unread { OnErr result (SecondFailed A.Bank B.Bank (self.old.first, self.old.second) self.new) }
+        ensures last { OnErr result (LastReadFailed A.Bank B.Bank self.new) }
         ensures goes_on { GoesOn A.Bank B.Bank self.old self.new }
     {
         match self.read_second(at, piece) {
@@ -75,6 +78,7 @@ impl<A: Bank, B: Bank> Banks<A, B> {
             (λ image. image ≡ A.now self.old.first) }
         ensures broke { IfOk result (SecondBroke A.Bank B.Bank (self.old.first, self.old.second) self.new) }
         ensures unread { OnErr result (FirstFailed A.Bank B.Bank (self.old.first, self.old.second) self.new) }
+        ensures last { OnErr result (LastReadFailed A.Bank B.Bank self.new) }
         ensures goes_on { GoesOn A.Bank B.Bank self.old self.new }
     {
         let size = self.size();
@@ -104,6 +108,7 @@ impl<A: Bank, B: Bank> Banks<A, B> {
             (λ image. image ≡ A.now self.old.first) }
         ensures broke { IfOk result (SecondBroke A.Bank B.Bank (self.old.first, self.old.second) self.new) }
         ensures unread { OnErr result (FirstFailed A.Bank B.Bank (self.old.first, self.old.second) self.new) }
+        ensures last { OnErr result (LastReadFailed A.Bank B.Bank self.new) }
         ensures goes_on { GoesOn A.Bank B.Bank self.old self.new }
     {
         match self.read_first(at, piece) {

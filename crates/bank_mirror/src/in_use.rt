@@ -12,3 +12,12 @@ pub enum InUse {
     /// A write of the mark broke off, and reading it back failed. The next call reads it first.
     Unread,
 }
+
+/// Which of the two banks goes on alone, while the other one doesn't answer.
+#[derive(Clone, Copy, Debug, PartialEq, Eq)]
+pub enum Alone {
+    /// The first, and the second is out.
+    First,
+    /// The second, and the first is out.
+    Second,
+}

@@ -5,6 +5,7 @@
 mod banks;
 mod copies;
 mod in_use;
+mod marking;
 mod marks;
 mod mirror;
 mod opening;
@@ -12,6 +13,6 @@ mod reads;
 mod writes;
 
 pub use banks::STALE;
-pub use in_use::InUse;
+pub use in_use::{Alone, InUse};
 pub use mirror::{Mirror, OpenBack};
 pub use opening::OpenFault;

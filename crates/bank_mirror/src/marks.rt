@@ -6,6 +6,7 @@ ghost use Rattle.tbl_outside.specs.Counts.{Still, RoseAlone, Counted, Rose};
 ghost use Rattle.bank_mirror.specs.Pairs.{BothTell, BothTellMoments, bytes_of, front_of, is_marked};
 ghost use Rattle.bank_mirror.specs.Moments.{Leaves};
 ghost use Rattle.bank_mirror.specs.Counts.{GoesOn};
+ghost use Rattle.bank_mirror.specs.LastCalls.{LastReadFailed};
 ghost use Rattle.bank_mirror.specs.BanksInUse.{IsHeld};
 
 use crate::banks::{Banks, STALE};
@@ -37,6 +38,7 @@ impl<A: Bank, B: Bank> Banks<A, B> {
             (λ image. image ≡ bytes_of A.Bank B.Bank self.old) }
         ensures done { OnOk result (Still B.faults B.stops self.old.second self.new.second) }
         ensures failed { OnErr result (RoseAlone B.faults B.stops self.old.second self.new.second) }
+        ensures last { OnErr result (LastReadFailed A.Bank B.Bank self.new) }
         ensures goes_on { GoesOn A.Bank B.Bank self.old self.new }
     {
         let place = self.size();
@@ -57,6 +59,7 @@ impl<A: Bank, B: Bank> Banks<A, B> {
         ensures stops { B.stops self.new.second ≡ B.stops self.old.second }
         ensures out { (result ≡ InUse.Both) → ⊥ }
         ensures unread { result ≡ InUse.Unread → Rose (B.faults self.old.second) (B.faults self.new.second) }
+        ensures last { result ≡ InUse.Unread → LastReadFailed A.Bank B.Bank self.new }
         ensures goes_on { GoesOn A.Bank B.Bank self.old self.new }
     {
         match self.first_is_stale() {

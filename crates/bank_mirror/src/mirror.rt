@@ -1,12 +1,13 @@
 // Two banks as one bank.
-ghost use Rattle.std.specs.Prelude.{◌≡◌, ◌+◌, ◌<◌, ◌≤◌, ◌∷◌, [], List, ℕ, true, false, if◌then◌else◌, length, OnOk, OnErr, IfOk, IfErr};
-ghost use Rattle.tbl_kinds.specs.Numbers.{piece, patched};
+ghost use Rattle.std.specs.Prelude.{◌≡◌, ◌+◌, ◌<◌, ◌≤◌, ◌∷◌, [], List, ℕ, true, false, if◌then◌else◌, length, take, OnOk, OnErr, IfOk, IfErr};
+ghost use Rattle.tbl_kinds.specs.Numbers.{piece, patched, byte_at};
 ghost use Rattle.tbl_outside.specs.Bank.{Torn, LeavesOnly};
 ghost use Rattle.tbl_outside.specs.BankCalls.{read, write};
 ghost use Rattle.tbl_outside.specs.Counts.{Still, RoseAlone, Counted, risen};
-ghost use Rattle.bank_mirror.specs.Pairs.{BothTell, BothTellMoments, is_stale, bytes_of, pair_of};
+ghost use Rattle.bank_mirror.specs.Pairs.{BothTell, BothTellMoments, AsWas, is_stale, bytes_of, pair_of};
 ghost use Rattle.bank_mirror.specs.Moments.{LeftSince};
 ghost use Rattle.bank_mirror.specs.Counts.{SecondFailed, OneFailed, IsSince, MayFail, opening_of};
+ghost use Rattle.bank_mirror.specs.LastCalls.{LastReadFailed};
 ghost use Rattle.bank_mirror.specs.Openings.{OpenCounted};
 ghost use Rattle.bank_mirror.specs.BanksInUse.{IsHeld, IsExcused, LeavesOut};
 ghost use Rattle.bank_mirror.specs.Mirrors.{moment_of, LeftSinceOf, faults_of, stops_in, fails, SameOpening};
@@ -48,6 +49,22 @@ pub struct OpenBack<A: Bank, B: Bank> {
     pub past: Log<A, B>,
 }
 
+/// Both banks, handed back with the cause.
+fn back_of<A: Bank, B: Bank>(banks: Banks<A, B>, cause: OpenFault) -> OpenBack<A, B>
+    ensures cause { result.cause ≡ cause }
+    ensures first { result.first ≡ banks.first }
+    ensures second { result.second ≡ banks.second }
+    ensures past { result.past.items ≡ banks.past }
+{
+    let (first, second, past) = banks.end();
+    OpenBack {
+        cause,
+        first,
+        second,
+        past,
+    }
+}
+
 impl<A: Bank, B: Bank> Mirror<A, B> {
     /// Opens two banks as one, the second larger than the first. Where the mark says that the first is stale, the second's
     /// front is copied over the first and the mark is taken away last, else the first is copied over the second's front. A
@@ -64,6 +81,9 @@ impl<A: Bank, B: Bank> Mirror<A, B> {
         ensures mark { IfOk result (λ m. m.mark_failed ≡ true → SecondFailed A.Bank B.Bank (first, second) m.pair) }
         ensures unmarked { IfOk result (λ m. BothTell A.Bank B.Bank →
             is_stale (length (A.now first)) (B.now second) ≡ false → m.mark_failed ≡ false) }
+        ensures cleared { IfOk result (λ m. BothTell A.Bank B.Bank →
+            is_stale (length (A.now first)) (B.now second) ≡ true → m.in_use ≡ InUse.Both →
+            byte_at (length (A.now m.pair.first)) (B.now m.pair.second) ≡ 0) }
         ensures faults { IfOk result (λ m. m.faults ≡ 0) }
         ensures size { IfOk result (λ m. A.size m.pair.first ≡ A.size first) }
         ensures counts { IfOk result (λ m. IsSince A.Bank B.Bank (first, second) m.pair) }
@@ -76,6 +96,8 @@ impl<A: Bank, B: Bank> Mirror<A, B> {
         ensures back_sizes { IfErr result (λ back. A.size back.first ≡ A.size first × B.size back.second ≡ B.size second) }
         ensures counted { IfErr result (λ back. OpenCounted A.Bank B.Bank (first, second)
             (record { first = back.first; second = back.second; past = back.past.items }) back.cause) }
+        ensures last { IfErr result (λ back. back.cause ≡ OpenFault.Fault → LastReadFailed A.Bank B.Bank
+            (record { first = back.first; second = back.second; past = back.past.items })) }
     {
         let mut banks = Banks::make(first, second);
         match banks.open(alloc) {
@@ -85,15 +107,49 @@ impl<A: Bank, B: Bank> Mirror<A, B> {
                 mark_failed: opened.mark_failed,
                 faults: 0,
             }),
-            Err(cause) => {
-                let (first, second, past) = banks.end();
-                Err(OpenBack {
-                    cause,
-                    first,
-                    second,
-                    past,
-                })
-            }
+            Err(cause) => Err(back_of(banks, cause)),
+        }
+    }
+
+    /// Opens two banks as one, of which the second is the good one, whatever its mark says: the mark is set first, and then
+    /// the second's front is copied over the first, as `open` does it. A write of the mark that failed ends it with `Fault`.
+    /// All memory that it needs is taken before the first call.
+    pub fn take_second(alloc: Global, first: A, second: B) -> Result<Mirror<A, B>, OpenBack<A, B>>
+        requires { A.size first < B.size second }
+        ensures bytes { IfOk result (λ m. BothTell A.Bank B.Bank →
+            bytes_of A.Bank B.Bank m.pair ≡ take (length (A.now first)) (B.now second)) }
+        ensures held { IfOk result (λ m. IsHeld A.Bank B.Bank m.in_use m.pair) }
+        ensures moments { IfOk result (λ m. BothTellMoments A.Bank B.Bank → (image : List ℕ) →
+            LeftSince A.Bank B.Bank m.pair 0 image →
+            AsWas A.Bank B.Bank first second (take (length (A.now first)) (B.now second)) image) }
+        ensures opening { IfOk result (λ m. opening_of m.pair ≡ (first, second)) }
+        ensures excuse { IfOk result (λ m. IsExcused A.Bank B.Bank m.mark_failed (first, second) m.pair m.in_use) }
+        ensures mark { IfOk result (λ m. m.mark_failed ≡ true → SecondFailed A.Bank B.Bank (first, second) m.pair) }
+        ensures cleared { IfOk result (λ m. BothTell A.Bank B.Bank → m.in_use ≡ InUse.Both →
+            byte_at (length (A.now m.pair.first)) (B.now m.pair.second) ≡ 0) }
+        ensures faults { IfOk result (λ m. m.faults ≡ 0) }
+        ensures size { IfOk result (λ m. A.size m.pair.first ≡ A.size first) }
+        ensures counts { IfOk result (λ m. IsSince A.Bank B.Bank (first, second) m.pair) }
+
+        ensures back_bytes { IfErr result (λ back. BothTell A.Bank B.Bank →
+            AsWas A.Bank B.Bank first second (take (length (A.now first)) (B.now second))
+            (pair_of (A.now back.first) (B.now back.second))) }
+        ensures back_moments { IfErr result (λ back. BothTellMoments A.Bank B.Bank → (image : List ℕ) →
+            LeftSince A.Bank B.Bank (record { first = back.first; second = back.second; past = back.past.items }) 0 image →
+            AsWas A.Bank B.Bank first second (take (length (A.now first)) (B.now second)) image) }
+        ensures back_sizes { IfErr result (λ back. A.size back.first ≡ A.size first × B.size back.second ≡ B.size second) }
+        ensures counted { IfErr result (λ back. OpenCounted A.Bank B.Bank (first, second)
+            (record { first = back.first; second = back.second; past = back.past.items }) back.cause) }
+    {
+        let mut banks = Banks::make(first, second);
+        match banks.open_second(alloc) {
+            Ok(opened) => Ok(Mirror {
+                banks,
+                in_use: opened.in_use,
+                mark_failed: opened.mark_failed,
+                faults: 0,
+            }),
+            Err(cause) => Err(back_of(banks, cause)),
         }
     }
 
@@ -204,6 +260,10 @@ impl<A: Bank, B: Bank> Bank for Mirror<A, B> {
         ensures cause { OnErr result (MayFail A.Bank B.Bank self.new.mark_failed (opening_of self.new.pair) self.new.pair) }
         ensures opening { SameOpening self.old self.new }
         ensures out { LeavesOut self.old.in_use self.old.pair self.new.pair self.new.in_use }
+
+        // It puts no bank out, and the mark stays unread only where the last call was a read of it that failed.
+        ensures stays { (self.old.in_use ≡ InUse.Unread → ⊥) → self.new.in_use ≡ self.old.in_use }
+        ensures last { self.new.in_use ≡ InUse.Unread → LastReadFailed A.Bank B.Bank self.new.pair }
     {
         let end = self.banks.read(self.in_use, at, into);
         self.in_use = end.in_use;
@@ -233,6 +293,11 @@ impl<A: Bank, B: Bank> Bank for Mirror<A, B> {
             MayFail A.Bank B.Bank self.new.mark_failed (opening_of self.new.pair) self.new.pair }
         ensures opening { SameOpening self.old self.new }
         ensures out { LeavesOut self.old.in_use self.old.pair self.new.pair self.new.in_use }
+
+        // The mark stays unread only where the last call was a read that failed. The first is written once.
+        ensures last { self.new.in_use ≡ InUse.Unread → LastReadFailed A.Bank B.Bank self.new.pair }
+        ensures once { self.old.in_use ≡ InUse.Both → A.tells_calls self.new.pair.first →
+            A.calls self.new.pair.first ≡ write at bytes.now ∷ A.calls self.old.pair.first }
     {
         let ended = self.banks.write(self.in_use, at, bytes);
         self.in_use = ended.in_use;

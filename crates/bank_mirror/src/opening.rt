@@ -1,9 +1,11 @@
 //! An opening of two banks as one: afterwards both hold the same, or one of them is out.
 
 ghost use Rattle.std.specs.Prelude.{◌≡◌, true, false, length, IfOk, IfErr};
+ghost use Rattle.tbl_kinds.specs.Numbers.{byte_at};
 ghost use Rattle.bank_mirror.specs.Pairs.{BothTell, BothTellMoments, bytes_of, front_of, is_marked, SameBytes};
 ghost use Rattle.bank_mirror.specs.Moments.{Leaves};
 ghost use Rattle.bank_mirror.specs.Counts.{GoesOn, SecondFailed};
+ghost use Rattle.bank_mirror.specs.LastCalls.{LastReadFailed};
 ghost use Rattle.bank_mirror.specs.BanksInUse.{IsHeld, IsExcused};
 ghost use Rattle.bank_mirror.specs.Openings.{OpenCounted, CallsCounted};
 
@@ -59,7 +61,11 @@ impl<A: Bank, B: Bank> Banks<A, B> {
             SecondFailed A.Bank B.Bank (self.old.first, self.old.second) self.new) }
         ensures unmarked { IfOk result (λ opened. BothTell A.Bank B.Bank →
             is_marked A.Bank B.Bank self.old ≡ false → opened.mark_failed ≡ false) }
+        ensures cleared { IfOk result (λ opened. BothTell A.Bank B.Bank →
+            is_marked A.Bank B.Bank self.old ≡ true → opened.in_use ≡ InUse.Both →
+            byte_at (length (A.now self.new.first)) (B.now self.new.second) ≡ 0) }
         ensures counted { IfErr result (OpenCounted A.Bank B.Bank (self.old.first, self.old.second) self.new) }
+        ensures last { IfErr result (λ fault. fault ≡ OpenFault.Fault → LastReadFailed A.Bank B.Bank self.new) }
         ensures goes_on { GoesOn A.Bank B.Bank self.old self.new }
     {
         let mut buffer = vec![in alloc; 0; PIECE as usize]?;
@@ -79,7 +85,11 @@ impl<A: Bank, B: Bank> Banks<A, B> {
             SecondFailed A.Bank B.Bank (self.old.first, self.old.second) self.new) }
         ensures unmarked { IfOk result (λ opened. BothTell A.Bank B.Bank →
             is_marked A.Bank B.Bank self.old ≡ false → opened.mark_failed ≡ false) }
+        ensures cleared { IfOk result (λ opened. BothTell A.Bank B.Bank →
+            is_marked A.Bank B.Bank self.old ≡ true → opened.in_use ≡ InUse.Both →
+            byte_at (length (A.now self.new.first)) (B.now self.new.second) ≡ 0) }
         ensures counted { IfErr result (CallsCounted A.Bank B.Bank (self.old.first, self.old.second) self.new) }
+        ensures last { IfErr result (λ fault. fault ≡ OpenFault.Fault → LastReadFailed A.Bank B.Bank self.new) }
         ensures goes_on { GoesOn A.Bank B.Bank self.old self.new }
     {
         match self.first_is_stale() {
@@ -101,6 +111,7 @@ impl<A: Bank, B: Bank> Banks<A, B> {
             IsExcused A.Bank B.Bank opened.mark_failed (self.old.first, self.old.second) self.new opened.in_use) }
         ensures mark { IfOk result (λ opened. opened.mark_failed ≡ false) }
         ensures counted { IfErr result (CallsCounted A.Bank B.Bank (self.old.first, self.old.second) self.new) }
+        ensures last { IfErr result (λ fault. fault ≡ OpenFault.Fault → LastReadFailed A.Bank B.Bank self.new) }
         ensures goes_on { GoesOn A.Bank B.Bank self.old self.new }
     {
         match self.copy_to_second(buffer) {
@@ -129,7 +140,10 @@ impl<A: Bank, B: Bank> Banks<A, B> {
             IsExcused A.Bank B.Bank opened.mark_failed (self.old.first, self.old.second) self.new opened.in_use) }
         ensures mark { IfOk result (λ opened. opened.mark_failed ≡ true →
             SecondFailed A.Bank B.Bank (self.old.first, self.old.second) self.new) }
+        ensures cleared { IfOk result (λ opened. BothTell A.Bank B.Bank → opened.in_use ≡ InUse.Both →
+            byte_at (length (A.now self.new.first)) (B.now self.new.second) ≡ 0) }
         ensures counted { IfErr result (CallsCounted A.Bank B.Bank (self.old.first, self.old.second) self.new) }
+        ensures last { IfErr result (λ fault. fault ≡ OpenFault.Fault → LastReadFailed A.Bank B.Bank self.new) }
         ensures goes_on { GoesOn A.Bank B.Bank self.old self.new }
     {
         match self.copy_to_first(buffer) {
@@ -154,7 +168,10 @@ impl<A: Bank, B: Bank> Banks<A, B> {
             IsExcused A.Bank B.Bank opened.mark_failed (self.old.first, self.old.second) self.new opened.in_use) }
         ensures mark { IfOk result (λ opened. opened.mark_failed ≡ true →
             SecondFailed A.Bank B.Bank (self.old.first, self.old.second) self.new) }
+        ensures cleared { IfOk result (λ opened. BothTell A.Bank B.Bank → opened.in_use ≡ InUse.Both →
+            byte_at (length (A.now self.new.first)) (B.now self.new.second) ≡ 0) }
         ensures counted { IfErr result (CallsCounted A.Bank B.Bank (self.old.first, self.old.second) self.new) }
+        ensures last { IfErr result (λ fault. fault ≡ OpenFault.Fault → LastReadFailed A.Bank B.Bank self.new) }
         ensures goes_on { GoesOn A.Bank B.Bank self.old self.new }
     {
         match self.write_mark(0) {
@@ -175,7 +192,9 @@ impl<A: Bank, B: Bank> Banks<A, B> {
             (λ image. image ≡ bytes_of A.Bank B.Bank self.old) }
         ensures excuse { IfOk result (λ opened.
             IsExcused A.Bank B.Bank opened.mark_failed (self.old.first, self.old.second) self.new opened.in_use) }
+        ensures out { IfOk result (λ opened. opened.in_use ≡ InUse.Both → ⊥) }
         ensures counted { IfErr result (CallsCounted A.Bank B.Bank (self.old.first, self.old.second) self.new) }
+        ensures last { IfErr result (λ fault. fault ≡ OpenFault.Fault → LastReadFailed A.Bank B.Bank self.new) }
         ensures goes_on { GoesOn A.Bank B.Bank self.old self.new }
     {
         match self.first_is_stale() {

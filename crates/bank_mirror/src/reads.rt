@@ -4,6 +4,7 @@ ghost use Rattle.std.specs.Prelude.{◌≡◌, ◌+◌, ◌≤◌, true, false, 
 ghost use Rattle.tbl_kinds.specs.Numbers.{piece};
 ghost use Rattle.bank_mirror.specs.Pairs.{BothTell, BothTellMoments, bytes_of, is_marked, SameBytes};
 ghost use Rattle.bank_mirror.specs.Moments.{Leaves};
+ghost use Rattle.bank_mirror.specs.LastCalls.{LastReadFailed};
 ghost use Rattle.bank_mirror.specs.Counts.{GoesOn, FirstFailed, SecondFailed, OneFailed, SameStops};
 ghost use Rattle.bank_mirror.specs.BanksInUse.{IsHeld, KeepsExcuse, LeavesOut, HasCause};
 
@@ -34,6 +35,8 @@ impl<A: Bank, B: Bank> Banks<A, B> {
         ensures excuse { KeepsExcuse A.Bank B.Bank in_use self.old self.new result.in_use }
         ensures cause { OnErr result.read (HasCause A.Bank B.Bank in_use self.old self.new) }
         ensures out { LeavesOut in_use self.old self.new result.in_use }
+        ensures last { result.in_use ≡ InUse.Unread → LastReadFailed A.Bank B.Bank self.new }
+        ensures stays { (in_use ≡ InUse.Unread → ⊥) → result.in_use ≡ in_use }
         ensures goes_on { GoesOn A.Bank B.Bank self.old self.new }
     {
         match in_use {
@@ -121,6 +124,7 @@ impl<A: Bank, B: Bank> Banks<A, B> {
         ensures excuse { KeepsExcuse A.Bank B.Bank InUse.Unread self.old self.new result.in_use }
         ensures cause { OnErr result.read (HasCause A.Bank B.Bank InUse.Unread self.old self.new) }
         ensures out { LeavesOut InUse.Unread self.old self.new result.in_use }
+        ensures last { result.in_use ≡ InUse.Unread → LastReadFailed A.Bank B.Bank self.new }
         ensures goes_on { GoesOn A.Bank B.Bank self.old self.new }
     {
         match self.first_is_stale() {

@@ -1,12 +1,14 @@
 //! A write to both banks, to one of them, or to the second once the first has failed.
 
-ghost use Rattle.std.specs.Prelude.{◌≡◌, ◌+◌, ◌≤◌, false, true, length};
+ghost use Rattle.std.specs.Prelude.{◌≡◌, ◌+◌, ◌≤◌, ◌∷◌, false, true, length};
 ghost use Rattle.tbl_kinds.specs.Numbers.{patched};
 ghost use Rattle.tbl_outside.specs.Bank.{Torn};
+ghost use Rattle.tbl_outside.specs.BankCalls.{write};
 ghost use Rattle.tbl_outside.specs.Counts.{Rose};
 ghost use Rattle.bank_mirror.specs.Pairs.{BothTell, BothTellMoments, bytes_of, front_of, is_marked};
 ghost use Rattle.bank_mirror.specs.Moments.{Leaves};
 ghost use Rattle.bank_mirror.specs.Counts.{GoesOn, WriteCounted};
+ghost use Rattle.bank_mirror.specs.LastCalls.{LastReadFailed};
 ghost use Rattle.bank_mirror.specs.BanksInUse.{IsHeld, KeepsExcuse, LeavesOut, ExcusesMarked, HasCause};
 
 use crate::banks::{Banks, STALE};
@@ -36,6 +38,9 @@ impl<A: Bank, B: Bank> Banks<A, B> {
         ensures excuse { KeepsExcuse A.Bank B.Bank in_use self.old self.new result.in_use }
         ensures cause { result.written ≡ Written.Failed → HasCause A.Bank B.Bank in_use self.old self.new }
         ensures out { LeavesOut in_use self.old self.new result.in_use }
+        ensures last { result.in_use ≡ InUse.Unread → LastReadFailed A.Bank B.Bank self.new }
+        ensures once { in_use ≡ InUse.Both → A.tells_calls self.new.first →
+            A.calls self.new.first ≡ write at bytes.now ∷ A.calls self.old.first }
         ensures goes_on { GoesOn A.Bank B.Bank self.old self.new }
     {
         match in_use {
@@ -106,6 +111,7 @@ impl<A: Bank, B: Bank> Banks<A, B> {
         ensures excuse { KeepsExcuse A.Bank B.Bank InUse.Unread self.old self.new result.in_use }
         ensures cause { result.written ≡ Written.Failed → HasCause A.Bank B.Bank InUse.Unread self.old self.new }
         ensures out { LeavesOut InUse.Unread self.old self.new result.in_use }
+        ensures last { result.in_use ≡ InUse.Unread → LastReadFailed A.Bank B.Bank self.new }
         ensures goes_on { GoesOn A.Bank B.Bank self.old self.new }
     {
         match self.first_is_stale() {
@@ -132,6 +138,8 @@ impl<A: Bank, B: Bank> Banks<A, B> {
         ensures counted { WriteCounted A.Bank B.Bank (self.old.first, self.old.second) self.new result.written }
         ensures excuse { KeepsExcuse A.Bank B.Bank InUse.Both self.old self.new result.in_use }
         ensures cause { result.written ≡ Written.Failed → HasCause A.Bank B.Bank InUse.Both self.old self.new }
+        ensures last { result.in_use ≡ InUse.Unread → LastReadFailed A.Bank B.Bank self.new }
+        ensures once { A.tells_calls self.new.first → A.calls self.new.first ≡ write at bytes.now ∷ A.calls self.old.first }
         ensures goes_on { GoesOn A.Bank B.Bank self.old self.new }
     {
         match self.write_first(at, bytes) {
@@ -157,6 +165,7 @@ impl<A: Bank, B: Bank> Banks<A, B> {
         ensures counted { WriteCounted A.Bank B.Bank (self.old.first, self.old.second) self.new result.written }
         ensures answered { (result.written ≡ Written.Failed) → ⊥ }
         ensures excuse { KeepsExcuse A.Bank B.Bank InUse.Both self.old self.new result.in_use }
+        ensures last { result.in_use ≡ InUse.Unread → LastReadFailed A.Bank B.Bank self.new }
         ensures goes_on { GoesOn A.Bank B.Bank self.old self.new }
     {
         match self.write_second(at, bytes) {
@@ -191,6 +200,8 @@ impl<A: Bank, B: Bank> Banks<A, B> {
         ensures counted { WriteCounted A.Bank B.Bank (self.old.first, self.old.second) self.new result.written }
         ensures failed { result.written ≡ Written.Failed → Rose (B.faults self.old.second) (B.faults self.new.second) }
         ensures excuse { ExcusesMarked A.Bank B.Bank self.old self.new result.in_use }
+        ensures other { self.new.first ≡ self.old.first }
+        ensures last { result.in_use ≡ InUse.Unread → LastReadFailed A.Bank B.Bank self.new }
         ensures goes_on { GoesOn A.Bank B.Bank self.old self.new }
     {
         match self.write_mark(STALE) {

@@ -92,3 +92,16 @@ returns-in-Ok-false-clause-counted g c =
     IfErr-weaker c.copy_over.result _ _
     (λ fault. calls_counted g.A.Bank g.B.Bank (pair.first, pair.second) c.first_is_stale.new.self c.copy_over.new.self fault c.first_is_stale.ensures.goes_on.counts)
     c.copy_over.ensures.counted
+
+pub returns-in-Ok-true-clause-cleared : goal.returns-in-Ok-true-clause-cleared
+returns-in-Ok-true-clause-cleared g c = IfOk-weaker c.copy_back.result _ _ (λ opened cleared told marked. cleared told) c.copy_back.ensures.cleared
+
+pub returns-in-Ok-false-clause-cleared : goal.returns-in-Ok-false-clause-cleared
+returns-in-Ok-false-clause-cleared g c =
+    let pair = c.args.self.now in
+    let read = c.first_is_stale.ensures in
+    IfOk-weaker c.copy_over.result _ _
+    (λ opened none told marked.
+    let same : is_marked g.A.Bank g.B.Bank c.first_is_stale.new.self ≡ is_marked g.A.Bank g.B.Bank pair = λ i. is_stale (length (g.A.Bank.now (read.other i))) (read.kept told i) in
+    absurd (cc (sym marked ∙ sym same ∙ c.in-Ok-false.ensures.stale told ∙ c.in-Ok-false.field-0-test)))
+    c.copy_over.ensures.mark

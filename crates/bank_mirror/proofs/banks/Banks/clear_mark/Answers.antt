@@ -72,3 +72,6 @@ returns-in-Failed-clause-counted g c =
     IfErr-weaker c.open_by_mark.result _ _
     (λ fault. calls_counted g.A.Bank g.B.Bank (pair.first, pair.second) c.write_mark.new.self c.open_by_mark.new.self fault c.write_mark.ensures.goes_on.counts)
     c.open_by_mark.ensures.counted
+
+pub returns-in-Failed-clause-cleared : goal.returns-in-Failed-clause-cleared
+returns-in-Failed-clause-cleared g c = IfOk-weaker c.open_by_mark.result _ _ (λ opened out told both. absurd (out both)) c.open_by_mark.ensures.out

@@ -1,4 +1,5 @@
-use Rattle.std.proofs.Common.{◌≡◌, refl, subst}
+use Rattle.std.proofs.Common.{◌≡◌, inl, length, refl, subst}
+use Rattle.std.proofs.lemmas.Result.{on_err_weaker}
 use Rattle.bank_mirror.specs.Pairs.{Pair}
 use Rattle.bank_mirror.specs.Moments.{OfFirst, Leaves}
 use Rattle.bank_mirror.proofs.Moments.{TellsMoments, first_called}
@@ -22,3 +23,14 @@ returns-clause-moments g c told =
     let new : Pair _ _ = record { first = c.read_at-read.new.self; second = c.self.inside.second; past = c.and-past.result.items } in
     subst (λ (was : Pair _ _). Leaves g.A.Bank g.B.Bank was new (OfFirst (λ image. image ≡ g.A.Bank.now was.first) (g.B.Bank.now was.second))) c.self.view_is
     (first_called g.A.Bank g.B.Bank one two old new (λ image. image ≡ g.A.Bank.now old.first) c.and-past.ensures refl (c.read_at-read.ensures.moments told.0))
+
+pub returns-clause-last : goal.returns-clause-last
+returns-clause-last g c =
+    on_err_weaker c.read_at-read.result
+    (λ rose. record {
+      before = c.self.inside.past.items;
+      was = (c.self.inside.first, c.self.inside.second);
+      last = c.and-past.ensures;
+      failed = inl (rose.0, (λ told. (c.args.at, length c.args.into.now, c.read_at-read.ensures.bank_calls told)), refl);
+    })
+    c.read_at-read.ensures.failed

@@ -13,8 +13,8 @@ pub returns-in-Err-clause-back_moments : goal.returns-in-Err-clause-back_moments
 returns-in-Err-clause-back_moments g c told =
     let a = g.A.Bank in
     let b = g.B.Bank in
-    let ended = c.end-first.ensures in
-    let back : Pair _ _ = record { first = c.end-first.result.0; second = c.end-first.result.1; past = c.end-first.result.2.items } in
+    let ended = c.back_of.ensures in
+    let back : Pair _ _ = record { first = c.back_of.result.first; second = c.back_of.result.second; past = c.back_of.result.past.items } in
     let same : back ≡ c.open.new.self = λ i. record { first = ended.first i; second = ended.second i; past = ended.past i } in
     subst (λ (pair : Pair _ _). (image : List ℕ) → LeftSince a b pair 0 image → image ≡ pair_of (a.now c.args.first) (b.now c.args.second)) (sym same)
     (subst (λ (was : Pair _ _). (image : List ℕ) → LeftSince a b c.open.new.self (moment was) image → image ≡ bytes_of a b was) c.make-banks.ensures (c.open.ensures.moments told).each)

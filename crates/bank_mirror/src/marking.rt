@@ -1,0 +1,101 @@
+//! An opening in which the caller says which bank is the good one: the mark is set before anything is copied.
+
+ghost use Rattle.std.specs.Prelude.{◌≡◌, ◌⊎◌, true, false, length, OnOk, IfOk, IfErr};
+ghost use Rattle.tbl_kinds.specs.Numbers.{byte_at};
+ghost use Rattle.bank_mirror.specs.Pairs.{BothTell, BothTellMoments, bytes_of, front_of, is_marked};
+ghost use Rattle.bank_mirror.specs.Moments.{Leaves};
+ghost use Rattle.bank_mirror.specs.Counts.{GoesOn, SecondFailed};
+ghost use Rattle.bank_mirror.specs.BanksInUse.{IsHeld, IsExcused};
+ghost use Rattle.bank_mirror.specs.Openings.{OpenCounted, CallsCounted};
+
+use crate::banks::{Banks, STALE};
+use crate::copies::PIECE;
+use crate::in_use::InUse;
+use crate::opening::{OpenFault, Opened};
+use std::alloc::Global;
+use tbl_outside::{Bank, Failed, Written};
+
+impl<A: Bank, B: Bank> Banks<A, B> {
+    /// Sets the mark, unless it is set.
+    pub(crate) fn set_mark(&mut self) -> Result<(), OpenFault>
+        ensures marked { OnOk result (BothTell A.Bank B.Bank → is_marked A.Bank B.Bank self.new ≡ true) }
+        ensures front { BothTell A.Bank B.Bank → front_of A.Bank B.Bank self.new ≡ front_of A.Bank B.Bank self.old }
+        ensures other { self.new.first ≡ self.old.first }
+        ensures bytes { BothTell A.Bank B.Bank → bytes_of A.Bank B.Bank self.new ≡ bytes_of A.Bank B.Bank self.old
+            ⊎ bytes_of A.Bank B.Bank self.new ≡ front_of A.Bank B.Bank self.old }
+        ensures moments { BothTellMoments A.Bank B.Bank → Leaves A.Bank B.Bank self.old self.new
+            (λ image. image ≡ bytes_of A.Bank B.Bank self.old ⊎ image ≡ front_of A.Bank B.Bank self.old) }
+        ensures counted { IfErr result (CallsCounted A.Bank B.Bank (self.old.first, self.old.second) self.new) }
+        ensures goes_on { GoesOn A.Bank B.Bank self.old self.new }
+    {
+        match self.first_is_stale() {
+            Ok(true) => Ok(()),
+            Ok(false) => self.mark_stale(),
+            Err(Failed) => Err(OpenFault::Fault),
+        }
+    }
+
+    /// Sets the mark.
+    fn mark_stale(&mut self) -> Result<(), OpenFault>
+        ensures marked { OnOk result (BothTell A.Bank B.Bank → is_marked A.Bank B.Bank self.new ≡ true) }
+        ensures front { BothTell A.Bank B.Bank → front_of A.Bank B.Bank self.new ≡ front_of A.Bank B.Bank self.old }
+        ensures other { self.new.first ≡ self.old.first }
+        ensures moments { BothTellMoments A.Bank B.Bank → Leaves A.Bank B.Bank self.old self.new
+            (λ image. image ≡ A.now self.old.first ⊎ image ≡ front_of A.Bank B.Bank self.old) }
+        ensures counted { IfErr result (CallsCounted A.Bank B.Bank (self.old.first, self.old.second) self.new) }
+        ensures goes_on { GoesOn A.Bank B.Bank self.old self.new }
+    {
+        match self.write_mark(STALE) {
+            Written::Done => Ok(()),
+            Written::Failed => Err(OpenFault::Fault),
+            Written::Stopped => Err(OpenFault::Stopped),
+        }
+    }
+
+    /// Makes both hold the second's front. All memory that it needs is taken before the first call.
+    pub(crate) fn open_second(&mut self, alloc: Global) -> Result<Opened, OpenFault>
+        ensures held { IfOk result (λ opened. IsHeld A.Bank B.Bank opened.in_use self.new) }
+        ensures bytes { IfOk result (λ _. BothTell A.Bank B.Bank →
+            bytes_of A.Bank B.Bank self.new ≡ front_of A.Bank B.Bank self.old) }
+        ensures back_bytes { BothTell A.Bank B.Bank → bytes_of A.Bank B.Bank self.new ≡ bytes_of A.Bank B.Bank self.old
+            ⊎ bytes_of A.Bank B.Bank self.new ≡ front_of A.Bank B.Bank self.old }
+        ensures moments { BothTellMoments A.Bank B.Bank → Leaves A.Bank B.Bank self.old self.new
+            (λ image. image ≡ bytes_of A.Bank B.Bank self.old ⊎ image ≡ front_of A.Bank B.Bank self.old) }
+        ensures excuse { IfOk result (λ opened.
+            IsExcused A.Bank B.Bank opened.mark_failed (self.old.first, self.old.second) self.new opened.in_use) }
+        ensures mark { IfOk result (λ opened. opened.mark_failed ≡ true →
+            SecondFailed A.Bank B.Bank (self.old.first, self.old.second) self.new) }
+        ensures cleared { IfOk result (λ opened. BothTell A.Bank B.Bank → opened.in_use ≡ InUse.Both →
+            byte_at (length (A.now self.new.first)) (B.now self.new.second) ≡ 0) }
+        ensures counted { IfErr result (OpenCounted A.Bank B.Bank (self.old.first, self.old.second) self.new) }
+        ensures goes_on { GoesOn A.Bank B.Bank self.old self.new }
+    {
+        let mut buffer = vec![in alloc; 0; PIECE as usize]?;
+        self.agree_with_second(&mut buffer)
+    }
+
+    /// Sets the mark, and then makes both hold the second's front, by way of a buffer.
+    pub(crate) fn agree_with_second(&mut self, buffer: &mut [u8]) -> Result<Opened, OpenFault>
+        requires { length buffer.old ≡ PIECE }
+        ensures held { IfOk result (λ opened. IsHeld A.Bank B.Bank opened.in_use self.new) }
+        ensures bytes { IfOk result (λ _. BothTell A.Bank B.Bank →
+            bytes_of A.Bank B.Bank self.new ≡ front_of A.Bank B.Bank self.old) }
+        ensures back_bytes { BothTell A.Bank B.Bank → bytes_of A.Bank B.Bank self.new ≡ bytes_of A.Bank B.Bank self.old
+            ⊎ bytes_of A.Bank B.Bank self.new ≡ front_of A.Bank B.Bank self.old }
+        ensures moments { BothTellMoments A.Bank B.Bank → Leaves A.Bank B.Bank self.old self.new
+            (λ image. image ≡ bytes_of A.Bank B.Bank self.old ⊎ image ≡ front_of A.Bank B.Bank self.old) }
+        ensures excuse { IfOk result (λ opened.
+            IsExcused A.Bank B.Bank opened.mark_failed (self.old.first, self.old.second) self.new opened.in_use) }
+        ensures mark { IfOk result (λ opened. opened.mark_failed ≡ true →
+            SecondFailed A.Bank B.Bank (self.old.first, self.old.second) self.new) }
+        ensures cleared { IfOk result (λ opened. BothTell A.Bank B.Bank → opened.in_use ≡ InUse.Both →
+            byte_at (length (A.now self.new.first)) (B.now self.new.second) ≡ 0) }
+        ensures counted { IfErr result (CallsCounted A.Bank B.Bank (self.old.first, self.old.second) self.new) }
+        ensures goes_on { GoesOn A.Bank B.Bank self.old self.new }
+    {
+        match self.set_mark() {
+            Ok(()) => self.agree(buffer),
+            Err(fault) => Err(fault),
+        }
+    }
+}
