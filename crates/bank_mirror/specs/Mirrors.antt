@@ -9,7 +9,7 @@ use Rattle.bank_mirror.specs.Moments.{moment, LeftSince}
 use Rattle.bank_mirror.specs.Counts.{opening_of, IsSince, stops_of}
 use Rattle.bank_mirror.specs.BanksInUse.{IsHeld, IsExcused}
 
--- both, which of them is in, whether the opening's write of the mark failed, and how often a call failed
+-- both, which of them is in, whether the opening's write of the mark failed or it left one out, and how often a call failed
 pub record Mirrored (A B : Type 0) : Type 0 where
   pub pair : Pair A B
   pub in_use : InUse

@@ -2,15 +2,15 @@
 
 ghost use Rattle.std.specs.Prelude.{◌≡◌, ◌⊎◌, true, false, length, OnOk, IfOk, IfErr};
 ghost use Rattle.tbl_kinds.specs.Numbers.{byte_at};
-ghost use Rattle.bank_mirror.specs.Pairs.{BothTell, BothTellMoments, bytes_of, front_of, is_marked};
+ghost use Rattle.bank_mirror.specs.Pairs.{BothTell, BothTellMoments, AsWas, bytes_of, front_of, is_marked};
 ghost use Rattle.bank_mirror.specs.Moments.{Leaves};
 ghost use Rattle.bank_mirror.specs.Counts.{GoesOn, SecondFailed};
-ghost use Rattle.bank_mirror.specs.BanksInUse.{IsHeld, IsExcused};
+ghost use Rattle.bank_mirror.specs.BanksInUse.{IsHeld, IsExcused, in_use_alone, bytes_alone, OtherIsLeft};
 ghost use Rattle.bank_mirror.specs.Openings.{OpenCounted, CallsCounted};
 
 use crate::banks::{Banks, STALE};
 use crate::copies::PIECE;
-use crate::in_use::InUse;
+use crate::in_use::{Alone, InUse};
 use crate::opening::{OpenFault, Opened};
 use std::alloc::Global;
 use tbl_outside::{Bank, Failed, Written};
@@ -96,6 +96,33 @@ impl<A: Bank, B: Bank> Banks<A, B> {
         match self.set_mark() {
             Ok(()) => self.agree(buffer),
             Err(fault) => Err(fault),
+        }
+    }
+
+    /// Leaves one of both out, so that the other one goes on alone.
+    pub(crate) fn leave_out(&mut self, alone: Alone) -> Result<InUse, OpenFault>
+        requires fresh { alone ≡ Alone.First → BothTell A.Bank B.Bank → is_marked A.Bank B.Bank self.old ≡ false }
+        ensures in_use { IfOk result (λ in_use. in_use ≡ in_use_alone alone) }
+        ensures held { IfOk result (λ in_use. IsHeld A.Bank B.Bank in_use self.new) }
+        ensures bytes { IfOk result (λ _. BothTell A.Bank B.Bank →
+            bytes_of A.Bank B.Bank self.new ≡ bytes_alone alone (A.now self.old.first) (B.now self.old.second)) }
+        ensures back_bytes { BothTell A.Bank B.Bank →
+            AsWas A.Bank B.Bank self.old.first self.old.second (bytes_alone alone (A.now self.old.first) (B.now self.old.second))
+            (bytes_of A.Bank B.Bank self.new) }
+        ensures moments { BothTellMoments A.Bank B.Bank → Leaves A.Bank B.Bank self.old self.new
+            (AsWas A.Bank B.Bank self.old.first self.old.second
+                (bytes_alone alone (A.now self.old.first) (B.now self.old.second))) }
+        ensures left { OtherIsLeft alone self.old.first self.old.second self.new }
+        ensures first { alone ≡ Alone.First → IfErr result (λ _. ⊥) }
+        ensures counted { IfErr result (CallsCounted A.Bank B.Bank (self.old.first, self.old.second) self.new) }
+        ensures goes_on { GoesOn A.Bank B.Bank self.old self.new }
+    {
+        match alone {
+            Alone::First => Ok(InUse::SecondOut),
+            Alone::Second => match self.set_mark() {
+                Ok(()) => Ok(InUse::FirstOut),
+                Err(fault) => Err(fault),
+            },
         }
     }
 }

@@ -8,12 +8,12 @@ ghost use Rattle.bank_mirror.specs.Pairs.{BothTell, BothTellMoments, AsWas, is_s
 ghost use Rattle.bank_mirror.specs.Moments.{LeftSince};
 ghost use Rattle.bank_mirror.specs.Counts.{SecondFailed, OneFailed, IsSince, MayFail, opening_of};
 ghost use Rattle.bank_mirror.specs.LastCalls.{LastReadFailed};
-ghost use Rattle.bank_mirror.specs.Openings.{OpenCounted};
-ghost use Rattle.bank_mirror.specs.BanksInUse.{IsHeld, IsExcused, LeavesOut};
+ghost use Rattle.bank_mirror.specs.Openings.{OpenCounted, CallsCounted};
+ghost use Rattle.bank_mirror.specs.BanksInUse.{IsHeld, IsExcused, LeavesOut, in_use_alone, bytes_alone, OtherIsLeft};
 ghost use Rattle.bank_mirror.specs.Mirrors.{moment_of, LeftSinceOf, faults_of, stops_in, fails, SameOpening};
 
 use crate::banks::Banks;
-use crate::in_use::InUse;
+use crate::in_use::{Alone, InUse};
 use crate::opening::OpenFault;
 use http_server::Log;
 use std::alloc::Global;
@@ -147,6 +147,51 @@ impl<A: Bank, B: Bank> Mirror<A, B> {
                 banks,
                 in_use: opened.in_use,
                 mark_failed: opened.mark_failed,
+                faults: 0,
+            }),
+            Err(cause) => Err(back_of(banks, cause)),
+        }
+    }
+
+    /// Opens two banks as one of which one goes on alone, as the other doesn't answer. The second alone is marked as the good
+    /// one first. The first alone needs no call, and may be taken only if the mark isn't set: the second can't be asked. So
+    /// the next opening of both copies the one that went on over the other. Each failure of the one that goes on is told.
+    pub fn open_alone(first: A, second: B, alone: Alone) -> Result<Mirror<A, B>, OpenBack<A, B>>
+        requires room { A.size first < B.size second }
+        requires fresh { alone ≡ Alone.First → BothTell A.Bank B.Bank →
+            is_stale (length (A.now first)) (B.now second) ≡ false }
+        ensures bytes { IfOk result (λ m. BothTell A.Bank B.Bank →
+            bytes_of A.Bank B.Bank m.pair ≡ bytes_alone alone (A.now first) (B.now second)) }
+        ensures in_use { IfOk result (λ m. m.in_use ≡ in_use_alone alone) }
+        ensures held { IfOk result (λ m. IsHeld A.Bank B.Bank m.in_use m.pair) }
+        ensures moments { IfOk result (λ m. BothTellMoments A.Bank B.Bank → (image : List ℕ) →
+            LeftSince A.Bank B.Bank m.pair 0 image →
+            AsWas A.Bank B.Bank first second (bytes_alone alone (A.now first) (B.now second)) image) }
+        ensures left { IfOk result (λ m. OtherIsLeft alone first second m.pair) }
+        ensures opening { IfOk result (λ m. opening_of m.pair ≡ (first, second)) }
+        ensures mark { IfOk result (λ m. m.mark_failed ≡ true) }
+        ensures faults { IfOk result (λ m. m.faults ≡ 0) }
+        ensures size { IfOk result (λ m. A.size m.pair.first ≡ A.size first) }
+        ensures counts { IfOk result (λ m. IsSince A.Bank B.Bank (first, second) m.pair) }
+
+        ensures first { alone ≡ Alone.First → IfErr result (λ _. ⊥) }
+        ensures back_bytes { IfErr result (λ back. BothTell A.Bank B.Bank →
+            AsWas A.Bank B.Bank first second (bytes_alone alone (A.now first) (B.now second))
+            (pair_of (A.now back.first) (B.now back.second))) }
+        ensures back_moments { IfErr result (λ back. BothTellMoments A.Bank B.Bank → (image : List ℕ) →
+            LeftSince A.Bank B.Bank (record { first = back.first; second = back.second; past = back.past.items }) 0 image →
+            AsWas A.Bank B.Bank first second (bytes_alone alone (A.now first) (B.now second)) image) }
+        ensures back_first { IfErr result (λ back. back.first ≡ first) }
+        ensures back_sizes { IfErr result (λ back. A.size back.first ≡ A.size first × B.size back.second ≡ B.size second) }
+        ensures counted { IfErr result (λ back. CallsCounted A.Bank B.Bank (first, second)
+            (record { first = back.first; second = back.second; past = back.past.items }) back.cause) }
+    {
+        let mut banks = Banks::make(first, second);
+        match banks.leave_out(alone) {
+            Ok(in_use) => Ok(Mirror {
+                banks,
+                in_use,
+                mark_failed: true,
                 faults: 0,
             }),
             Err(cause) => Err(back_of(banks, cause)),
