@@ -8,11 +8,11 @@ use Rattle.tbl_outside.proofs.Counts.{Rose-since, Rose-until}
 use Rattle.bank_mirror.specs.declared.in_use.InUse.{InUse}
 use Rattle.bank_mirror.specs.declared.in_use.InUse.TheVariants.{Both, FirstOut, SecondOut, Unread}
 use Rattle.bank_mirror.specs.Pairs.{Pair}
-use Rattle.bank_mirror.specs.Counts.{FirstFailed, SecondFailed, OneStopped, IsSince, GoesOn, MayFail, WriteCounted, FirstBroke, SecondBroke}
+use Rattle.bank_mirror.specs.Counts.{FirstFailed, SecondFailed, OneFailed, OneStopped, BothStill, IsSince, GoesOn, MayFail, WriteCounted, FirstBroke, SecondBroke}
 use Rattle.bank_mirror.specs.BanksInUse.{IsExcused}
 use Rattle.bank_mirror.specs.declared.opening.OpenFault.{OpenFault}
-use Rattle.bank_mirror.specs.declared.opening.OpenFault.TheVariants.{Fault, Stopped as OpenStopped, Memory}
-use Rattle.bank_mirror.specs.Openings.{OpenCounted, CallsCounted}
+use Rattle.bank_mirror.specs.declared.opening.OpenFault.TheVariants.{Fault, Stopped as OpenStopped, Memory, Blank}
+use Rattle.bank_mirror.specs.Openings.{OpenCounted, CallsCounted, CheckCounted}
 
 module _ {A B : Type 0} (a : Ghosts A) (b : Ghosts B) where
   pub goes_twice : (old mid new : Pair A B) → GoesOn a b old mid → GoesOn a b mid new → GoesOn a b old new
@@ -124,8 +124,23 @@ module _ {A B : Type 0} (a : Ghosts A) (b : Ghosts B) where
   calls_counted opening mid new Fault since counted = ⊎_elim (λ rose. inl (first_fails opening mid new since rose)) (λ rose. inr (second_fails opening mid new since rose)) counted
   calls_counted opening mid new OpenStopped since counted = one_stops opening mid new since counted
   calls_counted opening mid new Memory since counted = absurd counted
+  calls_counted opening mid new Blank since counted = absurd counted
 
   pub open_counted : (opening : A × B) (new : Pair A B) (fault : OpenFault) → CallsCounted a b opening new fault → OpenCounted a b opening new fault
   open_counted opening new Fault counted = counted
   open_counted opening new OpenStopped counted = counted
   open_counted opening new Memory counted = absurd counted
+  open_counted opening new Blank counted = absurd counted
+
+  pub check_counted : (opening : A × B) (new : Pair A B) (fault : OpenFault) → CallsCounted a b opening new fault → CheckCounted a b opening new fault
+  check_counted opening new Fault counted = counted
+  check_counted opening new OpenStopped counted = counted
+  check_counted opening new Memory counted = absurd counted
+  check_counted opening new Blank counted = absurd counted
+
+  -- two calls in a row, one of which failed, or neither of which did anything to the counts
+  pub fails_since : (opening : A × B) (mid new : Pair A B) → IsSince a b opening mid → OneFailed a b (mid.first, mid.second) new → OneFailed a b opening new
+  fails_since opening mid new since failed = ⊎_elim (λ rose. inl (first_fails opening mid new since rose)) (λ rose. inr (second_fails opening mid new since rose)) failed
+
+  pub still_twice : (was : A × B) (mid new : Pair A B) → BothStill a b was mid → BothStill a b (mid.first, mid.second) new → BothStill a b was new
+  still_twice was mid new one two = ((two.0.0 ∙ one.0.0, two.0.1 ∙ one.0.1), (two.1.0 ∙ one.1.0, two.1.1 ∙ one.1.1))

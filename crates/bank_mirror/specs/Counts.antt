@@ -3,7 +3,7 @@ use Rattle.std.specs.Prelude.{◌≡◌, ◌⊎◌, ℕ, ◌+◌, ◌-◌, ◌^�
 use Rattle.tbl_outside.specs.declared.bank.Bank.{Ghosts}
 use Rattle.tbl_outside.specs.declared.bank.Written.{Written}
 use Rattle.tbl_outside.specs.declared.bank.Written.TheVariants.{Done, Failed, Stopped}
-use Rattle.tbl_outside.specs.Counts.{Rose}
+use Rattle.tbl_outside.specs.Counts.{Rose, Still}
 use Rattle.bank_mirror.specs.Pairs.{Pair}
 use Rattle.bank_mirror.specs.Moments.{first_of}
 
@@ -32,6 +32,10 @@ module _ {A B : Type 0} (a : Ghosts A) (b : Ghosts B) where
   -- neither was stopped
   abbrev pub SameStops : A × B → Pair A B → Type 0
   SameStops was pair = (a.stops pair.first ≡ a.stops was.0) × (b.stops pair.second ≡ b.stops was.1)
+
+  -- neither failed nor was stopped
+  abbrev pub BothStill : A × B → Pair A B → Type 0
+  BothStill was pair = Still a.faults a.stops was.0 pair.first × Still b.faults b.stops was.1 pair.second
 
   -- no count fell
   pub record IsSince (was : A × B) (pair : Pair A B) : Type 0 where

@@ -4,5 +4,6 @@ pub mod Counts
 pub mod LastCalls
 pub mod BanksInUse
 pub mod Mirrors
+pub mod Checks
 pub mod Openings
 pub mod Laws

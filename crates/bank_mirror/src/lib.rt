@@ -3,6 +3,7 @@
 #![tactic(auto)]
 
 mod banks;
+mod checks;
 mod copies;
 mod in_use;
 mod marking;

@@ -8,7 +8,8 @@ ghost use Rattle.bank_mirror.specs.Pairs.{BothTell, BothTellMoments, AsWas, is_s
 ghost use Rattle.bank_mirror.specs.Moments.{LeftSince};
 ghost use Rattle.bank_mirror.specs.Counts.{SecondFailed, OneFailed, IsSince, MayFail, opening_of};
 ghost use Rattle.bank_mirror.specs.LastCalls.{LastReadFailed};
-ghost use Rattle.bank_mirror.specs.Openings.{OpenCounted, CallsCounted};
+ghost use Rattle.bank_mirror.specs.Openings.{OpenCounted, CallsCounted, CheckCounted};
+ghost use Rattle.bank_mirror.specs.Checks.{loses_store};
 ghost use Rattle.bank_mirror.specs.BanksInUse.{IsHeld, IsExcused, LeavesOut, in_use_alone, bytes_alone, OtherIsLeft};
 ghost use Rattle.bank_mirror.specs.Mirrors.{moment_of, LeftSinceOf, faults_of, stops_in, fails, SameOpening};
 
@@ -101,6 +102,65 @@ impl<A: Bank, B: Bank> Mirror<A, B> {
     {
         let mut banks = Banks::make(first, second);
         match banks.open(alloc) {
+            Ok(opened) => Ok(Mirror {
+                banks,
+                in_use: opened.in_use,
+                mark_failed: opened.mark_failed,
+                faults: 0,
+            }),
+            Err(cause) => Err(back_of(banks, cause)),
+        }
+    }
+
+    /// Opens two banks as one, as `open` does, unless the first is blank and the second has a live store: the first one's bytes
+    /// would be copied over the store. It answers `Blank` then and hands both back as they were. Take it at each start, with the
+    /// mark that a live store begins with (`LIVE_MARK` of `cds_layout`).
+    pub fn open_checked(
+        alloc: Global,
+        first: A,
+        second: B,
+        live_mark: &[u8; 3],
+    ) -> Result<Mirror<A, B>, OpenBack<A, B>>
+        requires room { A.size first < B.size second }
+        requires front { 3 ≤ A.size first }
+        ensures bytes { IfOk result (λ m. BothTell A.Bank B.Bank →
+            bytes_of A.Bank B.Bank m.pair ≡ pair_of (A.now first) (B.now second)) }
+        ensures held { IfOk result (λ m. IsHeld A.Bank B.Bank m.in_use m.pair) }
+        ensures moments { IfOk result (λ m. BothTellMoments A.Bank B.Bank → (image : List ℕ) →
+            LeftSince A.Bank B.Bank m.pair 0 image → image ≡ pair_of (A.now first) (B.now second)) }
+        ensures opening { IfOk result (λ m. opening_of m.pair ≡ (first, second)) }
+        ensures excuse { IfOk result (λ m. IsExcused A.Bank B.Bank m.mark_failed (first, second) m.pair m.in_use) }
+        ensures mark { IfOk result (λ m. m.mark_failed ≡ true → SecondFailed A.Bank B.Bank (first, second) m.pair) }
+        ensures unmarked { IfOk result (λ m. BothTell A.Bank B.Bank →
+            is_stale (length (A.now first)) (B.now second) ≡ false → m.mark_failed ≡ false) }
+        ensures cleared { IfOk result (λ m. BothTell A.Bank B.Bank →
+            is_stale (length (A.now first)) (B.now second) ≡ true → m.in_use ≡ InUse.Both →
+            byte_at (length (A.now m.pair.first)) (B.now m.pair.second) ≡ 0) }
+        ensures faults { IfOk result (λ m. m.faults ≡ 0) }
+        ensures size { IfOk result (λ m. A.size m.pair.first ≡ A.size first) }
+        ensures counts { IfOk result (λ m. IsSince A.Bank B.Bank (first, second) m.pair) }
+
+        // It opens both unless a blank first would be copied over a store, and in that case it writes to neither.
+        ensures keeps { IfOk result (λ m. BothTell A.Bank B.Bank →
+            loses_store live_mark.now (A.now first) (B.now second) ≡ false) }
+        ensures blank { IfErr result (λ back. back.cause ≡ OpenFault.Blank → BothTell A.Bank B.Bank →
+            loses_store live_mark.now (A.now first) (B.now second) ≡ true) }
+        ensures untouched { IfErr result (λ back. back.cause ≡ OpenFault.Blank → BothTell A.Bank B.Bank →
+            (A.now back.first ≡ A.now first) × (B.now back.second ≡ B.now second)) }
+
+        ensures back_bytes { IfErr result (λ back. BothTell A.Bank B.Bank →
+            pair_of (A.now back.first) (B.now back.second) ≡ pair_of (A.now first) (B.now second)) }
+        ensures back_moments { IfErr result (λ back. BothTellMoments A.Bank B.Bank → (image : List ℕ) →
+            LeftSince A.Bank B.Bank (record { first = back.first; second = back.second; past = back.past.items }) 0 image →
+            image ≡ pair_of (A.now first) (B.now second)) }
+        ensures back_sizes { IfErr result (λ back. A.size back.first ≡ A.size first × B.size back.second ≡ B.size second) }
+        ensures counted { IfErr result (λ back. CheckCounted A.Bank B.Bank (first, second)
+            (record { first = back.first; second = back.second; past = back.past.items }) back.cause) }
+        ensures last { IfErr result (λ back. back.cause ≡ OpenFault.Fault → LastReadFailed A.Bank B.Bank
+            (record { first = back.first; second = back.second; past = back.past.items })) }
+    {
+        let mut banks = Banks::make(first, second);
+        match banks.open_checked(alloc, live_mark) {
             Ok(opened) => Ok(Mirror {
                 banks,
                 in_use: opened.in_use,

@@ -28,6 +28,10 @@ pub enum OpenFault {
     /// Memory ran out. Neither bank was called.
     #[error("out of memory")]
     Memory,
+    /// The first bank is blank and the second has a live store, over which it would be copied. Only `Mirror::open_checked`
+    /// answers so.
+    #[error("the first bank is blank")]
+    Blank,
 }
 
 impl From<AllocError> for OpenFault {

@@ -1,0 +1,161 @@
+//! An opening that looks first, and doesn't copy a blank first bank over a live store in the second.
+
+ghost use Rattle.std.specs.Prelude.{◌≡◌, ◌≤◌, ◌&&◌, true, false, length, OnOk, OnErr, IfOk, IfErr};
+ghost use Rattle.tbl_kinds.specs.Numbers.{byte_at};
+ghost use Rattle.bank_mirror.specs.Pairs.{BothTell, BothTellMoments, bytes_of, is_marked, SameBytes};
+ghost use Rattle.bank_mirror.specs.Moments.{Leaves};
+ghost use Rattle.bank_mirror.specs.Counts.{GoesOn, OneFailed, SecondFailed, BothStill};
+ghost use Rattle.bank_mirror.specs.LastCalls.{LastReadFailed};
+ghost use Rattle.bank_mirror.specs.BanksInUse.{IsHeld, IsExcused};
+ghost use Rattle.bank_mirror.specs.Openings.{CheckCounted};
+ghost use Rattle.bank_mirror.specs.Checks.{is_blank, is_live, loses_store};
+
+use crate::banks::Banks;
+use crate::copies::PIECE;
+use crate::in_use::InUse;
+use crate::opening::{OpenFault, Opened};
+use std::alloc::Global;
+use tbl_outside::{Bank, Failed};
+
+impl<A: Bank, B: Bank> Banks<A, B> {
+    /// Reads whether the first is blank.
+    fn first_is_blank(&mut self) -> Result<bool, Failed>
+        requires room { 3 ≤ A.size self.old.first }
+        ensures blank { IfOk result (λ blank. BothTell A.Bank B.Bank → blank ≡ is_blank (A.now self.old.first)) }
+        ensures kept { SameBytes A.Bank B.Bank self.old self.new }
+        ensures moments { BothTellMoments A.Bank B.Bank → Leaves A.Bank B.Bank self.old self.new
+            (λ image. image ≡ bytes_of A.Bank B.Bank self.old) }
+        ensures done { OnOk result (BothStill A.Bank B.Bank (self.old.first, self.old.second) self.new) }
+        ensures failed { OnErr result (OneFailed A.Bank B.Bank (self.old.first, self.old.second) self.new) }
+        ensures last { OnErr result (LastReadFailed A.Bank B.Bank self.new) }
+        ensures goes_on { GoesOn A.Bank B.Bank self.old self.new }
+    {
+        let mut front = [0; 3];
+        match self.read_first(0, &mut front) {
+            Ok(()) => Ok(front[0] == front[1] && front[0] == front[2]),
+            Err(Failed) => Err(Failed),
+        }
+    }
+
+    /// Reads whether the second begins with the mark of a live store.
+    fn second_is_live(&mut self, live_mark: &[u8; 3]) -> Result<bool, Failed>
+        requires room { 3 ≤ A.size self.old.first }
+        ensures live { IfOk result (λ live. BothTell A.Bank B.Bank → live ≡ is_live live_mark.now (B.now self.old.second)) }
+        ensures kept { SameBytes A.Bank B.Bank self.old self.new }
+        ensures moments { BothTellMoments A.Bank B.Bank → Leaves A.Bank B.Bank self.old self.new
+            (λ image. image ≡ bytes_of A.Bank B.Bank self.old) }
+        ensures done { OnOk result (BothStill A.Bank B.Bank (self.old.first, self.old.second) self.new) }
+        ensures failed { OnErr result (OneFailed A.Bank B.Bank (self.old.first, self.old.second) self.new) }
+        ensures last { OnErr result (LastReadFailed A.Bank B.Bank self.new) }
+        ensures goes_on { GoesOn A.Bank B.Bank self.old self.new }
+    {
+        let mut front = [0; 3];
+        match self.read_second(0, &mut front) {
+            Ok(()) => Ok(front.as_slice() == live_mark.as_slice()),
+            Err(Failed) => Err(Failed),
+        }
+    }
+
+    /// Reads whether the first is blank and the second has a live store.
+    fn is_blank_over_live(&mut self, live_mark: &[u8; 3]) -> Result<bool, Failed>
+        requires room { 3 ≤ A.size self.old.first }
+        ensures is { IfOk result (λ it. BothTell A.Bank B.Bank →
+            it ≡ (is_blank (A.now self.old.first) && is_live live_mark.now (B.now self.old.second))) }
+        ensures kept { SameBytes A.Bank B.Bank self.old self.new }
+        ensures moments { BothTellMoments A.Bank B.Bank → Leaves A.Bank B.Bank self.old self.new
+            (λ image. image ≡ bytes_of A.Bank B.Bank self.old) }
+        ensures done { OnOk result (BothStill A.Bank B.Bank (self.old.first, self.old.second) self.new) }
+        ensures failed { OnErr result (OneFailed A.Bank B.Bank (self.old.first, self.old.second) self.new) }
+        ensures last { OnErr result (LastReadFailed A.Bank B.Bank self.new) }
+        ensures goes_on { GoesOn A.Bank B.Bank self.old self.new }
+    {
+        match self.first_is_blank() {
+            Ok(true) => self.second_is_live(live_mark),
+            Ok(false) => Ok(false),
+            Err(Failed) => Err(Failed),
+        }
+    }
+
+    /// Reads whether an opening would copy a blank first over a live store in the second.
+    fn loses_store(&mut self, live_mark: &[u8; 3]) -> Result<bool, Failed>
+        requires room { 3 ≤ A.size self.old.first }
+        ensures loses { IfOk result (λ loses. BothTell A.Bank B.Bank →
+            loses ≡ loses_store live_mark.now (A.now self.old.first) (B.now self.old.second)) }
+        ensures kept { SameBytes A.Bank B.Bank self.old self.new }
+        ensures moments { BothTellMoments A.Bank B.Bank → Leaves A.Bank B.Bank self.old self.new
+            (λ image. image ≡ bytes_of A.Bank B.Bank self.old) }
+        ensures done { OnOk result (BothStill A.Bank B.Bank (self.old.first, self.old.second) self.new) }
+        ensures failed { OnErr result (OneFailed A.Bank B.Bank (self.old.first, self.old.second) self.new) }
+        ensures last { OnErr result (LastReadFailed A.Bank B.Bank self.new) }
+        ensures goes_on { GoesOn A.Bank B.Bank self.old self.new }
+    {
+        match self.first_is_stale() {
+            Ok(true) => Ok(false),
+            Ok(false) => self.is_blank_over_live(live_mark),
+            Err(Failed) => Err(Failed),
+        }
+    }
+
+    /// Makes both hold what they hold together, unless a store would be lost by that, by way of a buffer.
+    fn agree_checked(&mut self, buffer: &mut [u8], live_mark: &[u8; 3]) -> Result<Opened, OpenFault>
+        requires buffer { length buffer.old ≡ PIECE }
+        requires room { 3 ≤ A.size self.old.first }
+        ensures held { IfOk result (λ opened. IsHeld A.Bank B.Bank opened.in_use self.new) }
+        ensures bytes { BothTell A.Bank B.Bank → bytes_of A.Bank B.Bank self.new ≡ bytes_of A.Bank B.Bank self.old }
+        ensures moments { BothTellMoments A.Bank B.Bank → Leaves A.Bank B.Bank self.old self.new
+            (λ image. image ≡ bytes_of A.Bank B.Bank self.old) }
+        ensures excuse { IfOk result (λ opened.
+            IsExcused A.Bank B.Bank opened.mark_failed (self.old.first, self.old.second) self.new opened.in_use) }
+        ensures mark { IfOk result (λ opened. opened.mark_failed ≡ true →
+            SecondFailed A.Bank B.Bank (self.old.first, self.old.second) self.new) }
+        ensures unmarked { IfOk result (λ opened. BothTell A.Bank B.Bank →
+            is_marked A.Bank B.Bank self.old ≡ false → opened.mark_failed ≡ false) }
+        ensures cleared { IfOk result (λ opened. BothTell A.Bank B.Bank →
+            is_marked A.Bank B.Bank self.old ≡ true → opened.in_use ≡ InUse.Both →
+            byte_at (length (A.now self.new.first)) (B.now self.new.second) ≡ 0) }
+        ensures keeps { IfOk result (λ opened. BothTell A.Bank B.Bank →
+            loses_store live_mark.now (A.now self.old.first) (B.now self.old.second) ≡ false) }
+        ensures blank { IfErr result (λ fault. fault ≡ OpenFault.Blank → BothTell A.Bank B.Bank →
+            loses_store live_mark.now (A.now self.old.first) (B.now self.old.second) ≡ true) }
+        ensures untouched { IfErr result (λ fault. fault ≡ OpenFault.Blank → SameBytes A.Bank B.Bank self.old self.new) }
+        ensures last { IfErr result (λ fault. fault ≡ OpenFault.Fault → LastReadFailed A.Bank B.Bank self.new) }
+        ensures counted { IfErr result (CheckCounted A.Bank B.Bank (self.old.first, self.old.second) self.new) }
+        ensures goes_on { GoesOn A.Bank B.Bank self.old self.new }
+    {
+        match self.loses_store(live_mark) {
+            Ok(true) => Err(OpenFault::Blank),
+            Ok(false) => self.agree(buffer),
+            Err(Failed) => Err(OpenFault::Fault),
+        }
+    }
+
+    /// Makes both hold what they hold together, unless a store would be lost by that. All memory that it needs is taken
+    /// before the first call.
+    pub(crate) fn open_checked(&mut self, alloc: Global, live_mark: &[u8; 3]) -> Result<Opened, OpenFault>
+        requires room { 3 ≤ A.size self.old.first }
+        ensures held { IfOk result (λ opened. IsHeld A.Bank B.Bank opened.in_use self.new) }
+        ensures bytes { BothTell A.Bank B.Bank → bytes_of A.Bank B.Bank self.new ≡ bytes_of A.Bank B.Bank self.old }
+        ensures moments { BothTellMoments A.Bank B.Bank → Leaves A.Bank B.Bank self.old self.new
+            (λ image. image ≡ bytes_of A.Bank B.Bank self.old) }
+        ensures excuse { IfOk result (λ opened.
+            IsExcused A.Bank B.Bank opened.mark_failed (self.old.first, self.old.second) self.new opened.in_use) }
+        ensures mark { IfOk result (λ opened. opened.mark_failed ≡ true →
+            SecondFailed A.Bank B.Bank (self.old.first, self.old.second) self.new) }
+        ensures unmarked { IfOk result (λ opened. BothTell A.Bank B.Bank →
+            is_marked A.Bank B.Bank self.old ≡ false → opened.mark_failed ≡ false) }
+        ensures cleared { IfOk result (λ opened. BothTell A.Bank B.Bank →
+            is_marked A.Bank B.Bank self.old ≡ true → opened.in_use ≡ InUse.Both →
+            byte_at (length (A.now self.new.first)) (B.now self.new.second) ≡ 0) }
+        ensures keeps { IfOk result (λ opened. BothTell A.Bank B.Bank →
+            loses_store live_mark.now (A.now self.old.first) (B.now self.old.second) ≡ false) }
+        ensures blank { IfErr result (λ fault. fault ≡ OpenFault.Blank → BothTell A.Bank B.Bank →
+            loses_store live_mark.now (A.now self.old.first) (B.now self.old.second) ≡ true) }
+        ensures untouched { IfErr result (λ fault. fault ≡ OpenFault.Blank → SameBytes A.Bank B.Bank self.old self.new) }
+        ensures last { IfErr result (λ fault. fault ≡ OpenFault.Fault → LastReadFailed A.Bank B.Bank self.new) }
+        ensures counted { IfErr result (CheckCounted A.Bank B.Bank (self.old.first, self.old.second) self.new) }
+        ensures goes_on { GoesOn A.Bank B.Bank self.old self.new }
+    {
+        let mut buffer = vec![in alloc; 0; PIECE as usize]?;
+        self.agree_checked(&mut buffer, live_mark)
+    }
+}
