@@ -131,7 +131,11 @@ impl<A: Bank, B: Bank> Banks<A, B> {
 
     /// Makes both hold what they hold together, unless a store would be lost by that. All memory that it needs is taken
     /// before the first call.
-    pub(crate) fn open_checked(&mut self, alloc: Global, live_mark: &[u8; 3]) -> Result<Opened, OpenFault>
+    pub(crate) fn open_checked(
+        &mut self,
+        alloc: Global,
+        live_mark: &[u8; 3],
+    ) -> Result<Opened, OpenFault>
         requires room { 3 ≤ A.size self.old.first }
         ensures held { IfOk result (λ opened. IsHeld A.Bank B.Bank opened.in_use self.new) }
         ensures bytes { BothTell A.Bank B.Bank → bytes_of A.Bank B.Bank self.new ≡ bytes_of A.Bank B.Bank self.old }

@@ -111,7 +111,7 @@ impl<A: Bank, B: Bank> Banks<A, B> {
             (bytes_of A.Bank B.Bank self.new) }
         ensures moments { BothTellMoments A.Bank B.Bank → Leaves A.Bank B.Bank self.old self.new
             (AsWas A.Bank B.Bank self.old.first self.old.second
-                (bytes_alone alone (A.now self.old.first) (B.now self.old.second))) }
+            (bytes_alone alone (A.now self.old.first) (B.now self.old.second))) }
         ensures left { OtherIsLeft alone self.old.first self.old.second self.new }
         ensures first { alone ≡ Alone.First → IfErr result (λ _. ⊥) }
         ensures counted { IfErr result (CallsCounted A.Bank B.Bank (self.old.first, self.old.second) self.new) }

@@ -1,4 +1,4 @@
-use Rattle.std.proofs.Common.{◌≡◌, length, sym, ◌∙◌, ap, subst}
+use Rattle.std.proofs.Common.{◌≡◌, length, sym, ◌∙◌, subst}
 use Rattle.std.proofs.lemmas.Result.{IfOk-weaker, IfErr-weaker}
 use Rattle.tbl_outside.proofs.Counts.{Rose-since}
 use Rattle.bank_mirror.specs.Pairs.{BothTell, is_stale, is_marked, bytes_of}

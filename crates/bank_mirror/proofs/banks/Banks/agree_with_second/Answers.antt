@@ -1,8 +1,8 @@
-use Rattle.std.proofs.Common.{◌≡◌, inl, inr, ⊎_elim, ◌∙◌}
+use Rattle.std.proofs.Common.{inl, inr, ⊎_elim, ◌∙◌}
 use Rattle.std.proofs.lemmas.Result.{IfOk-weaker, IfErr-weaker}
 use Rattle.tbl_outside.proofs.Counts.{Rose-since}
 use Rattle.tbl_outside.proofs.Moments.{goes_on}
-use Rattle.bank_mirror.specs.Pairs.{BothTell, bytes_of, front_of}
+use Rattle.bank_mirror.specs.Pairs.{BothTell}
 use Rattle.bank_mirror.proofs.Bytes.{pair-stale}
 use Rattle.bank_mirror.proofs.Excuses.{excused_since, calls_counted}
 use Rattle.bank_mirror.proofs.banks.Banks.agree_with_second.Goals as goal

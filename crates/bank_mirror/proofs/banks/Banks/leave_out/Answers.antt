@@ -1,6 +1,6 @@
 use Rattle.std.proofs.Common.{◌≡◌, inl, refl, sym, ◌∙◌, ap, subst}
 use Rattle.tbl_outside.proofs.Moments.{leaves_among}
-use Rattle.bank_mirror.specs.Pairs.{BothTell, AsWas, bytes_of}
+use Rattle.bank_mirror.specs.Pairs.{AsWas, bytes_of}
 use Rattle.bank_mirror.specs.Moments.{Leaves}
 use Rattle.bank_mirror.specs.BanksInUse.{in_use_alone, bytes_alone, OtherIsLeft}
 use Rattle.bank_mirror.proofs.Bytes.{pair-fresh, pair-stale}
