@@ -1,7 +1,7 @@
-//! A session over two banks as one, the first of which dies in one write after the other: both are opened anew afterwards, and
-//! what comes back then in each critical table is told.
+//! A session over two banks as one, of which one fails in a write, in its reads, or at the start: both are opened again
+//! afterwards, and what comes back then in each critical table is told.
 
-ghost use Rattle.std.specs.Prelude.{◌≡◌, ◌+◌, ◌<◌, ◌≤◌, length, IfOk};
+ghost use Rattle.std.specs.Prelude.{◌≡◌, ◌+◌, ◌<◌, ◌≤◌, ◌^◌, length, IfOk};
 ghost use Rattle.tbl_kinds.specs.Places.{bank_size};
 ghost use Rattle.tbl_core.specs.Service.{AskedBelow};
 ghost use Rattle.shipped_kit.specs.Verdicts.{asked_of};
@@ -11,7 +11,7 @@ use crate::play::{Fault, Left, MOST_ENTRIES, Room, left_in, shipped, step_all};
 use crate::recovery::come_back;
 use crate::tables::{Back, Table};
 use crate::tries::Runs;
-use bank_mirror::Mirror;
+use bank_mirror::{Alone, Mirror, STALE};
 use cds_layout::BANK_SIZE;
 use shipped_kit::Shipped;
 use std::alloc::Global;
@@ -23,6 +23,12 @@ use validation::Kit;
 /// How many writes the copy of an opening makes at most.
 const COPIES: u32 = 128;
 
+/// How many reads of the one bank and writes of the other the copy of an opening makes: a piece has 4,096 bytes.
+const PIECES: u32 = BANK_SIZE / 4_096;
+
+/// How many reads of a bank fail.
+const BAD_READS: usize = 4_096;
+
 /// Two banks in memory as one.
 type Both = Mirror<MemBank, MemBank>;
 
@@ -33,32 +39,160 @@ struct Apart {
     second: MemBank,
 }
 
+/// What goes wrong with two banks as one.
+#[derive(Clone, Copy)]
+pub(crate) enum Trouble {
+    /// The first dies in this write of the session, after so many of its bytes.
+    FirstDies { number: u32, after: u32 },
+    /// The second does.
+    SecondDies { number: u32, after: u32 },
+    /// The first answers no read once both are opened.
+    FirstUnread,
+    /// The first doesn't answer at the start, and the second goes on alone.
+    NoFirst,
+    /// The second doesn't, and the first goes on alone.
+    NoSecond,
+}
+
+impl Trouble {
+    /// Which bank goes on alone where both can't be opened.
+    fn alone(self) -> Alone {
+        match self {
+            Trouble::NoSecond => Alone::First,
+            _ => Alone::Second,
+        }
+    }
+
+    /// After how many bytes of a write a bank dies.
+    fn after(self) -> u32 {
+        match self {
+            Trouble::FirstDies { after, .. } | Trouble::SecondDies { after, .. } => after,
+            _ => 0,
+        }
+    }
+
+    /// The write of the first that fails.
+    fn of_first(self) -> Option<Break> {
+        match self {
+            Trouble::FirstDies { number, after } => Some(dies_in(number, after)),
+            _ => None,
+        }
+    }
+
+    /// The write of the second that fails: the copy of the opening comes before those of the session.
+    fn of_second(self) -> Option<Break> {
+        match self {
+            Trouble::SecondDies { number, after } => {
+                Some(dies_in(number.saturating_add(PIECES), after))
+            }
+            _ => None,
+        }
+    }
+
+    /// From which read on the first answers none.
+    fn first_unread(self) -> Option<u32> {
+        match self {
+            Trouble::NoFirst => Some(1),
+            Trouble::FirstUnread => Some(PIECES + 1),
+            _ => None,
+        }
+    }
+
+    /// From which read on the second answers none.
+    fn second_unread(self) -> Option<u32> {
+        match self {
+            Trouble::NoSecond => Some(1),
+            _ => None,
+        }
+    }
+}
+
+/// A write that fails after so many of its bytes.
+fn dies_in(number: u32, after: u32) -> Break {
+    Break {
+        write: number,
+        after,
+        stop: false,
+    }
+}
+
+/// The numbers of the reads that fail, from this one on.
+fn bad_reads(alloc: Global, unread: Option<u32>) -> Result<Vec<u32>, Fault> {
+    let mut reads = Vec::new(alloc);
+    if let Some(first) = unread {
+        for at in 0..BAD_READS as u32 {
+            reads.push(first.saturating_add(at))?;
+        }
+    }
+    Ok(reads)
+}
+
 /// A bank of these bytes, with room in its record for a session and an opening.
-fn bank_of(alloc: Global, image: &[u8], breaks: &[Break], room: Room) -> Result<MemBank, Memory>
+fn bank_of(
+    alloc: Global,
+    image: &[u8],
+    breaks: &[Break],
+    unread: Option<u32>,
+    room: Room,
+) -> Result<MemBank, Fault>
     requires { length image.now ≤ bank_size + 1 }
     ensures { IfOk result (λ bank. length bank.bytes ≡ length image.now) }
 {
     let bytes = Vec::from_slice(alloc, image)?;
+    let bad = bad_reads(alloc, unread)?;
     let writes = room.writes.saturating_add(COPIES);
     let written = room.bytes.saturating_add(BANK_SIZE);
-    MemBank::make(alloc, bytes, breaks, &[], writes, written)
+    Ok(MemBank::make(alloc, bytes, breaks, &bad, writes, written)?)
 }
 
-/// Two banks that nothing was written to, the first of which dies in this write after so many of its bytes.
-fn dying(alloc: Global, number: u32, after: u32, room: Room) -> Result<Apart, Fault>
+/// Two banks that nothing was written to, with what goes wrong with them.
+fn troubled(alloc: Global, trouble: Trouble, room: Room) -> Result<Apart, Fault>
     ensures room { IfOk result (λ apart. bank_size ≤ length apart.first.bytes) }
     ensures larger { IfOk result (λ apart. length apart.first.bytes < length apart.second.bytes) }
 {
-    let dies = Break {
-        write: number,
-        after,
-        stop: false,
-    };
     let zeros = vec![in alloc; 0; BANK_SIZE as usize + 1]?;
+    let first = breaks(alloc, trouble.of_first())?;
+    let second = breaks(alloc, trouble.of_second())?;
     Ok(Apart {
-        first: bank_of(alloc, &zeros[1..], &[dies], room)?,
-        second: bank_of(alloc, &zeros, &[], room)?,
+        first: bank_of(alloc, &zeros[1..], &first, trouble.first_unread(), room)?,
+        second: bank_of(alloc, &zeros, &second, trouble.second_unread(), room)?,
     })
+}
+
+/// The writes that fail: this one or none.
+fn breaks(alloc: Global, dies: Option<Break>) -> Result<Vec<Break>, Fault> {
+    let mut breaks = Vec::new(alloc);
+    if let Some(dies) = dies {
+        breaks.push(dies)?;
+    }
+    Ok(breaks)
+}
+
+/// Both as one, of which one goes on alone. Where the mark says that the first is stale there is none.
+fn opened_alone(first: MemBank, second: MemBank, alone: Alone) -> Result<Both, Fault>
+    requires larger { length first.bytes < length second.bytes }
+    ensures room { IfOk result (λ both. length both.pair.first.bytes ≡ length first.bytes) }
+{
+    let place = first.bytes().len();
+    if second.bytes()[place] == STALE {
+        return Err(Fault::Memory);
+    }
+    match Mirror::open_alone(first, second, alone) {
+        Ok(both) => Ok(both),
+        Err(_) => Err(Fault::Memory),
+    }
+}
+
+/// Both as one, and where they can't be opened one of them alone.
+fn opened(alloc: Global, apart: Apart, alone: Alone) -> Result<Both, Fault>
+    requires larger { length apart.first.bytes < length apart.second.bytes }
+    ensures room { IfOk result (λ both. length both.pair.first.bytes ≡ length apart.first.bytes) }
+{
+    let Apart { first, second } = apart;
+    match Mirror::open(alloc, first, second) {
+        Ok(both) => Ok(both),
+        Err(back) => opened_alone(back.first, back.second, alone),
+    }
 }
 
 /// Plays a session over both as one, and tells how many requests were answered.
@@ -84,30 +218,30 @@ fn play_over(
 }
 
 /// Opens both as one, plays a session, and gives both back.
-fn played_apart(alloc: Global, apart: Apart, records: &[u8]) -> Result<(Apart, usize), Fault>
+fn played_apart(
+    alloc: Global,
+    apart: Apart,
+    alone: Alone,
+    records: &[u8],
+) -> Result<(Apart, usize), Fault>
     requires room { bank_size ≤ length apart.first.bytes }
     requires larger { length apart.first.bytes < length apart.second.bytes }
 {
     let kit = shipped(alloc)?;
-    let Apart { first, second } = apart;
-    match Mirror::open(alloc, first, second) {
-        Ok(both) => {
-            let (both, count) = play_over(alloc, both, kit, records)?;
-            let (first, second) = both.end();
-            Ok((Apart { first, second }, count))
-        }
-        Err(_) => Err(Fault::Memory),
-    }
+    let both = opened(alloc, apart, alone)?;
+    let (both, count) = play_over(alloc, both, kit, records)?;
+    let (first, second) = both.end();
+    Ok((Apart { first, second }, count))
 }
 
-/// What both hold as one, once they are opened anew, and neither fails.
+/// What both hold as one, once they are opened again, and neither fails.
 fn healed(alloc: Global, apart: &Apart, played: usize, room: Room) -> Result<Left, Fault> {
     let (first, second) = (apart.first.bytes(), apart.second.bytes());
     if first.len() != BANK_SIZE as usize || second.len() != BANK_SIZE as usize + 1 {
         return Err(Fault::Full);
     }
-    let first = bank_of(alloc, first, &[], room)?;
-    let second = bank_of(alloc, second, &[], room)?;
+    let first = bank_of(alloc, first, &[], None, room)?;
+    let second = bank_of(alloc, second, &[], None, room)?;
     match Mirror::open(alloc, first, second) {
         Ok(both) => left_in(alloc, &both.end().0, played),
         Err(_) => Err(Fault::Memory),
@@ -123,7 +257,7 @@ fn is_lost(table: &Table, played: usize, back: Back) -> bool {
     }
 }
 
-/// What comes back in each table after the first bank died in this write.
+/// What comes back in each table after something went wrong.
 #[derive(Drop)]
 pub(crate) struct Death {
     pub(crate) runs: Runs,
@@ -131,15 +265,21 @@ pub(crate) struct Death {
     pub(crate) lost: usize,
 }
 
-/// Lets the first bank die in this write after so many of its bytes.
-pub(crate) fn die(plan: &Plan<'_>, number: u32, after: u32) -> Result<Death, Fault> {
+/// Plays the session while this goes wrong.
+pub(crate) fn suffer(plan: &Plan<'_>, trouble: Trouble) -> Result<Death, Fault> {
     let alloc = plan.alloc;
-    let apart = dying(alloc, number, after, plan.room)?;
-    let (apart, played) = played_apart(alloc, apart, plan.records)?;
+    let apart = troubled(alloc, trouble, plan.room)?;
+    let (apart, played) = played_apart(alloc, apart, trouble.alone(), plan.records)?;
     let left = healed(alloc, &apart, played, plan.room)?;
     let behind = played.saturating_add(1);
     let mut runs = Runs::make(alloc);
-    come_back(plan, left.image.as_slice(), behind, after, &mut runs)?;
+    come_back(
+        plan,
+        left.image.as_slice(),
+        behind,
+        trouble.after(),
+        &mut runs,
+    )?;
     runs.end()?;
     let mut lost = if played == plan.history.len() {
         0usize

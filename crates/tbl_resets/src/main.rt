@@ -1,6 +1,6 @@
 //! Plays a session with a reset of the processor after each byte of each write of its bank, and tells which image of each
 //! critical table comes back after it. The row of a write is written as soon as its resets were tried. With `--mirror` it plays
-//! the session over two banks as one, and lets the first fail in each write in turn.
+//! the session over two banks as one, and lets each fail in each write in turn and at the start, and the first in its reads.
 #![tactic(auto)]
 
 mod dying;
@@ -13,7 +13,7 @@ mod text;
 mod tries;
 mod words;
 
-use dying::die;
+use dying::{Trouble, suffer};
 use input::{End, Session, read_session};
 use plan::{Plan, tables_of, writes_of};
 use play::{Fault, Room, behind, close};
@@ -23,7 +23,10 @@ use tbl_adapters::{StandardInput, StandardOutput};
 use tbl_fakes::Span;
 use tbl_kinds::Entry;
 use tbl_outside::Sink;
-use text::{tell_death, tell_deaths_end, tell_deaths_front, tell_end, tell_front, tell_write};
+use text::{
+    tell_death, tell_deaths_end, tell_deaths_front, tell_deaths_head, tell_end, tell_front,
+    tell_write,
+};
 use tries::{Counts, Sweep, Write, try_write};
 use words::{Words, given_words};
 
@@ -33,8 +36,8 @@ const HELP: &str = "tbl_resets: which image comes back after a reset
 tbl_resets              reads session records from standard input, and writes a table to standard output,
                         each row as it is known
 tbl_resets --every N    inside writes of more than 64 bytes it tries only the numbers of bytes that N divides
-tbl_resets --mirror     plays the session over two banks as one, the first of which dies in one write after the other,
-                        and tells what comes back after the next start
+tbl_resets --mirror     plays the session over two banks as one, each of which dies in one write after the other and at
+                        the start, and the first of which answers no read, and tells what comes back after the next start
 tbl_resets --help       writes this text to standard output
 
 It ends with one of these statuses:
@@ -52,7 +55,7 @@ It ends with one of these statuses:
 struct Mode {
     /// Inside long writes each number of bytes is tried that this one divides.
     every: u32,
-    /// Whether the first of two banks dies, in the place of resets.
+    /// Whether one of two banks fails, in the place of resets.
     is_mirrored: bool,
 }
 
@@ -147,26 +150,44 @@ fn tell_at_place<R: Eprint>(
     tell_tried(rt, plan, write, &mut sweep, told)
 }
 
-/// Lets the first of two banks die in the write at this place, after half of its bytes, and writes its lines. The answer is how
-/// many images were lost.
-fn tell_death_at(plan: &Plan<'_>, at: usize, span: Span, told: &mut Told) -> Result<usize, Fault> {
-    let Ok(number) = u32::try_from(at.saturating_add(1)) else {
-        return Err(Fault::Full);
-    };
-    let death = die(plan, number, span.length / 2)?;
-    tell_death(&mut told.text, plan, number, &death.runs.ended)?;
+/// Plays the session while this goes wrong, writes its lines, and counts the images that were lost.
+fn tell_suffered(plan: &Plan<'_>, trouble: Trouble, told: &mut Told) -> Result<(), Fault> {
+    let death = suffer(plan, trouble)?;
+    tell_death(&mut told.text, plan, trouble, &death.runs.ended)?;
     told.write_out()?;
-    Ok(death.lost)
+    told.lost = told.lost.saturating_add(death.lost);
+    Ok(())
 }
 
-/// Lets the first of two banks die in each write of a session, and writes the table.
+/// Lets one of two banks die in each write of a session, after half of its bytes, and writes the lines.
+fn tell_deaths_of(plan: &Plan<'_>, is_first: bool, told: &mut Told) -> Result<(), Fault> {
+    for (at, span) in plan.writes.iter().enumerate() {
+        let Ok(number) = u32::try_from(at.saturating_add(1)) else {
+            return Err(Fault::Full);
+        };
+        let after = span.length / 2;
+        let trouble = if is_first {
+            Trouble::FirstDies { number, after }
+        } else {
+            Trouble::SecondDies { number, after }
+        };
+        tell_suffered(plan, trouble, told)?;
+    }
+    Ok(())
+}
+
+/// Lets one of two banks fail in each of the ways that are tried, and writes the table.
 fn tell_deaths(plan: &Plan<'_>, told: &mut Told) -> Result<(), Fault> {
     tell_deaths_front(&mut told.text, plan)?;
-    told.write_out()?;
-    for (at, span) in plan.writes.iter().enumerate() {
-        let lost = tell_death_at(plan, at, *span, told)?;
-        told.lost = told.lost.saturating_add(lost);
-    }
+    tell_deaths_of(plan, true, told)?;
+    told.text.push_str("\n")?;
+    tell_deaths_head(&mut told.text, "second bank dies in write")?;
+    tell_deaths_of(plan, false, told)?;
+    told.text.push_str("\n")?;
+    tell_deaths_head(&mut told.text, "what fails")?;
+    tell_suffered(plan, Trouble::FirstUnread, told)?;
+    tell_suffered(plan, Trouble::NoFirst, told)?;
+    tell_suffered(plan, Trouble::NoSecond, told)?;
     tell_deaths_end(&mut told.text, plan, told.lost)?;
     told.write_out()
 }

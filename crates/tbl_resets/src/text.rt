@@ -1,4 +1,5 @@
 // The table as text.
+use crate::dying::Trouble;
 use crate::plan::Plan;
 use crate::tables::{Back, Change, Event, Table};
 use crate::tries::{Counts, Run, SHORT_WRITE, Sweep, Write};
@@ -15,7 +16,7 @@ const REQUEST_AT: usize = 14;
 const WRITES_AT: usize = 38;
 
 /// Where the second column begins in the lines of deaths.
-const DEATH_AT: usize = 26;
+const DEATH_AT: usize = 27;
 
 /// How wide the column of what is written is beside the name of a table, and the one of the bytes after it.
 const COPY_LEN: usize = 14;
@@ -363,21 +364,41 @@ pub(crate) fn tell_end(
     tell_sums(text, counts)
 }
 
-/// Writes what stands before the lines of the first death.
+/// Writes what stands before the lines of what goes wrong with two banks.
 pub(crate) fn tell_deaths_front(text: &mut String, plan: &Plan<'_>) -> Result<(), AllocError> {
     tell_tables(text, plan)?;
-    text.push_str("first bank dies in write  what comes back after the next start\n")
+    tell_deaths_head(text, "first bank dies in write")
 }
 
-/// Writes the lines of a death: one for each table.
+/// Writes the head of the lines of one kind.
+pub(crate) fn tell_deaths_head(text: &mut String, kind: &str) -> Result<(), AllocError> {
+    let line = text.len();
+    text.push_str(kind)?;
+    blanks_to(text, line, DEATH_AT)?;
+    text.push_str("what comes back after the next start\n")
+}
+
+/// Writes what went wrong.
+fn tell_trouble(text: &mut String, trouble: Trouble) -> Result<(), AllocError> {
+    match trouble {
+        Trouble::FirstDies { number, .. } | Trouble::SecondDies { number, .. } => {
+            write!(text, "{number}")
+        }
+        Trouble::FirstUnread => text.push_str("first bank's reads"),
+        Trouble::NoFirst => text.push_str("first bank at the start"),
+        Trouble::NoSecond => text.push_str("second bank at the start"),
+    }
+}
+
+/// Writes the lines of what went wrong: one for each table.
 pub(crate) fn tell_death(
     text: &mut String,
     plan: &Plan<'_>,
-    number: u32,
+    trouble: Trouble,
     runs: &[Run],
 ) -> Result<(), AllocError> {
     let mut line = text.len();
-    write!(text, "{number}")?;
+    tell_trouble(text, trouble)?;
     for run in runs {
         if let Some(table) = plan.tables.get(run.table) {
             let name = table.name.as_str();
@@ -395,7 +416,7 @@ pub(crate) fn tell_death(
     }
 }
 
-/// Writes what stands after the lines of the last death.
+/// Writes what stands after the lines of what went wrong.
 pub(crate) fn tell_deaths_end(
     text: &mut String,
     plan: &Plan<'_>,
@@ -404,7 +425,7 @@ pub(crate) fn tell_deaths_end(
     let writes = plan.writes.len();
     write!(
         text,
-        "\nThe first of two banks died in each of {writes} writes, and the second went on alone. "
+        "\nEach of two banks died in each of {writes} writes and at the start, and the other one went on alone. No read of the first was answered. "
     )?;
     if lost == 0 {
         text.push_str("No image was lost.\n")

@@ -1,10 +1,12 @@
 //! Calls of two banks as one.
 
-ghost use Rattle.std.specs.Prelude.{◌<◌, length};
+ghost use Rattle.std.specs.Prelude.{◌≡◌, ◌<◌, ◌≤◌, length, false};
+ghost use Rattle.bank_mirror.specs.Pairs.{is_stale};
 
 use crate::setup::{Setup, bytes_of, kept};
 use crate::words::Words;
-use bank_mirror::Mirror;
+use bank_mirror::{Alone, Mirror, OpenBack, STALE};
+use cds_layout::LIVE_MARK;
 use std::alloc::Global;
 use std::io;
 use tbl_fakes::MemBank;
@@ -64,27 +66,51 @@ fn call<R: Print + AllocGlobal>(rt: &R, both: &mut Both, line: &str) -> io::Resu
     }
 }
 
-fn call_all<R: Print + AllocGlobal>(rt: &R, both: &mut Both, calls: &str) -> io::Result<()> {
-    println!(rt; "open -> {:?}", both.in_use())?;
+fn call_all<R: Print + AllocGlobal>(
+    rt: &R,
+    both: &mut Both,
+    way: &str,
+    calls: &str,
+) -> io::Result<()> {
+    println!(rt; "open{way} -> {:?}", both.in_use())?;
     for line in calls.lines() {
         call(rt, both, line)?;
     }
     Ok(())
 }
 
+/// Opens both in the way that follows the word `open`. With the mark set the first is never taken alone, and a bank that has
+/// no place for the mark of a live store isn't looked at.
+fn open_as(alloc: Global, apart: Apart, way: &str) -> Result<Both, OpenBack<MemBank, MemBank>>
+    requires { length apart.first.bytes < length apart.second.bytes }
+{
+    let Apart { first, second } = apart;
+    let size = first.bytes().len();
+    let is_stale = second.bytes()[size] == STALE;
+    match way {
+        " checked" if size >= LIVE_MARK.len() => {
+            Mirror::open_checked(alloc, first, second, &LIVE_MARK)
+        }
+        " second" => Mirror::take_second(alloc, first, second),
+        " first-alone" if !is_stale => Mirror::open_alone(first, second, Alone::First),
+        " second-alone" => Mirror::open_alone(first, second, Alone::Second),
+        _ => Mirror::open(alloc, first, second),
+    }
+}
+
 /// Opens both as one, makes the calls, and ends it.
 fn opened<R: Print + AllocGlobal>(rt: &R, apart: Apart, calls: &str) -> (Apart, io::Result<()>)
     requires { length apart.first.bytes < length apart.second.bytes }
 {
-    let Apart { first, second } = apart;
-    match Mirror::open(rt.alloc(), first, second) {
+    let way = calls.lines().next().unwrap_or("");
+    match open_as(rt.alloc(), apart, way) {
         Ok(mut both) => {
-            let told = call_all(rt, &mut both, calls);
+            let told = call_all(rt, &mut both, way, calls);
             let (first, second) = both.end();
             (Apart { first, second }, told)
         }
         Err(back) => {
-            let told = println!(rt; "open -> {:?}", back.cause);
+            let told = println!(rt; "open{way} -> {:?}", back.cause);
             let (first, second) = (back.first, back.second);
             (Apart { first, second }, told)
         }
