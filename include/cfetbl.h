@@ -1,3 +1,4 @@
+/* SPDX-License-Identifier: Apache-2.0 */
 /* cfetbl.h: the calls of cFE Table Services and of the Critical Data Store, for applications that run on the developer's machine.
  *
  * An application's C code calls CFE_TBL_Register, CFE_TBL_GetAddress, CFE_TBL_Load, CFE_TBL_Manage and their kin by cFE's names, and a test

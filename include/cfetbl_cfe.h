@@ -1,3 +1,4 @@
+/* SPDX-License-Identifier: Apache-2.0 */
 /* cfetbl_cfe.h: what the calls of cfetbl.h need of cFE's public headers, for applications that are built without these. Names and
  * meanings are those of cfe_tbl.h, cfe_tbl_api_typedefs.h, cfe_es.h and cfe_error.h. Code that compares return codes by their names
  * means the same with either. */

@@ -1,3 +1,4 @@
+/* SPDX-License-Identifier: Apache-2.0 */
 /* tbl.h: the table service for C, a request at a time.
  *
  * A session is a list of records, as docs/FORMATS.md lays them out. tbl_step plays one, and gives the entry that the transcript has

@@ -1,3 +1,4 @@
+/* SPDX-License-Identifier: Apache-2.0 */
 /* cfetbl.c: cFE's calls over tbl.h. Each is a request of the application that makes the calls, and a pinned image is copied into memory
  * that the application may point at until it releases the address. */
 #include "cfetbl.h"

@@ -1,3 +1,4 @@
+/* SPDX-License-Identifier: Apache-2.0 */
 /* tbl.c: a session for C. It keeps the records, the verdicts and the first bytes of preserved memory, and has tbl_run play all of them at
  * each step: what is answered depends on them alone. */
 #include "tbl.h"

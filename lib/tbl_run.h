@@ -1,3 +1,4 @@
+/* SPDX-License-Identifier: Apache-2.0 */
 /* tbl_run.h: what the crate tbl_c exports. Nothing compares this with the crate: each parameter here stands for one there, a slice
  * as its address and its number of items, and an address is never NULL, also where there are no items. */
 #ifndef TBL_RUN_H

@@ -1,3 +1,4 @@
+/* SPDX-License-Identifier: Apache-2.0 */
 /* thermal.c: the application, which is ordinary cFE code: nothing in it knows that Table Services are the library's. */
 #include "thermal.h"
 

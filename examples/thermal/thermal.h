@@ -1,3 +1,4 @@
+/* SPDX-License-Identifier: Apache-2.0 */
 /* thermal.h: a thermal control application. It keeps heaters on below the temperatures of a limits table, which the ground loads, and
  * keeps which of them it has given up in a critical table, which outlives a reset of the processor. */
 #ifndef THERMAL_H

@@ -1,3 +1,4 @@
+/* SPDX-License-Identifier: Apache-2.0 */
 /* thermal_test.c: the unit test of the application. It plays cFE and the ground: it starts the application, uplinks tables, sends
  * commands and resets the processor between two loads. Build it by
  *

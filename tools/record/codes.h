@@ -1,3 +1,4 @@
+/* SPDX-License-Identifier: Apache-2.0 */
 /* The return codes that record.c tells by name. tools/tests compares them with tools/names.tsv. */
 #ifdef CFE_SUCCESS
         CODE(CFE_SUCCESS),

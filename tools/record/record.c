@@ -1,3 +1,4 @@
+/* SPDX-License-Identifier: Apache-2.0 */
 /* Records an application's calls of cFE's table services and of the Critical Data Store, for `cfetbl compare`.
 
    It is linked into the application, whose calls the linker sends here:

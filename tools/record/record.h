@@ -1,3 +1,4 @@
+/* SPDX-License-Identifier: Apache-2.0 */
 /* For a test that sends commands, uplinks files or sets the time beside an application whose calls are recorded. */
 #ifndef RECORD_H
 #define RECORD_H
