@@ -23,6 +23,8 @@
 #include "cfetbl_cfe.h"
 #endif
 
+#include "cfetbl_version.h"
+
 #ifdef __cplusplus
 extern "C" {
 #endif
