@@ -1,7 +1,8 @@
 # make               proves the programs and the library that are installed; it needs the Rattle kit (`rt` on the path)
 # make install       installs them with their tools, headers, manual page, completion, documents and examples; PREFIX= is /usr/local
 # make uninstall     takes the same files away
-# make package       makes a Debian package of them, in out/package
+# make package       makes a Debian package and a tarball of them, in out/package
+# make release       makes both and their checksums in out/release, of what is proved and committed
 # make test          the tests: ./cfetbl test
 #
 # DESTDIR= stands before each path that is written, as packages need it. PROGRAMS= is a folder with other builds of the programs and the library.
@@ -14,10 +15,10 @@ all:
 install uninstall:
 	tools/install $@
 
-package:
-	tools/package
+package release:
+	tools/$@
 
 test:
 	./cfetbl test
 
-.PHONY: all install uninstall package test
+.PHONY: all install uninstall package release test
