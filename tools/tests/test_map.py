@@ -106,7 +106,7 @@ class Words(unittest.TestCase):
             self.assertEqual(call("cfetbl-map", "nofile", cwd=folder)[0], 2)
         hello = os.path.join(recorded.TOP, "examples", "hello.txt")
         status, _, said = call("cfetbl-map", hello)
-        self.assertEqual((status, said[:len("cfetbl-map: no store file: ")]), (2, "cfetbl-map: no store file: "))
+        self.assertEqual((status, said[:len("cfetbl map: no store file: ")]), (2, "cfetbl map: no store file: "))
 
 
 if __name__ == "__main__":
