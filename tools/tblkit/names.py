@@ -73,6 +73,41 @@ def return_codes():
     return {int(number): code for number, code in rows_of("return")}
 
 
+@dataclass(frozen=True)
+class Word:
+    """One of cFE's words: what it is here (a section, `limit`, `option` or `none`), the number or value there, and what has to be said of
+    that."""
+    name: str
+    kind: str
+    number: str
+    said: str
+
+    @property
+    def section(self):
+        """The section that has its number; empty if none has."""
+        return {"also": "status", "option": "", "limit": "", "none": ""}.get(self.kind, self.kind)
+
+    def here(self):
+        """What it is here, in words."""
+        if not self.section:
+            return self.number if self.kind != "none" else "none"
+        known = (requests() if self.section == "request" else named(self.section)).get(int(self.number, 0))
+        return f"{self.section} {self.number} {known.name if known else 'which is none'}"
+
+
+@functools.cache
+def cfe_words():
+    """cFE's words: the return codes, then all others."""
+    codes = tuple(Word(code, "status", str(number), "a call returns it") for number, code in return_codes().items())
+    return codes + tuple(Word(*columns) for columns in rows_of("word"))
+
+
+@functools.cache
+def in_cfe(section, number):
+    """The names in cFE of what this number of a section is: return code, event ids, command code."""
+    return tuple(it.name for it in cfe_words() if it.kind == section and int(it.number, 0) == number)
+
+
 @functools.cache
 def requests():
     """The kinds of session records by number."""

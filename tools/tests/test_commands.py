@@ -1,6 +1,8 @@
 """cfetbl-text and cfetbl-show as they are called: statuses, what is written and said, and what memory a long session takes."""
+import contextlib
 import json
 import os
+import pty
 import resource
 import shutil
 import subprocess
@@ -21,6 +23,21 @@ def call(tool, *words, given=b"", **more):
     """Calls a tool with words and standard input: its status, what it wrote, and what it said."""
     done = subprocess.run([sys.executable, os.path.join(TOOLS, tool), *words], input=given, capture_output=True, **more)
     return done.returncode, done.stdout, done.stderr.decode()
+
+
+def in_terminal(command, given=b"", **more):
+    """What is seen at a terminal that a command has as its streams, once it has ended."""
+    ours, theirs = pty.openpty()
+    with subprocess.Popen(command, stdin=theirs, stdout=theirs, stderr=theirs, env=os.environ | {"TERM": "dumb"}, **more) as run:
+        os.close(theirs)
+        os.write(ours, given)
+        seen = b""
+        with contextlib.suppress(OSError):
+            while content := os.read(ours, 4096):
+                seen += content
+        run.wait()
+    os.close(ours)
+    return seen.decode()
 
 
 def into_full(tool, *words, given=b""):
@@ -53,7 +70,7 @@ class Text(unittest.TestCase):
         self.assertEqual(call("cfetbl-text", "--help")[0], 0)
 
     def test_a_write_that_fails(self):
-        failed = "cfetbl-text: writing failed: standard output: No space left on device\n"
+        failed = "cfetbl text: writing failed: standard output: No space left on device\n"
         self.assertEqual(into_full("cfetbl-text", given=b"ground NOOP"), (4, failed))
         self.assertEqual(into_full("cfetbl-text", "--back", HELLO + ".session"), (4, failed))
         self.assertEqual(into_full("cfetbl-text", "--help"), (4, failed))
@@ -70,7 +87,7 @@ class Text(unittest.TestCase):
         for name, words in (("hello.session", "a session as records: `cfetbl play --show NAME` plays it, and `cfetbl text --back NAME` "
                              "writes it as text"), ("hello.transcript", "a transcript: `cfetbl show SESSION NAME` prints it")):
             path = os.path.join(os.path.dirname(HELLO), name)
-            self.assertEqual(call("cfetbl-text", path), (2, b"", f"cfetbl-text: {path} is {words.replace('NAME', path)}\n"))
+            self.assertEqual(call("cfetbl-text", path), (2, b"", f"cfetbl text: {path} is {words.replace('NAME', path)}\n"))
 
     def test_the_kind_of_a_file(self):
         for name, words in (("hello.txt", b"text"), ("hello.session", b"records")):
@@ -121,7 +138,7 @@ end: status 0, the work is done; 2 entries; all 24 bytes of the session were pla
             os.symlink(session, os.path.join(folder, "link"))
             for written, over in ((session, session), (other, other), (os.path.join(folder, "link"), session)):
                 self.assertEqual(call("cfetbl-show", "--pcap", written, session, other),
-                                 (2, b"", f"cfetbl-show: --pcap {written} would write over {over}, which is read\n"))
+                                 (2, b"", f"cfetbl show: --pcap {written} would write over {over}, which is read\n"))
             self.assertEqual([os.path.getsize(it) for it in (session, other)], [24, 369])
 
     def test_a_capture_of_what_breaks_off(self):
@@ -130,9 +147,9 @@ end: status 0, the work is done; 2 entries; all 24 bytes of the session were pla
             with open(HELLO + ".transcript", "rb") as file:
                 status, written, said = call("cfetbl-show", "--pcap", name, given=file.read()[:100])
             self.assertEqual((status, written), (1, b""))
-            self.assertEqual(said, f"cfetbl-show: the transcript breaks off inside an entry; {name} has what came before\n")
+            self.assertEqual(said, f"cfetbl show: the transcript breaks off inside an entry; {name} has what came before\n")
         self.assertEqual(call("cfetbl-show", "--pcap", "/dev/full", HELLO + ".transcript")[::2],
-                         (4, "cfetbl-show: writing failed: /dev/full: No space left on device\n"))
+                         (4, "cfetbl show: writing failed: /dev/full: No space left on device\n"))
 
     def test_what_is_no_transcript(self):
         for name, words in (("hello.txt", "a session as text: `cfetbl play --show NAME` plays it, and `cfetbl text NAME` writes its records"),
@@ -140,9 +157,9 @@ end: status 0, the work is done; 2 entries; all 24 bytes of the session were pla
                              "writes it as text")):
             path = os.path.join(os.path.dirname(HELLO), name)
             self.assertEqual(call("cfetbl-show", HELLO + ".txt", path),
-                             (1, b"", f"cfetbl-show: no transcript: {path} is {words.replace('NAME', path)}\n"))
+                             (1, b"", f"cfetbl show: no transcript: {path} is {words.replace('NAME', path)}\n"))
         self.assertEqual(call("cfetbl-show", given=b"\x7fELF"),
-                         (1, b"", "cfetbl-show: no transcript: standard input is neither text nor records\n"))
+                         (1, b"", "cfetbl show: no transcript: standard input is neither text nor records\n"))
 
     def test_what_is_no_session(self):
         status, written, said = call("cfetbl-show", HELLO + ".transcript", HELLO + ".session")
@@ -157,7 +174,7 @@ end: status 0, the work is done; 2 entries; all 24 bytes of the session were pla
         self.assertEqual(call("cfetbl-show", given=b"\0")[0], 1)
         self.assertEqual([call("cfetbl-show", *it)[0] for it in (["a", "b", "c"], ["--no"], ["/no/such"], [TOOLS])], [2] * 4)
         self.assertEqual(call("cfetbl-show", "--help")[0], 0)
-        self.assertEqual(into_full("cfetbl-show", whole), (4, "cfetbl-show: writing failed: standard output: No space left on device\n"))
+        self.assertEqual(into_full("cfetbl-show", whole), (4, "cfetbl show: writing failed: standard output: No space left on device\n"))
 
     def test_a_wrong_text_as_session(self):
         with tempfile.NamedTemporaryFile() as file:
@@ -171,6 +188,7 @@ end: status 0, the work is done; 2 entries; all 24 bytes of the session were pla
 class Explain(unittest.TestCase):
     NOT_VALIDATED = b"""\
 status 66 ERR_NOT_VALIDATED
+  in cFE: CFE_TBL_UNVALIDATED_ERR_EID
   means: the load wasn't validated since it last changed
   comes: an ACTIVATE
   to do: send VALIDATE of the inactive image, have the owner finish it by Validate or Manage with
@@ -195,17 +213,41 @@ status 66 ERR_NOT_VALIDATED
 
     def test_all(self):
         lines = call("cfetbl-explain")[1].decode().splitlines()
-        self.assertEqual((lines[0], lines[-1], len(lines)), ("status 0 SUCCESS", "run 12 the input of make or describe is too long", 91))
+        self.assertEqual((lines[0], lines[90], lines[91]), (
+            "status 0 SUCCESS", "run 12 the input of make or describe is too long", "CFE_SUCCESS: status 0 SUCCESS"))
+        self.assertIn("CFE_PLATFORM_TBL_MAX_NUM_TABLES: 128", lines)
+
+    def test_words_of_cfe(self):
+        for word, here, told in (
+                ("CFE_TBL_ERR_NEVER_LOADED", "status 60 ERR_NEVER_LOADED", "a call returns it"),
+                ("cfe_tbl_file_access_err_eid", "status 46 ERR_FILE_NOT_FOUND", "it is sent as a command is refused"),
+                ("CFE_TBL_NOOP_INF_EID", "event 1 command accepted", "its function code is 0, a NOOP"),
+                ("CFE_TBL_LOAD_CC", "command 2 LOAD", "the image bytes of a table file"),
+                ("CFE_TBL_SEND_HK_MID", "message 0x180C request for housekeeping", ""),
+                ("CFE_TBL_Manage", "request 0x18 Manage", "the line `app N manage HANDLE`"),
+                ("CFE_TBL_OPT_CRITICAL", "0x0008", "the word `critical`"),
+                ("CFE_PLATFORM_TBL_MAX_NUM_TABLES", "128", "tables; one more is answered with 42 ERR_REGISTRY_FULL"),
+                ("MAX_NUM_TABLES", "128", "tables; one more"),
+                ("CFE_TBL_INIT_INF_EID", "none", "the service sends nothing as it starts")):
+            with self.subTest(word):
+                status, written, said = call("cfetbl-explain", word)
+                self.assertEqual((status, said), (0, ""))
+                self.assertIn(f"  here: {here}\n", written.decode())
+                self.assertIn(told, written.decode())
+        self.assertEqual(self.firsts("CFE_TBL_ERR_NEVER_LOADED"), ["CFE_TBL_ERR_NEVER_LOADED", "status 60 ERR_NEVER_LOADED"])
+        self.assertEqual(self.firsts("CFE_TBL_Load"), ["CFE_TBL_Load"] * 2)
+        self.assertIn(b"in cFE: CFE_TBL_ERR_PARTIAL_LOAD, CFE_TBL_PARTIAL_LOAD_ERR_EID", call("cfetbl-explain", "54")[1])
 
     def test_what_is_not_known(self):
         for words, said in ((["99"], "is called 99; without a word it tells the numbers and names of all"),
-                            (["NOTVALIDATED"], "is called NOTVALIDATED; there are ERR_NOT_VALIDATED, "),
+                            (["NOTVALIDATED"], "is called NOTVALIDATED; did you mean ERR_NOT_VALIDATED?"),
+                            (["CFE_TBL_ERR_NEVR_LOADED"], "; did you mean CFE_TBL_ERR_NEVER_LOADED or"),
                             (["event", "4"], "is called 4; ")):
             status, written, error = call("cfetbl-explain", *words)
             self.assertEqual((status, written), (2, b""))
             self.assertIn(said, error)
         self.assertEqual(into_full("cfetbl-explain", "66"),
-                         (4, "cfetbl-explain: writing failed: standard output: No space left on device\n"))
+                         (4, "cfetbl explain: writing failed: standard output: No space left on device\n"))
 
 
 class Memory(unittest.TestCase):
