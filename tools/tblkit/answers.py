@@ -1,10 +1,11 @@
 """Answers by name: a request with its answer, its reply bytes and the packets that it sent, for people and for programs."""
 from . import files, names, packets, text
+from .numbers import counted
 from .packets import Shown
 from .tables import NONE_KNOWN, SUCCESS, WRONG_HANDLE
 
 LONGEST_DATA = 32
-NO_BUFFER = 57
+NO_BUFFER, IMAGE_SIZE = 57, 86
 BUFFERS = 4
 VALIDATION_FINISHED, IMAGE_ACTIVE, COPY_FAILED = 3, 5, 6
 # The event that tells what a thing came to that a Manage did, by the value of its bit.
@@ -99,6 +100,22 @@ class Answer:
         handle = self.handle() if self.request == "Read" and self.status == SUCCESS else None
         return f"row {handle.row} {handle.table}" if handle and handle.table else ""
 
+    def sizes(self):
+        """How many bytes the image of a load or a copy has, and how many its table or block, where it was refused for that."""
+        if self.status != IMAGE_SIZE or self.record is None:
+            return None
+        image = names.field(self.record.request.name, "image").of(self.record.body)
+        if self.request == "LoadImage":
+            handle = self.handle()
+            return (len(image), handle.table, handle.size) if handle and handle.table else None
+        slot = packets.number(names.field("CdsCopy", "slot").of(self.record.body))
+        return (len(image), f"the block in slot {slot}", self.view.blocks[slot]) if slot in self.view.blocks else None
+
+    def sizes_words(self):
+        """The same in words, empty if it isn't known."""
+        found = self.sizes()
+        return f"the image has {counted(found[0], 'byte')}, and {found[1]} has {found[2]}" if found else ""
+
     def handles_words(self):
         """Which handles the application has, where the request was refused for its handle."""
         is_asked = self.status in WRONG_HANDLE and self.actor and self.record and self.view.is_known
@@ -147,11 +164,11 @@ REPLIES = {"GetInfo": _registry, "DUMP": _files, "DUMP_REGISTRY": _files,
 def end_words(end, index=None):
     """The end record in words; with the session at hand also what stands where the records that were played end."""
     run = names.named("run").get(end.status)
-    said = [f"status {end.status}, {run.name if run else 'which is none'}", f"{end.entries} entries"]
+    said = [f"status {end.status}, {run.name if run else 'which is none'}", counted(end.entries, "entry", "entries")]
     if index is None:
-        said.append(f"the records that were played have {end.place} bytes")
+        said.append(f"the records that were played have {counted(end.place, 'byte')}")
     elif index.bytes_taken != end.place:
-        said.append(f"the records that were played have {end.place} bytes, and those of this session {index.bytes_taken}: "
+        said.append(f"the records that were played have {counted(end.place, 'byte')}, and those of this session {index.bytes_taken}: "
                     "the transcript is of another one")
     else:
         said.append(_left_words(end, index))

@@ -3,6 +3,7 @@ import re
 from dataclasses import dataclass
 
 from . import files
+from .numbers import counted
 
 LIMIT = 16384
 MOST_HEX = 64
@@ -171,8 +172,8 @@ def describe(forms, content):
     if not NAME.fullmatch(name):
         raise NotDescribed("the name in it is no full name")
     if not image or offset + len(image) > LIMIT:
-        raise NotDescribed(f"its {len(image)} image bytes from offset {offset} on are no part of a table of at most {LIMIT} bytes")
+        raise NotDescribed(f"its {counted(len(image), 'image byte')} from offset {offset} on are no part of a table of at most {LIMIT} bytes")
     if size_of(forms) != len(image):
-        raise NotDescribed(f"the shape has {size_of(forms)} bytes, and the image {len(image)}", True)
+        raise NotDescribed(f"the shape has {counted(size_of(forms), 'byte')}, and the image {len(image)}", True)
     lines = "".join(form.line_of(raw) for form, raw in values(forms, image))
     return f"table {name.decode()}\noffset {offset}\n{lines}".encode()

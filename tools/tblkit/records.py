@@ -8,6 +8,7 @@ import itertools
 from dataclasses import dataclass
 
 from . import names
+from .numbers import counted
 
 HEAD = 4
 MOST_BODY = 32832
@@ -69,7 +70,7 @@ def head_fault(head):
     if actor not in actors:
         return f"kind {kind:02X} {request.name} of actor {actor}"
     if not least <= length <= most:
-        return f"kind {kind:02X} {request.name} with a body of {length} bytes"
+        return f"kind {kind:02X} {request.name} with a body of {counted(length, 'byte')}"
     return ""
 
 
@@ -90,13 +91,13 @@ def pieces(stream):
     at = 0
     while head := stream.read(HEAD):
         if len(head) < HEAD:
-            yield Piece(at, head, f"{len(head)} bytes, which is less than the head of a record")
+            yield Piece(at, head, f"{counted(len(head), 'byte')}, which is less than the head of a record")
             return
         length = int.from_bytes(head[2:], "big")
         body = stream.read(length)
         fault = head_fault(head)
         if not fault and len(body) < length:
-            fault = f"kind {head[0]:02X} cut off: {len(body)} of {length} bytes of its body"
+            fault = f"kind {head[0]:02X} cut off: {len(body)} of {counted(length, 'byte')} of its body"
         elif not fault:
             fault = body_fault(head[0], body)
         yield Piece(at, head + body, fault)
@@ -120,6 +121,11 @@ class Index:
             if piece.fault:
                 break
             self._places[piece.actor].append((number, piece.at, len(piece.content)))
+
+    @property
+    def count(self):
+        """How many records there are."""
+        return sum(map(len, self._places.values()))
 
     def next_of(self, actor):
         """The next record of an actor, or None where it has no further one."""

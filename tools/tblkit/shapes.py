@@ -1,5 +1,6 @@
 """Images by field: which fields the shapes of tables give to bytes that stand at an offset of an image."""
-from . import described, files, names
+from . import described, files, names, records
+from .numbers import counted
 
 READ, WRITTEN = "Read", ("LoadImage", "Edit")
 
@@ -18,6 +19,11 @@ class Shapes:
     def __bool__(self):
         return bool(self._shapes)
 
+    @property
+    def names(self):
+        """The full names of the tables."""
+        return list(self._shapes)
+
     def lines(self, answer):
         """A line for each image, or part of one, that a request brought or that its reply has: the table and its fields."""
         for table, offset, content in _parts(answer):
@@ -33,8 +39,36 @@ class Shapes:
                 told.append(f"{form.name} {form.text_of(content[begin:end])}")
             at += form.size
         if offset + len(content) > at:
-            told.append(f"{offset + len(content) - max(at, offset)} bytes after the last field")
+            told.append(f"{counted(offset + len(content) - max(at, offset), 'byte')} after the last field")
         return ", ".join(told) or "no whole field"
+
+
+def tables_of(session):
+    """The full names of the tables that a session registers or has in its files, whatever their answers are."""
+    applications, found = {}, set()
+    session.seek(0)
+    for piece in records.pieces(session):
+        if piece.fault:
+            break
+        name, body = piece.request.name, piece.body
+        fields = {it.name: it.of(body) for it in names.fields(name) if it.form == "name"}
+        if name == "Start":
+            applications[piece.actor] = names.name_in(fields["name"])
+        elif name == "Register" and piece.actor in applications:
+            found.add(names.quoted(applications[piece.actor] + b"." + names.name_in(fields["short name"])))
+        elif name == "Share":
+            found.add(names.quoted(names.name_in(fields["table"])))
+        elif name == "File":
+            found.update(table for table, _, _ in _images(body[names.field("File", "contents").place:]))
+    session.seek(0)
+    return found
+
+
+def _images(content):
+    """The image of a table file, if these bytes are one, with its table's full name and its offset."""
+    read = files.read_table_file(content)
+    if read and read[0]["content"] == files.CONTENT and read[0]["subtype"] == files.TABLE_SUBTYPE:
+        yield names.quoted(read[0]["table"]), read[0]["offset"], read[1]
 
 
 def _parts(answer):
@@ -52,6 +86,4 @@ def _parts(answer):
             yield handle.table, offset, content
     contents = [body[64:]] if name == "File" else list(files.split(answer.entry.reply)) if name == "Command" else []
     for one in contents:
-        found = files.read_table_file(one)
-        if found and found[0]["content"] == files.CONTENT and found[0]["subtype"] == files.TABLE_SUBTYPE:
-            yield names.quoted(found[0]["table"]), found[0]["offset"], found[1]
+        yield from _images(one)

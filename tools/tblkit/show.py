@@ -35,7 +35,7 @@ def lines(answer, is_all=False, shapes=None):
     by field, and each packet that it sent."""
     detail, replies = answer.detail(), answer.reply()
     told = [answer.status_words()] + ([f"{detail.name} {detail.words}"] if detail else [])
-    told += [answer.table(), answer.handles_words()]
+    told += [answer.table(), answer.sizes_words(), answer.handles_words()]
     if len(replies) == 1 and len(replies[0][1]) == 1 and not is_all:
         told.append(listed(replies[0][1]))
         replies = []
@@ -123,5 +123,7 @@ def as_object(part, index):
     told["reply_fields"] = [{"kind": kind} | _values(fields) for kind, fields in part.reply()]
     if part.table():
         told["table"] = part.handle().table
+    if part.sizes():
+        told["image_bytes"], _, told["bytes_needed"] = part.sizes()
     told["packets"] = [{"kind": it.kind} | _values(it.header) | _values(it.body) | _table_of(it, part.view) for it in part.packets]
     return told

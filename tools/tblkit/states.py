@@ -3,6 +3,7 @@ import enum
 from dataclasses import dataclass, replace
 
 from . import names, packets
+from .numbers import counted
 from .tables import REGISTERED, STOPPED, SUCCESS, Tables
 
 UPDATED, RECOVERED, NOT_CRITICAL, LOCKED, VALIDATION_FAILED = 1, 2, 17, 9, 58
@@ -60,7 +61,7 @@ class TableState:
         """Its row, and how it was registered."""
         options = [word for word in names.bits("options").values() if self.has(word)]
         function = [f"validator {self.validator}"] if self.has_function else []
-        return ", ".join([f"row {self.row}, {self.size} bytes", *options, *function])
+        return ", ".join([f"row {self.row}, {counted(self.size, 'byte')}", *options, *function])
 
     def image_words(self):
         """Which image is active."""

@@ -1,5 +1,6 @@
 """A map of the Critical Data Store in a bank: as text, and as a page with its slots and its bytes."""
 from . import names, store
+from .numbers import counted, noun
 from .pages import element, legend, page, picture, text, titled
 
 FIRST_BYTES = 8
@@ -57,7 +58,7 @@ def state_of(block):
 def summary(name, found):
     """The store in a line."""
     gaps = found.gaps
-    greatest = f" in {len(gaps)} {'gap' if len(gaps) == 1 else 'gaps'}, the greatest {max(it[1] for it in gaps):,}" if gaps else ""
+    greatest = f" in {counted(len(gaps), 'gap')}, the greatest {max(it[1] for it in gaps):,}" if gaps else ""
     return f"{name}: {len(found.blocks)} of {store.SLOTS} slots, {found.free:,} of {store.ROOM:,} bytes free{greatest}"
 
 
@@ -68,7 +69,7 @@ def notes(found):
     if found.version == 1:
         yield "It is of version 1, in which a block has one place: the next boot of the processor carries it over."
     if found.length < found.size:
-        yield f"It has {found.length:,} bytes; the program writes zeros after them, up to {store.SIZE:,}."
+        yield f"It has {found.length:,} {noun(found.length, 'byte')}; the program writes zeros after them, up to {store.SIZE:,}."
     for it in found.ignored:
         yield (f"The entry of slot {it.slot} has an open gate and doesn't count, since {it.fault}: a boot of the processor "
                "closes it.")
@@ -129,7 +130,7 @@ def _pieces(offset, size):
 
 
 def _block_words(entry, block):
-    words = f"slot {entry.slot}, {names.quoted(entry.name)} of {OWNERS[store.KINDS[entry.kind]]}: {entry.size} bytes at {entry.offset}"
+    words = f"slot {entry.slot}, {names.quoted(entry.name)} of {OWNERS[store.KINDS[entry.kind]]}: {counted(entry.size, 'byte')} at {entry.offset}"
     if state_of(block) == RESERVED:
         return f"{words}, {RESERVED}"
     return (f"{words}, {state_of(block)}, the {_shows(block)} place shows, check word {_check_words(block)}, "
@@ -163,7 +164,7 @@ def _bytes(found):
     yield from _bars(0, store.BLOCKS, "the directory", fill=DIRECTORY, data_of="directory")
     for half in range(0, found.size, store.BETWEEN):
         for at, size in found.gaps:
-            yield from _bars(half + at, size, f"{size} bytes free from {half + at} on", fill=FREE, data_of="free")
+            yield from _bars(half + at, size, f"{counted(size, 'byte')} free from {half + at} on", fill=FREE, data_of="free")
     if found.size > store.BETWEEN:
         yield from _bars(store.BETWEEN, store.BLOCKS, "not used", fill=UNUSED, data_of="unused")
     for entry, block in found.blocks:

@@ -6,6 +6,8 @@ from . import names, packets
 SUCCESS, STOPPED = 0, 10
 # The statuses with which a Register has registered its table.
 REGISTERED = (0, 2, 17)
+# The statuses with which a request is granted, where they are more than 0.
+GRANTED = {"Register": REGISTERED, "CdsRegister": (0, 11)}
 WRONG_HANDLE = (33, 34, 35)
 POWER_ON = 2
 MOST_HANDLES_TOLD = 16
@@ -13,21 +15,23 @@ MOST_HANDLES_TOLD = 16
 
 @dataclass(frozen=True)
 class Handle:
-    """A handle that is given: whose it is, its table's name and row, and whether its registration gave it. The table is
-    None where it is gone."""
+    """A handle that is given: whose it is, its table's name and row, whether its registration gave it, and how many bytes the table
+    has. The table is None where it is gone."""
     actor: int
     table: str | None
     row: int | None
     is_registration: bool
+    size: int
 
 
 @dataclass(frozen=True)
 class View:
-    """What stands before a request: the tables by their rows, the handles, and the names of the applications. None is known
-    after a request of another session."""
+    """What stands before a request: the tables by their rows, the handles, the names of the applications, and by their slots how many
+    bytes the blocks have that applications asked for. None is known after a request of another session."""
     rows: dict
     handles: dict
     applications: dict
+    blocks: dict
     is_known: bool = True
 
     def full_name(self, actor, short_name):
@@ -54,14 +58,14 @@ class View:
         return handle.table if owner == handle.actor else f"{handle.table} (of app {owner})"
 
 
-NONE_KNOWN = View({}, {}, {}, False)
+NONE_KNOWN = View({}, {}, {}, {}, False)
 
 
 class Tables:
     """Follows the answers of a session. `view` is never changed: each change makes a new one."""
 
     def __init__(self):
-        self.view = View({}, {}, {})
+        self.view = View({}, {}, {}, {})
 
     def follow(self, answer):
         """Goes on to what stands after an answer."""
@@ -74,12 +78,12 @@ class Tables:
         name, body = answer.record.request.name, answer.record.body
         if name == "Reset" or answer.status == STOPPED:
             self._reset(name == "Reset" and body[0] == POWER_ON)
-        elif answer.status in (REGISTERED if name == "Register" else (SUCCESS,)):
+        elif answer.status in GRANTED.get(name, (SUCCESS,)):
             CHANGES[name](self, answer, body)
 
     def _reset(self, is_power_on):
-        """Tables and handles go with each reset, and the applications that run with a power-on."""
-        self.view = View({}, {}, {} if is_power_on else self.view.applications)
+        """Tables and handles go with each reset, and the applications that run and the blocks with a power-on."""
+        self.view = View({}, {}, *({}, {}) if is_power_on else (self.view.applications, self.view.blocks))
 
     def _start(self, answer, body):
         name = names.name_in(names.field("Start", "name").of(body))
@@ -88,14 +92,20 @@ class Tables:
     def _register(self, answer, body):
         row = next(it for it in range(len(self.view.rows) + 1) if it not in self.view.rows)
         table = self.view.full_name(answer.actor, names.field("Register", "short name").of(body))
-        handles = self.view.handles | {answer.entry.number("detail"): Handle(answer.actor, table, row, True)}
+        size = packets.number(names.field("Register", "size").of(body))
+        handles = self.view.handles | {answer.entry.number("detail"): Handle(answer.actor, table, row, True, size)}
         self.view = replace(self.view, rows=self.view.rows | {row: table}, handles=handles)
 
     def _share(self, answer, body):
         table = names.quoted(names.name_in(names.field("Share", "table").of(body)))
         row = next((row for row, it in self.view.rows.items() if it == table), None)
-        handle = Handle(answer.actor, table, row, False)
+        size = next((it.size for it in self.view.handles.values() if it.row == row), 0)
+        handle = Handle(answer.actor, table, row, False, size)
         self.view = replace(self.view, handles=self.view.handles | {answer.entry.number("detail"): handle})
+
+    def _cds_register(self, answer, body):
+        size = packets.number(names.field("CdsRegister", "size").of(body))
+        self.view = replace(self.view, blocks=self.view.blocks | {answer.entry.number("detail"): size})
 
     def _unregister(self, _, body):
         self._give_back(packets.number(names.field("Unregister", "handle").of(body)))
@@ -118,4 +128,4 @@ class Tables:
 
 
 CHANGES = {"Start": Tables._start, "Register": Tables._register, "Share": Tables._share, "Unregister": Tables._unregister,
-           "Exit": Tables._exit, "Reset": None}
+           "Exit": Tables._exit, "CdsRegister": Tables._cds_register, "Reset": None}

@@ -13,6 +13,9 @@ BYTE_ORDER_MARK = b"\xef\xbb\xbf"
 LABELS = {"size": "size", "offset": "at", "length": "length", "message id": "message", "function code": "code",
           "parameter": "parameter"}
 RAW = "bytes"
+START = bytes([next(number for number, it in names.requests().items() if it.name == "Start")])
+# Which word the name is in `app 1 register NAME`.
+NAME_AT = 3
 
 
 def record_of(line, folder="."):
@@ -175,9 +178,44 @@ class WrongLines(Exception):
         super().__init__("\n".join(reports))
 
 
-def to_records(lines, into, folder=".", name="<stdin>"):
+def doubled_name(content, applications):
+    """The full name of the table or block that a record registers, if its short name begins with an application's name too. By
+    their numbers `applications` has the names of those that started."""
+    request = names.requests().get(content[0]) if len(content) > records.HEAD else None
+    if request is None or request.name not in ("Register", "CdsRegister"):
+        return None
+    piece = records.Piece(0, content)
+    short, own = names.name_in(names.field(request.name, "short name").of(piece.body)), applications.get(piece.actor)
+    if own is None or not any(short.startswith(it + b".") for it in applications.values()):
+        return None
+    return names.quoted(own + b"." + short)
+
+
+def doubled_words(full_name):
+    """What is said of such a name."""
+    return f"the application's name is put before this one, so the full name is {full_name}"
+
+
+class Doubled:
+    """Looks for such names in a session as text, and says of each where it is."""
+
+    def __init__(self, say, name):
+        self._say, self._name, self._applications = say, name, {}
+
+    def take(self, number, line, content):
+        """Takes a line and its record."""
+        if content[:1] == START and len(content) > records.HEAD:
+            self._applications[content[1]] = names.name_in(content[records.HEAD:])
+        full_name = doubled_name(content, self._applications)
+        if full_name:
+            at = words.cut(line)[NAME_AT].at if not line.lstrip().startswith(RAW) else 0
+            self._say(f"{self._name}:{number}:{at + 1}: {doubled_words(full_name)}")
+
+
+def to_records(lines, into, folder=".", name="<stdin>", say=None):
     """Writes the records of the lines, which are bytes. Lines that are none end it with all of them, or with as many as are
-    told at once."""
+    told at once. `say` says what may be meant otherwise."""
+    doubled = Doubled(say or (lambda _: None), name)
     wrong, number, line = [], 0, b"\n"
     while len(wrong) < MOST_WRONG and line.endswith(b"\n") and (line := lines.readline(LONGEST_LINE)):
         number += 1
@@ -187,7 +225,9 @@ def to_records(lines, into, folder=".", name="<stdin>"):
         try:
             if len(line) == LONGEST_LINE and not line.endswith(b"\n"):
                 raise TextError(f"expected a line of fewer than {LONGEST_LINE} bytes, found a longer one")
-            into.write(record_of(text, folder))
+            content = record_of(text, folder)
+            into.write(content)
+            doubled.take(number, text, content)
         except TextError as error:
             wrong.append(report(f"{name}:{number}", text, error))
     if len(wrong) == MOST_WRONG:

@@ -37,10 +37,13 @@ class Broken:
     """What stands where no whole entry or end record does: why, and its first bytes."""
     reason: str
     content: bytes
+    # Whether no byte of a transcript came before.
+    is_empty: bool = False
 
 
 def parts(stream):
     """The entries of a transcript, then its end record. `Broken` comes last where the bytes go another way."""
+    is_empty = True
     while True:
         head = stream.read(ENTRY_HEAD)
         if head[:4] == END and len(head) == END_SIZE:
@@ -52,8 +55,9 @@ def parts(stream):
         try:
             reply, sent = _counted(stream, head), _counted(stream, head)
         except _Cut as cut:
-            yield Broken(str(cut), head)
+            yield Broken(str(cut), head, is_empty and not head)
             return
+        is_empty = False
         yield Entry(head, reply, sent)
 
 

@@ -4,6 +4,7 @@ import os
 import re
 
 from . import described, files, names
+from .numbers import counted
 
 WORD = re.compile(r'\s*(?:(#.*)|"((?:[^"\\]|\\.)*)"(?=\s|$)|([^\s"]+)(?=\s|$)|$)')
 ESCAPE = re.compile(r'\\(?:x([0-9A-Fa-f]{2})|(["\\]))')
@@ -156,7 +157,7 @@ class Words:
                 raise self.wrong(f"{what} in hexadecimal, two digits a byte, or empty", word=word.from_wrong_digit())
             digits += word
         if len(digits) % 2:
-            raise self.wrong(f"{what} in hexadecimal, two digits a byte, or empty", f"{len(digits)} digits", first)
+            raise self.wrong(f"{what} in hexadecimal, two digits a byte, or empty", counted(len(digits), "digit"), first)
         if most is not None and len(digits) > 2 * most:
             raise self.wrong(f"{what} of at most {most} bytes", len(digits) // 2, first)
         return bytes.fromhex(digits)

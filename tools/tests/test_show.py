@@ -150,7 +150,7 @@ class Ends(unittest.TestCase):
                            ("14010006 0000", "kind 14 cut off: 2 of 6 bytes of its body")):
             with self.subTest(bad):
                 self.assertEqual(self.end_of(noop + bytes_of(bad), "FFFFFFFF 05 00000001 0000000C"),
-                                 "end: status 5, a record is bad, or the input ends inside one; 1 entries; "
+                                 "end: status 5, a record is bad, or the input ends inside one; 1 entry; "
                                  f"record 1, at byte 12, is bad: {words}")
 
     def test_a_record_that_the_service_does_not_know(self):
