@@ -19,8 +19,9 @@ def keep(tool, option, written, read):
                 fail(tool, f"{option} would write over {name}, which is read", WRONG_USE)
 
 
-def session_of(tool, name, closing):
-    """A session as a file of records that can be read from any place: what is text or a stream is kept in a file of its own."""
+def session_of(tool, name, closing, say_more=None):
+    """A session as a file of records that can be read from any place: what is text or a stream is kept in a file of its own.
+    `say_more` says what may be meant otherwise in a text."""
     source = closing.enter_context(opened(name))
     front = content.front_of(source)
     kind = content.kind_of(front)
@@ -30,16 +31,16 @@ def session_of(tool, name, closing):
         return source
     kept = closing.enter_context(tempfile.TemporaryFile())
     if kind is content.Kind.TEXT:
-        _keep_records(source, kept, name)
+        _keep_records(source, kept, name, say_more)
     else:
         shutil.copyfileobj(source, kept)
     kept.seek(0)
     return kept
 
 
-def _keep_records(source, kept, name):
+def _keep_records(source, kept, name, say_more):
     try:
-        text.to_records(source, kept, text.folder_of(name), name)
+        text.to_records(source, kept, text.folder_of(name), name, say_more)
     except text.WrongLines as wrong:
         say(str(wrong))
         sys.exit(WRONG_USE)
@@ -59,11 +60,12 @@ def parts_of(tool, name, closing):
     return transcript.parts(source)
 
 
-def played(tool, session, closing):
-    """The transcript of a session that is played now, in the working folder, and the status of the run."""
+def played(tool, session, closing, opening=()):
+    """The transcript of a session that is played now, in the working folder, and the status of the run. `opening` has what the
+    program is given before its word."""
     output = closing.enter_context(tempfile.TemporaryFile())
     try:
-        status = programs.play(session, output)
+        status = programs.play(session, output, opening)
     except programs.NoProgram as none:
         fail(tool, none, programs.NO_PROGRAM)
     return transcript.parts(output), status

@@ -7,20 +7,20 @@ import tempfile
 
 from . import names, programs, records, show, states, transcript
 from .answers import Answer
-
-STORE = "cds.store"
+from .programs import STORE
 
 
 class Running:
     """A run of the program in a folder, with what was asked and answered so far. `end` is the end record, once it came, or what
     stands in its place; then nothing more is played."""
 
-    def __init__(self, folder="."):
+    def __init__(self, folder=".", opening=()):
+        """`opening` has what the program is given before its word."""
         program = programs.found()
         if program is None:
             raise programs.NoProgram("there is no program, and none could be built")
         # In a session of its own, so that an interrupt from the keyboard reaches the tool alone.
-        self._process = subprocess.Popen([program, "play"], cwd=folder, stdin=subprocess.PIPE, stdout=subprocess.PIPE,
+        self._process = subprocess.Popen([program, *opening, "play"], cwd=folder, stdin=subprocess.PIPE, stdout=subprocess.PIPE,
                                          start_new_session=True)
         self._parts, self._left, self._played = transcript.parts(self._process.stdout), b"", []
         self.states, self.end = states.States(), None
@@ -97,13 +97,13 @@ def _front(content):
 
 
 class Folder:
-    """A folder of its own for each run, that begins with the store file of the working folder as it stands now."""
+    """A folder of its own for each run, that begins with a copy of a store file as it is now, or without one."""
 
-    def __init__(self, closing):
+    def __init__(self, closing, store):
         self._closing, self._kept = closing, None
-        if os.path.isfile(STORE):
+        if store and os.path.isfile(store):
             self._kept = os.path.join(closing.enter_context(tempfile.TemporaryDirectory()), STORE)
-            shutil.copyfile(STORE, self._kept)
+            shutil.copyfile(store, self._kept)
 
     def fresh(self):
         """A further folder."""

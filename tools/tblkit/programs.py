@@ -8,6 +8,7 @@ TOP = os.path.dirname(HERE)
 # The front command stands in the clone, or where it is installed beside share/.
 FRONTS = (os.path.join(TOP, "cfetbl"), os.path.join(os.path.dirname(TOP), "bin", "cfetbl"))
 NO_PROGRAM = 125
+STORE, STORE_FAILED = "cds.store", 7
 
 
 class NoProgram(Exception):
@@ -29,15 +30,16 @@ def _taken():
     return None if done.returncode else done.stdout.rstrip("\n")
 
 
-def play(session, transcript):
-    """Plays the records of a file into another one, in the working folder, and answers the program's status."""
+def play(session, transcript, opening=()):
+    """Plays the records of a file into another one, in the working folder, and answers the program's status. `opening` has what the
+    program is given before its word."""
     program = found()
     if program is None:
         raise NoProgram("there is no program, and none could be built")
     # What was read ahead of either file is dropped, since the program moves their places.
     session.seek(0, os.SEEK_END)
     os.lseek(session.fileno(), 0, os.SEEK_SET)
-    status = subprocess.run([program, "play"], stdin=session, stdout=transcript, check=False).returncode
+    status = subprocess.run([program, *opening, "play"], stdin=session, stdout=transcript, check=False).returncode
     for file in (session, transcript):
         file.seek(0, os.SEEK_END)
         file.seek(0)

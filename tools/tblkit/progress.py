@@ -1,4 +1,5 @@
 """How far a piece of work is, told on standard error while nothing else is written."""
+import contextlib
 import shutil
 import sys
 import threading
@@ -16,11 +17,14 @@ def span(seconds):
 
 class Ticker:
     """Within a `with` block, writes what `tell` gives for the seconds so far, whenever nothing was written for a while. On a
-    terminal each line takes the place of the one before."""
+    terminal each line takes the place of the one before. With `is_beside` other output counts only if a terminal has it, so that
+    lines come also while it goes elsewhere."""
 
-    def __init__(self, tell):
+    def __init__(self, tell, is_beside=False):
         self.tell = tell
-        self.is_terminal = sys.stderr.isatty()
+        self.is_terminal = sys.stderr is not None and sys.stderr.isatty()
+        self.is_quieted = not is_beside or sys.stdout.isatty()
+        self.is_shown = False
         self.begun = self.last = time.monotonic()
         self.lock = threading.Lock()
         self.done = threading.Event()
@@ -42,11 +46,13 @@ class Ticker:
             self._clear()
             sys.stdout.buffer.write(output)
             sys.stdout.buffer.flush()
-            self.last = time.monotonic()
+            if self.is_quieted:
+                self.last = time.monotonic()
 
     def _clear(self):
-        if self.is_terminal:
+        if self.is_shown:
             print("\r\033[K", end="", file=sys.stderr, flush=True)
+            self.is_shown = False
 
     def _tick(self):
         while not self.done.wait(0.5):
@@ -55,9 +61,13 @@ class Ticker:
                 if now - self.last < (1 if self.is_terminal else SECONDS):
                     continue
                 self.last = now
-                self._clear()
-                line = self.tell(now - self.begun)
-                if self.is_terminal:
-                    print(line[:shutil.get_terminal_size().columns - 1], end="", file=sys.stderr, flush=True)
-                else:
-                    print(line, file=sys.stderr, flush=True)
+                with contextlib.suppress(OSError):
+                    self._tell(self.tell(now - self.begun))
+
+    def _tell(self, line):
+        self._clear()
+        if self.is_terminal:
+            print(line[:shutil.get_terminal_size().columns - 1], end="", file=sys.stderr, flush=True)
+            self.is_shown = True
+        else:
+            print(line, file=sys.stderr, flush=True)

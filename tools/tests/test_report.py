@@ -100,7 +100,7 @@ class Words(unittest.TestCase):
         self.assertEqual(call("cfetbl-report", "--help")[0], 0)
         self.assertEqual([call("cfetbl-report", *it)[0] for it in ([], ["a", "b", "c"], ["/no/such"], [HELLO + ".transcript"])], [2] * 4)
         self.assertEqual(into_full("cfetbl-report", HELLO + ".txt", HELLO + ".transcript"),
-                         (4, "cfetbl-report: writing failed: standard output: No space left on device\n"))
+                         (4, "cfetbl report: writing failed: standard output: No space left on device\n"))
 
     def test_a_page_over_what_is_read(self):
         with tempfile.TemporaryDirectory() as folder:
@@ -108,18 +108,18 @@ class Words(unittest.TestCase):
             with open(session, "wb") as file:
                 file.write(b"ground NOOP\n")
             self.assertEqual(call("cfetbl-report", "-o", session, session, cwd=folder),
-                             (2, b"", f"cfetbl-report: -o {session} would write over {session}, which is read\n"))
+                             (2, b"", f"cfetbl report: -o {session} would write over {session}, which is read\n"))
             self.assertEqual(call("cfetbl-map", "-o", session, session, cwd=folder)[0], 2)
             self.assertEqual(os.path.getsize(session), 12)
 
     def test_another_session(self):
         status, page, said = call("cfetbl-report", HELLO + ".txt", transcript_of(EXAMPLES[0]))
-        self.assertEqual((status, page, said), (1, b"", "cfetbl-report: the transcript is of another session\n"))
+        self.assertEqual((status, page, said), (1, b"", "cfetbl report: the transcript is of another session\n"))
 
     def test_a_transcript_that_breaks_off(self):
         with open(HELLO + ".transcript", "rb") as file:
             status, page, said = call("cfetbl-report", HELLO + ".txt", "-", given=file.read()[:100])
-        self.assertEqual((status, said), (1, "cfetbl-report: the transcript breaks off inside an entry\n"))
+        self.assertEqual((status, said), (1, "cfetbl report: the transcript breaks off inside an entry\n"))
         self.assertIn(b"broken: the transcript breaks off", page)
 
     def test_a_bad_record(self):

@@ -1,4 +1,4 @@
-"""cfetbl-resets: the table of docs/GUIDE.md as a page."""
+"""cfetbl-resets: the table of docs/GUIDE.md as it comes and as a page, and how far it is."""
 import os
 import re
 import tempfile
@@ -7,7 +7,7 @@ import unittest
 from tblkit import resets
 
 from . import recorded
-from .test_commands import call
+from .test_commands import TOOLS, call, in_terminal
 
 TABLE = "    $ ./cfetbl resets modes.txt\n"
 ELEMENT = re.compile(r'data-write="(\d+)" data-table="(\S+)" data-from="(\d+)" data-to="(\d+)" data-back="([^"]*)"')
@@ -49,17 +49,58 @@ class Resets(unittest.TestCase):
         self.assertEqual([(it.what, it.backs) for it in resets.read(lines)[1]], [("letters", [])])
         self.assertIn("no critical table", resets.html("a", lines))
 
-    def test_words(self):
-        given = "\n".join(shown()).encode()
+    def program(self, folder, script):
+        """A stand-in for the program that is run."""
+        path = os.path.join(folder, "program")
+        with open(path, "w", encoding="ascii") as file:
+            file.write(f"#!/bin/bash\n{script}\n")
+        os.chmod(path, 0o755)
+        return path
+
+    def test_the_table_is_passed_on(self):
+        """Its rows as they come, what else the program says, and its status."""
+        with tempfile.TemporaryDirectory() as folder:
+            with open(os.path.join(folder, "table"), "w", encoding="ascii") as table:
+                table.write("\n".join(shown()) + "\n")
+            path = self.program(folder, f'echo "words $*"; cat; cat {folder}/table; echo other words >&2; exit 5')
+            status, written, said = call("cfetbl-resets", "--program", path, "--every", "64", given=b"the session\n")
+            self.assertEqual((status, said), (5, "other words\n"))
+            self.assertEqual(written.decode().splitlines(), ["words --every 64", "the session", *shown()])
+            self.assertEqual(call("cfetbl-resets", "--program", path, "--mirror")[1].splitlines()[0], b"words --mirror")
+
+    def test_a_page(self):
         with tempfile.TemporaryDirectory() as folder:
             page = os.path.join(folder, "page.html")
-            self.assertEqual(call("cfetbl-resets", page, "modes.txt", given=given), (0, b"", ""))
+            with open(os.path.join(folder, "table"), "w", encoding="ascii") as table:
+                table.write("\n".join(shown()) + "\n")
+            path = self.program(folder, f"cat {folder}/table; exit 3")
+            self.assertEqual(call("cfetbl-resets", "--program", path, "--html", page, "--name", "modes.txt"), (3, b"", ""))
             with open(page, encoding="utf-8") as file:
                 self.assertIn("<h1>Resets in modes.txt</h1>", file.read())
-        self.assertEqual(call("cfetbl-resets", given=given)[0], 2)
-        self.assertEqual(call("cfetbl-resets", "/dev/full", "a", given=given)[0], 4)
-        self.assertEqual(call("cfetbl-resets", "-", "a", given=b"write  bytes  in request\nno row\n"),
-                         (1, b"", "cfetbl-resets: no row of `cfetbl resets`: no row\n"))
+            self.assertEqual(call("cfetbl-resets", "--program", path, "--html", "/dev/full", "--name", "a")[0], 4)
+
+    def test_how_far_it_is(self):
+        """Every few seconds, by the rows and by what the program says, also while rows come."""
+        said = "resets: at write 3 of 7, after 1024 of 16392 bytes"
+        with tempfile.TemporaryDirectory() as folder:
+            path = self.program(folder, f"echo '1      15     boot'; echo '2      16392  boot'; echo '{said}' >&2; sleep 3; echo x; sleep 3")
+            status, written, told = call("cfetbl-resets", "--program", path)
+            self.assertEqual((status, written), (0, b"1      15     boot\n2      16392  boot\nx\n"))
+            self.assertRegex(told, r"^cfetbl resets: 2 of 7 writes were tried, at write 3 of 7, after 1024 of 16392 bytes; \d s so far\n$")
+
+    def test_how_far_it_is_at_a_terminal(self):
+        """A line that stays in place, and is gone at the end."""
+        with tempfile.TemporaryDirectory() as folder:
+            path = self.program(folder, "echo '1      15     boot'; sleep 2.5")
+            seen = in_terminal([os.path.join(TOOLS, "cfetbl-resets"), "--program", path])
+        self.assertRegex(seen, r"boot\r\n(?:\r\x1b\[K)?cfetbl resets: 1 write was tried; \d s so far")
+        self.assertTrue(seen.endswith("\r\x1b[K"))
+
+    def test_no_table(self):
+        with tempfile.TemporaryDirectory() as folder:
+            path = self.program(folder, "echo 'write  bytes  in request'; echo 'no row'")
+            self.assertEqual(call("cfetbl-resets", "--program", path, "--html", "-", "--name", "a"),
+                             (1, b"", "cfetbl resets: no row of `cfetbl resets`: no row\n"))
 
 
 if __name__ == "__main__":
