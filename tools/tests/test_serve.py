@@ -38,7 +38,7 @@ class Served(unittest.TestCase):
         self.addCleanup(served.communicate)
         self.addCleanup(served.kill)
         for line in served.stderr:
-            found = re.match(rb"cfetbl-serve: commands to 127.0.0.1:(\d+), telemetry to", line)
+            found = re.match(rb"cfetbl serve: commands to 127.0.0.1:(\d+), telemetry to", line)
             if found:
                 return served, ("127.0.0.1", int(found[1]))
         self.fail(f"it ended with {served.wait()}")
@@ -120,7 +120,7 @@ class Served(unittest.TestCase):
         self.ground.sendto(bytes(40_000), address)
         self.assertEqual(self.ask(address, b"")[12:18], bytes_of("0002 00000050"))
         _, written, said = self.end(served)
-        self.assertEqual((len(written), said), (3, b"cfetbl-serve: a datagram of 40000 bytes is no command\n"))
+        self.assertEqual((len(written), said), (3, b"cfetbl serve: a datagram of 40000 bytes is no command\n"))
 
     def test_words(self):
         self.assertEqual([call("cfetbl-serve", *it, cwd=self.folder)[0] for it in (
