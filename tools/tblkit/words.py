@@ -4,6 +4,7 @@ import os
 import re
 
 from . import described, files, names
+from .near import meant
 from .numbers import counted
 
 WORD = re.compile(r'\s*(?:(#.*)|"((?:[^"\\]|\\.)*)"(?=\s|$)|([^\s"]+)(?=\s|$)|$)')
@@ -82,7 +83,8 @@ class Words:
             word = self._words[self._at] if not self.is_done() else None
         if word is None:
             return TextError(f"expected {what}, found the end of the line", self._words[-1].end, allowed)
-        return TextError(f"expected {what}, found {found or word.shown()}", word.at, allowed)
+        near = "" if word.is_quoted else meant(word, allowed)
+        return TextError(f"expected {what}, found {found or word.shown()}{near}", word.at, allowed)
 
     def is_next(self, *wanted):
         """Whether the next word is one of these, which are no quoted ones."""

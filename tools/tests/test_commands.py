@@ -57,7 +57,7 @@ class Text(unittest.TestCase):
         status, written, said = call("cfetbl-text", "-", given=b"ground NOOP\nground NOPE\n")
         self.assertEqual((status, written), (1, b""))
         self.assertEqual(said, """\
-<stdin>:2:8: expected a command, or packet, found NOPE
+<stdin>:2:8: expected a command, or packet, found NOPE; did you mean NOOP?
     ground NOPE
            ^
     allowed here: NOOP RESET_COUNTERS LOAD DUMP VALIDATE ACTIVATE DUMP_REGISTRY SEND_REGISTRY

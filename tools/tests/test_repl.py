@@ -104,7 +104,7 @@ class Typed(unittest.TestCase):
     def test_wrong_lines(self):
         status, written, said = self.typed(b"ground NOPE\n:nothing\nground NOOP\n")
         self.assertEqual((status, written.count("\n"), said.splitlines()[0]),
-                         (2, 3, "<stdin>:1:8: expected a command, or packet, found NOPE"))
+                         (2, 3, "<stdin>:1:8: expected a command, or packet, found NOPE; did you mean NOOP?"))
         self.assertIn(":nothing is no such line; `help` has those", said)
         self.assertIn(":sav is no such line; did you mean :save?", self.typed(b":sav\n")[2])
 

@@ -93,7 +93,7 @@ class WrongLines(unittest.TestCase):
 
     def test_a_line_is_told_with_its_place(self):
         self.assertEqual(self.reports(b"# first\napp 1 start A\n\tapp 1 load 0 hax 01\napp 2 start\n"), [
-            "<stdin>:3:15: expected the image as hex, fill, from or empty, found hax",
+            "<stdin>:3:15: expected the image as hex, fill, from or empty, found hax; did you mean hex?",
             "     app 1 load 0 hax 01",
             "                  ^",
             "    allowed here: hex fill from empty",
