@@ -1,12 +1,17 @@
-"""How the tools meet the shell: statuses, broken pipes and what they say on standard error."""
+"""How the tools meet the shell: statuses, broken pipes, interrupts, and what they say on standard error."""
 import contextlib
 import errno
 import io
 import os
+import re
 import signal
 import sys
 
-WRONG_USE, WRITE_FAILED = 2, 4
+OUT_OF_MEMORY, WRONG_USE, WRITE_FAILED = 1, 2, 4
+# A program that a signal ended has this status and the number of the signal, as the shell tells it.
+BY_SIGNAL = 128
+INTERRUPTED = BY_SIGNAL + signal.SIGINT
+PLAIN = re.compile(r"[\n\t -~]*")
 # What only a write comes to, also one to a file of the tools' own.
 NO_ROOM = (errno.ENOSPC, errno.EFBIG, errno.EDQUOT)
 
@@ -29,11 +34,44 @@ class _Output(io.FileIO):
             raise WriteFailed(f"{self._called}: {error.strerror}") from None
 
 
+def visible(words):
+    """Words as a terminal may have them: a character that doesn't print is an escape, as \\x1B, and so is a byte of a file's name
+    that isn't UTF-8. Lines and tabs stay."""
+    if PLAIN.fullmatch(words):
+        return words
+    return "".join(it if it in "\n\t" or it.isprintable() else _escape(ord(it)) for it in words)
+
+
+def _escape(code):
+    if 0xDC80 <= code <= 0xDCFF:
+        code -= 0xDC00
+    return f"\\x{code:02X}" if code < 0x100 else f"\\u{code:04X}" if code < 0x10000 else f"\\U{code:08X}"
+
+
+class Lines(io.TextIOWrapper):
+    """A stream of text in UTF-8, which is visible."""
+
+    def __init__(self, binary):
+        super().__init__(binary, encoding="utf-8")
+
+    def write(self, words):
+        super().write(visible(words))
+        return len(words)
+
+
+class _Errors(io.TextIOBase):
+    """Standard error, for what others than `say` write there: what is visible, and as far as it is taken."""
+
+    def write(self, words):
+        with contextlib.suppress(OSError):
+            os.write(sys.__stderr__.fileno(), visible(words).encode("utf-8", "replace"))
+        return len(words)
+
+
 def say(words):
     """Says something on standard error, where that is open and takes it: the status tells the rest."""
     if sys.stderr is not None:
-        with contextlib.suppress(OSError):
-            os.write(sys.stderr.fileno(), words.encode("utf-8", "replace") + b"\n")
+        _Errors().write(f"{words}\n")
 
 
 def fail(tool, reason, status):
@@ -63,27 +101,53 @@ def output_to(name, closing):
     """A stream of text that writes a file, which `closing` closes; `-` is standard output."""
     if name == "-":
         return sys.stdout
-    return closing.enter_context(io.TextIOWrapper(created(name), encoding="utf-8"))
+    return closing.enter_context(Lines(created(name)))
+
+
+def binary_output(tool, what):
+    """Standard output for bytes. They aren't written to a terminal."""
+    if os.isatty(1):
+        fail(tool, f"{what} isn't written to a terminal: give it to a file or a pipe", WRONG_USE)
+    sys.stdout.flush()
+    return sys.stdout.buffer
 
 
 def run(tool, main):
     """Calls `main` with the words of the command line. A write that fails is status 4, a file or stream that can't be opened
-    or read is 2, and a reader that went away ends the tool silently, as it does others."""
+    or read is 2, an interrupt is 130, and a reader that went away ends the tool silently, as it does others."""
     signal.signal(signal.SIGPIPE, signal.SIG_DFL)
+    if signal.getsignal(signal.SIGINT) is signal.SIG_DFL:
+        signal.signal(signal.SIGINT, signal.default_int_handler)
     try:
-        if sys.stdout is None:
-            raise WriteFailed("standard output is closed")
-        sys.stdout = io.TextIOWrapper(io.BufferedWriter(_Output("standard output", 1, closefd=False)), encoding="utf-8")
-        status = _status_of(main)
-        sys.stdout.flush()
+        status = _ended(main)
     except WriteFailed as failed:
-        _drop_output()
-        fail(tool, f"writing failed: {failed}", WRITE_FAILED)
+        status, reason = WRITE_FAILED, f"writing failed: {failed}"
     except OSError as error:
-        _drop_output()
-        reason = f"{error.filename}: {error.strerror}" if error.filename else str(error)
-        fail(tool, reason, WRITE_FAILED if error.errno in NO_ROOM else WRONG_USE)
-    sys.exit(status)
+        status, reason = WRITE_FAILED if error.errno in NO_ROOM else WRONG_USE, _reason_of(error)
+    except MemoryError:
+        status, reason = OUT_OF_MEMORY, "out of memory"
+    except KeyboardInterrupt:
+        status, reason = INTERRUPTED, "interrupted"
+    else:
+        sys.exit(status)
+    drop_output()
+    fail(tool, reason, status)
+
+
+def _ended(main):
+    """What the tool ends with, once its output is written."""
+    if sys.stderr is not None:
+        sys.stderr = _Errors()
+    if sys.stdout is None:
+        raise WriteFailed("standard output is closed")
+    sys.stdout = Lines(io.BufferedWriter(_Output("standard output", 1, closefd=False)))
+    status = _status_of(main)
+    sys.stdout.flush()
+    return status
+
+
+def _reason_of(error):
+    return f"{error.filename}: {error.strerror}" if error.filename else error.strerror or str(error)
 
 
 def _status_of(main):
@@ -94,7 +158,7 @@ def _status_of(main):
         return early.code
 
 
-def _drop_output():
-    """What is still to be written would fail again at the exit."""
+def drop_output():
+    """What is still to be written would fail again, or wait again, at the exit."""
     if sys.stdout is not None:
         os.dup2(os.open(os.devnull, os.O_WRONLY), 1)

@@ -1,5 +1,6 @@
 """Descriptions of table files: the recorded answers, where they lie beside the repository, and what people are told."""
 import os
+import tempfile
 import unittest
 
 from tblkit import described
@@ -38,6 +39,22 @@ class Descriptions(unittest.TestCase):
         self.assertEqual(call("cfetbl-table", "describe", "hex0:a", EXAMPLE)[0], 2)
         self.assertEqual(call("cfetbl-table", "make")[0], 2)
         self.assertEqual(call("cfetbl-table", "file", EXAMPLE)[0], 1)
+
+    def test_what_is_read_is_not_written_over(self):
+        with tempfile.TemporaryDirectory() as folder:
+            kept = {"text": WORKED, "file": described.make(WORKED)}
+            for name, content in kept.items():
+                with open(os.path.join(folder, name), "wb") as file:
+                    file.write(content)
+            os.link(os.path.join(folder, "text"), os.path.join(folder, "other"))
+            for words, name in ((["make", "text", "-o", "text"], "text"), (["make", "text", "-o", "other"], "text"),
+                                (["describe", SHAPE, "file", "-o", "file"], "file")):
+                self.assertEqual(call("cfetbl-table", *words, cwd=folder),
+                                 (2, b"", f"cfetbl-table: -o {words[-1]} would write over {name}, which is read\n"))
+                with open(os.path.join(folder, name), "rb") as file:
+                    self.assertEqual(file.read(), kept[name])
+            self.assertEqual(call("cfetbl-table", "make", "text", "-o", "made", cwd=folder), (0, b"", ""))
+            self.assertEqual(call("cfetbl-table", "describe", SHAPE, "made", "-o", "-", cwd=folder), (0, WORKED, ""))
 
     def test_a_session_makes_its_file(self):
         status, session, _ = call("cfetbl-text", given=f"file /l made {EXAMPLE}\n".encode())
