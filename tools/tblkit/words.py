@@ -1,9 +1,8 @@
 """The words of a line of session text: how a line is cut into words, and how the fields of a request are read from them
 and written as them."""
-import os
 import re
 
-from . import described, files, names
+from . import described, files, folders, names
 from .near import meant
 from .numbers import counted
 
@@ -68,10 +67,11 @@ def cut(line):
 
 
 class Words:
-    """The words of a line that are still to be read. `folder` is where the files are that it names."""
+    """The words of a line that are still to be read. `folder` is where the files are that it names: a path, or a Folder."""
 
     def __init__(self, line, folder="."):
-        self._words, self._at, self.folder = cut(line), 0, folder
+        self._words, self._at = cut(line), 0
+        self._folder = folder if isinstance(folder, folders.Folder) else folders.Folder(folder)
         # The words that were looked for where the next one stands.
         self._looked_for = {}
 
@@ -187,8 +187,7 @@ class Words:
     def _file(self, most):
         name = self.take("the name of a file here")
         try:
-            with open(os.path.join(self.folder, name), "rb") as file:
-                return file.read(most + 1)
+            return self._folder.read(name, most)
         except (OSError, ValueError) as error:
             reason = getattr(error, "strerror", None) or error
             raise TextError(f"expected a file that can be read: {name}: {reason}", name.at) from None

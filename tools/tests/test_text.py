@@ -77,6 +77,14 @@ class WrongLines(unittest.TestCase):
             with self.assertRaisesRegex(text.TextError, "at most 32768 bytes, found 32769"):
                 text.record_of("file /a from long", folder)
 
+    def test_what_is_no_regular_file(self):
+        """Nothing waits for a pipe, and a device isn't read."""
+        with tempfile.TemporaryDirectory() as folder:
+            os.mkfifo(os.path.join(folder, "pipe"))
+            for name in ("pipe", ".", "/dev/zero"):
+                with self.assertRaisesRegex(text.TextError, "it is no regular file"):
+                    text.record_of(f"app 1 load 0 from {name}", folder)
+
     def test_each_says_what_was_expected(self):
         for line, column, words, *allowed in table("wrong-lines.tsv"):
             with self.subTest(line):
