@@ -13,7 +13,7 @@ _cfetbl() {
         *:make | *:describe) words='-o --help' ;;
         *:report) words='-o --store --durable --help' ;;
         *:map) words='-o --store --help' ;;
-        *:serve) words='--cfe-layout --big-endian --listen --command-port --to --telemetry-port --socket --script --clock --store --durable --help' ;;
+        *:serve) words='--cfe-layout --big-endian --listen --command-port --to --telemetry-port --socket --files --script --clock --store --durable --help' ;;
         *:xtce | *:cosmos) words='-o --cfe-layout --big-endian --help' ;;
         *:compare | *:explain | *:file | *:drill) words='--help' ;;
         *:repl) words='--store --help' ;;

@@ -2,12 +2,20 @@
 import io
 import os
 import shutil
+import signal
+import stat
 import subprocess
 import tempfile
+import time
 
 from . import names, programs, records, show, states, transcript
 from .answers import Answer
 from .programs import STORE
+
+# How long a program may take to open its store, in seconds, and how often it is looked at meanwhile.
+LONGEST_START, LOOK = 30, 0.005
+# How many requests before the last one it is said how many are left.
+WARNED = 100
 
 
 class Running:
@@ -21,9 +29,37 @@ class Running:
             raise programs.NoProgram("there is no program, and none could be built")
         # In a session of its own, so that an interrupt from the keyboard reaches the tool alone.
         self._process = subprocess.Popen([program, *opening, "play"], cwd=folder, stdin=subprocess.PIPE, stdout=subprocess.PIPE,
-                                         start_new_session=True)
+                                         start_new_session=True, **programs.AS_HERE)
+        # A program that has ended takes no bytes. Its status says why, and no signal ends the tool.
+        signal.signal(signal.SIGPIPE, signal.SIG_IGN)
         self._parts, self._left, self._played = transcript.parts(self._process.stdout), b"", []
-        self.states, self.end = states.States(), None
+        self._store, self.states, self.end = programs.store_of(opening, folder), states.States(), None
+
+    @property
+    def count(self):
+        """How many requests were played."""
+        return len(self._played)
+
+    def warning(self):
+        """What is to be said after a request because few of them are left, or none; mostly empty."""
+        if self.count == records.MOST_RECORDS - WARNED:
+            return f"{WARNED} requests are left of the {records.MOST_RECORDS:,} of a session"
+        return f"{self.count:,} requests were played, and a session has no more" if self.count == records.MOST_RECORDS else ""
+
+    def fileno(self):
+        """What can be read from once the program has ended by itself."""
+        return self._process.stdout.fileno()
+
+    def has_ended(self):
+        """Whether the program has ended, as it does by itself where it fails or is killed."""
+        return self._process.poll() is not None
+
+    def is_ready(self):
+        """Waits until the program has opened its store and waits for a request. False where it has ended instead."""
+        begun = time.monotonic()
+        while not (self.has_ended() or _waits_with_file(self._process.pid)) and time.monotonic() - begun < LONGEST_START:
+            time.sleep(LOOK)
+        return not self.has_ended()
 
     def ask(self, content):
         """Plays the records in bytes, and gives the answers. Bytes that are only a part of a record wait for the rest, and such
@@ -72,7 +108,16 @@ class Running:
             pass
         for part in self._parts:
             self.end = self.end or part
-        return self._process.wait()
+        return programs.status_of(self._process.wait())
+
+    def kill(self):
+        """Ends the program where it is."""
+        self._process.kill()
+        self._process.wait()
+
+    def failure(self):
+        """Why the program ended by itself, in words; empty where it wrote its end record."""
+        return "" if isinstance(self.end, transcript.End) else programs.end_words(self.finish(), self._store)
 
     def end_line(self):
         """The line of the end record. Its index has taken what was played."""
@@ -80,6 +125,19 @@ class Running:
         for piece in self._played:
             index.next_of(piece.actor)
         return show.end_lines(self.end, index)
+
+
+def _waits_with_file(process):
+    """Whether a process has a file open beside its standard streams, and waits. Where the system doesn't say so, it is taken to
+    do that after a moment."""
+    try:
+        with open(f"/proc/{process}/stat", "rb") as file:
+            state = file.read().rpartition(b") ")[2][:1]
+        opened = [os.stat(f"/proc/{process}/fd/{it}").st_mode for it in os.listdir(f"/proc/{process}/fd") if int(it) > 2]
+    except OSError:
+        time.sleep(50 * LOOK)
+        return True
+    return state == b"S" and any(map(stat.S_ISREG, opened))
 
 
 def _front(content):

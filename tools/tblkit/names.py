@@ -41,13 +41,16 @@ class Request(Named):
     is_ground: bool = False
 
 
+@functools.cache
 def rows():
-    """The rows of the table as lists of columns, without the mark `later`."""
+    """The rows of the table as lists of columns, without the mark `later`. It is read once: later there may be no descriptor left."""
+    found = []
     with open(TABLE, encoding="ascii") as lines:
         for line in lines:
             columns = line.rstrip("\n").split("\t")
             if not line.startswith("#"):
-                yield columns[:-1] if columns[-1] == "later" else columns
+                found.append(columns[:-1] if columns[-1] == "later" else columns)
+    return found
 
 
 def rows_of(section):

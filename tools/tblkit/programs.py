@@ -1,7 +1,11 @@
-"""The program that the tools call, and how they play a session with it."""
+"""The program that the tools call, how they play a session with it, and what they say of its end."""
 import functools
 import os
+import signal
 import subprocess
+
+from . import locks, names
+from .streams import BY_SIGNAL
 
 HERE = os.path.dirname(os.path.dirname(os.path.realpath(__file__)))
 TOP = os.path.dirname(HERE)
@@ -9,6 +13,8 @@ TOP = os.path.dirname(HERE)
 FRONTS = (os.path.join(TOP, "cfetbl"), os.path.join(os.path.dirname(TOP), "bin", "cfetbl"))
 NO_PROGRAM = 125
 STORE, STORE_FAILED = "cds.store", 7
+# A program that is started has what the tool has: a file that may not grow is a write that fails, and ends no program by a signal.
+AS_HERE = {"restore_signals": False}
 
 
 class NoProgram(Exception):
@@ -39,8 +45,33 @@ def play(session, transcript, opening=()):
     # What was read ahead of either file is dropped, since the program moves their places.
     session.seek(0, os.SEEK_END)
     os.lseek(session.fileno(), 0, os.SEEK_SET)
-    status = subprocess.run([program, *opening, "play"], stdin=session, stdout=transcript, check=False).returncode
+    words = [program, *opening, "play"]
+    status = status_of(subprocess.run(words, stdin=session, stdout=transcript, check=False, **AS_HERE).returncode)
     for file in (session, transcript):
         file.seek(0, os.SEEK_END)
         file.seek(0)
     return status
+
+
+def status_of(returned):
+    """The status of a program that has ended, as the shell tells it: one that a signal ended has 128 and its number."""
+    return BY_SIGNAL - returned if returned < 0 else returned
+
+
+def store_of(opening=(), folder="."):
+    """The store file of a program in a folder, by what it is given before its word."""
+    return opening[opening.index("--store") + 1] if "--store" in opening else os.path.normpath(os.path.join(folder, STORE))
+
+
+def end_words(status, store=STORE):
+    """What is said of a program that ended with a status of its own or by a signal, over a store file."""
+    if status > BY_SIGNAL and status - BY_SIGNAL in signal.valid_signals():
+        return f"the program was ended by a signal, {_signal_name(status - BY_SIGNAL)}"
+    means, *_ = names.explained().get(("run", status), ("which is no status of its own",))
+    said = f"the program ended with {status}: {means}"
+    in_use = locks.in_use(store) if status == STORE_FAILED else ""
+    return f"{said}; {in_use}" if in_use else said
+
+
+def _signal_name(number):
+    return signal.Signals(number).name if number in set(signal.Signals) else str(number)

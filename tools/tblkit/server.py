@@ -1,17 +1,17 @@
 """The service for a ground system: commands come as datagrams, telemetry is sent as such, and applications call by lines."""
 import io
-import os
-import selectors
-import socket
+import math
+import select
 import time
 
-from . import cfe, names, records, show, text
+from . import callers, cfe, ground, names, records, show, text
+from .folders import Folder
 from .words import TextError
 
 # The ports that cFS's ci_lab and to_lab have by default.
 COMMAND_PORT, TELEMETRY_PORT = 1234, 1235
 MOST_DATAGRAM = 65_535
-LONGEST_LINE = 1 << 17
+OVER = "the session is over"
 # cFE's default epoch, 1980-01-01, in seconds of this system's clock.
 EPOCH = 315_532_800
 
@@ -21,15 +21,23 @@ class Refused(Exception):
 
 
 class Service:
-    """The run that plays what comes. It tells each answer, and sends its telemetry to the ground."""
+    """The run that plays what comes. It tells each answer, sends its telemetry to the ground, and says what else there is to say."""
 
-    def __init__(self, running, send, tell, layout=None, is_clocked=False):
-        self._running, self._send, self._tell = running, send, tell
+    def __init__(self, running, send, tell, say, layout=None, is_clocked=False):
+        self._running, self._send, self._tell, self._say = running, send, tell, say
         self._layout, self._is_clocked, self._seconds = layout, is_clocked, None
 
     @property
     def is_over(self):
-        return self._running.end is not None
+        return self._running.end is not None or self._running.count >= records.MOST_RECORDS
+
+    def fileno(self):
+        """What can be read from once the run has ended by itself."""
+        return self._running.fileno()
+
+    def look(self):
+        """Ends the run, which has ended by itself."""
+        self._running.finish()
 
     def command(self, packet):
         """Plays a command as it came from the ground."""
@@ -53,12 +61,19 @@ class Service:
         if self._is_clocked:
             self._set_clock()
         told = []
-        for answer in self._running.ask(content):
+        for answer in self._ask(content):
             told += show.lines(answer)
             for packet in answer.packets:
                 self._send_packet(packet, answer.view)
         self._tell(told)
         return told
+
+    def _ask(self, content):
+        """Plays records, and says so where there are few left, or none."""
+        for answer in self._running.ask(content):
+            yield answer
+            if self._running.warning():
+                self._say(self._running.warning())
 
     def _send_packet(self, packet, view):
         """Sends a packet to the ground. A notice is for an application, and isn't sent."""
@@ -70,96 +85,66 @@ class Service:
         seconds = int(time.time()) - EPOCH
         if seconds != self._seconds:
             self._seconds = seconds
-            for _ in self._running.ask(text.record_of(f"time {seconds % (1 << 32)} 0")):
+            for _ in self._ask(text.record_of(f"time {seconds % (1 << 32)} 0")):
                 pass
 
 
-class Caller:
-    """An application, or a person, that calls by lines over a connection: each answer ends with an empty line."""
-
-    def __init__(self, connection, service):
-        self.connection, self._service, self._left = connection, service, b""
-
-    def take(self):
-        """Takes what has come. False where the caller is gone."""
-        try:
-            content = self.connection.recv(MOST_DATAGRAM)
-        except OSError:
-            return False
-        self._left += content
-        while b"\n" in self._left and not self._service.is_over:
-            line, _, self._left = self._left.partition(b"\n")
-            if not self._answer(line.decode("utf-8", "replace")):
-                return False
-        return bool(content) and len(self._left) < LONGEST_LINE
-
-    def _answer(self, line):
-        try:
-            told = self._service.line(line)
-        except Refused as refused:
-            told = str(refused).splitlines()
-        try:
-            self.connection.sendall("".join(f"{it}\n" for it in [*told, ""]).encode())
-        except OSError:
-            return False
-        return True
-
-
 class Server:
-    """The sockets: one for commands, one that sends telemetry, and, where there is a path for it, one for callers."""
+    """The sockets of a service: one for commands, one that sends telemetry, and, where there is a path for it, one for callers.
+    None of them keeps it from the others, or from its end."""
 
-    def __init__(self, closing, listen, telemetry, path=None):
-        self._selector, self._path = selectors.DefaultSelector(), path
-        self._ground = closing.enter_context(socket.socket(socket.AF_INET, socket.SOCK_DGRAM))
-        self._ground.bind(listen)
-        self._telemetry, self._closing = telemetry, closing
-        self._selector.register(self._ground, selectors.EVENT_READ, self._take_command)
-        self._service = self._say = None
-        self._is_stopped = False
-        stopped, self._stopper = socket.socketpair()
-        self._selector.register(stopped, selectors.EVENT_READ, self._stop)
-        if path:
-            listener = closing.enter_context(socket.socket(socket.AF_UNIX, socket.SOCK_STREAM))
-            listener.bind(path)
-            closing.callback(os.unlink, path)
-            listener.listen()
-            self._selector.register(listener, selectors.EVENT_READ, self._take_caller)
+    def __init__(self, closing, commands, telemetry, say, path=None, files=None):
+        self._say, self._files = say, Folder(files, is_closed=True)
+        self._commands = ground.command_socket(closing, *commands)
+        self._telemetry = ground.Telemetry(closing, *telemetry, say)
+        self._callers = callers.Callers(closing, path, say) if path else None
 
     @property
     def address(self):
         """Where commands are taken."""
-        return self._ground.getsockname()[:2]
+        return self._commands.getsockname()[:2]
 
     def send(self, packet):
         """Sends a packet to the ground."""
-        self._ground.sendto(packet, self._telemetry)
+        self._telemetry.send(packet)
 
-    def stop(self, *_):
-        """Ends `serve` once what it is at is done. A signal may call it."""
-        self._stopper.send(b"\0")
+    def serve(self, service, stop):
+        """Serves until the run is over, or the service is to stop."""
+        while not (service.is_over or stop.is_asked):
+            self._wait(service, stop)
+            if self._callers and not service.is_over:
+                self._callers.turn(lambda line: self._played(service, line))
 
-    def _stop(self, _):
-        self._is_stopped = True
+    def _wait(self, service, stop):
+        """Waits until something has come, and takes it."""
+        waits = [(stop.awoken, select.POLLIN, lambda: None), (service, select.POLLIN, service.look),
+                 (self._commands, select.POLLIN, lambda: self._take_command(service))]
+        waits += self._callers.waits() if self._callers else []
+        patience = self._callers.patience() if self._callers else None
+        poll, actions = select.poll(), {}
+        for file, mask, action in waits:
+            poll.register(file, mask)
+            actions[file.fileno()] = action
+        for number, _ in poll.poll(None if patience is None else math.ceil(1000 * patience)):
+            if not service.is_over:
+                actions[number]()
 
-    def serve(self, service, say):
-        """Serves until the run is over, or it is stopped."""
-        self._service, self._say = service, say
-        while not (service.is_over or self._is_stopped):
-            for key, _ in self._selector.select():
-                if not service.is_over:
-                    key.data(key.fileobj)
-
-    def _take_command(self, ground):
+    def _take_command(self, service):
         try:
-            self._service.command(ground.recv(MOST_DATAGRAM))
+            service.command(self._commands.recv(MOST_DATAGRAM))
+        except BlockingIOError:
+            pass
+        except OSError as error:
+            self._say(f"commands at {':'.join(map(str, self.address))}: {error.strerror}")
         except Refused as refused:
             self._say(str(refused))
 
-    def _take_caller(self, listener):
-        caller = Caller(self._closing.enter_context(listener.accept()[0]), self._service)
-        self._selector.register(caller.connection, selectors.EVENT_READ, lambda _: self._hear(caller))
-
-    def _hear(self, caller):
-        if not caller.take():
-            self._selector.unregister(caller.connection)
-            caller.connection.close()
+    def _played(self, service, line):
+        """The lines of the answer to a caller."""
+        if service.is_over:
+            return [OVER]
+        try:
+            told = service.line(line, self._files)
+        except Refused as refused:
+            return str(refused).splitlines()
+        return told or ([OVER] if service.is_over else [])

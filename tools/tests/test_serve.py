@@ -18,7 +18,9 @@ SCRIPT = b"# CTRL has a table.\napp 1 start CTRL\napp 1 register T size 4\napp 1
 WAIT = 180
 
 
-class Served(unittest.TestCase):
+class Service(unittest.TestCase):
+    """A service in a folder of its own, with a ground that takes its telemetry."""
+
     def setUp(self):
         folder = tempfile.TemporaryDirectory()
         self.addCleanup(folder.cleanup)
@@ -30,11 +32,11 @@ class Served(unittest.TestCase):
         with open(os.path.join(self.folder, "script.txt"), "wb") as script:
             script.write(SCRIPT)
 
-    def start(self, *words):
+    def start(self, *words, **more):
         """The service, with the address to which commands go."""
         port = str(self.ground.getsockname()[1])
         served = subprocess.Popen([sys.executable, os.path.join(TOOLS, "cfetbl-serve"), "--command-port", "0", "--telemetry-port", port, *words],
-                                  cwd=self.folder, stdout=subprocess.PIPE, stderr=subprocess.PIPE)
+                                  **{"cwd": self.folder, "stdout": subprocess.PIPE, "stderr": subprocess.PIPE} | more)
         self.addCleanup(served.communicate)
         self.addCleanup(served.kill)
         for line in served.stderr:
@@ -46,7 +48,7 @@ class Served(unittest.TestCase):
     def end(self, served, how=signal.SIGTERM):
         served.send_signal(how)
         written, said = served.communicate(timeout=WAIT)
-        return served.returncode, written.decode().splitlines(), said
+        return served.returncode, (written or b"").decode().splitlines(), said
 
     def ask(self, address, packet):
         self.ground.sendto(packet, address)
@@ -65,6 +67,8 @@ class Served(unittest.TestCase):
                         found.append(answer)
         return found
 
+
+class Served(Service):
     def test_commands_and_telemetry(self):
         served, address = self.start()
         self.assertEqual(self.ask(address, bytes_of("1804 C000 0001 00 22")), bytes_of("0808 C000 0011 00000000 0000 0001 00000000 FFFF 00000000"))
