@@ -160,6 +160,11 @@ def name_in(content):
     return content.split(b"\0", 1)[0]
 
 
+def is_name(content):
+    """Whether bytes are a name."""
+    return bool(content) and all(0x21 <= byte <= 0x7E for byte in content)
+
+
 def quoted(name):
     """A name as a word: bare where it has none but printing ASCII, else in quotes with escapes."""
     plain = bool(name) and all(0x21 <= byte <= 0x7E for byte in name) and not set(name) & set(b'"\\')

@@ -36,9 +36,9 @@ def _taken():
     return None if done.returncode else done.stdout.rstrip("\n")
 
 
-def play(session, transcript, opening=()):
-    """Plays the records of a file into another one, in the working folder, and answers the program's status. `opening` has what the
-    program is given before its word."""
+def play(session, transcript, opening=(), folder="."):
+    """Plays the records of a file into another one, in a folder, and answers the program's status. `opening` has what the program is
+    given before its word."""
     program = found()
     if program is None:
         raise NoProgram("there is no program, and none could be built")
@@ -46,7 +46,7 @@ def play(session, transcript, opening=()):
     session.seek(0, os.SEEK_END)
     os.lseek(session.fileno(), 0, os.SEEK_SET)
     words = [program, *opening, "play"]
-    status = status_of(subprocess.run(words, stdin=session, stdout=transcript, check=False, **AS_HERE).returncode)
+    status = status_of(subprocess.run(words, stdin=session, stdout=transcript, cwd=folder, check=False, **AS_HERE).returncode)
     for file in (session, transcript):
         file.seek(0, os.SEEK_END)
         file.seek(0)

@@ -85,6 +85,10 @@ def pin_words(handle, image):
     return f"handle {handle} holds the address of image {image}"
 
 
+class Impossible(Exception):
+    """An answer that its request can't have after those before it."""
+
+
 class States:
     """Follows the answers of a session. `tables` has each registered table by its full name, and `view` rows and handles. Both
     stay as they are where a change makes new ones."""
@@ -98,6 +102,12 @@ class States:
 
     def follow(self, answer):
         """Goes on to what stands after an answer."""
+        try:
+            self._follow(answer)
+        except (AttributeError, LookupError, StopIteration):
+            raise Impossible from None
+
+    def _follow(self, answer):
         before = self.view
         self._follower.follow(answer)
         if not self.view.is_known or answer.request == "Reset" or answer.status == STOPPED:

@@ -107,10 +107,6 @@ def place_by(turns):
     return 1 if second == (first + 1) % len(TURNS) else 0
 
 
-def _is_name(name):
-    return bool(name) and all(0x21 <= byte <= 0x7E for byte in name)
-
-
 def _fault(raw, kind, offset, size, earlier):
     """Why an open entry doesn't count, by the first rule that it breaks."""
     name = names.name_in(raw[12:52])
@@ -120,7 +116,7 @@ def _fault(raw, kind, offset, size, earlier):
         return f"its size is {size}"
     if offset < BLOCKS or offset + HEAD + size > BLOCKS_END:
         return f"its block would stand at {offset}"
-    if not _is_name(name) or raw[12 + len(name):52].strip(b"\0"):
+    if not names.is_name(name) or raw[12 + len(name):52].strip(b"\0"):
         return "its name field doesn't read as a name"
     for other in earlier:
         if offset < other.end and other.offset < offset + HEAD + size:
