@@ -11,9 +11,10 @@ from .streams import visible
 
 LONGEST_LINE = 1 << 17
 PIECE = 1 << 16
-# How many callers there are at most, how many seconds one may leave an answer where it is, and how many go by before a further
-# caller is taken where one couldn't be.
-MOST_CALLERS, SLOW, REST = 64, 10, 1
+# How many callers there are at most, and how many are taken at once, which leaves each of them some turns to be heard in.
+MOST_CALLERS, TAKEN_AT_ONCE, BACKLOG = 64, 16, 1024
+# How many seconds a caller may leave an answer where it is, and how many go by before a further one is taken where one couldn't be.
+SLOW, REST = 10, 1
 
 
 class Caller:
@@ -98,7 +99,7 @@ def listener(closing, path):
             os.unlink(path)
         made.bind(path)
         closing.callback(_remove, path)
-        made.listen()
+        made.listen(BACKLOG)
     except (OSError, ValueError) as error:
         raise NoAddress(f"no socket can be made at {path}: {getattr(error, 'strerror', None) or error}") from None
     return made
@@ -136,11 +137,11 @@ class Callers:
 
     def waits(self):
         """The files that are waited for: what of each, and what is done then."""
-        if time.monotonic() >= self._rests_until:
-            yield self._listener, select.POLLIN, self._accept
         for caller in self._callers:
             if caller.events:
                 yield caller.connection, caller.events, lambda it=caller: self._settle(it, it.hear())
+        if time.monotonic() >= self._rests_until:
+            yield self._listener, select.POLLIN, self._accept_some
 
     def patience(self):
         """How many seconds may go by before `turn` is due; None where it may take any time."""
@@ -158,20 +159,25 @@ class Callers:
             elif caller.has_line:
                 self._settle(caller, caller.answer(play(caller.next_line())))
 
+    def _accept_some(self):
+        """Takes callers that wait. For each for which there is no room, the one that was silent for the longest goes."""
+        taken = 0
+        while taken < TAKEN_AT_ONCE and (connection := self._accept()):
+            taken, self._count, self._trouble = taken + 1, self._count + 1, None
+            if len(self._callers) >= MOST_CALLERS:
+                self._drop_longest(f"{MOST_CALLERS} callers are there")
+            self._callers.append(Caller(connection, self._count))
+
     def _accept(self):
-        """Takes one more. Where there is no room for it, the one that was silent for the longest goes."""
-        if len(self._callers) >= MOST_CALLERS:
-            self._drop_longest(f"{MOST_CALLERS} callers are there")
+        """The next connection, or None where none waits or can be taken."""
         try:
-            connection = self._listener.accept()[0]
+            return self._listener.accept()[0]
         except (BlockingIOError, ConnectionError):
-            return
+            return None
         except OSError as error:
             if not self._drop_longest(error.strerror):
                 self._rest(error)
-            return
-        self._count, self._trouble = self._count + 1, None
-        self._callers.append(Caller(connection, self._count))
+            return None
 
     def _rest(self, error):
         """Takes no caller for a while, and says so the first time."""

@@ -9,7 +9,7 @@ from .tables import REGISTERED, SUCCESS
 from .words import Words
 
 ARROW = "->"
-DUPLICATE, EXISTS = 16, 11
+DUPLICATE, EXISTS, LONGEST_NAME = 16, 11, 64
 # A handle and a slot that nobody is given here, for one that the log doesn't have from a registration.
 NO_HANDLE = 0xFFFF
 HANDLE_GIVEN = {"Register": (*REGISTERED, DUPLICATE), "Share": (SUCCESS,), "CdsRegister": (SUCCESS, EXISTS)}
@@ -79,14 +79,15 @@ class Translation:
         return self._blocks.get(str(call.arguments.take("a handle")), NO_HANDLE)
 
     def _register(self, call):
-        name, size, options, function = (call.arguments.take(it) for it in ("a name", "a size", "options", "function, or none"))
+        name = _name(call)
+        size, options, function = (call.arguments.take(it) for it in ("a size", "options", "function, or none"))
         validator = f" validator {2 * call.actor - 2}" if function == "function" else ""
-        return f"register {_quoted(name)} size {size} options {options}{validator}"
+        return f"register {name} size {size} options {options}{validator}"
 
     def _load(self, call):
         handle = self._table(call)
         if call.arguments.take_word(("address", "file"), "address or file") == "file":
-            return f"load-file {handle} {_quoted(call.arguments.take('a file'))}"
+            return f"load-file {handle} {_name(call, 'a file')}"
         return f"load {handle} {_data(call)}"
 
     def _notify(self, call):
@@ -95,15 +96,15 @@ class Translation:
         return f"notify {handle} message {message} code {function} parameter {parameter}"
 
     def _cds_register(self, call):
-        name, size = (call.arguments.take(it) for it in ("a name", "a size"))
-        return f"cds-register {_quoted(name)} size {size}"
+        return f"cds-register {_name(call)} size {call.arguments.take('a size')}"
 
     def _cds_copy(self, call):
         return f"cds-copy {self._block(call)} {_data(call)}"
 
 
-def _quoted(word):
-    return names.quoted(word.encode("latin-1"))
+def _name(call, what="a name"):
+    """A name as a word of session text, which says what of it is wrong."""
+    return names.quoted(call.arguments.name(what, LONGEST_NAME))
 
 
 def _data(call):
@@ -116,7 +117,7 @@ def _by_handle(word):
 
 
 def _by_name(word):
-    return lambda translation, call: f"{word} {_quoted(call.arguments.take('a name'))}"
+    return lambda translation, call: f"{word} {_name(call)}"
 
 
 CALLS = {

@@ -60,7 +60,7 @@ class Lines(io.TextIOWrapper):
 
 
 class _Errors(io.TextIOBase):
-    """Standard error, for what others than `say` write there: what is visible, and as far as it is taken."""
+    """Standard error: what is visible, and as far as it is taken."""
 
     def write(self, words):
         with contextlib.suppress(OSError):
@@ -71,7 +71,8 @@ class _Errors(io.TextIOBase):
 def say(words):
     """Says something on standard error, where that is open and takes it: the status tells the rest."""
     if sys.stderr is not None:
-        _Errors().write(f"{words}\n")
+        with contextlib.suppress(OSError):
+            sys.stderr.write(visible(f"{words}\n"))
 
 
 def fail(tool, reason, status):
@@ -120,10 +121,8 @@ def run(tool, main):
         signal.signal(signal.SIGINT, signal.default_int_handler)
     try:
         status = _ended(main)
-    except WriteFailed as failed:
-        status, reason = WRITE_FAILED, f"writing failed: {failed}"
-    except OSError as error:
-        status, reason = WRITE_FAILED if error.errno in NO_ROOM else WRONG_USE, _reason_of(error)
+    except (OSError, WriteFailed) as error:
+        status, reason = status_of(error)
     except MemoryError:
         status, reason = OUT_OF_MEMORY, "out of memory"
     except KeyboardInterrupt:
@@ -146,8 +145,12 @@ def _ended(main):
     return status
 
 
-def _reason_of(error):
-    return f"{error.filename}: {error.strerror}" if error.filename else error.strerror or str(error)
+def status_of(error):
+    """The status of a file or stream that can't be opened, read or written, and why it can't."""
+    if isinstance(error, WriteFailed):
+        return WRITE_FAILED, f"writing failed: {error}"
+    reason = f"{error.filename}: {error.strerror}" if error.filename else error.strerror or str(error)
+    return WRITE_FAILED if error.errno in NO_ROOM else WRONG_USE, reason
 
 
 def _status_of(main):

@@ -82,7 +82,8 @@ class Words:
             allowed = self._looked_for
             word = self._words[self._at] if not self.is_done() else None
         if word is None:
-            return TextError(f"expected {what}, found the end of the line", self._words[-1].end, allowed)
+            end = self._words[-1].end if self._words else 0
+            return TextError(f"expected {what}, found the end of the line", end, allowed)
         near = "" if word.is_quoted else meant(word, allowed)
         return TextError(f"expected {what}, found {found or word.shown()}{near}", word.at, allowed)
 

@@ -85,6 +85,25 @@ class Programs(Calling):
         self.assertEqual(os.path.getsize(path), 262_144)
         self.assertEqual(locks.holders(path), [])
 
+    def test_two_programs_over_one_store(self):
+        """The second one ends with 7 whatever it was to do, plays nothing, and the first one's table comes back after both."""
+        program, start = programs.found(), "app 1 start A\napp 1 register T size 4 critical\n"
+        session = [b"".join(map(text.record_of, it.splitlines())) for it in (start, "app 1 load 0 hex 01020304\n", start + "app 1 get 0\napp 1 read 0 at 0 length 4\n")]
+        other = b"".join(map(text.record_of, ("reset power-on", "app 1 start B", "app 1 cds-register S size 4", "app 1 cds-copy 0 hex FFFFFFFF")))
+        first = subprocess.Popen([program, "play"], cwd=self.folder, stdin=subprocess.PIPE, stdout=subprocess.PIPE)
+        self.addCleanup(first.communicate)
+        first.stdin.write(session[0])
+        first.stdin.flush()
+        first.stdout.read(2 * 21)
+        if not locks.holders(os.path.join(self.folder, "cds.store")):
+            self.skipTest("the program doesn't lock its store")
+        for words in (["play"], ["crew"], ["watch"], ["drill", "7", "9"]):
+            done = subprocess.run([program, *words], input=other, capture_output=True, cwd=self.folder)
+            self.assertEqual((done.returncode, done.stdout, done.stderr), (7, b"", b"tbl: cds.store is in use by another program\n"), words)
+        first.communicate(session[1])
+        done = subprocess.run([program, "play"], input=session[2], capture_output=True, cwd=self.folder)
+        self.assertEqual((first.returncode, done.returncode, bytes.fromhex("01020304") in done.stdout), (0, 0, True))
+
     def test_who_has_a_lock(self):
         path = os.path.join(self.folder, "locked")
         with open(path, "wb") as file:
