@@ -115,6 +115,10 @@ class Running:
         self._process.kill()
         self._process.wait()
 
+    def has_failed(self):
+        """Whether the run is over without an end record."""
+        return self.end is not None and not isinstance(self.end, transcript.End)
+
     def failure(self):
         """Why the program ended by itself, in words; empty where it wrote its end record."""
         return "" if isinstance(self.end, transcript.End) else programs.end_words(self.finish(), self._store)

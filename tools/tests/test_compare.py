@@ -76,7 +76,8 @@ class Compared(unittest.TestCase):
 
     def test_wrong_lines(self):
         for line, at in (("app 1 CFE_TBL_Modified 7 -> CFE_SUCCESS", 7), ("app 17 CFE_TBL_Update 7 -> CFE_SUCCESS", 5),
-                         ("app 1 CFE_TBL_Update -> CFE_SUCCESS", 21), ("app 1 CFE_TBL_Update 7 8 -> CFE_SUCCESS", 24), ("ground NOPE", 8)):
+                         ("app 1 CFE_TBL_Update -> CFE_SUCCESS", 21), ("app 1 CFE_TBL_Update 7 8 -> CFE_SUCCESS", 24), ("ground NOPE", 8),
+                         (" -> CFE_SUCCESS", 1), ("app 1 CFE_TBL_Share Gr\u00f6\u00dfe.T -> CFE_SUCCESS", 21), ("app 1 CFE_TBL_Register -> ->", 23)):
             status, written, said = self.compare(LOG + line + "\n")
             self.assertEqual((status, written, said.split(": ")[1]), (2, "", f"LOG:13:{at}"), line)
 

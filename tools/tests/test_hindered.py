@@ -280,7 +280,18 @@ class Networks(Calling):
 
 
 class Typed(unittest.TestCase):
-    """The program of `cfetbl repl` ends."""
+    """The program of `cfetbl repl`, or of `cfetbl compare`, ends."""
+
+    def test_between_calls(self):
+        with tempfile.TemporaryDirectory() as folder:
+            log = os.path.join(folder, "log")
+            os.mkfifo(log)
+            run = subprocess.Popen([sys.executable, os.path.join(TOOLS, "cfetbl-compare"), os.devnull, log], stdout=subprocess.PIPE, stderr=subprocess.PIPE)
+            with open(log, "wb", buffering=0) as calls:
+                os.kill(programs_of(run.pid)[0], signal.SIGKILL)
+                calls.write(b"app 1 CFE_TBL_Update 7 -> CFE_SUCCESS\n")
+                written, said = run.communicate(timeout=WAIT)
+            self.assertEqual((run.returncode, written, said), (137, b"", b"cfetbl-compare: the program was ended by a signal, SIGKILL\n"))
 
     def test_statuses(self):
         self.assertEqual([programs.status_of(it) for it in (0, 7, -9, -13)], [0, 7, 137, 141])
