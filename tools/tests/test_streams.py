@@ -33,6 +33,22 @@ class Streams(unittest.TestCase):
                 written, said = run.communicate(timeout=WAIT)
                 self.assertEqual((run.returncode, written, said.decode()), (130, b"", f"{tool}: interrupted\n"))
 
+    def test_interrupts_at_a_terminal(self):
+        """An interrupt is for all programs of a word: the front command ends with 130, and says it once at most."""
+        for words in (["play", "--text"], ["play", "--show", "/dev/stdin"], ["crew", "--text"], ["watch"], ["resets"], ["make", "-"], ["map", "-"]):
+            with self.subTest(words), tempfile.TemporaryDirectory() as folder:
+                ours, theirs = pty.openpty()
+                run = subprocess.Popen([os.path.join(TOOLS, "..", "cfetbl"), *words], stdin=theirs, stdout=subprocess.DEVNULL, stderr=subprocess.PIPE,
+                                       cwd=folder, start_new_session=True)
+                time.sleep(1)
+                os.killpg(run.pid, signal.SIGINT)
+                _, said = run.communicate(timeout=WAIT)
+                self.assertIn(run.returncode, (130, -signal.SIGINT))
+                self.assertNotIn(b"Traceback", said)
+                self.assertNotIn(b"no status of its own", said)
+                os.close(ours)
+                os.close(theirs)
+
     def wait_for_read(self, process):
         """Waits until a process waits in a read of standard input, which is system call 0 on x86-64 and 63 on arm64."""
         for _ in range(100 * WAIT):
