@@ -131,6 +131,16 @@ class Programs(Calling):
             self.assertEqual(running.finish(), 0)
         self.assertEqual(said, ["100 requests are left of the 103 of a session", "103 requests were played, and a session has no more"])
 
+    def test_nobody_reads_the_output_any_more(self):
+        """Then a write fails, which is no signal that ends the service."""
+        served, address = self.start("--socket", self.path)
+        served.stdout.close()
+        self.ground.sendto(NOOP, address)
+        self.assertEqual(served.wait(WAIT), 4)
+        self.assertEqual(served.stderr.read(), b"cfetbl-serve: writing failed: standard output: Broken pipe\n")
+        served.stdout = None
+        self.assertFalse(os.path.exists(self.path))
+
     def test_a_signal_and_what_does_not_end(self):
         """A program that stands still, and an output that nobody reads: a signal ends the service all the same."""
         served, _ = self.start("--socket", self.path)
