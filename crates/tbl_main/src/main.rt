@@ -3,7 +3,7 @@
 
 mod words;
 
-ghost use Rattle.std.specs.Prelude.{◌≤◌};
+ghost use Rattle.std.specs.Prelude.{◌≤◌, IfSome};
 ghost use Rattle.tbl_kinds.specs.Places.{bank_size};
 
 use shipped_kit::shipped_entries;
@@ -113,7 +113,9 @@ fn play<R: Threads + Wait + Sync, S: Source, K: Sink, B: Bank + Send>(
 const STORE_NAME: &str = "cds.store";
 
 /// Opens the store file. Where that fails, standard error says why.
-fn open_store(rt: &HostRuntime, line: &CommandLine) -> Option<StoreFile> {
+fn open_store(rt: &HostRuntime, line: &CommandLine) -> Option<StoreFile>
+    ensures { IfSome result (λ store. bank_size ≤ store.size) }
+{
     let name = match &line.store {
         Some(name) => name.as_str(),
         None => STORE_NAME,
