@@ -1,4 +1,6 @@
 """A session as a page: its time line as a picture, and below it each request with its answer."""
+import os
+
 from . import names, show
 from .pages import element, legend, page, picture, text, titled
 from .timeline import Timeline, is_refused
@@ -53,6 +55,20 @@ document.addEventListener('click', event => {
 });
 if (location.hash.startsWith('#entry-')) mark(location.hash.slice(7));
 """
+
+
+class Progress:
+    """How far the work is: what of the session the program has read, and then how many of its requests are in the page."""
+
+    def __init__(self, session, index):
+        self._session, self._count, self.done = session, index.count, None
+        self._size = session.seek(0, os.SEEK_END)
+
+    def words(self):
+        if self.done is None:
+            # The program moves the place in the file that it shares with this tool.
+            return f"{os.lseek(self._session.fileno(), 0, os.SEEK_CUR):,} of {self._size:,} bytes of the session were played"
+        return f"{min(self.done, self._count):,} of {self._count:,} requests are in the page"
 
 
 def step_of(length):

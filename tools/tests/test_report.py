@@ -122,6 +122,18 @@ class Words(unittest.TestCase):
         self.assertEqual((status, said), (1, "cfetbl report: the transcript breaks off inside an entry\n"))
         self.assertIn(b"broken: the transcript breaks off", page)
 
+    def test_how_far_it_is(self):
+        """By what the program has read of the session, and then by the requests that are in the page."""
+        with open(HELLO + ".session", "rb") as session:
+            progress = report.Progress(session, records.Index(session))
+            os.lseek(session.fileno(), 12, os.SEEK_SET)
+            self.assertEqual(progress.words(), "12 of 24 bytes of the session were played")
+            progress.done = 1
+            self.assertEqual(progress.words(), "1 of 2 requests are in the page")
+            # (the end record comes after the last of them)
+            progress.done = 3
+            self.assertEqual(progress.words(), "2 of 2 requests are in the page")
+
     def test_a_bad_record(self):
         with tempfile.TemporaryDirectory() as folder:
             status, page, _ = call("cfetbl-report", "-", given=bytes.fromhex("010000081804C00000010022 7F000000"), cwd=folder)
