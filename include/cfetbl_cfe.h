@@ -1,7 +1,7 @@
 /* SPDX-License-Identifier: Apache-2.0 */
 /* cfetbl_cfe.h: what the calls of cfetbl.h need of cFE's public headers, for applications that are built without these. Names and
  * meanings are those of cfe_tbl.h, cfe_tbl_api_typedefs.h, cfe_es.h and cfe_error.h. Code that compares return codes by their names
- * means the same with either. */
+ * means the same with either. It follows edition 7 of cFE's API ('Caelum'), and with CFETBL_CFE_VERSION 607 that of 6.7. */
 #ifndef CFETBL_CFE_H
 #define CFETBL_CFE_H
 
@@ -21,6 +21,11 @@ typedef int32_t int32;
 typedef uint8_t uint8;
 typedef uint16_t uint16;
 typedef uint32_t uint32;
+typedef int64_t int64;
+typedef uint64_t uint64;
+typedef uintptr_t cpuaddr;
+typedef size_t cpusize;
+typedef ptrdiff_t cpudiff;
 typedef int32 CFE_Status_t;
 
 #define CFE_SUCCESS ((CFE_Status_t)0)
@@ -32,10 +37,12 @@ typedef int32 CFE_Status_t;
 #define CFE_ES_CDS_INSUFFICIENT_MEMORY ((CFE_Status_t)0xc400000e)
 #define CFE_ES_CDS_INVALID_NAME ((CFE_Status_t)0xc400000f)
 #define CFE_ES_CDS_INVALID_SIZE ((CFE_Status_t)0xc4000010)
+#define CFE_ES_CDS_INVALID ((CFE_Status_t)0xc4000012)
 #define CFE_ES_CDS_ACCESS_ERROR ((CFE_Status_t)0xc4000013)
 #define CFE_ES_BAD_ARGUMENT ((CFE_Status_t)0xc4000015)
 #define CFE_ES_CDS_BLOCK_CRC_ERR ((CFE_Status_t)0xc400001c)
 #define CFE_ES_ERR_RESOURCEID_NOT_VALID ((CFE_Status_t)0xc4000001)
+#define CFE_ES_ERR_NAME_NOT_FOUND ((CFE_Status_t)0xc4000002)
 
 /* ---- return codes of Table Services (cfe_error.h) */
 
@@ -57,17 +64,20 @@ typedef int32 CFE_Status_t;
 #define CFE_TBL_ERR_ILLEGAL_SRC_TYPE ((CFE_Status_t)0xcc000011)
 #define CFE_TBL_ERR_LOAD_IN_PROGRESS ((CFE_Status_t)0xcc000012)
 #define CFE_TBL_ERR_FILE_TOO_LARGE ((CFE_Status_t)0xcc000014)
+#define CFE_TBL_WARN_SHORT_FILE ((CFE_Status_t)0x4c000015)
 #define CFE_TBL_ERR_BAD_CONTENT_ID ((CFE_Status_t)0xcc000016)
 #define CFE_TBL_INFO_NO_UPDATE_PENDING ((CFE_Status_t)0x4c000017)
 #define CFE_TBL_INFO_TABLE_LOCKED ((CFE_Status_t)0x4c000018)
 #define CFE_TBL_INFO_VALIDATION_PENDING ((CFE_Status_t)0x4c000019)
 #define CFE_TBL_INFO_NO_VALIDATION_PENDING ((CFE_Status_t)0x4c00001a)
 #define CFE_TBL_ERR_BAD_SUBTYPE_ID ((CFE_Status_t)0xcc00001b)
+#define CFE_TBL_ERR_FILE_SIZE_INCONSISTENT ((CFE_Status_t)0xcc00001c)
 #define CFE_TBL_ERR_NO_STD_HEADER ((CFE_Status_t)0xcc00001d)
 #define CFE_TBL_ERR_NO_TBL_HEADER ((CFE_Status_t)0xcc00001e)
 #define CFE_TBL_ERR_FILENAME_TOO_LONG ((CFE_Status_t)0xcc00001f)
 #define CFE_TBL_ERR_FILE_FOR_WRONG_TABLE ((CFE_Status_t)0xcc000020)
 #define CFE_TBL_ERR_LOAD_INCOMPLETE ((CFE_Status_t)0xcc000021)
+#define CFE_TBL_WARN_PARTIAL_LOAD ((CFE_Status_t)0x4c000022)
 #define CFE_TBL_ERR_PARTIAL_LOAD ((CFE_Status_t)0xcc000023)
 #define CFE_TBL_INFO_DUMP_PENDING ((CFE_Status_t)0x4c000024)
 #define CFE_TBL_ERR_INVALID_OPTIONS ((CFE_Status_t)0xcc000025)
@@ -75,8 +85,11 @@ typedef int32 CFE_Status_t;
 #define CFE_TBL_INFO_RECOVERED_TBL ((CFE_Status_t)0x4c000027)
 #define CFE_TBL_ERR_BAD_SPACECRAFT_ID ((CFE_Status_t)0xcc000028)
 #define CFE_TBL_ERR_BAD_PROCESSOR_ID ((CFE_Status_t)0xcc000029)
+#define CFE_TBL_MESSAGE_ERROR ((CFE_Status_t)0xcc00002a)
+#define CFE_TBL_ERR_SHORT_FILE ((CFE_Status_t)0xcc00002b)
 #define CFE_TBL_ERR_ACCESS ((CFE_Status_t)0xcc00002c)
 #define CFE_TBL_BAD_ARGUMENT ((CFE_Status_t)0xcc00002d)
+#define CFE_TBL_NOT_IMPLEMENTED ((CFE_Status_t)0xcc00ffff)
 
 /* ---- Table Services (cfe_tbl_api_typedefs.h, cfe_tbl.h) */
 
@@ -97,6 +110,8 @@ typedef int32 CFE_Status_t;
 #define CFE_MISSION_MAX_PATH_LEN 64
 #define CFE_MISSION_TBL_MAX_NAME_LENGTH 16
 #define CFE_MISSION_TBL_MAX_FULL_NAME_LEN 40
+#define CFE_TBL_MAX_FULL_NAME_LEN (CFE_MISSION_TBL_MAX_FULL_NAME_LEN)
+#define CFE_MISSION_MAX_FILE_LEN 20
 
 typedef int16 CFE_TBL_Handle_t;
 
@@ -131,26 +146,60 @@ typedef struct CFE_TBL_Info {
 } CFE_TBL_Info_t;
 
 typedef uint16 CFE_MSG_FcnCode_t;
+
+#if defined CFETBL_CFE_VERSION && CFETBL_CFE_VERSION == 607
+typedef uint32 CFE_SB_MsgId_t;
+
+#define CFE_SB_MSGID_WRAP_VALUE(mid) (mid)
+#else
 typedef struct CFE_SB_MsgId {
     uint32 Value;
 } CFE_SB_MsgId_t;
 
 #define CFE_SB_MSGID_WRAP_VALUE(mid) {mid}
+#endif
 
 static inline CFE_SB_MsgId_t CFE_SB_ValueToMsgId(uint32 value)
 {
-    CFE_SB_MsgId_t id = {value};
+    CFE_SB_MsgId_t id = CFE_SB_MSGID_WRAP_VALUE(value);
 
     return id;
 }
 
 static inline uint32 CFE_SB_MsgIdToValue(CFE_SB_MsgId_t id)
 {
+#if defined CFETBL_CFE_VERSION && CFETBL_CFE_VERSION == 607
+    return id;
+#else
     return id.Value;
+#endif
 }
 
+/* What names the file that a tool makes of a table's object (cfe_tbl_filedef.h). */
+typedef struct CFE_TBL_FileDef {
+    char ObjectName[64];
+    char TableName[CFE_MISSION_TBL_MAX_FULL_NAME_LEN];
+    char Description[32];
+    char TgtFilename[CFE_MISSION_MAX_FILE_LEN];
+    uint32 ObjectSize;
+} CFE_TBL_FileDef_t;
+
+#ifdef __GNUC__
+#define CFE_TBL_FILEDEF_USED __attribute__((used))
+#else
+#define CFE_TBL_FILEDEF_USED
+#endif
+
+#define CFE_TBL_FILEDEF(ObjName, TblName, Desc, Filename) \
+    static CFE_TBL_FILEDEF_USED CFE_TBL_FileDef_t CFE_TBL_FileDef = {#ObjName, #TblName, #Desc, #Filename, sizeof(ObjName)};
+
+#if !defined CFETBL_CFE_VERSION || CFETBL_CFE_VERSION != 607
 CFE_Status_t CFE_TBL_Register(CFE_TBL_Handle_t *TblHandlePtr, const char *Name, size_t Size, uint16 TblOptionFlags,
                               CFE_TBL_CallbackFuncPtr_t TblValidationFuncPtr);
+#elif defined CFETBL_WITH_CFE
+CFE_Status_t CFE_TBL_Register(CFE_TBL_Handle_t *TblHandlePtr, const char *Name, uint32 Size, uint16 TblOptionFlags,
+                              CFE_TBL_CallbackFuncPtr_t TblValidationFuncPtr);
+#endif
 CFE_Status_t CFE_TBL_Share(CFE_TBL_Handle_t *TblHandlePtr, const char *TblName);
 CFE_Status_t CFE_TBL_Unregister(CFE_TBL_Handle_t TblHandle);
 CFE_Status_t CFE_TBL_Load(CFE_TBL_Handle_t TblHandle, CFE_TBL_SrcEnum_t SrcType, const void *SrcDataPtr);
@@ -174,8 +223,13 @@ typedef uint32 CFE_ES_CDSHandle_t;
 #define CFE_ES_CDS_BAD_HANDLE ((CFE_ES_CDSHandle_t)0)
 #define CFE_MISSION_ES_CDS_MAX_NAME_LENGTH 16
 
+#if !defined CFETBL_CFE_VERSION || CFETBL_CFE_VERSION != 607
 CFE_Status_t CFE_ES_RegisterCDS(CFE_ES_CDSHandle_t *CDSHandlePtr, size_t BlockSize, const char *Name);
 CFE_Status_t CFE_ES_CopyToCDS(CFE_ES_CDSHandle_t Handle, const void *DataToCopy);
+#elif defined CFETBL_WITH_CFE
+CFE_Status_t CFE_ES_RegisterCDS(CFE_ES_CDSHandle_t *CDSHandlePtr, int32 BlockSize, const char *Name);
+CFE_Status_t CFE_ES_CopyToCDS(CFE_ES_CDSHandle_t Handle, void *DataToCopy);
+#endif
 CFE_Status_t CFE_ES_RestoreFromCDS(void *RestoreToMemory, CFE_ES_CDSHandle_t Handle);
 
 #ifdef __cplusplus

@@ -48,6 +48,9 @@ enum tbl_status {
 
 typedef struct tbl_session tbl_session;
 
+/* Whether the function that plays is the proved one, and no build without proofs. */
+int tbl_is_proved(void);
+
 /* Which image a validation function has to judge. It stays until the next call with the session. */
 struct tbl_question {
     uint8_t number;

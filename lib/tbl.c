@@ -74,6 +74,11 @@ static void append(struct bytes *bytes, const void *piece, size_t length)
     }
 }
 
+int tbl_is_proved(void)
+{
+    return &tbl_is_unproved == NULL;
+}
+
 uint8_t tbl_validator_app(uint8_t number)
 {
     return number < 32 ? number / 2 + 1 : number % 16 + 1;

@@ -21,6 +21,9 @@ struct tbl_told {
     uint32_t number;
 };
 
+/* Is there alone if the library of the crate was built without proofs (tools/build-unproved-library). */
+extern const char tbl_is_unproved __attribute__((weak));
+
 uint8_t tbl_run(uint8_t *bank, size_t bank_size, const uint8_t *records, size_t records_length, const struct tbl_given *given, size_t given_count,
                 const uint8_t *images, size_t images_length, size_t from, uint8_t *out, size_t room, struct tbl_told *told);
 

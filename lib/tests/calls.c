@@ -1,18 +1,8 @@
+/* SPDX-License-Identifier: Apache-2.0 */
 /* calls.c: each call of cfetbl.h, with the return codes that cFE's User's Guide and docs/CFE.md give. */
 #include "cfetbl.h"
 
-#include <stdio.h>
-#include <string.h>
-
-static int failed;
-
-#define EXPECT(condition)                                                       \
-    do {                                                                        \
-        if (!(condition)) {                                                     \
-            printf("%s:%d: not so: %s\n", __FILE__, __LINE__, #condition);      \
-            failed++;                                                           \
-        }                                                                       \
-    } while (0)
+#include "expect.h"
 
 typedef struct {
     uint8_t bytes[8];
@@ -54,7 +44,7 @@ static void test_register(void)
     EXPECT(CFE_TBL_Register(&handle, "", 8, CFE_TBL_OPT_DEFAULT, NULL) == CFE_TBL_ERR_INVALID_NAME);
     EXPECT(CFE_TBL_Register(&handle, "T", 0, CFE_TBL_OPT_DEFAULT, NULL) == CFE_TBL_ERR_INVALID_SIZE);
     EXPECT(CFE_TBL_Register(&handle, "T", 16385, CFE_TBL_OPT_DEFAULT, NULL) == CFE_TBL_ERR_INVALID_SIZE);
-    EXPECT(CFE_TBL_Register(&handle, "T", 8, CFE_TBL_OPT_USR_DEF_ADDR, NULL) == CFE_TBL_ERR_INVALID_OPTIONS);
+    EXPECT(CFE_TBL_Register(&handle, "T", 8, CFE_TBL_OPT_USR_DEF_MSK, NULL) == CFE_TBL_ERR_INVALID_OPTIONS);
     EXPECT(CFE_TBL_Register(&handle, "T", 8, CFE_TBL_OPT_DUMP_ONLY | CFE_TBL_OPT_DBL_BUFFER, NULL) == CFE_TBL_ERR_INVALID_OPTIONS);
     EXPECT(handle == CFE_TBL_BAD_TABLE_HANDLE);
     EXPECT(CFE_TBL_Register(&handle, "T", 8, CFE_TBL_OPT_DEFAULT, NULL) == CFE_SUCCESS);
@@ -186,26 +176,6 @@ static void test_dump_only(void)
     CFETBL_Close();
 }
 
-/* A pinned image that the application wrote over becomes the next one. */
-static void test_modified(void)
-{
-    CFE_TBL_Handle_t handle;
-    void *address;
-
-    start();
-    EXPECT(CFE_TBL_Register(&handle, "T", 8, CFE_TBL_OPT_DEFAULT, first_not_zero) == CFE_SUCCESS);
-    EXPECT(CFE_TBL_Load(handle, CFE_TBL_SRC_ADDRESS, &one) == CFE_SUCCESS);
-    EXPECT(CFE_TBL_GetAddress(&address, handle) == CFE_TBL_INFO_UPDATED);
-    EXPECT(CFE_TBL_Modified(handle) == CFE_SUCCESS);
-    memcpy(address, &bad, 8);
-    EXPECT(CFE_TBL_Modified(handle) == -17);
-    memcpy(address, &two, 8);
-    EXPECT(CFE_TBL_Modified(handle) == CFE_SUCCESS);
-    EXPECT(CFE_TBL_ReleaseAddress(handle) == CFE_SUCCESS);
-    EXPECT(CFE_TBL_GetAddress(&address, handle) >= CFE_SUCCESS && memcmp(address, &two, 8) == 0);
-    CFETBL_Close();
-}
-
 /* Blocks of the Critical Data Store outlive a reset, and the preserved memory of one service goes to the next. */
 static void test_store(void)
 {
@@ -244,8 +214,6 @@ int main(void)
     test_loads();
     test_ground();
     test_dump_only();
-    test_modified();
     test_store();
-    printf("%s\n", failed == 0 ? "all as expected" : "some cases failed");
-    return failed == 0 ? 0 : 1;
+    return expected();
 }

@@ -1,3 +1,4 @@
+/* SPDX-License-Identifier: Apache-2.0 */
 /* session.c: plays the session on standard input through tbl.h, a record at a time, with the two validation functions that the
  * program has for each application, and writes the entries to standard output. Its status is that of the last tbl_step. */
 #include "tbl.h"
