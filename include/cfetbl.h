@@ -41,7 +41,7 @@
 extern "C" {
 #endif
 
-/* ---- the calls by names of this library's own, of which cFE's names are weak aliases: a stub may take their place (cfetbl_ut.c) */
+/* ---- the calls by names of this library's own. cFE's names are weak, and stand for these: a stub may take their place (cfetbl_ut.h) */
 
 #if defined CFETBL_WITH_CFE && CFETBL_CFE_VERSION == 607
 typedef uint32 CFETBL_TableSize_t;

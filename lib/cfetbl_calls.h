@@ -20,9 +20,6 @@
 #define CFE_ES_ERR_RESOURCEID_NOT_VALID ((CFE_Status_t)0xc4000001)
 #endif
 
-/* cFE's name for a function of the library's own, which gives way to a stub of that name. */
-#define CFETBL_ALIAS(name, own) extern __typeof__(own) name __attribute__((weak, alias(#own)))
-
 /* Begins a call. NULL means that *code is what it returns. */
 static inline struct cfetbl_service *cfetbl_entered(enum cfetbl_call call, CFE_Status_t *code)
 {

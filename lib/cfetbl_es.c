@@ -1,5 +1,4 @@
-/* SPDX-License-Identifier: Apache-2.0 */
-/* cfetbl_es.c: cFE's calls of the Critical Data Store, by names of this library's own, with cFE's names as weak aliases. */
+/* cfetbl_es.c: cFE's calls of the Critical Data Store, by names of this library's own. cfe_es.c has cFE's names for them. */
 #include "cfetbl_calls.h"
 
 #include <string.h>
@@ -120,9 +119,3 @@ CFE_Status_t CFETBL_ES_RestoreFromCDS(void *RestoreToMemory, CFE_ES_CDSHandle_t 
     }
     return left_block(status);
 }
-
-/* ---- cFE's names */
-
-CFETBL_ALIAS(CFE_ES_RegisterCDS, CFETBL_ES_RegisterCDS);
-CFETBL_ALIAS(CFE_ES_CopyToCDS, CFETBL_ES_CopyToCDS);
-CFETBL_ALIAS(CFE_ES_RestoreFromCDS, CFETBL_ES_RestoreFromCDS);

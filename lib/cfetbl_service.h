@@ -205,8 +205,9 @@ struct cfetbl_table {
     uint16_t registered; /* the handle of its registration */
     unsigned users;      /* how many handles it has */
     bool is_dump_only, is_double, is_critical, is_users, is_gone;
+    uint32_t current;            /* how many images the service has had of it */
     struct cfetbl_image *active; /* NULL before it was looked at */
-    uint32_t images;             /* how many images the service has had, with this one */
+    uint32_t images;             /* how many there were, with this one */
     uint32_t quiet;              /* how many of them tell nobody: what was written in place */
     uint32_t modified;           /* how often CFE_TBL_Modified told everybody */
     bool is_modified;            /* it did since the image last came into the service */
@@ -227,12 +228,16 @@ struct cfetbl_handle {
 struct cfetbl_handle *cfetbl_known(struct cfetbl_service *service, uint16_t number);
 
 /* Keeps a handle that a registration gave, or a sharing. False, with a message, means out of memory. */
-bool cfetbl_keep_registered(struct cfetbl_service *service, uint16_t number, const char *name, size_t size, uint16_t options);
+bool cfetbl_keep_registered(struct cfetbl_service *service, uint16_t number, const char *name, size_t size, uint16_t options,
+                            bool is_recovered);
 bool cfetbl_keep_shared(struct cfetbl_service *service, uint16_t number, const char *name);
 void cfetbl_forget_handle(struct cfetbl_service *service, uint16_t number);
 
 /* Forgets the handles of an application, or with 0 of all of them. */
 void cfetbl_forget_handles(struct cfetbl_service *service, int app);
+
+/* Counts the image that went active by a request with a handle, if its packets tell of one. */
+void cfetbl_count_image(struct cfetbl_service *service, uint16_t number, const struct cfetbl_reply *reply);
 
 /* What an application wrote in place comes into the service, as far as it takes it. */
 void cfetbl_bring_in(struct cfetbl_service *service);
@@ -247,9 +252,10 @@ uint32_t cfetbl_modified(struct cfetbl_service *service, uint16_t number);
 /* Lets a table with an address of its user's have it there. */
 uint32_t cfetbl_use_memory(struct cfetbl_service *service, uint16_t number, void *memory);
 
-/* The table of this name, if it was modified in place since an image came into it; how many handles a table has; and whether it has an
- * address of its user's. */
-const struct cfetbl_shown *cfetbl_shown_of(struct cfetbl_service *service, const char *name, const uint8_t *record);
+/* What CFE_TBL_GetInfo gives of a table that was modified in place since its last image came, and else NULL. */
+const struct cfetbl_shown *cfetbl_shown_of(struct cfetbl_service *service, const char *name);
+
+/* What is known of a table; NULL if none of this name is registered. */
 const struct cfetbl_table *cfetbl_table_of(struct cfetbl_service *service, const char *name);
 
 /* ---- events and notices: packets.c */

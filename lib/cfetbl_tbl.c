@@ -1,6 +1,4 @@
-/* SPDX-License-Identifier: Apache-2.0 */
-/* cfetbl_tbl.c: cFE's calls of Table Services. Each has a name of this library's own, and cFE's name is a weak alias of it: a stub of that
- * name takes its place, wherever it is linked. */
+/* cfetbl_tbl.c: cFE's calls of Table Services, by names of this library's own. cfe_tbl.c has cFE's names for them. */
 #include "cfetbl_calls.h"
 
 #include <string.h>
@@ -111,7 +109,7 @@ static uint32_t register_table(struct cfetbl_service *service, uint16_t *handle,
     status = cfetbl_ask(service, record);
     if (status == CFETBL_SUCCESS || status == CFETBL_INFO_RECOVERED_TBL || status == CFETBL_WARN_NOT_CRITICAL) {
         *handle = (uint16_t)cfetbl_reply(service).detail;
-        return cfetbl_keep_registered(service, *handle, name, size, options) ? status : CFETBL_NOT_PLAYED;
+        return cfetbl_keep_registered(service, *handle, name, size, options, status == CFETBL_INFO_RECOVERED_TBL) ? status : CFETBL_NOT_PLAYED;
     }
     if (status == CFETBL_WARN_DUPLICATE) {
         *handle = (uint16_t)cfetbl_reply(service).detail;
@@ -416,7 +414,7 @@ CFE_Status_t CFETBL_TBL_GetInfo(CFE_TBL_Info_t *TblInfoPtr, const char *TblName)
     }
     read_info(TblInfoPtr, cfetbl_reply(service).bytes);
     read_file(TblInfoPtr, (const char *)cfetbl_reply(service).bytes + CFETBL_RECORD_FILE);
-    shown = cfetbl_shown_of(service, TblName, cfetbl_reply(service).bytes);
+    shown = cfetbl_shown_of(service, TblName);
     if (shown != NULL) {
         TblInfoPtr->Crc = shown->crc;
         TblInfoPtr->TimeOfLastUpdate.Seconds = shown->seconds;
@@ -453,22 +451,3 @@ CFE_Status_t CFETBL_TBL_NotifyByMessage(CFE_TBL_Handle_t TblHandle, CFE_SB_MsgId
     cfetbl_put_number(&record, Parameter, 4);
     return left(cfetbl_ask(service, record));
 }
-
-/* ---- cFE's names */
-
-CFETBL_ALIAS(CFE_TBL_Register, CFETBL_TBL_Register);
-CFETBL_ALIAS(CFE_TBL_Share, CFETBL_TBL_Share);
-CFETBL_ALIAS(CFE_TBL_Unregister, CFETBL_TBL_Unregister);
-CFETBL_ALIAS(CFE_TBL_Load, CFETBL_TBL_Load);
-CFETBL_ALIAS(CFE_TBL_Update, CFETBL_TBL_Update);
-CFETBL_ALIAS(CFE_TBL_Validate, CFETBL_TBL_Validate);
-CFETBL_ALIAS(CFE_TBL_Manage, CFETBL_TBL_Manage);
-CFETBL_ALIAS(CFE_TBL_DumpToBuffer, CFETBL_TBL_DumpToBuffer);
-CFETBL_ALIAS(CFE_TBL_Modified, CFETBL_TBL_Modified);
-CFETBL_ALIAS(CFE_TBL_GetAddress, CFETBL_TBL_GetAddress);
-CFETBL_ALIAS(CFE_TBL_ReleaseAddress, CFETBL_TBL_ReleaseAddress);
-CFETBL_ALIAS(CFE_TBL_GetAddresses, CFETBL_TBL_GetAddresses);
-CFETBL_ALIAS(CFE_TBL_ReleaseAddresses, CFETBL_TBL_ReleaseAddresses);
-CFETBL_ALIAS(CFE_TBL_GetStatus, CFETBL_TBL_GetStatus);
-CFETBL_ALIAS(CFE_TBL_GetInfo, CFETBL_TBL_GetInfo);
-CFETBL_ALIAS(CFE_TBL_NotifyByMessage, CFETBL_TBL_NotifyByMessage);

@@ -112,7 +112,8 @@ static void put_full_name(char *to, const char *app, const char *name)
     memcpy(to + length + 1, name, rest + 1);
 }
 
-bool cfetbl_keep_registered(struct cfetbl_service *service, uint16_t number, const char *name, size_t size, uint16_t options)
+bool cfetbl_keep_registered(struct cfetbl_service *service, uint16_t number, const char *name, size_t size, uint16_t options,
+                            bool is_recovered)
 {
     struct cfetbl_table *table = calloc(1, sizeof *table);
 
@@ -128,6 +129,7 @@ bool cfetbl_keep_registered(struct cfetbl_service *service, uint16_t number, con
     table->is_dump_only = (options & 0x0002) != 0;
     table->is_users = (options & 0x0004) != 0;
     table->is_critical = (options & 0x0008) != 0;
+    table->current = table->is_dump_only || is_recovered ? 1 : 0; /* a dump-only one begins with zeros */
     table->next = service->tables;
     service->tables = table;
     keep(service, number, table);
@@ -182,16 +184,31 @@ static const uint8_t *record_of(struct cfetbl_service *service, const struct cfe
     return cfetbl_play(service, record) == CFETBL_SUCCESS ? cfetbl_reply(service).bytes : NULL;
 }
 
-/* How many images a table told everybody of, with this one. */
+/* Places in an event packet, the number of the event, and what tells of an image that went active. */
+enum { LENGTH_PLACE = 4, NUMBER_PLACE = 12, DETAIL_PLACE = 20, EVENT_LENGTH = 24, EVENT_ID = 0x0808, WENT_ACTIVE = 5 };
+
+void cfetbl_count_image(struct cfetbl_service *service, uint16_t number, const struct cfetbl_reply *reply)
+{
+    const uint8_t *at = reply->packets, *end = at + reply->packets_length;
+
+    while (end - at >= EVENT_LENGTH && number < CFETBL_HANDLES && service->handles[number].table != NULL) {
+        if (cfetbl_number_at(at, 2) == EVENT_ID && cfetbl_number_at(at + NUMBER_PLACE, 2) == WENT_ACTIVE) {
+            service->handles[number].table->current = cfetbl_number_at(at + DETAIL_PLACE, 4);
+        }
+        at += cfetbl_number_at(at + LENGTH_PLACE, 2) + 7;
+    }
+}
+
+/* How many images a table told everybody of. */
 static uint32_t told_of(const struct cfetbl_table *table)
 {
-    return table->images - table->quiet + table->modified;
+    return table->current - table->quiet + table->modified;
 }
 
 /* A further image came into the table by a load: it has what it had before no more. */
-static void renew(struct cfetbl_table *table, uint32_t images)
+static void renew(struct cfetbl_table *table)
 {
-    table->images = images;
+    table->images = table->current;
     table->is_modified = false;
     table->is_shown = false;
 }
@@ -228,20 +245,14 @@ static bool read_image(struct cfetbl_service *service, uint16_t number)
 static bool show_last(struct cfetbl_service *service, uint16_t number)
 {
     struct cfetbl_table *table = service->handles[number].table;
-    const uint8_t *record = record_of(service, table);
-    uint32_t images;
 
-    if (record == NULL) {
-        return false;
-    }
-    images = cfetbl_number_at(record + CFETBL_RECORD_IMAGES, 4);
-    if (table->active != NULL && images == table->images) {
+    if (table->active != NULL && table->current == table->images) {
         return true;
     }
     if (!table->is_users && !read_image(service, number)) {
         return false;
     }
-    renew(table, images);
+    renew(table);
     return true;
 }
 
@@ -316,16 +327,12 @@ static void bring_in_table(struct cfetbl_service *service, struct cfetbl_table *
     if (record == NULL || (record[CFETBL_RECORD_STATE] & CFETBL_LOAD_OPEN) != 0) {
         return;
     }
-    if (cfetbl_number_at(record + CFETBL_RECORD_IMAGES, 4) != table->images) {
-        /* Another image came into the table meanwhile, and takes the place of what was written. */
-        table->is_modified = false;
-        return;
-    }
     keep_shown(table, record);
     for_each_pin(service, table, CFETBL_KIND_RELEASE);
     status = play_image(service, table);
     for_each_pin(service, table, CFETBL_KIND_GET);
     if (status == CFETBL_SUCCESS) {
+        table->current += 1;
         table->images += 1;
         table->quiet += 1;
         table->is_modified = false;
@@ -339,7 +346,8 @@ void cfetbl_bring_in(struct cfetbl_service *service)
     size_t from;
 
     for (table = service->tables; table != NULL; table = table->next) {
-        if (table->is_gone || table->active == NULL || (table->is_critical && !table->is_modified)) {
+        /* An image that came into the table meanwhile takes the place of what was written. */
+        if (table->is_gone || table->active == NULL || table->current != table->images || (table->is_critical && !table->is_modified)) {
             continue;
         }
         if (changed(table, &from) > 0) {
@@ -389,11 +397,8 @@ uint32_t cfetbl_release(struct cfetbl_service *service, uint16_t number)
         return status;
     }
     let_go(&handle->pinned);
-    if ((status == CFETBL_SUCCESS || status == CFETBL_INFO_UPDATED) && handle->table->quiet + handle->table->modified > 0) {
-        const uint8_t *record = record_of(service, handle->table);
-        uint32_t images = record == NULL ? handle->table->images : cfetbl_number_at(record + CFETBL_RECORD_IMAGES, 4);
-
-        return told_of(handle->table) + images - handle->table->images > handle->told ? CFETBL_INFO_UPDATED : CFETBL_SUCCESS;
+    if (status == CFETBL_SUCCESS || status == CFETBL_INFO_UPDATED) {
+        return told_of(handle->table) > handle->told ? CFETBL_INFO_UPDATED : CFETBL_SUCCESS;
     }
     return status;
 }
@@ -434,12 +439,12 @@ uint32_t cfetbl_modified(struct cfetbl_service *service, uint16_t number)
     struct cfetbl_table *table;
     const uint8_t *record;
 
-    if (handle == NULL || handle->table->active == NULL || (status != CFETBL_NOT_PLAYED && status > 31)) {
+    if (handle == NULL || handle->table->active == NULL || handle->table->current != handle->table->images || status > 31) {
         return status;
     }
     table = handle->table;
     record = record_of(service, table);
-    if (record == NULL || cfetbl_number_at(record + CFETBL_RECORD_IMAGES, 4) != table->images) {
+    if (record == NULL) {
         return status;
     }
     keep_shown(table, record);
@@ -475,7 +480,7 @@ uint32_t cfetbl_use_memory(struct cfetbl_service *service, uint16_t number, void
     }
     let_go(&handle->table->active);
     handle->table->active = image;
-    renew(handle->table, cfetbl_number_at(record + CFETBL_RECORD_IMAGES, 4));
+    renew(handle->table);
     handle->table->modified += 1;
     keep_shown(handle->table, record);
     handle->table->shown.crc = check_word(memory, handle->table->size);
@@ -485,10 +490,9 @@ uint32_t cfetbl_use_memory(struct cfetbl_service *service, uint16_t number, void
     return CFETBL_SUCCESS;
 }
 
-const struct cfetbl_shown *cfetbl_shown_of(struct cfetbl_service *service, const char *name, const uint8_t *record)
+const struct cfetbl_shown *cfetbl_shown_of(struct cfetbl_service *service, const char *name)
 {
     const struct cfetbl_table *table = find_table(service, name);
-    bool is_last = table != NULL && cfetbl_number_at(record + CFETBL_RECORD_IMAGES, 4) == table->images;
 
-    return is_last && table->is_shown ? &table->shown : NULL;
+    return table != NULL && table->current == table->images && table->is_shown ? &table->shown : NULL;
 }

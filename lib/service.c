@@ -403,6 +403,9 @@ uint32_t cfetbl_ask(struct cfetbl_service *service, struct cfetbl_record record)
     status = cfetbl_play(service, record);
     if (status != CFETBL_NOT_PLAYED) {
         reply = cfetbl_reply(service);
+        if (record.at[0] >= CFETBL_KIND_LOAD_IMAGE && record.at[0] <= CFETBL_KIND_MANAGE) {
+            cfetbl_count_image(service, (uint16_t)cfetbl_number_at(record.at + 4, 2), &reply);
+        }
         cfetbl_take_packets(&service->packets, reply.packets, reply.packets_length);
         keep_answer(service);
     }
