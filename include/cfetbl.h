@@ -41,7 +41,8 @@
 extern "C" {
 #endif
 
-/* ---- the calls by names of this library's own. cFE's names are weak, and stand for these: a stub may take their place (cfetbl_ut.h) */
+/* ---- the calls by names of this library's own. cFE's names are weak functions that call these: a stub may take their place
+ * (cfetbl_ut.h) */
 
 #if defined CFETBL_WITH_CFE && CFETBL_CFE_VERSION == 607
 typedef uint32 CFETBL_TableSize_t;
@@ -126,14 +127,14 @@ static inline bool CFETBL_Open(const void *bank)
     return CFETBL_OpenFor(bank, &headers);
 }
 
-/* Switches it off, unless a validation function is at work. Each address that CFE_TBL_GetAddress gave is gone. */
+/* Switches it off, unless a validation function is at work: one that is left by longjmp counts as at work. Each address that CFE_TBL_GetAddress gave is gone. */
 void CFETBL_Close(void);
 
 /* The 262,144 bytes of preserved memory, until the next call; NULL if no service is on. */
 const void *CFETBL_Bank(void);
 
-/* The number of the service that this thread calls, and 0 if there is none. A thread that switched none on calls the only one that is on; if
- * threads of a test have services of their own, further threads have to join one. */
+/* The number of the service that this thread calls, and 0 if there is none. A thread that switched none on calls the only one that is
+ * on; if threads of a test have services of their own, further threads have to join one. */
 uint64_t CFETBL_Session(void);
 bool CFETBL_Join(uint64_t session);
 

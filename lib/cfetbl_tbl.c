@@ -91,6 +91,14 @@ static CFE_Status_t call_handle(enum cfetbl_call call, int kind, CFE_TBL_Handle_
 
 /* ---- registrations */
 
+/* Keeps the handle of a registration that succeeded, and what is known of its table. */
+static bool keep_table(struct cfetbl_service *service, const char *name, size_t size, uint16_t options, uint32_t status)
+{
+    uint16_t known = status == CFETBL_WARN_NOT_CRITICAL ? (uint16_t)(options & ~CFE_TBL_OPT_CRITICAL_MSK) : options;
+
+    return cfetbl_keep_registered(service, (uint16_t)cfetbl_reply(service).detail, name, size, known, status == CFETBL_INFO_RECOVERED_TBL);
+}
+
 /* Registers a table. One with an address of its user's is a dump-only one to the service. */
 static uint32_t register_table(struct cfetbl_service *service, uint16_t *handle, const char *name, size_t size, uint16_t options,
                                cfetbl_function function)
@@ -109,7 +117,7 @@ static uint32_t register_table(struct cfetbl_service *service, uint16_t *handle,
     status = cfetbl_ask(service, record);
     if (status == CFETBL_SUCCESS || status == CFETBL_INFO_RECOVERED_TBL || status == CFETBL_WARN_NOT_CRITICAL) {
         *handle = (uint16_t)cfetbl_reply(service).detail;
-        return cfetbl_keep_registered(service, *handle, name, size, options, status == CFETBL_INFO_RECOVERED_TBL) ? status : CFETBL_NOT_PLAYED;
+        return keep_table(service, name, size, options, status) ? status : CFETBL_NOT_PLAYED;
     }
     if (status == CFETBL_WARN_DUPLICATE) {
         *handle = (uint16_t)cfetbl_reply(service).detail;

@@ -16,12 +16,14 @@ extern const struct CFETBL_Headers cfetbl_headers;
 bool CFETBL_OpenFor(const void *bank, const struct CFETBL_Headers *headers)
 {
     if (headers->info != cfetbl_headers.info) {
-        cfetbl_say("CFETBL_Open: CFE_TBL_Info_t has %u bytes in the test and %u in the library: compile cfetbl.c with the test's headers of cFE",
+        cfetbl_say("CFETBL_Open: CFE_TBL_Info_t has %u bytes in the test and %u in the library: compile cfetbl.c with the test's "
+                   "headers of cFE",
                    (unsigned)headers->info, (unsigned)cfetbl_headers.info);
         return false;
     }
     if (memcmp(headers, &cfetbl_headers, sizeof *headers) != 0) {
-        cfetbl_say("CFETBL_Open: handles or sizes have other types in the test than in the library: compile cfetbl.c with the test's headers");
+        cfetbl_say("CFETBL_Open: handles or sizes have other types in the test than in the library: compile cfetbl.c with the test's "
+                   "headers of cFE");
         return false;
     }
     return cfetbl_open(bank);
@@ -131,7 +133,11 @@ bool CFETBL_StartApp(int app, const char *name)
     struct cfetbl_record record;
     uint32_t status;
 
-    if (!is_app("CFETBL_StartApp", app) || !is_fit("CFETBL_StartApp", name, CFETBL_APP_NAME) || (service = begin("CFETBL_StartApp")) == NULL) {
+    if (!is_app("CFETBL_StartApp", app) || !is_fit("CFETBL_StartApp", name, CFETBL_APP_NAME)) {
+        return false;
+    }
+    service = begin("CFETBL_StartApp");
+    if (service == NULL) {
         return false;
     }
     record = cfetbl_begin(service, CFETBL_KIND_START, app);
@@ -240,7 +246,7 @@ static bool keep_damage(struct cfetbl_service *service, const char *name)
         place += 1;
     }
     if (place == CFETBL_DAMAGES) {
-        cfetbl_say("CFETBL_DamageBlock: %d blocks are damaged from the next reset on, and there is no room for another one", CFETBL_DAMAGES);
+        cfetbl_say("CFETBL_DamageBlock: %d blocks wait for the next reset, and there is no room for another one", CFETBL_DAMAGES);
         return false;
     }
     strcpy(service->damages[place], name);
@@ -282,7 +288,7 @@ bool CFETBL_SetTime(uint32_t seconds, uint16_t subseconds)
 
 /* ---- files */
 
-/* How many bytes stand before the image in a table file. */
+/* How many bytes a table file has before its image. */
 enum { FILE_HEADER = 116 };
 
 static bool put_file(const char *function, const char *name, const void *contents, size_t size)

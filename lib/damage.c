@@ -4,7 +4,7 @@
 
 #include <string.h>
 
-/* The directory, and what stands in an entry. */
+/* The directory, and the places of fields in an entry. */
 enum { DIRECTORY = 16, ENTRIES = 128, ENTRY = 64, OPEN_GATE = 0xA5, OFFSET_PLACE = 4, SIZE_PLACE = 8, NAME_PLACE = 12 };
 
 /* How far a block's second place is from its first, and how many bytes its head has. */

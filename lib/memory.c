@@ -1,10 +1,9 @@
-/* SPDX-License-Identifier: Apache-2.0 */
-/* memory.c: the memory that applications point at, one image for each table, as cFE has it: all handles of a table get the same address, and
- * what one writes there is seen by all, with CFE_TBL_Modified or without.
+/* memory.c: the memory that applications point at, one image for each table, as cFE has it: all handles of a table get the same
+ * address, and what one writes there is seen by all, with CFE_TBL_Modified or without.
  *
  * The service has images that don't change. So what was written in place is loaded into it as an image more, before the next call or
  * command: by an Edit of a dump-only table's owner, and else by a LoadImage of the table's owner, for which the handles that have an
- * address give it back and get it again. No validation function is asked about it, as in cFE. Nobody is told of such an image but by
+ * address give it back and get it again. No validation function is asked about it, as in cFE. Nobody hears of such an image but by
  * CFE_TBL_Modified, and it isn't seen in what CFE_TBL_GetInfo gives. Of a critical table it waits for CFE_TBL_Modified, since cFE copies
  * the table into the Critical Data Store only then. While the service can't take it, for a load that is open, it stays in this memory:
  * applications see it there, and the ground once the service has it. */
@@ -184,7 +183,7 @@ static const uint8_t *record_of(struct cfetbl_service *service, const struct cfe
     return cfetbl_play(service, record) == CFETBL_SUCCESS ? cfetbl_reply(service).bytes : NULL;
 }
 
-/* Places in an event packet, the number of the event, and what tells of an image that went active. */
+/* Places in an event packet, and the event that comes when an image goes active. */
 enum { LENGTH_PLACE = 4, NUMBER_PLACE = 12, DETAIL_PLACE = 20, EVENT_LENGTH = 24, EVENT_ID = 0x0808, WENT_ACTIVE = 5 };
 
 void cfetbl_count_image(struct cfetbl_service *service, uint16_t number, const struct cfetbl_reply *reply)

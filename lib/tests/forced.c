@@ -380,11 +380,13 @@ static void test_damage(void)
     EXPECT(call_get_address() == CFE_TBL_ERR_NEVER_LOADED);
     EXPECT(CFE_ES_RegisterCDS(&block, 4, "B") == CFE_ES_CDS_ALREADY_EXISTS);
     EXPECT(CFE_ES_RestoreFromCDS(back, block) == CFE_ES_CDS_BLOCK_CRC_ERR);
-    EXPECT(CFE_ES_CopyToCDS(block, "efgh") == CFE_SUCCESS && CFE_ES_RestoreFromCDS(back, block) == CFE_SUCCESS && memcmp(back, "efgh", 4) == 0);
+    EXPECT(CFE_ES_CopyToCDS(block, "efgh") == CFE_SUCCESS && CFE_ES_RestoreFromCDS(back, block) == CFE_SUCCESS);
+    EXPECT(memcmp(back, "efgh", 4) == 0);
     EXPECT(CFETBL_GetFile("/kept", NULL) != NULL && CFE_TBL_Load(table, CFE_TBL_SRC_FILE, "/kept") == CFE_TBL_ERR_NO_STD_HEADER);
     EXPECT(!CFETBL_StartApp(2, "B"));
     EXPECT(CFETBL_Open(bank) && CFETBL_StartApp(1, "A"));
-    EXPECT(CFE_ES_RegisterCDS(&block, 4, "B") == CFE_ES_CDS_ALREADY_EXISTS && CFE_ES_RestoreFromCDS(back, block) == CFE_ES_CDS_BLOCK_CRC_ERR);
+    EXPECT(CFE_ES_RegisterCDS(&block, 4, "B") == CFE_ES_CDS_ALREADY_EXISTS);
+    EXPECT(CFE_ES_RestoreFromCDS(back, block) == CFE_ES_CDS_BLOCK_CRC_ERR);
     CFETBL_Close();
 }
 

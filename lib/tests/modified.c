@@ -68,7 +68,8 @@ static CFE_TBL_Info_t info(void)
     return found;
 }
 
-/* What one writes in place, all see, and the ground too; it stays after the address is given back. Nobody is told without CFE_TBL_Modified. */
+/* What one writes in place, all see, and the ground too; it stays after the address is given back. Without CFE_TBL_Modified nobody hears
+ * of it. */
 static void test_in_place(uint16 options)
 {
     uint32 crc;
@@ -114,7 +115,8 @@ static void test_modified(uint16 options)
     EXPECT(address_of(1, own, CFE_SUCCESS) == mine);
     EXPECT(CFE_TBL_Modified(own) == CFE_SUCCESS && strcmp(info().LastFileLoaded, "/cf/t.tbl(*)(*)") == 0);
     release(1, own, CFE_SUCCESS);
-    EXPECT(CFE_TBL_Load(own, CFE_TBL_SRC_FILE, "/cf/t.tbl") == CFE_SUCCESS && strcmp(info().LastFileLoaded, "/cf/t.tbl") == 0 && info().Crc == crc);
+    EXPECT(CFE_TBL_Load(own, CFE_TBL_SRC_FILE, "/cf/t.tbl") == CFE_SUCCESS);
+    EXPECT(strcmp(info().LastFileLoaded, "/cf/t.tbl") == 0 && info().Crc == crc);
     EXPECT(memcmp(address_of(1, own, CFE_TBL_INFO_UPDATED), one, SIZE) == 0);
     CFETBL_Close();
 }
@@ -198,7 +200,7 @@ static void test_dump_only(void)
     CFETBL_Close();
 }
 
-/* A table at an address of its user's: it is there after a load from the address, and the ground dumps what stands there. */
+/* A table at an address of its user's: it is there after a load from the address, and the ground dumps what is there. */
 static void test_user_address(void)
 {
     static uint8_t memory[SIZE] = {9, 8, 7}, elsewhere[SIZE] = {4};

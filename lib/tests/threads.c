@@ -85,7 +85,10 @@ static void *as_another(void *own)
     CFE_TBL_Handle_t handle;
 
     CFETBL_UseApp(2);
-    return CFE_TBL_Register(&handle, "U", SIZE, CFE_TBL_OPT_DEFAULT, any) == CFE_SUCCESS && CFE_TBL_Share(&handle, "B.U") == CFE_SUCCESS ? NULL : own;
+    if (CFE_TBL_Register(&handle, "U", SIZE, CFE_TBL_OPT_DEFAULT, any) != CFE_SUCCESS) {
+        return own;
+    }
+    return CFE_TBL_Share(&handle, "B.U") == CFE_SUCCESS ? NULL : own;
 }
 
 static void test_children(void)

@@ -26,7 +26,7 @@ static void *NavAddress(void)
     return Address;
 }
 
-/* Loads, changes in place that are told, and such that aren't. */
+/* Loads, changes in place with CFE_TBL_Modified, and such without. */
 static void TestLook(void)
 {
     Start(NULL);
@@ -62,11 +62,12 @@ static void TestDump(void)
     EXPECT(CFETBL_DumpCmd("CHECKER.Results", true, "/ram/results.tbl") == CFETBL_SUCCESS && CHECKER_Housekeeping() == CFE_SUCCESS);
     EXPECT(CFETBL_HousekeepingCmd() == CFETBL_SUCCESS);
     File = CFETBL_GetFile("/ram/results.tbl", &Size);
-    EXPECT(File != NULL && Size == 116 + CHECKER_TABLES * sizeof(CHECKER_Result_t) && ((const CHECKER_Result_t *)(const void *)(File + 116))->IsKnown == 1);
+    EXPECT(File != NULL && Size == 116 + CHECKER_TABLES * sizeof(CHECKER_Result_t));
+    EXPECT(((const CHECKER_Result_t *)(const void *)(File + 116))->IsKnown == 1);
     CFETBL_Close();
 }
 
-/* Whether it is on outlives a reset; a damaged block is made anew. */
+/* Whether it is on outlives a reset; a damaged block is made again. */
 static void TestBlock(void)
 {
     Start(NULL);

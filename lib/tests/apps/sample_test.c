@@ -43,10 +43,13 @@ static void TestInit(void)
 static void TestGround(void)
 {
     Start();
-    EXPECT(CFETBL_PutTableFile("/cf/bad.tbl", "SAMPLE.SampleTable", 0, &None, sizeof(None)) && CFETBL_LoadCmd("/cf/bad.tbl") == CFETBL_SUCCESS);
+    EXPECT(CFETBL_PutTableFile("/cf/bad.tbl", "SAMPLE.SampleTable", 0, &None, sizeof(None)));
+    EXPECT(CFETBL_LoadCmd("/cf/bad.tbl") == CFETBL_SUCCESS);
     EXPECT(CFETBL_ValidateCmd("SAMPLE.SampleTable", false) == CFETBL_SUCCESS && SAMPLE_ReportHousekeeping() == CFE_SUCCESS);
-    EXPECT(CFETBL_ActivateCmd("SAMPLE.SampleTable") == CFETBL_ERR_NOT_VALIDATED && CFETBL_AbortLoadCmd("SAMPLE.SampleTable") == CFETBL_SUCCESS);
-    EXPECT(CFETBL_PutTableFile("/cf/new.tbl", "SAMPLE.SampleTable", 0, &Second, sizeof(Second)) && CFETBL_LoadCmd("/cf/new.tbl") == CFETBL_SUCCESS);
+    EXPECT(CFETBL_ActivateCmd("SAMPLE.SampleTable") == CFETBL_ERR_NOT_VALIDATED);
+    EXPECT(CFETBL_AbortLoadCmd("SAMPLE.SampleTable") == CFETBL_SUCCESS);
+    EXPECT(CFETBL_PutTableFile("/cf/new.tbl", "SAMPLE.SampleTable", 0, &Second, sizeof(Second)));
+    EXPECT(CFETBL_LoadCmd("/cf/new.tbl") == CFETBL_SUCCESS);
     EXPECT(CFETBL_ValidateCmd("SAMPLE.SampleTable", false) == CFETBL_SUCCESS && SAMPLE_ReportHousekeeping() == CFE_SUCCESS);
     EXPECT(CFETBL_ActivateCmd("SAMPLE.SampleTable") == CFETBL_SUCCESS && Limit() == 500);
     EXPECT(SAMPLE_ReportHousekeeping() == CFE_TBL_INFO_UPDATED && Limit() == 700);
