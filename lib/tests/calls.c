@@ -12,6 +12,10 @@ static const image_t one = {{1, 2, 3, 4, 5, 6, 7, 8}};
 static const image_t two = {{2, 2, 3, 4, 5, 6, 7, 8}};
 static const image_t bad = {{0, 2, 3, 4, 5, 6, 7, 8}};
 
+/* A table's object and its file, as a tool makes it. */
+static const image_t DefinedTable = {{1, 2, 3, 4, 5, 6, 7, 8}};
+CFE_TBL_FILEDEF(DefinedTable, A.DefinedTable, A table, defined.tbl)
+
 /* How often the function was called. */
 static int calls;
 
@@ -31,6 +35,17 @@ static void start(void)
 {
     EXPECT(CFETBL_Open(NULL));
     EXPECT(CFETBL_StartApp(1, "A"));
+}
+
+/* What headers of cFE have beside calls. */
+static void test_names(void)
+{
+    cpuaddr address = (cpuaddr)&DefinedTable;
+
+    EXPECT(strcmp(CFE_TBL_FileDef.ObjectName, "DefinedTable") == 0 && strcmp(CFE_TBL_FileDef.TableName, "A.DefinedTable") == 0);
+    EXPECT(strcmp(CFE_TBL_FileDef.Description, "A table") == 0 && strcmp(CFE_TBL_FileDef.TgtFilename, "defined.tbl") == 0);
+    EXPECT(CFE_TBL_FileDef.ObjectSize == sizeof DefinedTable && *(const uint8 *)address == 1);
+    EXPECT(sizeof CFE_TBL_FileDef.TableName == CFE_TBL_MAX_FULL_NAME_LEN && CFETBL_CFE_VERSION == 700);
 }
 
 /* A table from its registration to its end. */
@@ -209,6 +224,7 @@ static void test_store(void)
 
 int main(void)
 {
+    test_names();
     test_register();
     test_addresses();
     test_loads();
