@@ -1,3 +1,4 @@
+/* SPDX-License-Identifier: Apache-2.0 */
 /* cfe_es.c: cFE's names for the calls of the Critical Data Store. They are weak: a stub of such a name takes its place, wherever it is linked.
  * They are in an object of their own, so that a test may compile the calls themselves with its own headers (cfetbl.c). */
 #include "cfetbl_calls.h"

@@ -1,3 +1,4 @@
+/* SPDX-License-Identifier: Apache-2.0 */
 /* cfetbl_es.c: cFE's calls of the Critical Data Store, by names of this library's own. cfe_es.c has cFE's names for them. */
 #include "cfetbl_calls.h"
 

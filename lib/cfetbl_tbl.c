@@ -1,3 +1,4 @@
+/* SPDX-License-Identifier: Apache-2.0 */
 /* cfetbl_tbl.c: cFE's calls of Table Services, by names of this library's own. cfe_tbl.c has cFE's names for them. */
 #include "cfetbl_calls.h"
 

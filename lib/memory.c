@@ -1,3 +1,4 @@
+/* SPDX-License-Identifier: Apache-2.0 */
 /* memory.c: the memory that applications point at, one image for each table, as cFE has it: all handles of a table get the same
  * address, and what one writes there is seen by all, with CFE_TBL_Modified or without.
  *

@@ -1,3 +1,4 @@
+/* SPDX-License-Identifier: Apache-2.0 */
 /* gauge.c: the application: a limit that the ground may load. */
 #include "cfe.h"
 

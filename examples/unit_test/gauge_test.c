@@ -1,3 +1,4 @@
+/* SPDX-License-Identifier: Apache-2.0 */
 /* gauge_test.c: its unit test. Stubs of cFE answer all calls; those of Table Services and of the Critical Data Store by the service. */
 #include "cfetbl_ut.h"
 

@@ -1,3 +1,4 @@
+/* SPDX-License-Identifier: Apache-2.0 */
 /* mark.c: whether tbl.c tells a build of tbl_run without proofs, which has a symbol more (UNPROVED), from the proved one. */
 #include "tbl.h"
 #include "tbl_run.h"

@@ -1,3 +1,4 @@
+/* SPDX-License-Identifier: Apache-2.0 */
 /* checker.c: see checker.h. It is ordinary cFE code, which knows nothing of the library. */
 #include "checker.h"
 

@@ -1,3 +1,4 @@
+/* SPDX-License-Identifier: Apache-2.0 */
 /* checker.h: an application in the style of cFS that compares the check words of other applications' tables with those that it found first.
  * Which tables it looks at is in a table, what it found in a dump-only one, and whether it is on in the Critical Data Store. */
 #ifndef CHECKER_H

@@ -1,3 +1,4 @@
+/* SPDX-License-Identifier: Apache-2.0 */
 /* checker_test.c: the unit test of checker.c, over stubs of cFE, with a table of another application. Its blocks of the Critical Data Store
  * are behind the stubs of Executive Services, which the application calls too. */
 #include "cfetbl_ut.h"

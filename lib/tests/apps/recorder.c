@@ -1,3 +1,4 @@
+/* SPDX-License-Identifier: Apache-2.0 */
 /* recorder.c: linked with -Wl,--wrap=tbl_step and -Wl,--wrap=tbl_open, it writes the records of each session that is played, and its entries,
  * to files below the folder that RECORDED names, so that the program can be asked for the same. */
 #include "tbl.h"

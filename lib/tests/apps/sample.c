@@ -1,3 +1,4 @@
+/* SPDX-License-Identifier: Apache-2.0 */
 /* sample.c: see sample.h. It is ordinary cFE code, which knows nothing of the library. */
 #include "sample.h"
 

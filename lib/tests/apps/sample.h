@@ -1,3 +1,4 @@
+/* SPDX-License-Identifier: Apache-2.0 */
 /* sample.h: an application in the style of cFS: it has one table, which it loads from a file and looks at when it is told to process. */
 #ifndef SAMPLE_H
 #define SAMPLE_H

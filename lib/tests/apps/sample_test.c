@@ -1,3 +1,4 @@
+/* SPDX-License-Identifier: Apache-2.0 */
 /* sample_test.c: the unit test of sample.c, over stubs of cFE. The library is linked before them or after them. */
 #include "cfetbl_ut.h"
 #include "expect.h"

@@ -1,3 +1,4 @@
+/* SPDX-License-Identifier: Apache-2.0 */
 /* cfe_es_stubs.c: stubs of Executive Services, one object a service, as a generator makes them of cFE's headers. */
 #include "utstubs.h"
 

@@ -1,3 +1,4 @@
+/* SPDX-License-Identifier: Apache-2.0 */
 /* utstubs.c: stands in for UT Assert's: handlers and forced return codes by the address of a stub. */
 #include "utstubs.h"
 

@@ -1,3 +1,4 @@
+/* SPDX-License-Identifier: Apache-2.0 */
 /* utstubs.h: stands in for that of UT Assert (nasa/osal), with what generated stubs and their handlers use of it. */
 #ifndef UTSTUBS_H
 #define UTSTUBS_H
