@@ -192,8 +192,8 @@ def _rows_of(pins):
 class Report:
     """A page that is made as a session's answers come."""
 
-    def __init__(self, title, index):
-        self._title, self._index = title, index
+    def __init__(self, title, index, shapes=None):
+        self._title, self._index, self._shapes = title, index, shapes
         self.timeline, self._log = Timeline(), []
 
     def add(self, part):
@@ -203,7 +203,7 @@ class Report:
             return
         place = self.timeline.length
         self.timeline.add(part)
-        self._log.append(element("div", text("\n".join(show.lines(part))), id=f"entry-{place}", data_entry=place,
+        self._log.append(element("div", text("\n".join(show.lines(part, shapes=self._shapes))), id=f"entry-{place}", data_entry=place,
                                  class_="entry refused" if is_refused(part) else "entry"))
 
     def page(self):

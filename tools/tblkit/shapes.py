@@ -1,20 +1,56 @@
 """Images by field: which fields the shapes of tables give to bytes that stand at an offset of an image."""
-from . import described, files, names, records
+from . import described, files, names, programs, records
+from .fields import definitions, loads
+from .fields.wrong import NoReader, Wrong
 from .numbers import counted
+from .streams import WRONG_USE, fail
 
 READ, WRITTEN = "Read", ("LoadImage", "Edit")
+# How many fields of an object's table are told at once.
+MOST_FIELDS = 24
+
+
+class _Forms:
+    """A shape that is written out, as u16:limit,i16:gain."""
+
+    def __init__(self, word):
+        self._forms = described.read_shape(word)
+
+    def told(self, offset, content, _is_all):
+        told, at = [], 0
+        for form in self._forms:
+            begin, end = at - offset, at - offset + form.size
+            if 0 <= begin and end <= len(content):
+                told.append(f"{form.name} {form.text_of(content[begin:end])}")
+            at += form.size
+        if offset + len(content) > at:
+            told.append(f"{counted(offset + len(content) - max(at, offset), 'byte')} after the last field")
+        return told
+
+
+class _Object:
+    """The shape of the table that an object file defines."""
+
+    def __init__(self, path):
+        self._definition = definitions.read(path)
+
+    def told(self, offset, content, is_all):
+        layout, part = self._definition.layout, loads.Part(offset, content[:max(0, self._definition.layout.size - offset)])
+        whole = [it for it in layout.fields if part.has(it)]
+        told = [f"{it.name} {part.text_of(it)}" for it in (whole if is_all else whole[:MOST_FIELDS])]
+        if len(told) < len(whole):
+            told.append(f"and {counted(len(whole) - len(told), 'more field')} (--all)")
+        if offset + len(content) > layout.size:
+            told.append(f"{counted(offset + len(content) - max(layout.size, offset), 'byte')} after the last field")
+        return told
 
 
 class Shapes:
-    """The shapes of tables by their full names, as `cfetbl show --shape NAME=SHAPE` gives them."""
+    """The shapes of tables by their full names, as `--shape NAME=SHAPE` gives them, and `--shape-of NAME=OBJ`."""
 
-    def __init__(self, words=()):
-        self._shapes = {}
-        for word in words:
-            name, sign, shape = word.partition("=")
-            if not sign:
-                raise described.WrongShape(f"expected NAME=SHAPE, as CS_APP.Limits=u16:limit,i16:gain, in {word!r}")
-            self._shapes[name] = described.read_shape(shape)
+    def __init__(self, words=(), objects=()):
+        self._shapes = dict(_named(it, "CS_APP.Limits=u16:limit,i16:gain", _Forms) for it in words)
+        self._shapes |= dict(_named(it, "CS_APP.Limits=limits.o", _Object) for it in objects)
 
     def __bool__(self):
         return bool(self._shapes)
@@ -24,23 +60,37 @@ class Shapes:
         """The full names of the tables."""
         return list(self._shapes)
 
-    def lines(self, answer):
+    def lines(self, answer, is_all=False):
         """A line for each image, or part of one, that a request brought or that its reply has: the table and its fields."""
         for table, offset, content in _parts(answer):
             if table in self._shapes:
-                yield f"{table}: {self._told(table, offset, content)}"
+                yield f"{table}: {', '.join(self._shapes[table].told(offset, content, is_all)) or 'no whole field'}"
 
-    def _told(self, table, offset, content):
-        """The fields that stand whole in these bytes."""
-        told, at = [], 0
-        for form in self._shapes[table]:
-            begin, end = at - offset, at - offset + form.size
-            if 0 <= begin and end <= len(content):
-                told.append(f"{form.name} {form.text_of(content[begin:end])}")
-            at += form.size
-        if offset + len(content) > at:
-            told.append(f"{counted(offset + len(content) - max(at, offset), 'byte')} after the last field")
-        return ", ".join(told) or "no whole field"
+
+def _named(word, example, shape):
+    """A table's name with its shape."""
+    name, sign, rest = word.partition("=")
+    if not sign:
+        raise described.WrongShape(f"expected NAME={'SHAPE' if shape is _Forms else 'OBJ'}, as {example}, in {word!r}")
+    return name, shape(rest)
+
+
+def add_options(parser):
+    """The options that give shapes."""
+    for option in ("--shape", "--shape-of"):
+        parser.add_argument(option, action="append", default=[])
+
+
+def of_options(tool, parser, chosen):
+    """The shapes that options gave."""
+    try:
+        return Shapes(chosen.shape, chosen.shape_of)
+    except described.WrongShape as wrong:
+        parser.error(f"{'--shape' if 'NAME=OBJ' not in str(wrong) else '--shape-of'}: {wrong}")
+    except Wrong as wrong:
+        fail(tool, f"--shape-of: {wrong}", WRONG_USE)
+    except NoReader as none:
+        fail(tool, str(none), programs.NO_PROGRAM)
 
 
 def tables_of(session):

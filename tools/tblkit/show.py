@@ -42,7 +42,7 @@ def lines(answer, is_all=False, shapes=None):
     yield f"{answer.entry.number('place')} {answer.line(is_all)} -> {', '.join(it for it in told if it)}"
     for kind, fields in replies:
         yield from _block(kind, fields, is_all)
-    yield from (INDENT + line for line in (shapes.lines(answer) if shapes else ()))
+    yield from (INDENT + line for line in (shapes.lines(answer, is_all) if shapes else ()))
     for packet in answer.packets:
         yield from _packet_lines(packet, answer.view, is_all)
 

@@ -4,6 +4,7 @@ import os
 import textwrap
 
 from . import names, packets, records, words
+from .fields import lines as by_field
 from .words import TextError, Words
 
 LONGEST_LINE = 1 << 20
@@ -14,6 +15,8 @@ LABELS = {"size": "size", "offset": "at", "length": "length", "message id": "mes
           "parameter": "parameter"}
 RAW = "bytes"
 START = bytes([next(number for number, it in names.requests().items() if it.name == "Start")])
+# What makes the bytes of a file of the words after each of these.
+FILES = {"table": words.read_table_file, "made": Words.made_file, "built": by_field.built, "set": by_field.changed}
 # Which word the name is in `app 1 register NAME`.
 NAME_AT = 3
 
@@ -70,10 +73,10 @@ def _packet(left):
 def _field_bytes(left, field, request=None):
     """The bytes of a field, from the words that are next."""
     if field.form == "data":
-        if field.owner == "File" and left.take_if("table"):
-            return words.read_table_file(left)
-        if field.owner == "File" and left.take_if("made"):
-            return left.made_file()
+        if field.owner == "File":
+            for word, make in FILES.items():
+                if left.take_if(word):
+                    return make(left)
         return left.data(f"the {field.name}", records.lengths(request)[1] - field.place)
     if field.form == "name":
         return left.name(f"the {field.name}", field.width).ljust(field.width, b"\0")

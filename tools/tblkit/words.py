@@ -242,10 +242,17 @@ def read_table_file(words):
     values = {"table": words.name("the full name of a table", names.field("table file header", "table").width)}
     if words.take_if("at"):
         values["offset"] = words.number("the offset", (1 << 32) - 1)
+    values |= read_header(words)
+    return files.table_file(words.data("the image", files.MOST_IMAGE), values)
+
+
+def read_header(words):
+    """The fields of the headers that are other than by default, from the words that are next."""
+    values = {}
     fields = {HEADER_WORDS[it.name]: it for it in files.layout() if it.name in HEADER_WORDS}
     while words.is_next(*fields):
         word = str(words.take("a field of the header"))
         field = fields[word]
         values[field.name] = (words.name(word, field.width) if field.form == "name"
                               else words.number(word, (1 << 8 * field.width) - 1))
-    return files.table_file(words.data("the image", files.MOST_IMAGE), values)
+    return values

@@ -5,7 +5,7 @@ from xml.etree import ElementTree
 NAMESPACE = "http://www.omg.org/spec/XTCE/20180204"
 SYSTEM = "CFE_TBL"
 NO_CHECKSUM = "the exclusive or of 0xFF and all bytes of the packet has to be 0: a checksum of this kind can't be stated here"
-KINDS = {"name": "String", "zeros": "Binary"}
+KINDS = {"name": "String", "zeros": "Binary", "padding": "Binary", "float": "Float"}
 
 
 def _child(above, tag, words=None, /, **attributes):
@@ -23,20 +23,24 @@ class _Types:
     """The types of parameters or of arguments, each of which is written once."""
 
     def __init__(self, above, role):
-        self._set, self._role, self._known = _child(above, f"{role}TypeSet"), role, set()
+        self._set, self._role, self._known = _child(above, f"{role}TypeSet"), role, {}
 
     def of(self, item):
-        """The name of the type of an item."""
-        name = _type_name(item)
+        """The name of the type of an item. Those of one form and width have names of their own where their words differ."""
+        plain = name = _type_name(item)
+        number = 1
+        while self._known.get(name, item.states) != item.states:
+            number += 1
+            name = f"{plain}_{number}"
         if name not in self._known:
-            self._known.add(name)
+            self._known[name] = item.states
             self._write(name, item)
         return name
 
     def _write(self, name, item):
         kind = KINDS.get(item.form) or ("Enumerated" if item.states else "Integer")
-        signed = {"signed": str(item.form == "signed").lower()} if kind == "Integer" else {}
-        above = _child(self._set, f"{kind}{self._role}Type", name=name, **signed)
+        own = {"signed": str(item.form == "signed").lower()} if kind == "Integer" else {"sizeInBits": item.bits} if kind == "Float" else {}
+        above = _child(self._set, f"{kind}{self._role}Type", name=name, **own)
         if kind == "String":
             encoding = _child(above, "StringDataEncoding", encoding="US-ASCII")
             size = _child(encoding, "SizeInBits")
@@ -44,6 +48,9 @@ class _Types:
             _child(size, "TerminationChar", "00")
         elif kind == "Binary":
             _child(_child(_child(above, "BinaryDataEncoding"), "SizeInBits"), "FixedValue", str(item.bits))
+        elif kind == "Float":
+            _child(above, "FloatDataEncoding", sizeInBits=item.bits, encoding="IEEE754_1985",
+                   byteOrder="leastSignificantByteFirst" if item.is_little else None)
         else:
             _child(above, "IntegerDataEncoding", sizeInBits=item.bits,
                    encoding="twosComplement" if item.form == "signed" else "unsigned",
@@ -114,18 +121,32 @@ def _binary(item):
     return item.fixed.to_bytes((item.bits + 7) // 8, "big").hex().upper()
 
 
-def definition(known):
-    """The definition as a text."""
+def _system(name, says, layouts):
+    """A system with containers of these layouts."""
     ElementTree.register_namespace("", NAMESPACE)
-    layout = "in cFE's default layouts" if known.is_cfe else "in the layouts of docs/FORMATS.md"
-    says = f"cFE Table Services, {layout}"
-    root = ElementTree.Element("SpaceSystem", {"xmlns": NAMESPACE, "name": SYSTEM, "shortDescription": says})
+    root = ElementTree.Element("SpaceSystem", {"xmlns": NAMESPACE, "name": name, "shortDescription": says})
     _child(root, "Header", validationStatus="Working")
-    telemetry, layouts = _Telemetry(root), list(known.telemetry())
+    telemetry = _Telemetry(root)
     for layout in layouts:
         telemetry.packet(layout, any(it.base is layout for it in layouts))
+    return root
+
+
+def containers(name, says, layouts):
+    """A definition of containers alone, as a text."""
+    return _text(_system(name, says, layouts))
+
+
+def definition(known):
+    """The definition of all commands and packets, as a text."""
+    layout = "in cFE's default layouts" if known.is_cfe else "in the layouts of docs/FORMATS.md"
+    root = _system(SYSTEM, f"cFE Table Services, {layout}", list(known.telemetry()))
     commands = _Commands(root)
     for layout in known.commands():
         commands.command(layout)
+    return _text(root)
+
+
+def _text(root):
     ElementTree.indent(root)
     return '<?xml version="1.0" encoding="UTF-8"?>\n' + ElementTree.tostring(root, encoding="unicode") + "\n"
