@@ -110,6 +110,11 @@ def read(path: str, members: tuple[str, ...] = ()) -> Definition:
 def _read(path: str, members: tuple[str, ...], _state: tuple[int, ...]) -> Definition:
     """It is kept as long as the file stays as it is."""
     try:
-        return objects.read(path, lambda of: _defined(of, Members(members)))
+        return of_content(path, objects.read(path), members)
     except Wrong as wrong:
         raise Wrong(f"{path}: {wrong}") from None
+
+
+def of_content(path: str, content: bytes, members: tuple[str, ...] = ()) -> Definition:
+    """The definition in an object file that has these bytes."""
+    return objects.using(path, content, lambda of: _defined(of, Members(members)))

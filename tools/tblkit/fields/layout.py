@@ -158,11 +158,14 @@ class Layout:
 
     def _gaps(self) -> Iterator[Padding]:
         """What is between the fields, and after the last one."""
-        at = 0
+        at, before = 0, None
         for it in sorted(self.fields, key=lambda it: it.place):
+            if it.place < at:
+                # Some compilers don't say where a bit field is that is as wide as its type.
+                raise Wrong(f"{it.name}: by .debug_info it has bits of {before.name}, so its place isn't known")
             if it.place > at:
                 yield Padding(at, it.place - at)
-            at = max(at, it.place + it.bits)
+            at, before = it.place + it.bits, it
         if at < 8 * self.size:
             yield Padding(at, 8 * self.size - at)
 

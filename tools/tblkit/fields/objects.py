@@ -28,12 +28,8 @@ class Symbol:
 class Object:
     """An object file, or a linked one."""
 
-    def __init__(self, path: str):
-        self.path = path
-        with open(path, "rb") as file:
-            self._content = file.read(MOST_BYTES + 1)
-        if len(self._content) > MOST_BYTES:
-            raise Wrong(f"it has more than {MOST_BYTES:,} bytes")
+    def __init__(self, path: str, content: bytes):
+        self.path, self._content = path, content
         if self._content[:4] != b"\x7fELF":
             raise Wrong("it is no object file: it doesn't begin as an ELF file does")
         self._elf = reader.library().elf.elffile.ELFFile(io.BytesIO(self._content))
@@ -164,11 +160,20 @@ class Object:
         return sorted({it for it in places if 0 <= it < size})
 
 
-def read(path: str, use):
+def read(path: str) -> bytes:
+    """The bytes of an object file."""
+    with open(path, "rb") as file:
+        content = file.read(MOST_BYTES + 1)
+    if len(content) > MOST_BYTES:
+        raise Wrong(f"it has more than {MOST_BYTES:,} bytes")
+    return content
+
+
+def using(path: str, content: bytes, use):
     """What `use` makes of an object file. Whatever pyelftools comes to in a file that is damaged is said as that."""
     try:
-        return use(Object(path))
-    except (Wrong, NoReader, OSError):
+        return use(Object(path, content))
+    except (Wrong, NoReader):
         raise
     except Exception as error:  # pylint: disable=broad-except
         said = str(error).splitlines()
