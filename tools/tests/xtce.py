@@ -1,5 +1,6 @@
 """A reader of XTCE, written from its public description and from nothing else here: it decodes packets and encodes commands by
 what a definition says."""
+import struct
 from xml.etree import ElementTree
 
 SPACE = "{http://www.omg.org/spec/XTCE/20180204}"
@@ -22,6 +23,10 @@ def _types(root, role):
             found[it.get("name")] = (kind, int(bits), None, False)
         elif kind == "Binary":
             found[it.get("name")] = (kind, int(it.find(_path("BinaryDataEncoding", "SizeInBits", "FixedValue")).text), None, False)
+        elif kind == "Float":
+            encoding = it.find(_path("FloatDataEncoding"))
+            found[it.get("name")] = (kind, int(encoding.get("sizeInBits")), encoding.get("encoding"),
+                                     encoding.get("byteOrder") == "leastSignificantByteFirst")
         else:
             encoding = it.find(_path("IntegerDataEncoding"))
             found[it.get("name")] = (kind, int(encoding.get("sizeInBits")), encoding.get("encoding"),
@@ -76,7 +81,7 @@ class Definition:
             if at + count > 8 * len(packet):
                 raise ValueError(f"{parameter} goes beyond the end")
             raw = _bits(packet, at, count)
-            values = values | {parameter: _value(kind, raw.to_bytes((count + 7) // 8, "big"), encoding, is_little)}
+            values = values | {parameter: _value(kind, raw.to_bytes((count + 7) // 8, "big"), count, encoding, is_little)}
             at += count
         return at, values
 
@@ -101,9 +106,13 @@ class Definition:
         return int.from_bytes(given.to_bytes(bits // 8, "little" if is_little else "big"), "big"), bits
 
 
-def _value(kind, raw, encoding, is_little):
+def _value(kind, raw, bits, encoding, is_little):
     if kind == "String":
         return raw.split(b"\0", 1)[0].decode("ascii")
     if kind == "Binary":
         return raw.hex().upper()
-    return int.from_bytes(raw, "little" if is_little else "big", signed=encoding == "twosComplement")
+    order = "little" if is_little else "big"
+    if kind == "Float":
+        return struct.unpack({32: ">f", 64: ">d"}[bits], int.from_bytes(raw, order).to_bytes(bits // 8, "big"))[0]
+    number = int.from_bytes(raw, order)
+    return number - (1 << bits) if encoding == "twosComplement" and number >> bits - 1 else number

@@ -40,8 +40,8 @@ class Variables:
     def layout_of(self, name: str, members: Members) -> tuple[Layout, bytes]:
         """The layout of a variable and its bytes, which have no address."""
         entry = next(self._entries.variables(name), None)
-        linkage = entry.attributes.get("DW_AT_linkage_name") if entry else None
-        symbol = self.object.symbol_of(*([linkage.value.decode()] if linkage else []), name)
+        linkage = entry.text("DW_AT_linkage_name") if entry else ""
+        symbol = self.object.symbol_of(*([linkage] if linkage else []), name)
         if symbol is None:
             raise Wrong(f"it has no {name}" + (": has it a CFE_TBL_FILEDEF?" if name == FILE_DEFINITION else ", which its CFE_TBL_FILEDEF names"))
         if entry is None:

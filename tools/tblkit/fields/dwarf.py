@@ -35,8 +35,12 @@ class Entry:
 
     @property
     def name(self) -> str:
-        attribute = self.attributes.get("DW_AT_name")
-        return attribute.value.decode("utf-8", "replace") if attribute is not None else ""
+        return self.text("DW_AT_name")
+
+    def text(self, name: str) -> str:
+        """The text that an attribute has; an empty one where it isn't there."""
+        attribute = self.attributes.get(name)
+        return attribute.value.decode("utf-8", "replace") if attribute is not None and isinstance(attribute.value, bytes) else ""
 
 
 class Entries:

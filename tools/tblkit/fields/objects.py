@@ -89,6 +89,8 @@ class Object:
         for section in self._sections:
             if section["sh_type"] in ("SHT_REL", "SHT_RELA") and section["sh_info"] == number:
                 symbols = self._section(section["sh_link"])
+                if symbols["sh_type"] not in ("SHT_SYMTAB", "SHT_DYNSYM"):
+                    raise Wrong(f"section {section.name}: it has no symbols")
                 for it in section.iter_relocations():
                     yield it, symbols
 
@@ -177,4 +179,4 @@ def using(path: str, content: bytes, use):
         raise
     except Exception as error:  # pylint: disable=broad-except
         said = str(error).splitlines()
-        raise Wrong(f"it can't be read as an object file: {said[0] if said else type(error).__name__}") from None
+        raise Wrong(f"it is cut short or damaged ({type(error).__name__}{': ' * bool(said)}{said[0] if said else ''})") from None

@@ -58,7 +58,14 @@ def _float_text(raw: int, bits: int) -> str:
     value = struct.unpack(f">{FORMATS[bits]}", raw.to_bytes(bits // 8, "big"))[0]
     if bits == 64 or value == 0:
         return repr(value)
-    return next(repr(it) for it in _shorter(value, bits) if _float_raw(repr(it), bits) == raw)
+    return next(repr(it) for it in _shorter(value, bits) if _reads_back(repr(it), bits, raw))
+
+
+def _reads_back(text: str, bits: int, raw: int) -> bool:
+    try:
+        return _float_raw(text, bits) == raw
+    except OverflowError:
+        return False
 
 
 def _no_number_text(raw: int, bits: int, mantissa: int) -> str:
