@@ -76,7 +76,8 @@ def _field_object(it: Field) -> dict:
 def changes(of: Definition, made: loads.Changed, base: str | None) -> list[str]:
     """What a file changes: its bytes, each field that was set, and the others that go along with them."""
     part = made.part
-    lines = [f"{of.table}, {'all ' if base else ''}bytes {part.offset} to {part.end - 1}, {len(part.content)} in all"]
+    place = "all" if base else f"from byte {part.offset} on {len(part.content)}"
+    lines = [f"{of.table}, {place} of {of.layout.size} bytes"]
     for field, before in made.fields:
         now = part.text_of(field)
         lines.append(f"{field.name}: {before} -> {now}" if before != now else f"{field.name}: {now}, as before")
