@@ -10,7 +10,7 @@ import unittest
 from tblkit.fields import reader
 from tblkit.fields.wrong import NoReader
 
-from . import recorded
+from . import installed, recorded
 
 INCLUDE = os.path.join(recorded.TOP, "include")
 # The targets of clang by the names of --print-targets, where a triple needs more than this name or has to be of ELF. Those without
@@ -37,9 +37,8 @@ def _has_reader():
 
 
 HAS_READER, CLANG, HOST = _has_reader(), shutil.which("clang"), shutil.which("cc") or shutil.which("clang")
-MISSING = [what for what, is_there in (("pyelftools", HAS_READER), ("clang", CLANG), ("a C compiler", HOST)) if not is_there]
-if MISSING:
-    print(f"tables by field: there is no {', no '.join(MISSING)}, so what needs it isn't tried", file=sys.stderr)
+# What isn't there, by its package.
+MISSING = [package for package, is_there in (("python3-pyelftools", HAS_READER), ("clang", CLANG), ("gcc", HOST)) if not is_there]
 needs_reader = unittest.skipUnless(HAS_READER and HOST, "no pyelftools or no C compiler")
 needs_clang = unittest.skipUnless(HAS_READER and HOST and CLANG, "no pyelftools or no clang")
 
@@ -62,6 +61,14 @@ def made(source, folder, name, *words, target=None, compiler=None):
     if done.returncode:
         raise AssertionError(f"{' '.join(front)} compiles no {name}.c: {done.stderr}")
     return path
+
+
+def cross_compilers():
+    """The compilers of GCC for other machines that are there."""
+    names = (f"{triple}-gcc" for triple in (
+        "arm-none-eabi", "m68k-linux-gnu", "mips-linux-gnu", "powerpc-linux-gnu", "powerpc-rtems6", "riscv64-unknown-elf", "sh4-linux-gnu",
+        "sparc64-linux-gnu", "sparc-rtems6", "arm-rtems6"))
+    return [name for name in names if shutil.which(name)]
 
 
 class InFolder(unittest.TestCase):
@@ -90,3 +97,16 @@ class InFolder(unittest.TestCase):
     def read(cls, name):
         with open(cls.path(name), "rb") as file:
             return file.read()
+
+
+def main():
+    """Installs what isn't there, for the check that calls the tests, where that may be done; else it says what isn't tried."""
+    for package in MISSING:
+        installed.install("check-tools", package)
+    left = [it for it, is_there in (("pyelftools", _has_reader()), ("clang", shutil.which("clang")), ("C compiler", shutil.which("cc"))) if not is_there]
+    if left:
+        print(f"check-tools: there is no {', no '.join(left)}, so tables by field aren't tried with it", file=sys.stderr)
+
+
+if __name__ == "__main__":
+    main()

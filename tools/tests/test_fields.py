@@ -147,6 +147,28 @@ offset  size  order   type    field
         lines = self.run_word("dump", self.object, self.path("a.tbl"), "--member", "Choice[*].Value=Raw")[1].decode().splitlines()
         self.assertIn("Choice[0].Value.Raw[1] = 3", lines)
 
+    def test_a_table_that_is_no_structure(self):
+        """The fields of an array, or a number, have the name of the object."""
+        for name, source, lines in (
+                ("Wdt", "typedef struct { uint16 Type; float Limit; } Entry_t;\nEntry_t Wdt[2] = {{1, 2.5f}, {3, -1}};",
+                 ["Wdt[0].Type = 1", "Wdt[0].Limit = 2.5", "Wdt[1].Type = 3", "Wdt[1].Limit = -1.0"]),
+                ("Rate", "const volatile uint32 Rate = 10;", ["Rate = 10"]), ("Note", 'char Note[4] = "ab";', ['Note = "ab"']),
+                ("Zeros", "int16 Zeros[2];", ["Zeros[0] = 0", "Zeros[1] = 0"])):
+            path = compiled.made(f"{HEAD}{source}\nCFE_TBL_FILEDEF({name}, APP.{name}, d, f)\n", self.folder, "plain")
+            made = self.write("plain.tbl", call(TOOL, "build", path)[1])
+            self.assertEqual(call(TOOL, "dump", path, made)[1].decode().splitlines(), lines)
+
+    def test_a_byte_order_of_its_own(self):
+        """A structure in which the compiler puts the high byte first, whatever the order of the target."""
+        source = 'struct __attribute__((scalar_storage_order("big-endian"))) { uint32 a; float b; uint16 c[2]; uint32 d : 3; uint32 e : 29; } Own = ' \
+                 "{1, 1.5f, {5, 6}, 5, 7};"
+        if subprocess.run([compiled.HOST, "--version"], capture_output=True, check=True).stdout.find(b"Free Software") < 0:
+            self.skipTest("the compiler of this machine has no scalar_storage_order")
+        path = compiled.made(f"{HEAD}{source}\nCFE_TBL_FILEDEF(Own, APP.Own, d, f)\n", self.folder, "own")
+        self.assertEqual(call(TOOL, "set", path, "a=0x01020304")[1][files.TABLE_HEADER:].hex(), "01020304")
+        made = self.write("own.tbl", call(TOOL, "build", path)[1])
+        self.assertEqual(call(TOOL, "dump", path, made)[1].decode().splitlines(), ["a = 1", "b = 1.5", "c[0] = 5", "c[1] = 6", "d = 5", "e = 7"])
+
     def test_help_has_each_word_with_an_example(self):
         told = self.run_word("--help")[1].decode()
         for word in ("build", "shape", "dump", "diff", "set", "check"):
@@ -179,6 +201,17 @@ class WrongInput(compiled.InFolder):
         ("a definition of another form", PAIR + 'struct { int a; } CFE_TBL_FileDef = {1};\n', (),
          "CFE_TBL_FileDef: it has no ObjectName, as CFE_TBL_FILEDEF makes it"),
         ("a declaration", HEAD + "extern struct { int a; } Pair;\nvoid *At = &Pair;\n" + FILEDEF, (), "Pair is declared in it, and not defined"),
+        ("types in units of their own", PAIR + FILEDEF, ("-fdebug-types-section",),
+         "section .debug_info: a type is in a unit of its own: compile without -fdebug-types-section"),
+        ("types in units of their own, of DWARF 4", PAIR + FILEDEF, ("-fdebug-types-section", "-gdwarf-4"),
+         "section .debug_info: a type is in a unit of its own: compile without -fdebug-types-section"),
+        ("types elsewhere", PAIR + FILEDEF, ("-gsplit-dwarf",),
+         "section .debug_info: the types are in another file (.dwo): compile without -gsplit-dwarf"),
+        ("types elsewhere, of DWARF 4", PAIR + FILEDEF, ("-gsplit-dwarf", "-gdwarf-4"),
+         "section .debug_info: the types are in another file (.dwo): compile without -gsplit-dwarf"),
+        ("little debugging information", PAIR + FILEDEF, ("-g1",), "CFE_TBL_FileDef isn't in its debugging information: compile it with -g"),
+        ("a length that isn't said", HEAD + "struct Open;\nextern struct Open Pair;\nvoid *At = &Pair;\n" +
+         'CFE_TBL_FileDef_t CFE_TBL_FileDef = {"Pair", "APP.Pair", "d", "f", 8};', (), "Open: it is declared in .debug_info, and not defined"),
     )
     VALUES = (
         ("First=4294967296", "First: 4294967296 is out of range: expected a number from 0 to 4294967295, of the type uint32"),

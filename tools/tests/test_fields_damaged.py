@@ -10,7 +10,7 @@ from tblkit.fields import definitions, ground, loads, shown
 from tblkit.fields.wrong import Wrong
 
 from . import compiled
-from .test_commands import call
+from .test_commands import TOOLS, call
 from .test_fields_targets import MEMBERS, text_of
 
 OBJECTS, SECONDS, MEMORY = 5_000, 10, 1 << 30
@@ -43,7 +43,7 @@ def _at_work(*_):
     raise StillAtWork
 
 
-def try_all(names, count):
+def try_all(first, step, count, names):
     """In a process of its own, with so much memory: reads damaged objects, and shows what is read in each form."""
     resource.setrlimit(resource.RLIMIT_AS, (MEMORY, MEMORY))
     signal.signal(signal.SIGALRM, _at_work)
@@ -52,7 +52,7 @@ def try_all(names, count):
         with open(name, "rb") as file:
             whole.append(file.read())
     refused = 0
-    for number in range(count):
+    for number in range(first, count, step):
         content = damaged(whole[number % len(whole)], random.Random(number))
         signal.alarm(SECONDS)
         try:
@@ -75,10 +75,18 @@ class Damaged(compiled.InFolder):
         return [compiled.made(text_of("fields.c"), self.folder, f"object{at}", target=it) for at, it in enumerate(targets)]
 
     def test_many(self):
-        words = [sys.executable, "-m", "tests.test_fields_damaged", str(OBJECTS), *self.objects()]
-        done = subprocess.run(words, cwd=os.path.dirname(os.path.dirname(os.path.abspath(__file__))), capture_output=True, text=True, check=False)
-        self.assertEqual((done.returncode, done.stderr), (0, ""))
-        self.assertGreater(int(done.stdout), OBJECTS // 4)
+        step, objects, refused = len(os.sched_getaffinity(0)), self.objects(), 0
+        running = [self.started(first, step, objects) for first in range(step)]
+        for one in running:
+            written, said = one.communicate()
+            self.assertEqual((one.returncode, said), (0, ""))
+            refused += int(written)
+        self.assertGreater(refused, OBJECTS // 4)
+
+    @staticmethod
+    def started(first, step, objects):
+        words = [sys.executable, "-m", "tests.test_fields_damaged", *map(str, (first, step, OBJECTS)), *objects]
+        return subprocess.Popen(words, cwd=TOOLS, stdout=subprocess.PIPE, stderr=subprocess.PIPE, text=True)
 
     def test_by_the_command(self):
         content = self.read(os.path.basename(self.objects()[0]))
@@ -95,4 +103,4 @@ class Damaged(compiled.InFolder):
 
 
 if __name__ == "__main__":
-    try_all(sys.argv[2:], int(sys.argv[1]))
+    try_all(*map(int, sys.argv[1:4]), sys.argv[4:])

@@ -65,6 +65,13 @@ class Targets(compiled.InFolder):
             with self.subTest(words):
                 self.check(compiled.made(source, self.folder, "fields", *words), wanted)
 
+    def test_cross_compilers_of_gcc(self):
+        source, wanted = text_of("fields.c"), text_of("fields.dump")
+        for compiler in compiled.cross_compilers():
+            for words in ((), ("-gdwarf-2", "-gstrict-dwarf"), ("-gdwarf-4", "-O2"), ("-gz=zlib",)):
+                with self.subTest(compiler=compiler, words=words):
+                    self.check(compiled.made(source, self.folder, "fields", "-ffreestanding", *words, compiler=compiler), wanted)
+
     def test_a_linked_file(self):
         source = compiled.made(text_of("fields.c"), self.folder, "fields", "-fPIC")
         subprocess.run([compiled.HOST, "-shared", "-nostdlib", "-o", self.path("fields.so"), source], check=True)

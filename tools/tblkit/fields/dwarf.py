@@ -17,6 +17,12 @@ FLOAT_SIZES = (2, 4, 8)
 OTHER_FLOATS = ("__bf16", "__mfp8")
 ORDERS = {1: "big", 2: "little"}
 PLUS_CONSTANT = 0x23
+# Kinds of units of DWARF 5 (DW_UT) that don't have types and variables together.
+TYPE_UNITS, SPLIT_UNITS = (2, 6), (4, 5)
+# The attribute that names the file in which they are, of DWARF 4; not each pyelftools has its name.
+DWO_NAMES = ("DW_AT_GNU_dwo_name", 0x2130)
+OWN_UNIT = "section .debug_info: a type is in a unit of its own: compile without -fdebug-types-section"
+ELSEWHERE = "section .debug_info: the types are in another file (.dwo): compile without -gsplit-dwarf"
 INT64 = 1 << 63
 
 
@@ -47,11 +53,16 @@ class Entries:
     """All entries of an object. They are read in the order of their bytes, so that no reference between them leads in a circle."""
 
     def __init__(self, of: Object):
-        self._information, self._at, self.tops = of.debugging(), {}, []
+        self._information, self._order, self._at, self.tops = of.debugging(), of.order, {}, []
         for unit in self._units():
             self._read(unit)
+        if any(name in top.attributes for top in self.tops for name in DWO_NAMES):
+            raise Wrong(ELSEWHERE)
 
     def _units(self) -> list:
+        kinds = set(_kinds_of_units(self._information.debug_info_sec.stream.getvalue(), self._order))
+        if kinds & set(SPLIT_UNITS + TYPE_UNITS):
+            raise Wrong(ELSEWHERE if kinds & set(SPLIT_UNITS) else OWN_UNIT)
         try:
             return list(self._information.iter_CUs())
         except KeyError as error:
@@ -86,7 +97,7 @@ class Entries:
         if attribute is None:
             return None
         if attribute.form == "DW_FORM_ref_sig8":
-            raise Wrong("section .debug_info: a type is in a unit of its own: compile without -fdebug-types-section")
+            raise Wrong(OWN_UNIT)
         begin = 0 if attribute.form == "DW_FORM_ref_addr" else entry.unit.cu_offset
         found = self._at.get(begin + attribute.raw_value)
         if found is None:
@@ -101,6 +112,18 @@ class Entries:
     def _name_of(self, entry: Entry) -> str:
         said = self.of(entry, "DW_AT_specification")
         return entry.name or (said.name if said else "")
+
+
+def _kinds_of_units(content: bytes, order: str) -> Iterator[int]:
+    """The kinds of the units of DWARF 5, by their headers."""
+    at = 0
+    while at + 16 <= len(content):
+        length, head = int.from_bytes(content[at:at + 4], order), 4
+        if length == 0xFFFFFFFF:
+            length, head = int.from_bytes(content[at + 4:at + 12], order), 12
+        if int.from_bytes(content[at + head:at + head + 2], order) == 5:
+            yield content[at + head + 2]
+        at += head + length
 
 
 def _outside_functions(top: Entry) -> Iterator[Entry]:

@@ -107,13 +107,12 @@ class Object:
                 raise Wrong(f"section {name}: relocation {kind} of machine {self._machine} isn't known here")
             if place + change.size > len(content):
                 raise Wrong(f"section {name}: a relocation is beyond its end")
-            added = one["r_addend"] if one.is_RELA() else self._in_place(content, place, change)
+            added = one["r_addend"] if one.is_RELA() else 0
+            if change.how == relocations.SET and (not one.is_RELA() or self._machine in relocations.IN_PLACE):
+                added += int.from_bytes(content[place:place + change.size], self.order)
             value = symbols.get_symbol(one["r_info_sym"])["st_value"] + added
             relocations.apply(content, self.order, place, change, value)
         return bytes(content)
-
-    def _in_place(self, content: bytearray, place: int, change: relocations.Change) -> int:
-        return int.from_bytes(content[place:place + change.size], self.order) if change.how == relocations.SET else 0
 
     def debugging(self):
         """The debugging information, as pyelftools reads it."""
