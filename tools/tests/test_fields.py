@@ -8,7 +8,7 @@ import sys
 import unittest
 
 from tblkit import described, files, programs
-from tblkit.fields import definitions, loads, reader, types, values
+from tblkit.fields import definitions, kinds, loads, reader, values
 from tblkit.fields.layout import Field
 from tblkit.fields.wrong import Wrong
 
@@ -24,7 +24,7 @@ TOOL = "cfetbl-fields"
 
 
 def wide(name, of_type, bits):
-    return Field(name, of_type, 0, bits, types.FLOAT, "little")
+    return Field(name, of_type, 0, bits, kinds.FLOAT, "little")
 
 
 class Values(unittest.TestCase):
@@ -377,7 +377,7 @@ class GroundDefinitions(compiled.InFolder):
 
     def check(self, field, found, definition):
         raw = field.raw(definition.image)
-        wanted = values.float_of(field, raw) if field.kind == types.FLOAT else values.number_of(field, raw)
+        wanted = values.float_of(field, raw) if field.kind == kinds.FLOAT else values.number_of(field, raw)
         if field.kind == "text":
             wanted = raw.to_bytes(field.bits // 8, field.order).rstrip(b"\0").decode()
         self.assertEqual(found, wanted, field.name)

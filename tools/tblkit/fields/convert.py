@@ -1,5 +1,5 @@
 """An image in the layout of another object, field by field."""
-from . import types, values
+from . import kinds, values
 from .definitions import Definition
 from .layout import BYTES, TEXT, Field
 from .wrong import Wrong
@@ -36,7 +36,7 @@ def _converted(field: Field, into: Field, raw: int) -> int:
                     f"{into.bits // 8} in the other")
     if field.kind in (TEXT, BYTES):
         return _carried(field, into, raw, crosses)
-    if field.kind == types.FLOAT:
+    if field.kind == kinds.FLOAT:
         return raw if field.bits == into.bits else values.raw_of(into, values.text_of(field, raw))
     # A truth value that is neither goes on as it is, for the function to judge.
     if field.bits == into.bits:

@@ -2,7 +2,7 @@
 from collections.abc import Iterator
 from dataclasses import dataclass, field, replace
 
-from . import reader, types
+from . import kinds, reader
 from .objects import Object
 from .wrong import Wrong
 
@@ -11,7 +11,7 @@ QUALIFIERS = {f"DW_TAG_{it}_type" for it in ("const", "volatile", "restrict", "a
 POINTERS = {f"DW_TAG_{it}_type" for it in ("pointer", "reference", "rvalue_reference", "subroutine", "ptr_to_member")}
 STRUCTURES = {"DW_TAG_structure_type", "DW_TAG_class_type", "DW_TAG_union_type"}
 # Encodings of base types (DW_ATE).
-ENCODINGS = {2: types.BOOLEAN, 4: types.FLOAT, 5: types.SIGNED, 6: types.SIGNED, 7: types.UNSIGNED, 8: types.UNSIGNED, 16: types.CHARACTER}
+ENCODINGS = {2: kinds.BOOLEAN, 4: kinds.FLOAT, 5: kinds.SIGNED, 6: kinds.SIGNED, 7: kinds.UNSIGNED, 8: kinds.UNSIGNED, 16: kinds.CHARACTER}
 FLOAT_SIZES = (2, 4, 8)
 # Floats of 2 bytes that are none of IEEE 754.
 OTHER_FLOATS = ("__bf16", "__mfp8")
@@ -166,7 +166,7 @@ class Types:
         if entry.tag == "DW_TAG_typedef":
             return replace(self._type_of(entry), name=entry.name)
         if entry.tag in POINTERS:
-            return types.Pointer("a pointer", entry.number("DW_AT_byte_size", entry.unit["address_size"]))
+            return kinds.Pointer("a pointer", entry.number("DW_AT_byte_size", entry.unit["address_size"]))
         make = {"DW_TAG_base_type": self._base, "DW_TAG_enumeration_type": self._enumeration, "DW_TAG_array_type": self._array}.get(entry.tag)
         if entry.tag in STRUCTURES:
             make = self._structure
@@ -180,32 +180,32 @@ class Types:
             raise Wrong(f"{entry.name or 'a type'}: its size isn't in .debug_info")
         return size
 
-    def _base(self, entry: Entry) -> types.Scalar:
+    def _base(self, entry: Entry) -> kinds.Scalar:
         size, encoding = self._size(entry), entry.number("DW_AT_encoding")
-        kind = ENCODINGS.get(encoding, types.RAW)
+        kind = ENCODINGS.get(encoding, kinds.RAW)
         if entry.name == "char":
-            kind = types.CHARACTER
-        if kind == types.FLOAT and (size not in FLOAT_SIZES or entry.name in OTHER_FLOATS) or kind == types.CHARACTER and size != 1:
-            kind = types.RAW
+            kind = kinds.CHARACTER
+        if kind == kinds.FLOAT and (size not in FLOAT_SIZES or entry.name in OTHER_FLOATS) or kind == kinds.CHARACTER and size != 1:
+            kind = kinds.RAW
         order = ORDERS.get(entry.number("DW_AT_endianity"))
-        return types.Scalar(entry.name, size, kind, None, ENCODINGS.get(encoding) == types.SIGNED, order)
+        return kinds.Scalar(entry.name, size, kind, None, ENCODINGS.get(encoding) == kinds.SIGNED, order)
 
-    def _enumeration(self, entry: Entry) -> types.Scalar:
+    def _enumeration(self, entry: Entry) -> kinds.Scalar:
         size = self._size(entry)
         values = [(it.number("DW_AT_const_value", 0), it.name) for it in entry.children if it.tag == "DW_TAG_enumerator"]
         under = self._type_of(entry) if "DW_AT_type" in entry.attributes else None
-        is_signed = under.is_signed if isinstance(under, types.Scalar) else any(value < 0 for value, _ in values)
+        is_signed = under.is_signed if isinstance(under, kinds.Scalar) else any(value < 0 for value, _ in values)
         names: dict[int, str] = {}
         for value, name in values:
             number = value % (1 << 8 * size)
             names.setdefault(number - (1 << 8 * size) if is_signed and number >> 8 * size - 1 else number, name)
-        order = under.order if isinstance(under, types.Scalar) else None
-        return types.Scalar(f"enum {entry.name}".strip(), size, types.ENUMERATED, names, is_signed, order)
+        order = under.order if isinstance(under, kinds.Scalar) else None
+        return kinds.Scalar(f"enum {entry.name}".strip(), size, kinds.ENUMERATED, names, is_signed, order)
 
     def _array(self, entry: Entry):
         element = self._type_of(entry)
         for count in reversed([self._count(it) for it in entry.children if it.tag == "DW_TAG_subrange_type"]):
-            element = types.Array(f"{element.name}[]", element, count)
+            element = kinds.Array(f"{element.name}[]", element, count)
         return element
 
     def _count(self, entry: Entry) -> int:
@@ -219,7 +219,7 @@ class Types:
         # Of no element, the last one has the number -1, which may stand there without its sign.
         return count if 0 <= count < INT64 >> 31 else 0
 
-    def _structure(self, entry: Entry) -> types.Structure:
+    def _structure(self, entry: Entry) -> kinds.Structure:
         if "DW_AT_declaration" in entry.attributes:
             raise Wrong(f"{entry.name or 'a structure'}: it is declared in .debug_info, and not defined")
         size = self._size(entry)
@@ -227,17 +227,17 @@ class Types:
                         if it.tag in ("DW_TAG_member", "DW_TAG_inheritance") and "DW_AT_declaration" not in it.attributes
                         and "DW_AT_external" not in it.attributes)
         word = "union" if entry.tag == "DW_TAG_union_type" else "struct"
-        return types.Structure(f"{word} {entry.name}".strip(), size, members, word == "union")
+        return kinds.Structure(f"{word} {entry.name}".strip(), size, members, word == "union")
 
-    def _member(self, entry: Entry) -> types.Member:
+    def _member(self, entry: Entry) -> kinds.Member:
         of_type, place, bits = self._type_of(entry), 8 * self._location(entry), entry.number("DW_AT_bit_size")
         if bits is None:
-            return types.Member(entry.name, place, of_type)
-        if not isinstance(of_type, types.Scalar) or bits > 8 * of_type.size:
+            return kinds.Member(entry.name, place, of_type)
+        if not isinstance(of_type, kinds.Scalar) or bits > 8 * of_type.size:
             raise Wrong(f"{entry.name}: a bit field of {bits} bits that is no number")
         if "DW_AT_bit_offset" in entry.attributes:
             place += self._old_place(entry, entry.number("DW_AT_byte_size", of_type.size), bits)
-        return types.Member(entry.name, place + entry.number("DW_AT_data_bit_offset", 0), of_type, bits)
+        return kinds.Member(entry.name, place + entry.number("DW_AT_data_bit_offset", 0), of_type, bits)
 
     def _old_place(self, entry: Entry, unit: int, bits: int) -> int:
         """Before DWARF 4 the place of a bit field is counted from the high bit of the unit that it is in."""

@@ -4,7 +4,7 @@ from collections.abc import Iterator
 from dataclasses import dataclass
 
 from .. import dictionary, files, names, show, xtce as xtce_text
-from . import types, values
+from . import kinds, values
 from .definitions import Definition
 from .layout import BYTES, TEXT, Field, Padding
 
@@ -71,13 +71,13 @@ def _item(piece: Piece, keys: Keys) -> dictionary.Item:
     if field is None:
         name = piece.name or "padding"
         return dictionary.Item(keys.of(name), piece.bits, "zeros" if piece.name else "padding", name, {})
-    form = {TEXT: "name", BYTES: "zeros", types.FLOAT: "float"}.get(field.kind, "signed" if field.is_signed else "number")
+    form = {TEXT: "name", BYTES: "zeros", kinds.FLOAT: "float"}.get(field.kind, "signed" if field.is_signed else "number")
     is_little = field.order == "little" and form not in ("name", "zeros") and field.bits in WHOLE_NUMBERS[1:]
     return dictionary.Item(keys.of(field.name), field.bits, form, field.name, _states(field), None, is_little)
 
 
 def _states(field: Field) -> dict[int, str]:
-    if field.kind == types.BOOLEAN:
+    if field.kind == kinds.BOOLEAN:
         return {0: "false", 1: "true"}
     return dict(field.enumerators or {})
 
@@ -161,7 +161,7 @@ def _parameter(it: Field, key: str, of: Definition) -> Iterator[str]:
         yield f'  PARAMETER {key} {it.place} {it.bits} {"STRING" if it.kind == TEXT else "BLOCK"} {_usual(it, raw)} "{it.name}"'
         return
     front = f"  PARAMETER {key} {_bit_offset(it.place, it.bits, it.order)} {it.bits}"
-    if it.kind == types.FLOAT:
+    if it.kind == kinds.FLOAT:
         yield f'{front} FLOAT MIN MAX {values.float_of(it, raw)!r} "{it.name}"{end}'
         return
     low, high = (-(1 << it.bits - 1), (1 << it.bits - 1) - 1) if it.is_signed else (0, (1 << it.bits) - 1)

@@ -41,7 +41,7 @@ def judge(library: str, function: str, image: bytes) -> Verdict:
     if not os.path.isfile(library):
         raise Wrong(f"{library}: there is no such library")
     with tempfile.TemporaryDirectory() as folder:
-        words = [sys.executable, CALLER, _stand_ins(folder), os.path.abspath(library), function]
+        words = [sys.executable, "-I", CALLER, _stand_ins(folder), os.path.abspath(library), function]
         try:
             done = subprocess.run(words, input=image, capture_output=True, timeout=LONGEST, check=False)
         except subprocess.TimeoutExpired:

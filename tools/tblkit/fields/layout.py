@@ -3,7 +3,7 @@ import re
 from collections.abc import Iterator
 from dataclasses import dataclass, field
 
-from . import types
+from . import kinds
 from .wrong import Wrong
 
 TEXT, BYTES = "text", "bytes"
@@ -52,7 +52,7 @@ class Field:
         return before if self.order == "little" else 8 * (self.end - self.begin) - before - self.bits
 
 
-def _choices(union: types.Structure) -> str:
+def _choices(union: kinds.Structure) -> str:
     return "|".join(it.name for it in union.members)
 
 
@@ -76,7 +76,7 @@ class Members:
             pattern = r"\[\d+\]".join(re.escape(it) for it in ANY.split(path))
             self._chosen.append((re.compile(pattern), name, word))
 
-    def of(self, path: str, union: types.Structure) -> types.Member | None:
+    def of(self, path: str, union: kinds.Structure) -> kinds.Member | None:
         """The member of the union at a path. One without a name has the path of what it is in."""
         for pattern, name, word in self._chosen:
             if pattern.fullmatch(path):
@@ -98,7 +98,7 @@ class Layout:
 
     def __init__(self, name: str, of_type, order: str, members: Members):
         self.size, self.order, self._members = of_type.size, order, members
-        front = "" if isinstance(of_type, types.Structure) else name
+        front = "" if isinstance(of_type, kinds.Structure) else name
         self.fields: tuple[Field, ...] = tuple(self._fields(front, of_type, 0))
         members.all_taken(name)
         self.padding = tuple(self._gaps())
@@ -107,30 +107,30 @@ class Layout:
     def _fields(self, name: str, of_type, place: int) -> Iterator[Field]:
         if place < 0 or place + 8 * of_type.size > 8 * self.size:
             raise Wrong(f"{name}: it goes beyond the table's {self.size} bytes")
-        if isinstance(of_type, types.Pointer):
+        if isinstance(of_type, kinds.Pointer):
             raise Wrong(f"{name}: it is {of_type.name}, and an image with addresses can't be a table file")
-        if isinstance(of_type, types.Array):
+        if isinstance(of_type, kinds.Array):
             yield from self._elements(name, of_type, place)
-        elif isinstance(of_type, types.Structure):
+        elif isinstance(of_type, kinds.Structure):
             yield from self._union(name, of_type, place) if of_type.is_union else self._structure(name, of_type, place)
         elif of_type.size:
             yield self._scalar(name, of_type, place, 8 * of_type.size, False)
 
-    def _elements(self, name: str, array: types.Array, place: int) -> Iterator[Field]:
+    def _elements(self, name: str, array: kinds.Array, place: int) -> Iterator[Field]:
         element = array.element
-        if isinstance(element, types.Scalar) and element.kind == types.CHARACTER and array.count:
+        if isinstance(element, kinds.Scalar) and element.kind == kinds.CHARACTER and array.count:
             yield Field(name, f"{element.name}[{array.count}]", place, 8 * array.count, TEXT, self.order)
             return
         for at in range(array.count if element.size else 0):
             yield from self._fields(f"{name}[{at}]", element, place + 8 * at * element.size)
 
-    def _structure(self, name: str, structure: types.Structure, place: int) -> Iterator[Field]:
+    def _structure(self, name: str, structure: kinds.Structure, place: int) -> Iterator[Field]:
         for it in sorted(structure.members, key=lambda it: it.place):
             yield from self._member(name, it, place)
 
-    def _member(self, name: str, member: types.Member, place: int) -> Iterator[Field]:
+    def _member(self, name: str, member: kinds.Member, place: int) -> Iterator[Field]:
         whole = ".".join(it for it in (name, member.name) if it)
-        if member.bits is None and not member.name and isinstance(member.type, types.Structure) and member.type.is_union:
+        if member.bits is None and not member.name and isinstance(member.type, kinds.Structure) and member.type.is_union:
             yield from self._union(whole, member.type, place + member.place, ".".join(it for it in (name, _choices(member.type)) if it))
         elif member.bits is None:
             yield from self._fields(whole, member.type, place + member.place)
@@ -140,7 +140,7 @@ class Layout:
                 raise Wrong(f"{whole}: it goes beyond the table's {self.size} bytes")
             yield self._scalar(whole, member.type, place + member.place, member.bits, True)
 
-    def _union(self, name: str, union: types.Structure, place: int, shown: str = "") -> Iterator[Field]:
+    def _union(self, name: str, union: kinds.Structure, place: int, shown: str = "") -> Iterator[Field]:
         """A union, by its chosen member, or else as bytes. One without a name of its own is shown by those of its members."""
         chosen = self._members.of(name, union)
         if chosen:
@@ -148,11 +148,11 @@ class Layout:
         elif union.size:
             yield Field(shown or name or _choices(union), union.name, place, 8 * union.size, BYTES, self.order, is_union=True)
 
-    def _scalar(self, name: str, of_type: types.Scalar, place: int, bits: int, is_bit_field: bool) -> Field:
-        kind = {types.RAW: BYTES, types.CHARACTER: TEXT}.get(of_type.kind, of_type.kind)
+    def _scalar(self, name: str, of_type: kinds.Scalar, place: int, bits: int, is_bit_field: bool) -> Field:
+        kind = {kinds.RAW: BYTES, kinds.CHARACTER: TEXT}.get(of_type.kind, of_type.kind)
         if is_bit_field and kind == TEXT:
-            kind = types.SIGNED if of_type.is_signed else types.UNSIGNED
-        if is_bit_field and kind in (BYTES, types.FLOAT):
+            kind = kinds.SIGNED if of_type.is_signed else kinds.UNSIGNED
+        if is_bit_field and kind in (BYTES, kinds.FLOAT):
             raise Wrong(f"{name}: a bit field that is no number")
         return Field(name, of_type.name, place, bits, kind, of_type.order or self.order, of_type.is_signed, of_type.enumerators, is_bit_field)
 

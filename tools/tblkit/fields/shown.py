@@ -2,7 +2,7 @@
 import json
 
 from ..store import check_word
-from . import loads, types
+from . import kinds, loads
 from .definitions import Definition
 from .layout import BYTES, Field, Padding
 
@@ -66,7 +66,7 @@ def _field_object(it: Field) -> dict:
         place = {"offset": it.begin, "bit": it.place % 8, "bits": it.bits}
     kind = "union" if it.is_union else it.kind
     told = {"name": it.name, **place, "type": it.type_name, "kind": kind, "order": it.order}
-    if kind in (types.SIGNED, types.UNSIGNED, types.ENUMERATED):
+    if kind in (kinds.SIGNED, kinds.UNSIGNED, kinds.ENUMERATED):
         told["signed"] = it.is_signed
     if it.enumerators is not None:
         told["enumerators"] = {name: number for number, name in it.enumerators.items()}

@@ -5,7 +5,7 @@ import struct
 from collections.abc import Iterator
 from fractions import Fraction
 
-from . import types
+from . import kinds
 from .layout import BYTES, TEXT, Field
 from .wrong import Wrong
 
@@ -26,11 +26,11 @@ def text_of(field: Field, raw: int) -> str:
         return _quoted(raw.to_bytes(field.bits // 8, field.order))
     if field.kind == BYTES:
         return raw.to_bytes(field.bits // 8, field.order).hex().upper()
-    if field.kind == types.FLOAT:
+    if field.kind == kinds.FLOAT:
         return _float_text(raw, field.bits)
-    if field.kind == types.BOOLEAN and raw < 2:
+    if field.kind == kinds.BOOLEAN and raw < 2:
         return "true" if raw else "false"
-    if field.kind == types.ENUMERATED:
+    if field.kind == kinds.ENUMERATED:
         number = number_of(field, raw)
         return (field.enumerators or {}).get(number, str(number))
     return str(number_of(field, raw))
@@ -104,7 +104,7 @@ def raw_of(field: Field, text: str) -> int:
         return int.from_bytes(content.ljust(field.bits // 8, b"\0"), field.order)
     if field.kind == BYTES:
         return _bytes(field, text)
-    if field.kind == types.FLOAT:
+    if field.kind == kinds.FLOAT:
         return _float(field, text)
     return raw_of_number(field, _integer(field, text), text)
 
@@ -112,7 +112,7 @@ def raw_of(field: Field, text: str) -> int:
 def raw_of_number(field: Field, number: int, text: str = "") -> int:
     """The bits of a number, which has to fit."""
     low, high = (-(1 << field.bits - 1), (1 << field.bits - 1) - 1) if field.is_signed else (0, (1 << field.bits) - 1)
-    if field.kind == types.BOOLEAN:
+    if field.kind == kinds.BOOLEAN:
         high = 1
     if not low <= number <= high:
         raise Wrong(f"{field.name}: {text or number} is out of range: expected {_expected(field, low, high)}")
@@ -120,16 +120,16 @@ def raw_of_number(field: Field, number: int, text: str = "") -> int:
 
 
 def _expected(field: Field, low: int, high: int) -> str:
-    if field.kind == types.BOOLEAN:
+    if field.kind == kinds.BOOLEAN:
         return "true or false"
     width = f" in {field.bits} bits" if field.is_bit_field else ""
     return f"a number from {low} to {high}, of the type {field.type_name}{width}"
 
 
 def _integer(field: Field, text: str) -> int:
-    if field.kind == types.BOOLEAN and text in BOOLEANS:
+    if field.kind == kinds.BOOLEAN and text in BOOLEANS:
         return BOOLEANS[text]
-    if field.kind == types.ENUMERATED:
+    if field.kind == kinds.ENUMERATED:
         value = next((value for value, name in (field.enumerators or {}).items() if name == text), None)
         if value is not None:
             return value
@@ -139,9 +139,9 @@ def _integer(field: Field, text: str) -> int:
 
 
 def _forms(field: Field) -> str:
-    if field.kind == types.BOOLEAN:
+    if field.kind == kinds.BOOLEAN:
         return "true or false"
-    if field.kind == types.ENUMERATED and field.enumerators:
+    if field.kind == kinds.ENUMERATED and field.enumerators:
         names = list(field.enumerators.values())
         return f"{', '.join(names[:12])}{', ..' if len(names) > 12 else ''}, or a number"
     return "a decimal number, or one in hexadecimal with 0x"
