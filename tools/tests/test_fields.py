@@ -109,7 +109,7 @@ offset  size  order   type    field
         self.write("a.tbl", whole)
         self.write("b.tbl", whole[:-1] + b"\1")
         self.assertEqual(self.run_word("diff", self.pair, self.path("a.tbl"), self.path("b.tbl")),
-                         (0, b"# padding of 2 bytes at 6 differs: 0000 -> 0001\n", ""))
+                         (0, b"no difference\n# padding of 2 bytes at 6 differs: 0000 -> 0001\n", ""))
         self.assertEqual(self.run_word("dump", self.pair, "-", given=whole[:-1] + b"\1")[1],
                          b"First = 7\nSecond = -2\n# padding of 2 bytes at 6 isn't zero: 0001\n")
 
@@ -120,7 +120,19 @@ offset  size  order   type    field
         self.write("part.tbl", part)
         self.run_word("build", self.pair, "-o", self.path("pair.tbl"))
         self.assertEqual(self.run_word("diff", self.pair, self.path("pair.tbl"), self.path("part.tbl"))[:2],
-                         (1, b"First: 7 -> not there\nSecond: -2 -> 0\n"))
+                         (1, b"Second: -2 -> 0\n# 1 of 2 fields aren't in both files\n"))
+        self.write("first.tbl", files.table_file(bytes(4), {"table": b"APP.Pair"}))
+        self.assertEqual(self.run_word("diff", self.pair, self.path("first.tbl"), self.path("part.tbl")),
+                         (1, b"", "cfetbl-fields: bytes 0 to 3 and 3 to 5 of APP.Pair have no field in common\n"))
+
+    def test_far_apart(self):
+        """Fields between those that are set go along, and not all of many are told."""
+        said = self.run_word("set", self.object, "Point[0].Low=1", "Point[2].Low=1")[2].splitlines()
+        self.assertEqual((len(said), said[-1]), (1 + 2 + 12 + 1, "# and 14 more fields in between"))
+
+    def test_a_large_table(self):
+        path = compiled.made(f"{HEAD}uint32 Large[4097] = {{1}};\nCFE_TBL_FILEDEF(Large, APP.Large, d, f)\n", self.folder, "large")
+        self.assertIn("# a table of cFE's default configuration, and of the service here, has at most 16,384 bytes\n", self.run_word("build", path)[2])
 
     def test_set(self):
         status, written, said = self.run_word("set", self.object, "Point[2].Middle=1", "Point[2].Signed=-1", *CHOOSE)

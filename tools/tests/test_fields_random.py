@@ -111,7 +111,7 @@ class AtRandom(compiled.InFolder):
         self.assertEqual(len(dumps), len(found))
         for definition, dumped in zip(found.values(), dumps):
             part = loads.part_of(definition, "/d", dumped)
-            self.assertEqual(loads.differences(definition, loads.whole(definition), part), ([], []), definition.table)
+            self.assertEqual(loads.difference(definition, loads.whole(definition), part), loads.Difference((), (), 0), definition.table)
             self.assertEqual(part, loads.whole(definition))
 
     def played(self, lines):

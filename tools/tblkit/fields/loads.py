@@ -2,7 +2,7 @@
 from collections.abc import Iterable, Iterator
 from dataclasses import dataclass
 
-from .. import described, files, names
+from .. import files, names
 from . import values
 from .definitions import Definition
 from .layout import Field, Layout, Padding
@@ -134,25 +134,26 @@ def padding_words(padding: Padding) -> str:
     return f"padding of {padding.bits // 8} byte{'s' * (padding.bits > 8)} at {padding.place // 8}"
 
 
-def differences(of: Definition, first: Part, second: Part) -> tuple[list[str], list[str]]:
-    """The lines of fields that differ, and those of padding that does. Fields that one file alone has differ too."""
-    fields = []
-    for it in of.layout.fields:
-        shown = [part.text_of(it) if part.has(it) else None for part in (first, second)]
-        if shown == [None, None]:
-            continue
-        if None in shown:
-            fields.append(f"{it.name}: {shown[0] or 'not there'} -> {shown[1] or 'not there'}")
-        elif it.raw(first.content, first.offset) != it.raw(second.content, second.offset):
-            fields.append(f"{it.name}: {shown[0]} -> {shown[1]}")
-    padding = []
+@dataclass(frozen=True)
+class Difference:
+    """Where two parts differ: the lines of fields, those of padding, and how many fields aren't in both."""
+    fields: tuple[str, ...]
+    padding: tuple[str, ...]
+    left_out: int
+
+
+def difference(of: Definition, first: Part, second: Part) -> Difference:
+    """How two parts differ in the fields that both have."""
+    both = [it for it in of.layout.fields if first.has(it) and second.has(it)]
+    if not both:
+        raise Wrong(f"bytes {first.offset} to {first.end - 1} and {second.offset} to {second.end - 1} of {of.table} have no field in common")
+    fields = (f"{it.name}: {first.text_of(it)} -> {second.text_of(it)}" for it in both
+              if it.raw(first.content, first.offset) != it.raw(second.content, second.offset))
+    return Difference(tuple(fields), tuple(_padding_that_differs(of, first, second)), len(of.layout.fields) - len(both))
+
+
+def _padding_that_differs(of: Definition, first: Part, second: Part) -> Iterator[str]:
     for it in of.layout.padding:
         raw = [padding_in(it, part, of.order) for part in (first, second)]
         if all(raw) and len(raw[0]) == len(raw[1]) and raw[0] != raw[1]:
-            padding.append(f"# {padding_words(it)} differs: {raw[0].hex().upper()} -> {raw[1].hex().upper()}")
-    return fields, padding
-
-
-def check_name(name: str) -> None:
-    if not described.NAME.fullmatch(name.encode("utf-8", "surrogateescape")):
-        raise Wrong(f"{name}: it is no full name of a table")
+            yield f"# {padding_words(it)} differs: {raw[0].hex().upper()} -> {raw[1].hex().upper()}"

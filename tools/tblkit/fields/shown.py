@@ -6,6 +6,8 @@ from . import kinds, loads
 from .definitions import Definition
 from .layout import BYTES, Field, Padding
 
+# How many fields are told that go along with those that are set.
+MOST_OTHERS = 12
 HEADS = ("offset", "size", "order", "type", "field")
 
 
@@ -81,10 +83,7 @@ def changes(of: Definition, made: loads.Changed, base: str | None) -> list[str]:
     for field, before in made.fields:
         now = part.text_of(field)
         lines.append(f"{field.name}: {before} -> {now}" if before != now else f"{field.name}: {now}, as before")
-    lines += [f"# with them goes {it.name}, as in {of.path}: {of_object(of, it)}" for it in made.others]
+    lines += [f"# with them goes {it.name}, as in {of.path}: {part.text_of(it)}" for it in made.others[:MOST_OTHERS]]
+    if len(made.others) > MOST_OTHERS:
+        lines.append(f"# and {len(made.others) - MOST_OTHERS} more fields in between")
     return lines
-
-
-def of_object(of: Definition, field: Field) -> str:
-    """The value of a field in the object's own image."""
-    return loads.whole(of).text_of(field)
