@@ -39,7 +39,7 @@ class _Types:
 
     def _write(self, name, item):
         kind = KINDS.get(item.form) or ("Enumerated" if item.states else "Integer")
-        own = {"signed": str(item.form == "signed").lower()} if kind == "Integer" else {"sizeInBits": item.bits} if kind == "Float" else {}
+        own = {"signed": str(item.form == "signed").lower()} if kind == "Integer" else {"sizeInBits": max(32, item.bits)} if kind == "Float" else {}
         above = _child(self._set, f"{kind}{self._role}Type", name=name, **own)
         if kind == "String":
             encoding = _child(above, "StringDataEncoding", encoding="US-ASCII")

@@ -40,7 +40,6 @@ HAS_READER, CLANG, HOST = _has_reader(), shutil.which("clang"), shutil.which("cc
 # What isn't there, by its package.
 MISSING = [package for package, is_there in (("python3-pyelftools", HAS_READER), ("clang", CLANG), ("gcc", HOST)) if not is_there]
 needs_reader = unittest.skipUnless(HAS_READER and HOST, "no pyelftools or no C compiler")
-needs_clang = unittest.skipUnless(HAS_READER and HOST and CLANG, "no pyelftools or no clang")
 
 
 @functools.cache
@@ -49,6 +48,10 @@ def targets():
     said = subprocess.run([CLANG, "--print-targets"], capture_output=True, text=True, check=True).stdout
     known = {line.split()[0] for line in said.splitlines()[1:] if line.split()}
     return tuple(triple for name, triple in TRIPLES.items() if name in known)
+
+
+# What compares targets needs a big-endian one at least.
+needs_clang = unittest.skipUnless(HAS_READER and HOST and CLANG and POWERPC in targets(), "no pyelftools or no clang for PowerPC")
 
 
 def made(source, folder, name, *words, target=None, compiler=None):
@@ -103,7 +106,8 @@ def main():
     """Installs what isn't there, for the check that calls the tests, where that may be done; else it says what isn't tried."""
     for package in MISSING:
         installed.install("check-tools", package)
-    left = [it for it, is_there in (("pyelftools", _has_reader()), ("clang", shutil.which("clang")), ("C compiler", shutil.which("cc"))) if not is_there]
+    wanted = (("pyelftools", _has_reader()), ("clang", shutil.which("clang")), ("C compiler", shutil.which("cc")))
+    left = [it for it, is_there in wanted if not is_there]
     if left:
         print(f"check-tools: there is no {', no '.join(left)}, so tables by field aren't tried with it", file=sys.stderr)
 

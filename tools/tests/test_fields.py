@@ -78,7 +78,8 @@ class Words(compiled.InFolder):
 
     def test_build(self):
         status, written, said = self.run_word("build", self.pair, "--time", "1000", "--spacecraft", "0x42", "--processor", "3")
-        self.assertEqual((status, said), (0, "standard output: APP.Pair, 8 bytes, little-endian, check word 0x3E40; 2 fields, 2 bytes of padding\n"))
+        told = "APP.Pair, 8 bytes, little-endian, check word 0x3E40; 2 fields, 2 bytes of padding"
+        self.assertEqual((status, said), (0, f"standard output: {told}\n"))
         wanted = {"table": b"APP.Pair", "description": b"A pair", "seconds": 1000, "spacecraft": 0x42, "processor": 3}
         self.assertEqual(written, files.table_file(struct.pack("<IhH", 7, -2, 0), wanted))
 
@@ -92,7 +93,8 @@ offset  size  order   type    field
 """)
         told = json.loads(self.run_word("shape", self.object, "--json", *CHOOSE)[1])
         by_name = {it["name"]: it for it in told["fields"]}
-        self.assertEqual((told["table"], told["size"], told["file"]), ("FIELDS_APP.Fields", len(definitions.read(self.object).image), "fields.tbl"))
+        size = len(definitions.read(self.object).image)
+        self.assertEqual((told["table"], told["size"], told["file"]), ("FIELDS_APP.Fields", size, "fields.tbl"))
         self.assertEqual(by_name["Point[1].State"]["enumerators"], {"OFF": 0, "ON": 1, "STUCK": 200})
         self.assertEqual({by_name["Point[0].Middle"][it] for it in ("bit", "bits")}, {3, 13})
 
@@ -132,7 +134,8 @@ offset  size  order   type    field
 
     def test_a_large_table(self):
         path = compiled.made(f"{HEAD}uint32 Large[4097] = {{1}};\nCFE_TBL_FILEDEF(Large, APP.Large, d, f)\n", self.folder, "large")
-        self.assertIn("# a table of cFE's default configuration, and of the service here, has at most 16,384 bytes\n", self.run_word("build", path)[2])
+        said = self.run_word("build", path)[2]
+        self.assertIn("# a table of cFE's default configuration, and of the service here, has at most 16,384 bytes\n", said)
 
     def test_set(self):
         status, written, said = self.run_word("set", self.object, "Point[2].Middle=1", "Point[2].Signed=-1", *CHOOSE)
@@ -149,7 +152,8 @@ offset  size  order   type    field
         lines = [line.replace(" = ", "=", 1) for line in text_of("fields.dump").splitlines()]
         self.write("ones.tbl", files.table_file(b"\xff" * definition.layout.size, {"table": b"FIELDS_APP.Fields"}))
         self.assertEqual(self.run_word("set", self.object, *lines, "--base", self.path("ones.tbl"), "-o", self.path("set.tbl"), *CHOOSE)[0], 0)
-        self.assertEqual(self.run_word("dump", self.object, self.path("set.tbl"), *CHOOSE)[1].decode().partition("# ")[0], text_of("fields.dump"))
+        dumped = self.run_word("dump", self.object, self.path("set.tbl"), *CHOOSE)[1].decode()
+        self.assertEqual(dumped.partition("# ")[0], text_of("fields.dump"))
 
     def test_a_union_without_a_member(self):
         self.run_word("build", self.object, "-o", self.path("a.tbl"))
@@ -301,11 +305,13 @@ class WrongInput(compiled.InFolder):
         for words in (("dump", pair, path), ("set", pair, "First=1", "--base", path), ("diff", pair, path, path)):
             self.refused(f"{path}: {wanted}", *words, *(["-o", self.path("made")] if words[0] != "diff" else []))
         path = self.write("part.tbl", files.table_file(bytes(4), image))
-        self.refused(f"{path}: it has 4 of the 8 bytes of APP.Pair, and --base needs all", "set", pair, "First=1", "--base", path, "-o", self.path("made"))
+        self.refused(f"{path}: it has 4 of the 8 bytes of APP.Pair, and --base needs all",
+                     "set", pair, "First=1", "--base", path, "-o", self.path("made"))
 
     def test_members(self):
         path = compiled.made(text_of("fields.c"), self.folder, "fields")
-        for word, wanted in (("Choice[0].Value=None", f"{path}: --member Choice[0].Value=None: Fields has no such union, or that has no such member"),
+        for word, wanted in (("Choice[0].Value=None",
+                              f"{path}: --member Choice[0].Value=None: Fields has no such union, or that has no such member"),
                              ("Choice", f"{path}: --member Choice: expected PATH=NAME, as entry[*].value=count")):
             self.refused(wanted, "build", path, "--member", word, "-o", self.path("made"))
 
@@ -339,7 +345,8 @@ class BigEndian(compiled.InFolder):
         for seed in range(12):
             chance = random.Random(seed)
             forms = [(chance.choice(list(self.TYPES)), f"f{at}") for at in range(chance.randint(1, 12))]
-            numbers = [values.number_of(Field("", "", 0, int(it[1:]), "", "big", it[0] == "i"), chance.randrange(1 << int(it[1:]))) for it, _ in forms]
+            fields = [Field("", "", 0, int(it[1:]), "", "big", it[0] == "i") for it, _ in forms]
+            numbers = [values.number_of(it, chance.randrange(1 << it.bits)) for it in fields]
             description = "table APP.Plain\noffset 0\n" + "".join(f"{kind} {name} {it}\n" for (kind, name), it in zip(forms, numbers))
             members = " ".join(f"{self.TYPES[kind]} {name};" for kind, name in forms)
             source = (f"{HEAD}struct {{ {members} }} __attribute__((packed)) Plain = {{{', '.join(map(str, numbers))}}};\n"
@@ -379,7 +386,8 @@ class GroundDefinitions(compiled.InFolder):
         for path in self.each_object():
             made, definition = call(TOOL, "build", path)[1], definitions.read(path, MEMBERS)
             tables = cosmos.tables(call(TOOL, "shape", path, "--openc3", *CHOOSE)[1].decode())
-            self.assertEqual([(it.name, it.size) for it in tables], [("FIELDS_APP.Fields headers", 116), ("FIELDS_APP.Fields", definition.layout.size)])
+            self.assertEqual([(it.name, it.size) for it in tables],
+                             [("FIELDS_APP.Fields headers", 116), ("FIELDS_APP.Fields", definition.layout.size)])
             head, image = tables[0].values(made[:116]), tables[1].values(made[116:])
             self.assertEqual((head["TABLE"], head["IMAGE_BYTES"]), ("FIELDS_APP.Fields", definition.layout.size))
             self.assertEqual(tables[1].usual(), image)
@@ -429,11 +437,12 @@ ground DUMP active APP.Pair /dump
         status, session, _ = call("cfetbl-text", self.path("pair.txt"))
         played = subprocess.run([programs.found(), "play"], input=session, stdout=subprocess.PIPE, cwd=self.folder, check=True).stdout
         self.write("pair.transcript", played)
-        status, shown, said = call("cfetbl-show", "--shape-of", f"APP.Pair={self.object}", self.path("pair.txt"), self.path("pair.transcript"))
+        named = ("--shape-of", f"APP.Pair={self.object}", self.path("pair.txt"), self.path("pair.transcript"))
+        status, shown, said = call("cfetbl-show", *named)
         self.assertEqual((status, said), (0, ""))
         lines = [line.strip() for line in shown.decode().splitlines() if line.startswith("      APP.Pair: ")]
-        self.assertEqual(lines, ["APP.Pair: First 7, Second -2", "APP.Pair: Second 77", "APP.Pair: First 7, Second 77", "APP.Pair: First 7, Second 77"])
-        page = call("cfetbl-report", "--shape-of", f"APP.Pair={self.object}", self.path("pair.txt"), self.path("pair.transcript"))[1]
+        self.assertEqual(lines, ["APP.Pair: First 7, Second -2", "APP.Pair: Second 77", *["APP.Pair: First 7, Second 77"] * 2])
+        page = call("cfetbl-report", *named)[1]
         self.assertEqual(page.count(b"APP.Pair: First 7, Second 77"), 2)
 
     def test_typed(self):
@@ -442,9 +451,11 @@ ground DUMP active APP.Pair /dump
 
     def test_wrong_lines(self):
         for line, wanted in (("file /a built none.o", "15: expected a file that can be read: none.o: No such file or directory"),
-                             ("file /a built pair.c", "15: expected the object file of a table: ./pair.c: it is no object file: it doesn't begin as an ELF file does"),
+                             ("file /a built pair.c", "15: expected the object file of a table: ./pair.c: it is no object file: it doesn't "
+                              "begin as an ELF file does"),
                              ("file /a set pair.o", "19: expected a field and its value, as wdt[3].limit=77.5, found the end of the line"),
-                             ("file /a set pair.o First=x", "20: expected a field and its value: First: x is no value of it: expected a decimal number, or one in hexadecimal with 0x"),
+                             ("file /a set pair.o First=x", "20: expected a field and its value: First: x is no value of it: expected a "
+                              "decimal number, or one in hexadecimal with 0x"),
                              ("file /a built pair.o extra", "22: expected the end of the line, found extra")):
             status, written, said = call("cfetbl-text", given=f"{line}\n".encode(), cwd=self.folder)
             self.assertEqual((status, written, said.splitlines()[0]), (1, b"", f"<stdin>:1:{wanted}"))

@@ -33,7 +33,10 @@ int32 Crashes(void *At) { return *(volatile int *)((char *)At - (uintptr_t)At); 
 int32 Loops(void *At) { for (;;) { (void)At; } }
 int32 Calls(void *At) { (void)At; return CFE_SB_NotThere(); }
 """
-PAIR = '#include "cfetbl_table.h"\nstruct { uint32 a; union { uint16 b; uint8 c[2]; } u; } Pair = {7, {0x0102}};\nCFE_TBL_FILEDEF(Pair, APP.Pair, d, f)\n'
+PAIR = """#include "cfetbl_table.h"
+struct { uint32 a; union { uint16 b; uint8 c[2]; } u; } Pair = {7, {0x0102}};
+CFE_TBL_FILEDEF(Pair, APP.Pair, d, f)
+"""
 
 
 @compiled.needs_clang
@@ -70,7 +73,7 @@ class Converted(compiled.InFolder):
                 (PAIR.replace("uint32 a", "uint32 other"), f"a: {there} has this field, and {self.path('host.o')} hasn't"),
                 (PAIR.replace("uint32 a", "float a"), "a: it is uint32 of 4 bytes in one object, and float of 4 in the other"),
                 (PAIR.replace("APP.Pair", "APP.Other"), f"{self.path('host.o')}: it defines the table APP.Other, and {there} APP.Pair"),
-                (PAIR.replace("uint32 a", "uint8 a").replace("{7,", "{7,"), "a: 300 is out of range: expected a number from 0 to 255, of the type uint8")):
+                (PAIR.replace("uint32 a", "uint8 a"), "a: 300 is out of range: expected a number from 0 to 255, of the type uint8")):
             with self.subTest(wanted):
                 host = definitions.read(compiled.made(source, self.folder, "host"))
                 image = loads.changed(definitions.read(there), loads.whole(definitions.read(there)), ["a=300"], True).part.content
@@ -122,17 +125,22 @@ class Judged(compiled.InFolder):
         self.assertEqual(self.judge("Accepts"), (0, b"Accepts -> 0\n", ""))
         self.assertEqual(self.judge("Rejects"), (1, b"Rejects -> 0xCF000001 (-822083583)\n", ""))
         self.assertEqual(self.judge("Positive"), (1, b"Positive -> 5\n", ""))
-        self.assertEqual(self.judge("Tells"), (0, b"event 7 CRITICAL: first 3, text, 2.5\nevent 8 DEBUG: by 4\nlog: line 5\nlog: printed\nTells -> 0\n", ""))
+        self.assertEqual(self.judge("Tells"), (0, b"event 7 CRITICAL: first 3, text, 2.5\nevent 8 DEBUG: by 4\nlog: line 5\nlog: printed\n"
+                                               b"Tells -> 0\n", ""))
 
     def test_functions_that_give_no_verdict(self):
-        for function, wanted in (("Crashes", "Crashes: it ended by the signal SIGSEGV"), ("Loops", "Loops: it hasn't returned after 10 seconds"),
-                                 ("Calls", f"{self.path('functions.so')}: it calls CFE_SB_NotThere, which isn't in it: link what defines that into it"),
+        for function, wanted in (("Crashes", "Crashes: it ended by the signal SIGSEGV"),
+                                 ("Loops", "Loops: it hasn't returned after 10 seconds"),
+                                 ("Calls", f"{self.path('functions.so')}: it uses CFE_SB_NotThere, which isn't in it: link what defines "
+                                  "that into it"),
                                  ("NoSuch", f"{self.path('functions.so')}: it has no function NoSuch")):
             self.assertEqual(self.judge(function), (1, b"", f"cfetbl-fields: {wanted}\n"))
-        self.assertEqual(self.judge("Accepts", library="none.so"), (1, b"", f"cfetbl-fields: {self.path('none.so')}: there is no such library\n"))
+        self.assertEqual(self.judge("Accepts", library="none.so"),
+                         (1, b"", f"cfetbl-fields: {self.path('none.so')}: there is no such library\n"))
 
     def test_without_a_compiler(self):
-        status, written, said = call("cfetbl-fields", "check", self.there, self.host, self.path("functions.so"), "Accepts", self.path("limits.tbl"),
-                                     env=os.environ | {"CC": "no-such-compiler"})
+        words = ("check", self.there, self.host, self.path("functions.so"), "Accepts", self.path("limits.tbl"))
+        status, written, said = call("cfetbl-fields", *words, env=os.environ | {"CC": "no-such-compiler"})
         self.assertEqual((status, written), (1, b""))
-        self.assertEqual(said, "cfetbl-fields: no-such-compiler: a C compiler is needed for stand-ins of cFE's events, and there is none ($CC names one)\n")
+        self.assertEqual(said, "cfetbl-fields: no-such-compiler: a C compiler is needed for stand-ins of cFE's events, and there is none "
+                         "($CC names one)\n")

@@ -58,7 +58,8 @@ class Page(compiled.InFolder):
                 self.write(name[1], "".join(f"{line}\n" for line in lines).encode())
                 continue
             for command, wanted in list(commands(lines)):
-                done = subprocess.run(["bash", "-c", command], cwd=self.folder, stdout=subprocess.PIPE, stderr=subprocess.STDOUT, text=True, check=False)
+                done = subprocess.run(["bash", "-c", command], cwd=self.folder, stdout=subprocess.PIPE, stderr=subprocess.STDOUT, text=True,
+                                      check=False)
                 found = [line for line in done.stdout.splitlines() if not re.match(r"cfetbl: .*prove", line)]
                 self.assertTrue(fits(wanted, found), f"{command}\n{done.stdout}")
                 # A file that differs, and an image that is rejected, is status 1.

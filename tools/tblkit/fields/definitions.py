@@ -43,7 +43,8 @@ class Variables:
         linkage = entry.text("DW_AT_linkage_name") if entry else ""
         symbol = self.object.symbol_of(*([linkage] if linkage else []), name)
         if symbol is None:
-            raise Wrong(f"it has no {name}" + (": has it a CFE_TBL_FILEDEF?" if name == FILE_DEFINITION else ", which its CFE_TBL_FILEDEF names"))
+            why = ": has it a CFE_TBL_FILEDEF?" if name == FILE_DEFINITION else ", which its CFE_TBL_FILEDEF names"
+            raise Wrong(f"it has no {name}{why}")
         if entry is None:
             raise Wrong(f"{name} isn't in its debugging information: compile it with -g")
         of_type = self._types.of_variable(entry)

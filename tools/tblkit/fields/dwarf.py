@@ -167,9 +167,8 @@ class Types:
             return replace(self._type_of(entry), name=entry.name)
         if entry.tag in POINTERS:
             return kinds.Pointer("a pointer", entry.number("DW_AT_byte_size", entry.unit["address_size"]))
-        make = {"DW_TAG_base_type": self._base, "DW_TAG_enumeration_type": self._enumeration, "DW_TAG_array_type": self._array}.get(entry.tag)
-        if entry.tag in STRUCTURES:
-            make = self._structure
+        make = {"DW_TAG_base_type": self._base, "DW_TAG_enumeration_type": self._enumeration,
+                "DW_TAG_array_type": self._array}.get(entry.tag, self._structure if entry.tag in STRUCTURES else None)
         if make is None:
             raise Wrong(f"{entry.name or 'a type'}: {entry.tag} is no type of a table")
         return make(entry)

@@ -1,4 +1,5 @@
 """The file of a table as definitions for ground systems: a container of XTCE, and a table of OpenC3's Table Manager."""
+import math
 import re
 from collections.abc import Iterator
 from dataclasses import dataclass
@@ -162,12 +163,21 @@ def _parameter(it: Field, key: str, of: Definition) -> Iterator[str]:
         return
     front = f"  PARAMETER {key} {_bit_offset(it.place, it.bits, it.order)} {it.bits}"
     if it.kind == kinds.FLOAT:
-        yield f'{front} FLOAT MIN MAX {values.float_of(it, raw)!r} "{it.name}"{end}'
+        value = values.float_of(it, raw)
+        said = f"{it.name}, not a number in the object" if math.isnan(value) else it.name
+        yield f'{front} FLOAT MIN MAX {_float_default(value)} "{said}"{end}'
         return
     low, high = (-(1 << it.bits - 1), (1 << it.bits - 1) - 1) if it.is_signed else (0, (1 << it.bits) - 1)
     yield f'{front} {"INT" if it.is_signed else "UINT"} {low} {high} {values.number_of(it, raw)} "{it.name}"{end}'
     for number, word in _states(it).items():
         yield f"    STATE {word.upper()} {number}"
+
+
+def _float_default(value: float) -> str:
+    """A float as Table Manager has it, which has no word for what is no number."""
+    if math.isinf(value):
+        return "POS_INFINITY" if value > 0 else "NEG_INFINITY"
+    return "0.0" if math.isnan(value) else repr(value)
 
 
 def _usual(it: Field, raw: int) -> str:

@@ -28,9 +28,11 @@ def _stand_ins(folder: str) -> str:
     """A library with stand-ins for what the function calls of cFE."""
     words = shlex.split(os.environ.get("CC", "cc"))
     if not words or shutil.which(words[0]) is None:
-        raise Wrong(f"{words[0] if words else 'cc'}: a C compiler is needed for stand-ins of cFE's events, and there is none ($CC names one)")
+        raise Wrong(f"{words[0] if words else 'cc'}: a C compiler is needed for stand-ins of cFE's events, "
+                    "and there is none ($CC names one)")
     path = os.path.join(folder, "stand-ins.so")
-    done = subprocess.run([*words, "-shared", "-fPIC", "-o", path, STAND_INS], stdin=subprocess.DEVNULL, capture_output=True, text=True, check=False)
+    done = subprocess.run([*words, "-shared", "-fPIC", "-o", path, STAND_INS], stdin=subprocess.DEVNULL, capture_output=True, text=True,
+                          check=False)
     if done.returncode:
         raise Wrong(f"{STAND_INS}: {words[0]} can't build it: {(done.stderr.splitlines() or ['no word why'])[0]}")
     return path
@@ -60,7 +62,7 @@ def _why(library: str, function: str, done) -> str:
     reason = said[-1] if said else f"it ended the process with {done.returncode}"
     undefined = "undefined symbol: "
     if undefined in reason and not reason.endswith(undefined + function):
-        return f"{library}: it calls {reason.rpartition(undefined)[2]}, which isn't in it: link what defines that into it"
+        return f"{library}: it uses {reason.rpartition(undefined)[2]}, which isn't in it: link what defines that into it"
     if reason.endswith(undefined + function):
         return f"{library}: it has no function {function}"
     return f"{library}: {reason.removeprefix(library + ': ')}"

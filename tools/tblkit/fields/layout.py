@@ -154,7 +154,8 @@ class Layout:
             kind = kinds.SIGNED if of_type.is_signed else kinds.UNSIGNED
         if is_bit_field and kind in (BYTES, kinds.FLOAT):
             raise Wrong(f"{name}: a bit field that is no number")
-        return Field(name, of_type.name, place, bits, kind, of_type.order or self.order, of_type.is_signed, of_type.enumerators, is_bit_field)
+        order = of_type.order or self.order
+        return Field(name, of_type.name, place, bits, kind, order, of_type.is_signed, of_type.enumerators, is_bit_field)
 
     def _gaps(self) -> Iterator[Padding]:
         """What is between the fields, and after the last one."""
@@ -186,7 +187,8 @@ class Layout:
         """What is said of an element that is beyond the last one of its array."""
         for found in re.finditer(r"\[(\d+)\]", name):
             front = name[:found.start()]
-            last = max((int(it[1]) for it in (re.match(re.escape(front) + r"\[(\d+)\]", one.name) for one in self.fields) if it), default=None)
+            element = re.compile(re.escape(front) + r"\[(\d+)\]")
+            last = max((int(it[1]) for it in (element.match(one.name) for one in self.fields) if it), default=None)
             if last is not None and int(found[1]) > last:
                 return f": {front} has the elements 0 to {last}"
         return ""

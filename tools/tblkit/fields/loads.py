@@ -146,7 +146,8 @@ def difference(of: Definition, first: Part, second: Part) -> Difference:
     """How two parts differ in the fields that both have."""
     both = [it for it in of.layout.fields if first.has(it) and second.has(it)]
     if not both:
-        raise Wrong(f"bytes {first.offset} to {first.end - 1} and {second.offset} to {second.end - 1} of {of.table} have no field in common")
+        raise Wrong(f"bytes {first.offset} to {first.end - 1} and {second.offset} to {second.end - 1} of {of.table} have no field in "
+                    "common")
     fields = (f"{it.name}: {first.text_of(it)} -> {second.text_of(it)}" for it in both
               if it.raw(first.content, first.offset) != it.raw(second.content, second.offset))
     return Difference(tuple(fields), tuple(_padding_that_differs(of, first, second)), len(of.layout.fields) - len(both))

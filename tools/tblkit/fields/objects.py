@@ -45,9 +45,6 @@ class Object:
             raise Wrong("it is cut short: its section headers go beyond its end")
         return [self._elf.get_section(number) for number in range(count)]
 
-    def section_name(self, number: int | str) -> str:
-        return self._section(number).name if isinstance(number, int) else number
-
     def _section(self, number: int):
         if number >= len(self._sections):
             raise Wrong(f"it has no section {number}")
@@ -85,14 +82,18 @@ class Object:
         return found
 
     def _relocations_of(self, number: int) -> Iterator[tuple]:
-        """The relocations of a section, each with the symbols that it names."""
+        """The relocations of a section, each with the number of the section that has its symbol."""
         for section in self._sections:
             if section["sh_type"] in ("SHT_REL", "SHT_RELA") and section["sh_info"] == number:
-                symbols = self._section(section["sh_link"])
-                if symbols["sh_type"] not in ("SHT_SYMTAB", "SHT_DYNSYM"):
-                    raise Wrong(f"section {section.name}: it has no symbols")
                 for it in section.iter_relocations():
-                    yield it, symbols
+                    yield it, section["sh_link"]
+
+    def _value_of(self, number: int, table: int) -> int:
+        """The value of the symbol of a number."""
+        symbols = self._section(table)
+        if symbols["sh_type"] != "SHT_SYMTAB":
+            raise Wrong(f"section {symbols.name}: it has no symbols, and relocations need them")
+        return symbols.get_symbol(number)["st_value"]
 
     def _relocated(self, name: str) -> bytes:
         """The bytes of a section of debugging information as a linker would leave them."""
@@ -100,7 +101,7 @@ class Object:
         content = bytearray(self._plain(self._sections[number]))
         if self.is_linked or name not in RELOCATED:
             return bytes(content)
-        for one, symbols in self._relocations_of(number):
+        for one, table in self._relocations_of(number):
             kind, place = one["r_info_type"], one["r_offset"]
             change = relocations.change_of(self._machine, kind)
             if change is None:
@@ -110,8 +111,7 @@ class Object:
             added = one["r_addend"] if one.is_RELA() else 0
             if change.how == relocations.SET and (not one.is_RELA() or self._machine in relocations.IN_PLACE):
                 added += int.from_bytes(content[place:place + change.size], self.order)
-            value = symbols.get_symbol(one["r_info_sym"])["st_value"] + added
-            relocations.apply(content, self.order, place, change, value)
+            relocations.apply(content, self.order, place, change, self._value_of(one["r_info_sym"], table) + added)
         return bytes(content)
 
     def debugging(self):
@@ -156,8 +156,9 @@ class Object:
         """The places in a variable's bytes in which a linker or a loader writes an address."""
         if not isinstance(symbol.section, int):
             return []
-        sections = range(len(self._sections)) if self.is_linked else (symbol.section,)
-        places = (one["r_offset"] - symbol.value for number in sections for one, _ in self._relocations_of(number))
+        kinds = ("SHT_REL", "SHT_RELA", "SHT_RELR") if self.is_linked else ("SHT_REL", "SHT_RELA")
+        of_all = (it for it in self._sections if it["sh_type"] in kinds and (self.is_linked or it["sh_info"] == symbol.section))
+        places = (one["r_offset"] - symbol.value for section in of_all for one in section.iter_relocations())
         return sorted({it for it in places if 0 <= it < size})
 
 

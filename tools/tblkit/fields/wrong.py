@@ -7,7 +7,3 @@ class Wrong(Exception):
 
 class NoReader(Exception):
     """pyelftools, which reads object files, isn't there."""
-
-
-class Unknown(Wrong):
-    """No field has this name."""
