@@ -108,7 +108,7 @@ class Judged(compiled.InFolder):
         subprocess.run(words, check=True)
 
     def judge(self, function, *words, library="functions.so", file="limits.tbl"):
-        return call("cfetbl-fields", "check", self.there, self.host, self.path(library), function, self.path(file), *words, timeout=60)
+        return call("cfetbl-fields", "check", self.there, self.host, self.path(library), function, self.path(file), *words)
 
     def test_the_example(self):
         self.assertEqual(self.judge("CHECKER_ValidateLimits", library="checker.so"),
@@ -130,7 +130,7 @@ class Judged(compiled.InFolder):
 
     def test_functions_that_give_no_verdict(self):
         for function, wanted in (("Crashes", "Crashes: it ended by the signal SIGSEGV"),
-                                 ("Loops", "Loops: it hasn't returned after 10 seconds"),
+                                 ("Loops", "Loops: it hasn't returned after 2 seconds of work"),
                                  ("Calls", f"{self.path('functions.so')}: it uses CFE_SB_NotThere, which isn't in it: link what defines "
                                   "that into it"),
                                  ("NoSuch", f"{self.path('functions.so')}: it has no function NoSuch")):

@@ -1,9 +1,10 @@
-"""caller.py STAND-INS LIBRARY FUNCTION: calls a validation function with the image on standard input, in a process that ends with it.
-It writes a line of JSON for each event, and last one with the return code."""
+"""caller.py STAND-INS LIBRARY FUNCTION SECONDS: calls a validation function with the image on standard input, in a process that ends
+with it, or after so many seconds of work. It writes a line of JSON for each event, and last one with the return code."""
 import contextlib
 import ctypes
 import json
 import os
+import resource
 import sys
 
 EVENT_TYPES = {1: "DEBUG", 2: "INFORMATION", 3: "ERROR", 4: "CRITICAL"}
@@ -40,7 +41,7 @@ def call(called, image: bytes) -> int:
     return called(ctypes.c_void_p(address))
 
 
-def main(stand_ins: str, library: str, function: str) -> int:
+def main(stand_ins: str, library: str, function: str, seconds: str) -> int:
     image, tell = sys.stdin.buffer.read(), teller(output())
     taker = ctypes.CFUNCTYPE(None, ctypes.c_uint16, ctypes.c_uint16, ctypes.c_char_p)(
         lambda number, kind, text: tell(line=event_line(number, kind, text)))
@@ -50,6 +51,7 @@ def main(stand_ins: str, library: str, function: str) -> int:
     except (OSError, AttributeError) as error:
         print(error, file=sys.stderr)
         return 1
+    resource.setrlimit(resource.RLIMIT_CPU, (int(seconds), int(seconds) + 1))
     tell(code=call(called, image))
     return 0
 

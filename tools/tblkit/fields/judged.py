@@ -14,7 +14,8 @@ from .wrong import Wrong
 HERE = os.path.dirname(os.path.dirname(os.path.dirname(os.path.realpath(__file__))))
 STAND_INS = os.path.join(HERE, "stand-ins", "cfe.c")
 CALLER = os.path.join(os.path.dirname(os.path.realpath(__file__)), "caller.py")
-LONGEST = 10
+# How long a function may be at work, and how long nothing may be heard of it, in seconds.
+LONGEST, LONGEST_WAIT = 2, 300
 
 
 @dataclass(frozen=True)
@@ -43,11 +44,11 @@ def judge(library: str, function: str, image: bytes) -> Verdict:
     if not os.path.isfile(library):
         raise Wrong(f"{library}: there is no such library")
     with tempfile.TemporaryDirectory() as folder:
-        words = [sys.executable, "-I", CALLER, _stand_ins(folder), os.path.abspath(library), function]
+        words = [sys.executable, "-I", CALLER, _stand_ins(folder), os.path.abspath(library), function, str(LONGEST)]
         try:
-            done = subprocess.run(words, input=image, capture_output=True, timeout=LONGEST, check=False)
+            done = subprocess.run(words, input=image, capture_output=True, timeout=LONGEST_WAIT, check=False)
         except subprocess.TimeoutExpired:
-            raise Wrong(f"{function}: it hasn't returned after {LONGEST} seconds") from None
+            raise Wrong(f"{function}: it hasn't returned after {LONGEST_WAIT} seconds") from None
     if done.returncode:
         raise Wrong(_why(library, function, done))
     told = [json.loads(line) for line in done.stdout.splitlines()]
@@ -57,6 +58,8 @@ def judge(library: str, function: str, image: bytes) -> Verdict:
 def _why(library: str, function: str, done) -> str:
     """Why there is no verdict."""
     said = done.stderr.decode("utf-8", "replace").strip().splitlines()
+    if done.returncode == -signal.SIGXCPU:
+        return f"{function}: it hasn't returned after {LONGEST} seconds of work"
     if done.returncode < 0:
         return f"{function}: it ended by the signal {signal.Signals(-done.returncode).name}"
     reason = said[-1] if said else f"it ended the process with {done.returncode}"
