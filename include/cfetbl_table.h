@@ -1,3 +1,4 @@
+/* SPDX-License-Identifier: Apache-2.0 */
 /* cfetbl_table.h: what a table's definition and its validation function need of cFE's public headers, where they are built without
  * these. Names and layouts are those of cfe_tbl_filedef.h and cfe_evs.h with cFE's default sizes. */
 #ifndef CFETBL_TABLE_H

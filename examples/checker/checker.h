@@ -1,3 +1,4 @@
+/* SPDX-License-Identifier: Apache-2.0 */
 /* checker.h: the table of a limit checker. It watches values in telemetry packets, and has an action for each that leaves its limits. */
 #ifndef CHECKER_H
 #define CHECKER_H

@@ -1,3 +1,4 @@
+/* SPDX-License-Identifier: Apache-2.0 */
 /* limits.c: the limits that the checker begins with. */
 #include "checker.h"
 

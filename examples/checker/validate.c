@@ -1,3 +1,4 @@
+/* SPDX-License-Identifier: Apache-2.0 */
 /* validate.c: the validation function of the limits, which is ordinary cFE code. */
 #include "checker.h"
 
