@@ -96,32 +96,30 @@ fn ends_well<B: Bank, C: Validator>(crew: Crew<B, C>) -> bool {
     is_one && fault.is_none() && is_live
 }
 
-/// Two turns of application 1: what they come to, how many entries stand after them, and whether the crew ends well. None where
-/// memory ran out for the crew.
+/// Two turns of application 1, in words: what they come to, how many entries stand after them, and whether the crew ends well.
 fn play_turns<B: Bank, C: Validator>(
     alloc: Global,
     core: Core<B, C>,
     scripts: Scripts,
-) -> Option<([&'static str; 2], usize, bool)>
+) -> Result<String, CaseFault>
     requires live { core.state.ended ≡ false }
     requires empty { core.entries ≡ [] }
     requires fits { AllFit scripts }
     requires few { request_count scripts ≤ record_limit }
 {
-    let mut crew = Crew::open(alloc, core, scripts).ok()?;
-    let (turns, count) = two_turns(&mut crew);
-    Some((turns, count, ends_well(crew)))
+    let Ok(mut crew) = Crew::open(alloc, core, scripts) else {
+        return Err(CaseFault::Memory);
+    };
+    let ([first, second], count) = two_turns(&mut crew);
+    let is_well = ends_well(crew);
+    Ok(format!(in alloc; "[{first}, {second}] {count} {is_well}")?)
 }
 
 /// Plays two turns of application 1, where applications 1 and 2 ask to start, and compares what they come to.
 pub(crate) fn try_turns(row: &Row) -> Result<u32, CaseFault> {
     let scripts = two_starts(row.alloc())?;
     let core = service(row.alloc())?;
-    let played = play_turns(row.alloc(), core, scripts);
-    let Some(([first, second], count, is_well)) = played else {
-        return Err(CaseFault::Memory);
-    };
-    let told = format!(in row.alloc(); "[{first}, {second}] {count} {is_well}")?;
+    let told = play_turns(row.alloc(), core, scripts)?;
     same_text(told, row.text(1)?)?;
     Ok(1)
 }
