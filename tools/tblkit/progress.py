@@ -5,6 +5,8 @@ import sys
 import threading
 import time
 
+from .streams import clear_line
+
 # Nothing is silent for longer.
 SECONDS = 4.5
 
@@ -51,7 +53,7 @@ class Ticker:
 
     def _clear(self):
         if self.is_shown:
-            print("\r\033[K", end="", file=sys.stderr, flush=True)
+            clear_line()
             self.is_shown = False
 
     def _tick(self):

@@ -67,6 +67,15 @@ class _Errors(io.TextIOBase):
             os.write(sys.__stderr__.fileno(), visible(words).encode("utf-8", "replace"))
         return len(words)
 
+    def isatty(self):
+        return sys.__stderr__.isatty()
+
+
+def clear_line():
+    """Takes away what a line of the terminal has so far: the one sequence for terminals that is meant."""
+    with contextlib.suppress(OSError):
+        os.write(sys.__stderr__.fileno(), b"\r\x1b[K")
+
 
 def say(words):
     """Says something on standard error, where that is open and takes it: the status tells the rest."""

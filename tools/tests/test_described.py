@@ -50,7 +50,7 @@ class Descriptions(unittest.TestCase):
             for words, name in ((["make", "text", "-o", "text"], "text"), (["make", "text", "-o", "other"], "text"),
                                 (["describe", SHAPE, "file", "-o", "file"], "file")):
                 self.assertEqual(call("cfetbl-table", *words, cwd=folder),
-                                 (2, b"", f"cfetbl-table: -o {words[-1]} would write over {name}, which is read\n"))
+                                 (2, b"", f"cfetbl {words[0]}: -o {words[-1]} would write over {name}, which is read\n"))
                 with open(os.path.join(folder, name), "rb") as file:
                     self.assertEqual(file.read(), kept[name])
             self.assertEqual(call("cfetbl-table", "make", "text", "-o", "made", cwd=folder), (0, b"", ""))

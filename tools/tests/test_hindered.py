@@ -57,14 +57,14 @@ class Programs(Calling):
         served, _ = self.start("--socket", self.path)
         os.kill(programs_of(served.pid)[0], signal.SIGKILL)
         written, said = served.communicate(timeout=WAIT)
-        self.assertEqual((served.returncode, written, said), (137, b"", b"cfetbl-serve: the program was ended by a signal, SIGKILL\n"))
+        self.assertEqual((served.returncode, written, said), (137, b"", b"cfetbl serve: the program was ended by a signal, SIGKILL\n"))
         self.assertFalse(os.path.exists(self.path))
 
     def test_a_store_that_cannot_be_opened(self):
         os.mkdir(os.path.join(self.folder, "cds.store"))
         status, written, said = call("cfetbl-serve", "--command-port", "0", "--socket", "calls", cwd=self.folder)
         self.assertEqual((status, written), (7, b""))
-        self.assertIn("cfetbl-serve: the program ended with 7: the store file can't be opened", said)
+        self.assertIn("cfetbl serve: the program ended with 7: the store file can't be opened", said)
         self.assertNotIn("commands to", said)
         self.assertNotIn("calls", os.listdir(self.folder))
 
@@ -137,7 +137,7 @@ class Programs(Calling):
         served.stdout.close()
         self.ground.sendto(NOOP, address)
         self.assertEqual(served.wait(WAIT), 4)
-        self.assertEqual(served.stderr.read(), b"cfetbl-serve: writing failed: standard output: Broken pipe\n")
+        self.assertEqual(served.stderr.read(), b"cfetbl serve: writing failed: standard output: Broken pipe\n")
         served.stdout = None
         self.assertFalse(os.path.exists(self.path))
 
@@ -172,7 +172,7 @@ class Clients(Calling):
                 hostile.send(LONG.encode() * 100)
         self.assertEqual(self.ask(address, NOOP)[12:14], b"\0\x01")
         self.assertIn("ground NOOP -> 0 SUCCESS", answer_of(self.caller_at(self.path), "ground NOOP")[0])
-        self.assertEqual(served.stderr.readline(), b"cfetbl-serve: caller 1 didn't take its answer for 10 s: it is dropped\n")
+        self.assertEqual(served.stderr.readline(), b"cfetbl serve: caller 1 didn't take its answer for 10 s: it is dropped\n")
         self.assertEqual(self.end(served)[0], 0)
 
     def test_lines(self):
@@ -181,7 +181,7 @@ class Clients(Calling):
         endless = self.caller_at(self.path)
         with contextlib.suppress(OSError):
             endless.sendall(b"x" * 300_000)
-        self.assertEqual(served.stderr.readline(), b"cfetbl-serve: caller 1 sent 131072 bytes without the end of a line: it is dropped\n")
+        self.assertEqual(served.stderr.readline(), b"cfetbl serve: caller 1 sent 131072 bytes without the end of a line: it is dropped\n")
         caller = self.caller_at(self.path)
         for piece in (b"gro", b"und NO", b"OP\n# nothing\nground NOPE \x1b[31m\n", b"ground NOOP"):
             caller.sendall(piece)
@@ -240,7 +240,7 @@ class Networks(Calling):
     def test_addresses_that_cannot_be_taken(self):
         port = str(self.ground.getsockname()[1])
         self.assertEqual(self.words("--command-port", port, "--socket", "calls"),
-                         f"cfetbl-serve: commands can't be taken at 127.0.0.1:{port}: Address already in use\n")
+                         f"cfetbl serve: commands can't be taken at 127.0.0.1:{port}: Address already in use\n")
         self.assertIn("commands can't be taken at 192.0.2.1:1234: ", self.words("--listen", "192.0.2.1"))
         self.assertIn("the address no-such.invalid:1235 isn't known: ", self.words("--to", "no-such.invalid", "--command-port", "0"))
         self.assertIn("the address 1.2.3.4.5:1234 isn't known: ", self.words("--listen", "1.2.3.4.5"))
@@ -268,14 +268,14 @@ class Networks(Calling):
         for _ in range(4):
             asking.sendto(NOOP, address)
             time.sleep(0.1)
-        self.assertEqual(served.stderr.readline(), f"cfetbl-serve: telemetry to 127.0.0.1:{port} fails: Connection refused\n".encode())
+        self.assertEqual(served.stderr.readline(), f"cfetbl serve: telemetry to 127.0.0.1:{port} fails: Connection refused\n".encode())
         with socket.socket(socket.AF_INET, socket.SOCK_DGRAM) as ground:
             ground.bind(("127.0.0.1", port))
             ground.settimeout(WAIT)
             for count in (4, 5):
                 asking.sendto(NOOP, address)
                 self.assertEqual(ground.recv(100)[2:4], (0xC000 | count).to_bytes(2, "big"))
-            self.assertEqual(served.stderr.readline(), f"cfetbl-serve: telemetry to 127.0.0.1:{port} goes out again\n".encode())
+            self.assertEqual(served.stderr.readline(), f"cfetbl serve: telemetry to 127.0.0.1:{port} goes out again\n".encode())
         status, written, said = self.end(served)
         self.assertEqual((status, len(written), said), (0, 13, b""))
 
@@ -301,7 +301,7 @@ class Typed(unittest.TestCase):
                 os.kill(programs_of(run.pid)[0], signal.SIGKILL)
                 calls.write(b"app 1 CFE_TBL_Update 7 -> CFE_SUCCESS\n")
                 written, said = run.communicate(timeout=WAIT)
-            self.assertEqual((run.returncode, written, said), (137, b"", b"cfetbl-compare: the program was ended by a signal, SIGKILL\n"))
+            self.assertEqual((run.returncode, written, said), (137, b"", b"cfetbl compare: the program was ended by a signal, SIGKILL\n"))
 
     def test_statuses(self):
         self.assertEqual([programs.status_of(it) for it in (0, 7, -9, -13)], [0, 7, 137, 141])
@@ -323,7 +323,7 @@ class Typed(unittest.TestCase):
                 os.kill(programs_of(run.pid)[0], signal.SIGKILL)
                 _, said = run.communicate(timeout=WAIT)
                 os.close(ours)
-                self.assertEqual((run.returncode, said.splitlines()[-1:]), (137, [b"cfetbl-repl: the program was ended by a signal, SIGKILL"]))
+                self.assertEqual((run.returncode, said.splitlines()[-1:]), (137, [b"cfetbl repl: the program was ended by a signal, SIGKILL"]))
 
 
 if __name__ == "__main__":

@@ -23,7 +23,7 @@ class Streams(unittest.TestCase):
     def test_interrupts(self):
         """Each tool that waits for input ends with 130, and with no more than a line."""
         for tool, *words in (["cfetbl-text"], ["cfetbl-show"], ["cfetbl-table", "make", "-"], ["cfetbl-map", "-"], ["cfetbl-report", "-"],
-                             ["cfetbl-watch", HELLO, "-"], ["cfetbl-resets", "page", "name"], ["cfetbl-compare", HELLO, "-"],
+                             ["cfetbl-watch", HELLO, "-"], ["cfetbl-compare", HELLO, "-"],
                              ["cfetbl-table", "describe", "u8:a", "-"]):
             with self.subTest(tool), tempfile.TemporaryDirectory() as folder:
                 run = subprocess.Popen([sys.executable, os.path.join(TOOLS, tool), *words], stdin=subprocess.PIPE, stdout=subprocess.PIPE,
@@ -31,7 +31,8 @@ class Streams(unittest.TestCase):
                 self.wait_for_read(run.pid)
                 run.send_signal(signal.SIGINT)
                 written, said = run.communicate(timeout=WAIT)
-                self.assertEqual((run.returncode, written, said.decode()), (130, b"", f"{tool}: interrupted\n"))
+                name = words[0] if tool == "cfetbl-table" else tool.removeprefix("cfetbl-")
+                self.assertEqual((run.returncode, written, said.decode()), (130, b"", f"cfetbl {name}: interrupted\n"))
 
     def test_interrupts_at_a_terminal(self):
         """An interrupt is for all programs of a word: the front command ends with 130, and says it once at most."""
@@ -63,7 +64,7 @@ class Streams(unittest.TestCase):
         limit = {"preexec_fn": lambda: resource.setrlimit(resource.RLIMIT_FSIZE, (4096, 4096))}
         with tempfile.TemporaryDirectory() as folder:
             status, _, said = call("cfetbl-xtce", "-o", "page", cwd=folder, **limit)
-            self.assertEqual((status, said), (4, "cfetbl-xtce: writing failed: page: File too large\n"))
+            self.assertEqual((status, said), (4, "cfetbl xtce: writing failed: page: File too large\n"))
             for tool, *words in (["cfetbl-serve", "--command-port", "0"], ["cfetbl-report", HELLO]):
                 status, _, said = call(tool, *words, cwd=folder, **limit)
                 self.assertEqual(status, 7, said)
