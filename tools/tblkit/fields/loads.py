@@ -1,4 +1,5 @@
 """Table files of a definition: the whole one, a part, and what a file has by its fields."""
+from collections import Counter
 from collections.abc import Iterable, Iterator
 from dataclasses import dataclass
 
@@ -89,7 +90,7 @@ class Changed:
 def changed(of: Definition, base: Part, words: Iterable[str], is_whole: bool) -> Changed:
     """An image in which fields are set, or the smallest run of bytes that has these fields."""
     settings = [assignment(of.layout, word) for word in words]
-    twice = next((it.field.name for at, it in enumerate(settings) if it.field in [one.field for one in settings[:at]]), None)
+    twice = next((name for name, count in Counter(it.field.name for it in settings).items() if count > 1), None)
     if twice:
         raise Wrong(f"{twice}: it is set twice")
     image = bytearray(base.content)
