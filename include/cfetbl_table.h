@@ -1,6 +1,7 @@
 /* SPDX-License-Identifier: Apache-2.0 */
-/* cfetbl_table.h: what a table's definition and its validation function need of cFE's public headers, where they are built without
- * these. Names and layouts are those of cfe_tbl_filedef.h and cfe_evs.h with cFE's default sizes. */
+/* cfetbl_table.h: what a table's definition and its validation function need of cFE's public headers, if they are built without
+ * these. CFE_TBL_FILEDEF is in cfetbl_cfe.h; no code refers to what it defines, which `cfetbl table` and elf2cfetbl read. Events have
+ * the names of cfe_evs.h. */
 #ifndef CFETBL_TABLE_H
 #define CFETBL_TABLE_H
 
@@ -9,23 +10,6 @@
 #ifdef __cplusplus
 extern "C" {
 #endif
-
-/* ---- the definition of a table's file (cfe_tbl_filedef.h) */
-
-#define CFE_FS_HDR_DESC_MAX_LEN 32
-#define CFE_MISSION_MAX_FILE_LEN 20
-
-typedef struct CFE_TBL_FileDef {
-    char ObjectName[64];
-    char TableName[CFE_MISSION_TBL_MAX_FULL_NAME_LEN];
-    char Description[CFE_FS_HDR_DESC_MAX_LEN];
-    char TgtFilename[CFE_MISSION_MAX_FILE_LEN];
-    uint32 ObjectSize;
-} CFE_TBL_FileDef_t;
-
-/* No code refers to the definition: what reads it is `cfetbl table`, or elf2cfetbl. */
-#define CFE_TBL_FILEDEF(ObjName, TblName, Desc, Filename)                   \
-    static __attribute__((used)) CFE_TBL_FileDef_t CFE_TBL_FileDef = {#ObjName, #TblName, #Desc, #Filename, sizeof(ObjName)};
 
 /* ---- events (cfe_evs.h, cfe_evs_api_typedefs.h) */
 

@@ -185,10 +185,14 @@ class Words:
             raise self.wrong("a byte in hexadecimal", word=byte)
         return bytes.fromhex(byte) * self.number("how many bytes", most)
 
+    def contents(self, name, most):
+        """The first bytes of a file here, one more than `most` if it has more. It raises OSError or ValueError."""
+        return self._folder.read(name, most)
+
     def _file(self, most):
         name = self.take("the name of a file here")
         try:
-            return self._folder.read(name, most)
+            return self.contents(name, most)
         except (OSError, ValueError) as error:
             reason = getattr(error, "strerror", None) or error
             raise TextError(f"expected a file that can be read: {name}: {reason}", name.at) from None

@@ -451,7 +451,7 @@ ground DUMP active APP.Pair /dump
 
     def test_wrong_lines(self):
         for line, wanted in (("file /a built none.o", "15: expected a file that can be read: none.o: No such file or directory"),
-                             ("file /a built pair.c", "15: expected the object file of a table: ./pair.c: it is no object file: it doesn't "
+                             ("file /a built pair.c", "15: expected the object file of a table: pair.c: it is no object file: it doesn't "
                               "begin as an ELF file does"),
                              ("file /a set pair.o", "19: expected a field and its value, as wdt[3].limit=77.5, found the end of the line"),
                              ("file /a set pair.o First=x", "20: expected a field and its value: First: x is no value of it: expected a "

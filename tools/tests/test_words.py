@@ -39,7 +39,7 @@ def words_of_help():
 class Help(unittest.TestCase):
     def test_each_word_has_its_own(self):
         found = words_of_help()
-        self.assertEqual(len(found), 20)
+        self.assertEqual(len(found), 21)
         for word in found:
             with self.subTest(word):
                 status, written, said = front(word, "--help")

@@ -1,8 +1,6 @@
 """Table files in a line of session text: `file NAME built OBJ`, and `file NAME set OBJ FIELD=VALUE ..`."""
-import os
-
 from ..words import TextError, Word, Words, read_header
-from . import definitions, loads
+from . import definitions, loads, objects
 from .definitions import Definition
 from .wrong import NoReader, Wrong
 
@@ -29,8 +27,15 @@ def _object(words: Words) -> tuple[Word, Definition]:
     name, members = words.take("the object file of a table"), []
     while words.take_if("member"):
         members.append(str(words.take("a union and its member, as entry[*].value=count")))
-    path = os.path.join(words.folder, name)
-    return name, _said(name, lambda: definitions.read(path, tuple(members)))
+    return name, _said(name, lambda: _read(words, str(name), tuple(members)))
+
+
+def _read(words: Words, name: str, members: tuple[str, ...]) -> Definition:
+    content = words.contents(name, objects.MOST_BYTES)
+    try:
+        return definitions.of_content(name, objects.looked_at(content), members)
+    except Wrong as wrong:
+        raise Wrong(f"{name}: {wrong}") from None
 
 
 def _said(word: Word, make):
@@ -39,5 +44,5 @@ def _said(word: Word, make):
         return make()
     except (Wrong, NoReader) as wrong:
         raise TextError(f"expected {'a field and its value' if '=' in word else 'the object file of a table'}: {wrong}", word.at) from None
-    except OSError as error:
-        raise TextError(f"expected a file that can be read: {word}: {error.strerror}", word.at) from None
+    except (OSError, ValueError) as error:
+        raise TextError(f"expected a file that can be read: {word}: {getattr(error, 'strerror', None) or error}", word.at) from None

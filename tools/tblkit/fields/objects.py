@@ -165,7 +165,11 @@ class Object:
 def read(path: str) -> bytes:
     """The bytes of an object file."""
     with open(path, "rb") as file:
-        content = file.read(MOST_BYTES + 1)
+        return looked_at(file.read(MOST_BYTES + 1))
+
+
+def looked_at(content: bytes) -> bytes:
+    """The bytes of an object file, if they are no more than are read."""
     if len(content) > MOST_BYTES:
         raise Wrong(f"it has more than {MOST_BYTES:,} bytes")
     return content
