@@ -2,8 +2,20 @@
 
 ghost use Rattle.std.specs.Prelude.{◌≡◌, ◌≤◌, length, drop};
 
-/// Drops so many bytes at the front. Those after them are moved there, a few mostly.
+/// Drops so many bytes at the front. Where that is all of them, as it mostly is of a long record, none is moved.
 pub(crate) fn drop_front(kept: &mut Vec<u8>, count: usize)
+    requires { count ≤ length kept.old.items }
+    ensures { kept.new.items ≡ drop count kept.old.items }
+{
+    if count == kept.len() {
+        kept.clear();
+    } else {
+        move_to_front(kept, count);
+    }
+}
+
+/// Moves what is after so many bytes to the front, and cuts the end off.
+fn move_to_front(kept: &mut Vec<u8>, count: usize)
     requires { count ≤ length kept.old.items }
     ensures { kept.new.items ≡ drop count kept.old.items }
 {
