@@ -102,7 +102,7 @@ class Answer:
 
     def sizes(self):
         """How many bytes the image of a load or a copy has, and how many its table or block, where it was refused for that."""
-        if self.status != IMAGE_SIZE or self.record is None:
+        if self.status != IMAGE_SIZE or self.record is None or self.record.request.name not in ("LoadImage", "CdsCopy"):
             return None
         image = names.field(self.record.request.name, "image").of(self.record.body)
         if self.request == "LoadImage":
