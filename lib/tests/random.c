@@ -1,6 +1,6 @@
 /* random.c: calls at random, of three applications and the ground, with writes in place and validation functions that make calls.
- * Now and then all who have the address of a table's last image see the same bytes, and the ground dumps them. Its words are a seed and
- * a number of calls. */
+ * Now and then it looks whether all who have the address of a table's last image see the same bytes, and whether the ground dumps
+ * them. Its words are a seed and a number of calls. */
 #include "cfetbl.h"
 #include "expect.h"
 
