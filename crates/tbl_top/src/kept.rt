@@ -2,11 +2,14 @@
 
 ghost use Rattle.std.specs.Prelude.{◌≡◌, ◌≤◌, length, drop};
 
-/// Drops so many bytes at the front. Where that is all of them, as it mostly is of a long record, none is moved.
+/// Drops so many bytes at the front. None is moved where that is none of them, as of a long record that isn't whole yet, or all.
 pub(crate) fn drop_front(kept: &mut Vec<u8>, count: usize)
     requires { count ≤ length kept.old.items }
     ensures { kept.new.items ≡ drop count kept.old.items }
 {
+    if count == 0 {
+        return;
+    }
     if count == kept.len() {
         kept.clear();
     } else {
