@@ -3,12 +3,14 @@
 
 mod fields;
 mod head;
+mod kept;
 mod lacking;
 mod laws;
 mod reading;
 mod writing;
 
 pub use head::BODY_LIMIT;
+pub use kept::drop_front;
 pub use lacking::bytes_lacking;
 pub use laws::{
     a_spelling_is_of_one_request, an_input_has_one_reading, bad_stays_bad,
