@@ -6,3 +6,4 @@ pub mod Stored
 pub mod SingleBlocks
 pub mod Texts
 pub mod Turned
+pub mod Looks

@@ -7,7 +7,7 @@ use Rattle.tbl_kinds.specs.declared.request.ResetKind.TheVariants.{Processor, Po
 use Rattle.tbl_outside.specs.BankCalls.{BankCall, read, write}
 use Rattle.cds_layout.specs.Entries.{slot_count, gate_place, gate_at, gate_open, tail_place, entry_tail, turns_place, turns_len, turn_place}
 use Rattle.cds_layout.specs.Directory.{directory_len, directory_of, is_live, is_first_version, version_place}
-use Rattle.cds_layout.specs.Images.{head_len, place_at, data_place, is_whole, turned_in, hidden_in, opened_in}
+use Rattle.cds_layout.specs.Images.{head_len, place_at, data_place, is_whole, shown_in, turned_in, hidden_in, opened_in}
 use Rattle.cds_layout.specs.Turns.{byte_of}
 use Rattle.cds_layout.specs.declared.turns.Place.{Place}
 use Rattle.cds_layout.specs.declared.turns.Place.TheVariants.{First}
@@ -102,3 +102,19 @@ boot_writes PowerOn bytes = clear_calls bytes
 -- a boot reads the live mark and the directory first
 abbrev pub boot_calls : ResetKind → List ℕ → List BankCall
 boot_calls kind bytes = read 0 directory_len ∷ boot_writes kind bytes
+
+-- ---- the text of a store
+
+-- of one slot, what the place of its block that shows holds is read
+abbrev pub look_at : List ℕ → ℕ → Option Block → List BankCall
+look_at bytes slot None = []
+look_at bytes slot (Some b) = place_calls b (shown_in bytes slot)
+
+-- of the first slots
+unfoldable pub looked_to : ℕ → List ℕ → List (Option Block) → List BankCall
+looked_to zero bytes directory = []
+looked_to (suc slot) bytes directory = looked_to slot bytes directory ++ look_at bytes slot (slice_index_or directory slot None)
+
+-- the directory is read first
+abbrev pub text_calls : List ℕ → List BankCall
+text_calls bytes = read 0 directory_len ∷ looked_to slot_count bytes (directory_of bytes)

@@ -1,14 +1,16 @@
 //! A look into a bank: the text of the store that it holds.
 
-ghost use Rattle.std.specs.Prelude.{◌≡◌, ◌<◌, ◌≤◌, ◌++◌, true, Err, is_some, length, replicate, IfOk, OnOk, OnErr};
+ghost use Rattle.std.specs.Prelude.{◌≡◌, ◌≢◌, ◌<◌, ◌≤◌, [], ◌∷◌, ◌++◌, true, Err, is_ok, is_some, length, replicate, IfOk, OnOk, OnErr};
 ghost use Rattle.std.specs.Option.{option_map};
 ghost use Rattle.tbl_kinds.specs.Numbers.{piece};
 ghost use Rattle.tbl_kinds.specs.Places.{bank_size};
 ghost use Rattle.tbl_outside.specs.Bank.{LeavesOnly};
-ghost use Rattle.tbl_outside.specs.Counts.{Rose};
+ghost use Rattle.tbl_outside.specs.BankCalls.{Asks, read};
+ghost use Rattle.tbl_outside.specs.Counts.{Rose, Still};
 ghost use Rattle.cds_layout.specs.Entries.{slot_count, is_right};
 ghost use Rattle.cds_layout.specs.Directory.{directory_len, directory_of};
 ghost use Rattle.cds_layout.specs.Images.{held_by, stored_in, stored_from, store_of};
+ghost use Rattle.cds_layout.specs.Order.{look_at, looked_to, place_calls, text_calls};
 ghost use Rattle.cds_layout.specs.Texts.{lines_from, text_of};
 ghost use Rattle.cds_layout.specs.Lines.{IsRightAt, AreRight, line_at, last_line_of, listing};
 
@@ -98,6 +100,8 @@ fn is_whole<B: Bank>(
     ensures fault { OnErr result (Rose (B.faults bank.old) (B.faults bank.new)) }
     ensures fault_count { B.faults bank.old ≤ B.faults bank.new }
     ensures stop_count { B.stops bank.old ≤ B.stops bank.new }
+    ensures still { OnOk result (Still B.faults B.stops bank.old bank.new) }
+    ensures bank_calls { Asks B.tells_calls B.calls bank.old bank.new (is_ok result) (place_calls block.now shown) }
 {
     let size = block.size as usize;
     match read_shown(bank, block, shown, &mut image[..size]) {
@@ -133,6 +137,8 @@ fn put_slot<B: Bank>(
     ensures fault { result ≡ Err TextFault.Fault → Rose (B.faults bank.old) (B.faults bank.new) }
     ensures fault_count { B.faults bank.old ≤ B.faults bank.new }
     ensures stop_count { B.stops bank.old ≤ B.stops bank.new }
+    ensures still { (result ≢ Err TextFault.Fault) → Still B.faults B.stops bank.old bank.new }
+    ensures bank_calls { B.tells → (result ≢ Err TextFault.Memory) → Asks B.tells_calls B.calls bank.old bank.new (is_ok result) (look_at (B.now bank.old) slot place.now) }
 {
     match place {
         None => Ok(()),
@@ -168,6 +174,8 @@ fn put_slots<B: Bank>(
     ensures fault { result ≡ Err TextFault.Fault → Rose (B.faults bank.old) (B.faults bank.new) }
     ensures fault_count { B.faults bank.old ≤ B.faults bank.new }
     ensures stop_count { B.stops bank.old ≤ B.stops bank.new }
+    ensures still { (result ≢ Err TextFault.Fault) → Still B.faults B.stops bank.old bank.new }
+    ensures bank_calls { B.tells → (result ≢ Err TextFault.Memory) → Asks B.tells_calls B.calls bank.old bank.new (is_ok result) (looked_to slot_count (B.now bank.old) places.now) }
 {
     for (slot, place) in places.iter().enumerate() {
         put_slot(bank, front, slot as u8, place, image, out)?;
@@ -203,6 +211,8 @@ fn fill_directory<B: Bank>(
     ensures fault { OnErr result (Rose (B.faults bank.old) (B.faults bank.new)) }
     ensures fault_count { B.faults bank.old ≤ B.faults bank.new }
     ensures stop_count { B.stops bank.old ≤ B.stops bank.new }
+    ensures still { OnOk result (Still B.faults B.stops bank.old bank.new) }
+    ensures bank_calls { Asks B.tells_calls B.calls bank.old bank.new (is_ok result) (read 0 directory_len ∷ []) }
 {
     bank.read_at(0, bytes)?;
     read_directory(bytes, directory);
@@ -224,6 +234,8 @@ fn load_front<B: Bank>(alloc: Global, bank: &mut B) -> Result<Front, TextFault>
     ensures fault { result ≡ Err TextFault.Fault → Rose (B.faults bank.old) (B.faults bank.new) }
     ensures fault_count { B.faults bank.old ≤ B.faults bank.new }
     ensures stop_count { B.stops bank.old ≤ B.stops bank.new }
+    ensures still { (result ≢ Err TextFault.Fault) → Still B.faults B.stops bank.old bank.new }
+    ensures bank_calls { (result ≢ Err TextFault.Memory) → Asks B.tells_calls B.calls bank.old bank.new (is_ok result) (read 0 directory_len ∷ []) }
 {
     let mut directory = Directory::make(alloc)?;
     let mut bytes = zeros(alloc, BLOCKS_BEGIN as usize)?;
@@ -252,6 +264,8 @@ fn listed<B: Bank>(
     ensures fault { result ≡ Err TextFault.Fault → Rose (B.faults bank.old) (B.faults bank.new) }
     ensures fault_count { B.faults bank.old ≤ B.faults bank.new }
     ensures stop_count { B.stops bank.old ≤ B.stops bank.new }
+    ensures still { (result ≢ Err TextFault.Fault) → Still B.faults B.stops bank.old bank.new }
+    ensures bank_calls { B.tells → (result ≢ Err TextFault.Memory) → Asks B.tells_calls B.calls bank.old bank.new (is_ok result) (looked_to slot_count (B.now bank.old) places.now) }
 {
     let mut image = zeros(alloc, MOST_IMAGE as usize)?;
     let mut out = Bytes::make(alloc, 0)?;
@@ -275,6 +289,8 @@ pub fn store_text<B: Bank>(alloc: Global, bank: &mut B) -> Result<Bytes, TextFau
     ensures fault { result ≡ Err TextFault.Fault → Rose (B.faults bank.old) (B.faults bank.new) }
     ensures fault_count { B.faults bank.old ≤ B.faults bank.new }
     ensures stop_count { B.stops bank.old ≤ B.stops bank.new }
+    ensures still { (result ≢ Err TextFault.Fault) → Still B.faults B.stops bank.old bank.new }
+    ensures bank_calls { B.tells → (result ≢ Err TextFault.Memory) → Asks B.tells_calls B.calls bank.old bank.new (is_ok result) (text_calls (B.now bank.old)) }
 {
     let front = load_front(alloc, bank)?;
     listed(alloc, bank, &front.bytes, front.directory.places())
