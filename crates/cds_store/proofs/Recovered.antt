@@ -1,6 +1,6 @@
 -- What the open blocks of a bank hold comes back.
 use Rattle.std.proofs.Common.{◌≡◌, inl, inr, ℕ, ◌+◌, List, [], ◌∷◌, map, slice_index_or, Bool, true, false, not, Option, Some, None, refl, sym, ◌∙◌, ap, subst}
-use Rattle.std.specs.Option.{option_map, ForSome}
+use Rattle.std.specs.Option.{option_map, option_map_or, ForSome}
 use Rattle.std.proofs.lemmas.Bool.{cases_eq, and_parts, and_from}
 use Rattle.std.proofs.lemmas.List.Quantifiers.{position-Some}
 use Rattle.tbl_kinds.proofs.PositionLaws.{position-None}
@@ -10,15 +10,17 @@ use Rattle.tbl_kinds.specs.StoreSteps.{same_block, is_of, is_open_of, open_of, s
 use Rattle.tbl_kinds.specs.declared.block.Block.{Block}
 use Rattle.tbl_kinds.specs.declared.block.BlockKind.{BlockKind}
 use Rattle.tbl_kinds.specs.declared.request.ResetKind.TheVariants.{Processor}
+use Rattle.tbl_outside.specs.BankCalls.{BankCall, Asks}
 use Rattle.cds_layout.specs.Directory.{directory_of}
 use Rattle.cds_layout.specs.Images.{stored_in, stored_from, store_of}
 use Rattle.cds_layout.proofs.DirectoryLaws.{directory-agree_both}
 use Rattle.cds_store.specs.Moments.{ShowsIn, BootLeaves}
-use Rattle.cds_store.specs.Recovery.{Recovers}
+use Rattle.cds_store.specs.Recovery.{Recovers, open_reads}
 use Rattle.cds_store.specs.Slots.{is_open_slot, open_slot, block_of}
 use Rattle.cds_store.specs.Sound.{slot_at}
 use Rattle.cds_store.specs.declared.slot.Slot.{Slot}
 use Rattle.cds_store.proofs.Reservations.{both_of, same_not}
+use Rattle.cds_layout.specs.Order.{restore_calls}
 use Rattle.cds_layout.proofs.Stored.{stored_there}
 use Rattle.cds_layout.proofs.Restored.{unheld}
 use Rattle.cds_layout.specs.Restores.{TellsTorn, words}
@@ -111,3 +113,24 @@ pub gives_none : (bytes : List ℕ) (slots : List (Option Slot)) (blocks : Block
     → AreHeld bytes blocks → ForSome (slot_at slots slot) (λ s. TellsTorn bytes slot s.block fault) → ForSome (stored_at blocks slot) (λ b. MayGive b None)
 gives_none bytes slots blocks slot fault told is same held torn b there =
     subst (MayGive b) (unheld bytes slot b.block fault told is (torn (slot_of b) (slot_is bytes slots blocks same slot ∙ ap (option_map slot_of) there))).no_image (held slot b there)
+
+-- ---- what is read of it
+
+module _ {B : Type 0} (tells_calls : B → Type 0) (calls_of : B → List BankCall) (kind : BlockKind) (name : List ℕ) (blocks : Blocks) (bytes : List ℕ) where
+  -- nothing where none is open
+  pub reads_none : (bank : B) → open_of kind name blocks ≡ None → Asks tells_calls calls_of bank bank true (open_reads kind name blocks bytes)
+  reads_none bank none =
+      subst (Asks tells_calls calls_of bank bank true) (sym (ap (λ (o : Option ℕ). option_map_or (λ (slot : ℕ). option_map_or (λ (b : Stored). restore_calls bytes slot b.block) (stored_at blocks slot) []) o []) none)) (λ told. (told, refl))
+
+  -- and else what a restore reads
+  pub reads_open : (old new : B) (done was : Bool) (slots : List (Option Slot)) (slot : ℕ) → slots ≡ map (option_map slot_of) blocks → open_of kind name blocks ≡ Some slot → was ≡ done
+      → ForSome (slot_at slots slot) (λ s. Asks tells_calls calls_of old new was (restore_calls bytes slot s.block)) → Asks tells_calls calls_of old new done (open_reads kind name blocks bytes)
+  reads_open old new done was slots slot same found is asks = by (stored_at blocks slot) refl (position-Some (is_open_of kind name) blocks slot None found).1 where
+    by : (o : Option Stored) → stored_at blocks slot ≡ o → is_open_of kind name o ≡ true → Asks tells_calls calls_of old new done (open_reads kind name blocks bytes)
+    by None there opens = absurd (cc opens)
+    by (Some b) there opens =
+        let read : open_reads kind name blocks bytes ≡ restore_calls bytes slot b.block =
+        ap (λ (o : Option ℕ). option_map_or (λ (n : ℕ). option_map_or (λ (b : Stored). restore_calls bytes n b.block) (stored_at blocks n) []) o []) found
+        ∙ ap (λ (o : Option Stored). option_map_or (λ (b : Stored). restore_calls bytes slot b.block) o []) there in
+        let made : Asks tells_calls calls_of old new was (restore_calls bytes slot b.block) = asks (slot_of b) (slot_is bytes slots blocks same slot ∙ ap (option_map slot_of) there) in
+        subst (λ (d : Bool). Asks tells_calls calls_of old new d (open_reads kind name blocks bytes)) is (subst (Asks tells_calls calls_of old new was) (sym read) made)

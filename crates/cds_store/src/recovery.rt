@@ -1,15 +1,16 @@
 //! What a block holds comes back after a reset.
 
-ghost use Rattle.std.specs.Prelude.{◌≡◌, ◌≤◌, ℕ, None, Some, true, MatchOption, IfOk, OnOk, IfErr};
+ghost use Rattle.std.specs.Prelude.{◌≡◌, ◌≢◌, ◌≤◌, ℕ, None, Some, true, false, MatchOption, IfOk, OnOk, IfErr};
 ghost use Rattle.std.specs.Option.{option_map};
 ghost use Rattle.tbl_kinds.specs.Blocks.{Store as Blocks};
 ghost use Rattle.tbl_kinds.specs.Places.{bank_size};
 ghost use Rattle.tbl_kinds.specs.StoreSteps.{Shows, open_of};
 ghost use Rattle.cds_layout.specs.Images.{store_of};
 ghost use Rattle.tbl_outside.specs.Bank.{LeavesOnly};
+ghost use Rattle.tbl_outside.specs.BankCalls.{Asks};
 ghost use Rattle.tbl_outside.specs.Counts.{Still};
 ghost use Rattle.cds_store.specs.Moments.{ShowsIn};
-ghost use Rattle.cds_store.specs.Recovery.{Recovers, RecoverCounted, ShowsStill};
+ghost use Rattle.cds_store.specs.Recovery.{Recovers, RecoverCounted, ShowsStill, open_reads, recover_calls};
 ghost use Rattle.cds_store.specs.Sound.{slot_at, IsOpenOf};
 ghost use Rattle.cds_store.specs.StoreBlocks.{StandsFor};
 
@@ -76,6 +77,10 @@ fn restore_open<B: Bank>(
         LeavesOnly B.clock B.left_since store.old.bank store.new.bank (λ image. image ≡ B.now store.old.bank) }
     ensures still { OnOk result (Still B.faults B.stops store.old.bank store.new.bank) }
     ensures fault { IfErr result (RecoverCounted B.faults B.stops store.old.bank store.new.bank) }
+    ensures calls_ok { OnOk result (B.tells → (blocks : Blocks) → StandsFor B.tells B.now store.old blocks →
+        Asks B.tells_calls B.calls store.old.bank store.new.bank true (open_reads kind name.now blocks (B.now store.old.bank))) }
+    ensures calls_err { IfErr result (λ fault. (fault ≢ RecoverFault.Memory) → B.tells → (blocks : Blocks) → StandsFor B.tells B.now store.old blocks →
+        Asks B.tells_calls B.calls store.old.bank store.new.bank false (open_reads kind name.now blocks (B.now store.old.bank))) }
 {
     let Some((slot, size)) = find_open_block(store, kind, name) else {
         return Ok(None);
@@ -105,6 +110,10 @@ fn boot_and_restore<B: Bank>(
         LeavesOnly B.clock B.left_since store.old.bank store.new.bank (ShowsIn (store_of (B.now store.old.bank))) }
     ensures still { OnOk result (Still B.faults B.stops store.old.bank store.new.bank) }
     ensures fault { IfErr result (RecoverCounted B.faults B.stops store.old.bank store.new.bank) }
+    ensures calls_ok { OnOk result (B.tells →
+        Asks B.tells_calls B.calls store.old.bank store.new.bank true (recover_calls kind name.now (B.now store.old.bank) (B.now store.new.bank))) }
+    ensures calls_err { IfErr result (λ fault. (fault ≢ RecoverFault.Memory) → B.tells →
+        Asks B.tells_calls B.calls store.old.bank store.new.bank false (recover_calls kind name.now (B.now store.old.bank) (B.now store.new.bank))) }
 {
     match store.boot(ResetKind::Processor) {
         Ok(_found) => restore_open(alloc, store, kind, name),
@@ -132,6 +141,12 @@ pub fn recover<B: Bank>(
     ensures err { IfErr result (λ back. ShowsStill B.Bank bank back.bank) }
     ensures still { IfOk result (λ told. Still B.faults B.stops bank told.1) }
     ensures fault { IfErr result (λ back. RecoverCounted B.faults B.stops bank back.bank back.cause) }
+
+    // The bank is booted, and of the block alone what it holds is read, once.
+    ensures calls_ok { IfOk result (λ told. B.tells →
+        Asks B.tells_calls B.calls bank told.1 true (recover_calls kind name.now (B.now bank) (B.now told.1))) }
+    ensures calls_err { IfErr result (λ back. (back.cause ≢ RecoverFault.Memory) → B.tells →
+        Asks B.tells_calls B.calls bank back.bank false (recover_calls kind name.now (B.now bank) (B.now back.bank))) }
 {
     let mut store = match Store::make(alloc, bank) {
         Ok(store) => store,

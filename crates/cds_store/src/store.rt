@@ -134,6 +134,13 @@ impl<B: Bank> Store<B> {
         }
     }
 
+    /// The bank.
+    pub fn bank(&self) -> &B
+        ensures { result.now ≡ self.now.bank }
+    {
+        &self.bank
+    }
+
     /// The bank, which has room for a further store.
     pub fn end(self) -> B
         ensures bank { result ≡ self.bank }
