@@ -1,5 +1,5 @@
 -- A kit of validation functions: which application's stands under each number.
-use Rattle.std.specs.Prelude.{◌≡◌, ℕ, ◌+◌, ◌≤◌, ◌^◌, ◌==◌, List, map, Bool, false, if◌then◌else◌, slice_index_or, Option, None, IsSome}
+use Rattle.std.specs.Prelude.{◌≡◌, ◌≢◌, ℕ, ◌+◌, ◌≤◌, ◌^◌, ◌==◌, List, map, Bool, false, if◌then◌else◌, slice_index_or, Option, None, IsSome}
 use Rattle.std.proofs.Common.{ℤ}
 use Rattle.std.specs.Option.{option_map, option_map_or, ForSome}
 use Rattle.tbl_outside.specs.declared.validator.KitEntry.{KitEntry}
@@ -22,6 +22,15 @@ unless_of app entry = if is_of app entry then None else entry
 -- the functions of an application are dropped
 abbrev pub dropped : {C : Type 0} → ℕ → List (Option (KitEntry C)) → List (Option (KitEntry C))
 dropped app kit = map (unless_of app) kit
+
+abbrev pub with_check : {C : Type 0} → C → KitEntry C → KitEntry C
+with_check check e = record e { check = check }
+
+-- another function stands under this number, if one did, and all else as it was
+pub record Hands {C : Type 0} (number : ℕ) (check : C) (old new : List (Option (KitEntry C))) : Type 0 where
+  pub this : entry_at new number ≡ option_map (with_check check) (entry_at old number)
+  pub others : (n : ℕ) → n ≢ number → entry_at new n ≡ entry_at old n
+  pub owned : owners new ≡ owners old
 
 -- the same function of the same application, asked so many times more
 pub record AskedMore {C : Type 0} (verdict : C → List ℕ → ℤ) (asked : C → ℕ) (times : ℕ) (old new : KitEntry C) : Type 0 where

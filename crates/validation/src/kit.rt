@@ -1,6 +1,6 @@
 ghost use Rattle.std.specs.Prelude.{◌≡◌, ◌≢◌, ◌<◌, ◌^◌, ℕ, List, [], ◌∷◌, Option, Some, None, is_some, map, length, IsSome, IfOk};
-ghost use Rattle.std.specs.Option.{ForSome};
-ghost use Rattle.validation.specs.Kits.{entry_at, is_of, dropped, AskedMore, MayAsk};
+ghost use Rattle.std.specs.Option.{ForSome, option_map};
+ghost use Rattle.validation.specs.Kits.{entry_at, is_of, dropped, Hands, with_check, AskedMore, MayAsk};
 ghost use Rattle.validation.specs.Asked.{WasAsked, asks};
 ghost use Rattle.tbl_outside.specs.declared.validator.KitEntry.{KitEntry as Entry};
 
@@ -53,6 +53,25 @@ fn drop_of<C: Validator>(entry: &mut Option<KitEntry<C>>, app: u8)
     }
 }
 
+/// Puts another function in the place of one, if there is one.
+fn put_check<C: Validator>(entry: &mut Option<KitEntry<C>>, check: C)
+    ensures { entry.new ≡ option_map (with_check check) entry.old }
+{
+    if let Some(entry) = entry {
+        entry.check = check;
+    }
+}
+
+/// Puts another function at a place, if one stands there.
+#[tactic(auto, using(crate::proofs::Handing::handed_past))]
+fn hand_in<C: Validator>(entries: &mut [Option<KitEntry<C>>], at: usize, check: C)
+    ensures { Hands at check entries.old entries.new }
+{
+    if at < entries.len() {
+        put_check(&mut entries[at], check);
+    }
+}
+
 impl<C: Validator> Kit<C> {
     /// The functions in this order, numbered from 0.
     pub fn make(alloc: Global, entries: Vec<KitEntry<C>>) -> Result<Kit<C>, Memory>
@@ -101,6 +120,13 @@ impl<C: Validator> Kit<C> {
     {
         let number = number?;
         Some(self.perform(number, image))
+    }
+
+    /// Puts another function in the place of the one of this number, if one stands there. It is the same application's.
+    pub fn hand(&mut self, number: u8, check: C)
+        ensures { Hands number check self.old self.new }
+    {
+        hand_in(self.entries.as_mut_slice(), number as usize, check);
     }
 
     /// Drops the functions of an application, which ended.
