@@ -1,2 +1,2 @@
-pub mod Handed
+pub mod Answering
 pub mod Kit

@@ -1,10 +1,11 @@
 //! The validation functions of all applications, by their numbers.
 
 ghost use Rattle.std.specs.Prelude.{◌≡◌, ◌<◌, ◌≤◌, All, IfOk};
-ghost use Rattle.handed_kit.specs.Handed.{asked_of};
-ghost use Rattle.handed_kit.specs.Kit.{app_of, handed_at, handed_below};
+ghost use Rattle.handed_kit.specs.Answering.{Spoken};
+ghost use Rattle.handed_kit.specs.Kit.{app_of, mute_at, mute_below};
+ghost use Rattle.tbl_outside.specs.declared.validator.KitEntry.{KitEntry as Entry};
 
-use crate::handed::Handed;
+use crate::answering::Answering;
 use std::alloc::{AllocError, Global};
 use tbl_outside::KitEntry;
 
@@ -25,35 +26,25 @@ fn app_of(number: u8) -> u8
     }
 }
 
-/// The function of this number, over the verdicts that another one has.
-fn entry_of<'a>(first: &Handed<'a>, number: u8) -> KitEntry<Handed<'a>>
-    ensures entry { result ≡ handed_at first.now number }
+/// The function of this number, for which nothing was handed in.
+fn mute_entry(number: u8) -> KitEntry<Answering>
+    ensures entry { result ≡ mute_at number }
 {
     KitEntry {
         app: app_of(number),
-        check: Handed {
-            alloc: first.alloc,
-            number,
-            given: first.given,
-            images: first.images,
-            open: first.open,
-            asked: first.asked,
-        },
+        check: Answering::mute(),
     }
 }
 
-/// All functions over the verdicts that one has, in order of their numbers.
-#[tactic(auto, unfolding(crate::specs::Kit::handed_below))]
-pub fn all_entries<'a>(
-    alloc: Global,
-    first: &Handed<'a>,
-) -> Result<Vec<KitEntry<Handed<'a>>>, AllocError>
-    ensures entries { IfOk result (λ entries. entries.items ≡ handed_below first.now 240) }
-    ensures asked { IfOk result (λ entries. All (λ e. asked_of e.check ≡ asked_of first.now) entries.items) }
+/// All functions, in order of their numbers. Nothing was handed in for any of them.
+#[tactic(auto, unfolding(crate::specs::Kit::mute_below))]
+pub fn mute_entries(alloc: Global) -> Result<Vec<KitEntry<Answering>>, AllocError>
+    ensures entries { IfOk result (λ entries. entries.items ≡ mute_below 240) }
+    ensures asked { IfOk result (λ entries. All (λ (e : Entry Spoken). e.check.asked ≡ 0) entries.items) }
 {
     let mut entries = Vec::with_capacity(alloc, usize::from(FUNCTIONS))?;
     'functions: for number in 0..FUNCTIONS {
-        entries.push(entry_of(first, number))?;
+        entries.push(mute_entry(number))?;
     }
     Ok(entries)
 }

@@ -1,9 +1,9 @@
-//! Validation functions of applications in C: the layer above may rely on it that each answers by the first verdict that was handed in
-//! for its number and the image, and refuses an image without one.
+//! Validation functions of applications in C: the layer above may rely on it that each answers with the verdicts that were handed in for
+//! one request, and refuses an image without one.
 #![tactic(auto)]
 
-mod handed;
+mod answering;
 mod kit;
 
-pub use handed::{Given, Handed, Question};
-pub use kit::{FUNCTIONS, all_entries};
+pub use answering::Answering;
+pub use kit::{FUNCTIONS, mute_entries};
