@@ -6,5 +6,6 @@ pub mod Sound
 pub mod Views
 pub mod Adding
 pub mod Lending
+pub mod Images
 pub mod InUse
 pub mod Records

@@ -12,13 +12,13 @@ use tbl_kinds::{Bytes, Memory, Name40};
 pub struct Pin {
     bytes: Image,
     handle: u16,
-    place: u32,
+    place: u64,
     name: Name40,
 }
 
 impl Pin {
     /// The image of the table of this name, lent by a handle that pinned it at this place of the history.
-    pub(crate) fn of(bytes: Image, handle: u16, place: u32, name: Name40) -> Pin
+    pub(crate) fn of(bytes: Image, handle: u16, place: u64, name: Name40) -> Pin
         ensures { result ≡ record { bytes = bytes; handle = handle; place = place; name = name } }
     {
         Pin {
@@ -52,7 +52,7 @@ impl Pin {
     }
 
     /// The place in the history of the call that got the address (`CFE_TBL_GetAddress`).
-    pub fn place(&self) -> u32
+    pub fn place(&self) -> u64
         ensures { result ≡ self.now.place }
     {
         self.place

@@ -1,10 +1,11 @@
 //! The 128 rows, each with a table or none.
 
-ghost use Rattle.std.specs.Prelude.{◌≡◌, ◌<◌, ◌≤◌, ◌↔◌, ◌+◌, None, Some, IsSome, IsNone, IfOk, IfSome, if◌then◌else◌, length, position, replicate, count_by, is_some, is_none, slice_index_or};
+ghost use Rattle.std.specs.Prelude.{◌≡◌, ◌<◌, ◌≤◌, ◌↔◌, ◌+◌, None, Some, IsSome, IsNone, IfOk, IfSome, if◌then◌else◌, length, position, replicate, count_by, is_some, is_none, slice_index_or, max, fold};
 ghost use Rattle.std.specs.Option.{option_copied};
 ghost use Rattle.tbl_kinds.specs.Free.{least_free};
 ghost use Rattle.tbl_model.specs.Tables.{is_critical_in};
 ghost use Rattle.tbl_model.specs.TableSteps.{has_name};
+ghost use Rattle.tbl_registry.specs.Images.{images_in};
 
 use crate::row::Row;
 use std::alloc::{AllocError, Global};
@@ -109,6 +110,27 @@ fn has_critical(row: &Option<Row>) -> bool
         Some(table) => table.is_critical(),
         None => false,
     }
+}
+
+/// How many images a table has had, 0 where there is none.
+fn images_in(row: &Option<Row>) -> u32
+    ensures { result ≡ images_in row.now }
+{
+    match row {
+        Some(table) => table.count(),
+        None => 0,
+    }
+}
+
+/// The most images that a table has had.
+pub(crate) fn most_images_in(rows: &[Option<Row>]) -> u32
+    ensures { result ≡ fold (λ most row. max most (images_in row)) 0 rows.now }
+{
+    let mut most = 0;
+    for row in rows {
+        most = most.max(images_in(row));
+    }
+    most
 }
 
 /// How many tables are critical.

@@ -10,12 +10,15 @@ ghost use Rattle.tbl_model.specs.TableSteps.{find, added};
 ghost use Rattle.tbl_model.specs.Registry.{registry_row};
 ghost use Rattle.tbl_model.specs.Validations.{selected};
 ghost use Rattle.tbl_registry.specs.Adding.{planned};
+ghost use Rattle.tbl_registry.specs.Images.{most_images};
 ghost use Rattle.tbl_registry.specs.Rows.{IsTable};
 ghost use Rattle.tbl_registry.specs.Seen.{padded};
 
 use self::buffers::rows_with_buffer;
 use crate::row::{NewTable, RECORD_LENGTH, Row, RowView};
-use crate::rows::{critical_in, free_row, free_rows, is_named, row_of_name, table_in};
+use crate::rows::{
+    critical_in, free_row, free_rows, is_named, most_images_in, row_of_name, table_in,
+};
 use access_desc::Handles;
 use std::alloc::Global;
 use std::marker::Model;
@@ -165,6 +168,13 @@ impl Tables {
         ensures within { result ≤ 128 }
     {
         critical_in(&self.rows)
+    }
+
+    /// The most images that a table has had since it was registered, 0 if there is no table.
+    pub fn most_images(&self) -> u32
+        ensures { result ≡ most_images self.now }
+    {
+        most_images_in(&self.rows)
     }
 
     /// The row that the next table takes: the least free one.

@@ -281,7 +281,7 @@ impl Tables {
     /// Lends the image that a handle pins, with the place of the call that got its address. None where the handle leads to no
     /// table, or pins no image. No byte is copied, and no memory is taken; an Err means that the image has as many owners as can
     /// be counted.
-    pub fn lend(&self, handle: u16, place: u32) -> Result<Option<Pin>, Memory>
+    pub fn lend(&self, handle: u16, place: u64) -> Result<Option<Pin>, Memory>
         ensures lent { IfOk result (λ lent. lent ≡ lent_at handle place self.now) }
         ensures none { IfOk result (λ lent. is_some lent ≡ pins_image handle self.now) }
         ensures within { IfOk result (λ lent. OnSome lent (handle < 256)) }
