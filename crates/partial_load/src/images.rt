@@ -46,7 +46,7 @@ fn verdict_answer(verdict: Option<i32>) -> Answer
 }
 
 /// The number of the validation function of the table of a row.
-fn validator(tables: &Tables, row: u8) -> Option<u8>
+pub(crate) fn validator(tables: &Tables, row: u8) -> Option<u8>
     requires { IsSome (table_at tables.now row) }
     ensures { ForSome (table_at tables.now row) (λ t. result ≡ t.validator) }
 {

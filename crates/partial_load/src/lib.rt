@@ -3,11 +3,13 @@
 #![tactic(auto)]
 
 mod aborting;
+mod asking;
 mod ground;
 mod images;
 mod refusals;
 
 pub use aborting::abort;
+pub use asking::{image_judge, part_judge};
 pub use ground::{ground_load, load_into};
 pub use images::{Loaded, load_image, load_part};
 pub use refusals::closed_refusal;

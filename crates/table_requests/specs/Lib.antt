@@ -1,5 +1,6 @@
 pub mod Housekeeping
 pub mod Limits
+pub mod Questions
 pub mod Loads
 pub mod Managed
 pub mod Rows

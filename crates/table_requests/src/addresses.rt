@@ -1,6 +1,6 @@
 //! Addresses of tables: got, read through, and given back.
 
-ghost use Rattle.std.specs.Prelude.{◌≡◌, ◌≤◌, [], length, IfOk, IfErr, OnOk};
+ghost use Rattle.std.specs.Prelude.{◌≡◌, ◌≢◌, ◌≤◌, [], length, IfOk, IfErr, OnOk};
 ghost use Rattle.tbl_model.specs.State.{State};
 ghost use Rattle.tbl_model.specs.Effects.{answered, answered_with};
 ghost use Rattle.tbl_model.specs.Addresses.{get_effect, release_effect, read_effect};
@@ -102,8 +102,8 @@ pub fn read(
     }
 }
 
-/// An application reads bytes of the image that its handle pins, which were lent: they are the reply. None is copied and no
-/// memory is taken.
+/// An application reads bytes of the image that its handle pins, which were taken of it before: they are the reply. It can't run out
+/// of memory.
 pub fn read_lent(
     tables: &Tables,
     apps: &Apps,
@@ -118,6 +118,8 @@ pub fn read_lent(
     requires empty { bytes.old.list ≡ [] }
     ensures effect { (s : State) → s.tables ≡ tables.now → s.apps ≡ apps.now → IsEffect (quiet_effect result bytes.new.list) [] s (read_effect s app handle offset len) }
     ensures quiet { IsQuiet (quiet_effect result bytes.new.list) }
+    // If there are bytes, they are the very buffer that was handed in, with its spare room.
+    ensures lent { bytes.new.list ≢ [] → bytes.new ≡ slice }
 {
     match piece(tables, apps, app, handle, offset, len) {
         Ok(_) => {

@@ -12,6 +12,7 @@ mod ground_loads;
 mod housekeeping;
 mod loads;
 mod management;
+mod questions;
 mod registry;
 mod validations;
 
@@ -23,5 +24,8 @@ pub use dumps::{dump_to_buffer, edit};
 pub use files::file;
 pub use loads::{load_file, load_image};
 pub use management::{get_status, manage};
+pub use questions::{
+    Question, Questions, load_file_asks, load_image_asks, manage_asks, validate_asks,
+};
 pub use registry::get_info;
 pub use validations::app_validate;
