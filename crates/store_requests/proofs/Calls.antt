@@ -43,6 +43,7 @@ use Rattle.tbl_session.specs.Restores.{GaveHeld}
 use Rattle.tbl_outside.specs.Bank.{LeavesOnly}
 use Rattle.cds_store.specs.Moments.{LeavesIn}
 use Rattle.store_requests.proofs.Moments.{one_leaves}
+use Rattle.store_requests.specs.BankCalls.{AsksIn}
 use Rattle.store_requests.specs.Called.{Leaving, with_boot, broken_note, broken_status, done_note, call_note, call_status, IsSilent, IsTold, IsUngiven, unasked, IsCalled, Calls}
 use Rattle.tbl_model.specs.declared.telemetry.Named.{Named}
 use Rattle.request_effects.specs.Effects.{Effect}
@@ -91,8 +92,8 @@ Plain note = (note.restored ≡ None) × (note.torn ≡ 0)
 
 module _ {B : Type 0} (g : Ghosts B) (first kept : StoreParts B) (s : State) (done : Effect) where
   -- an answer that calls nothing
-  pub calls_none : Leaving g first kept (DuringCalls [] s.store) → (status : Status) (detail : ℕ) → IsTold done status detail [] untouched → StandsFor g.tells g.now kept s.store → Calls g first kept s done (λ n. answered s status detail)
-  calls_none moments status detail told stands = by_note g first kept s done (λ n. answered s status detail) untouched told.note_is (λ ended stopped found. record {
+  pub calls_none : Leaving g first kept (DuringCalls [] s.store) → AsksIn g first kept done.note.outcome [] → (status : Status) (detail : ℕ) → IsTold done status detail [] untouched → StandsFor g.tells g.now kept s.store → Calls g first kept s done (λ n. answered s status detail)
+  calls_none moments asked status detail told stands = by_note g first kept s done (λ n. answered s status detail) untouched told.note_is (λ ended stopped found. record {
     blocks = stands;
     effect = told_so s s done status detail [] untouched told;
     ends = (refl, refl, (refl, refl));
@@ -100,16 +101,17 @@ module _ {B : Type 0} (g : Ghosts B) (first kept : StoreParts B) (s : State) (do
     says = (refl, refl);
     writing = λ stop. refl;
     moments = moments;
+    asked = asked;
   })
 
   module _ (calls : List StoreCall) (status : Status) (detail : ℕ) (bytes : List ℕ) (note : BankNote) where
     -- all calls are done
-    pub calls_done : Leaving g first kept (DuringCalls (writes calls) s.store) → IsTold done status detail bytes (done_note note) → StandsFor g.tells g.now kept (left_by calls (done_note note) s.store)
+    pub calls_done : Leaving g first kept (DuringCalls (writes calls) s.store) → AsksIn g first kept done.note.outcome calls → IsTold done status detail bytes (done_note note) → StandsFor g.tells g.now kept (left_by calls (done_note note) s.store)
         → calls ≢ [] → note.done + 1 ≡ length calls → NoGate note
         → MayGoOn (take (note.done + 1) calls) s.store → ((n : BankNote) → n.restored ≡ note.restored → n.torn ≡ note.torn → Tells (take (note.done + 1) calls) n)
         → (ended stopped : Bool) (found : List ℕ)
         → IsCalled g first kept (unasked s) done (with_boot ended stopped found (done_note note)) (then_call calls (with_boot ended stopped found (done_note note)) faulted (record (answered s status detail) { bytes = bytes }))
-    calls_done moments told stands some many no_gate gave says ended stopped found = record {
+    calls_done moments asked told stands some many no_gate gave says ended stopped found = record {
       blocks = stands;
       effect = told_so s (record s { store = left_by calls (done_note note) s.store }) done status detail bytes (done_note note) told;
       ends = (some, many, no_gate);
@@ -117,17 +119,18 @@ module _ {B : Type 0} (g : Ghosts B) (first kept : StoreParts B) (s : State) (do
       says = says (with_boot ended stopped found (done_note note)) refl refl;
       writing = λ stop. absurd (cc stop);
       moments = moments;
+      asked = asked;
     }
 
     -- the next one broke off
-    pub calls_broke : Leaving g first kept (DuringCalls (writes calls) s.store) → (call : StoreCall) → slice_get calls note.done ≡ Some call → (fault : BankFault)
+    pub calls_broke : Leaving g first kept (DuringCalls (writes calls) s.store) → AsksIn g first kept done.note.outcome calls → (call : StoreCall) → slice_get calls note.done ≡ Some call → (fault : BankFault)
         → IsTold done (broken_status fault) 0 [] (broken_note fault note)
         → StandsFor g.tells g.now kept (broken (is_gate fault) (is_old fault) call (after_first note.done calls s.store))
         → CanBreak (is_gate fault) (is_old fault) call (after_first note.done calls s.store) → ((broken_note fault note).outcome ≡ Stopped → (is_restore call ≡ false) × (writes calls ≡ calls))
         → MayGoOn (take note.done calls) s.store → ((n : BankNote) → n.restored ≡ note.restored → n.torn ≡ note.torn → Tells (take note.done calls) n)
         → (ended stopped : Bool) (found : List ℕ)
         → IsCalled g first kept (unasked s) done (with_boot ended stopped found (broken_note fault note)) (then_call calls (with_boot ended stopped found (broken_note fault note)) faulted (record (answered s status detail) { bytes = bytes }))
-    calls_broke moments call next (Fault gate old) told stands can writes gave says ended stopped found =
+    calls_broke moments asked call next (Fault gate old) told stands can writes gave says ended stopped found =
         let n = broken_note (Fault gate old) note in record {
           blocks = subst (λ o. StandsFor g.tells g.now kept (then_broken n o (after_first note.done calls s.store))) (sym next) stands;
           effect = told_so s (record s { store = left_by calls n s.store }) done ERR_CDS_FAULT 0 [] n told;
@@ -136,8 +139,9 @@ module _ {B : Type 0} (g : Ghosts B) (first kept : StoreParts B) (s : State) (do
           says = says (with_boot ended stopped found n) refl refl;
           writing = λ stop. absurd (cc stop);
           moments = moments;
+          asked = asked;
         }
-    calls_broke moments call next (Cut gate old) told stands can stops gave says ended stopped found =
+    calls_broke moments asked call next (Cut gate old) told stands can stops gave says ended stopped found =
         let n = broken_note (Cut gate old) note in
         let booted = boot Processor (with_boot ended stopped found n) (record s { store = left_by calls n s.store }) in record {
           blocks = subst (λ o. StandsFor g.tells g.now kept (then_broken n o (after_first note.done calls s.store))) (sym next) stands;
@@ -147,21 +151,22 @@ module _ {B : Type 0} (g : Ghosts B) (first kept : StoreParts B) (s : State) (do
           says = says (with_boot ended stopped found n) refl refl;
           writing = λ stop. (stops refl).1;
           moments = moments;
+          asked = asked;
         }
 
   -- the first call broke off, which writes
-  pub first_broke : (call : StoreCall) (more : List StoreCall) → Leaving g first kept (DuringCalls (writes (call ∷ more)) s.store) → (writes (call ∷ more) ≡ call ∷ more) → (status : Status) (detail : ℕ) (fault : BankFault) (before : StoreParts B)
+  pub first_broke : (call : StoreCall) (more : List StoreCall) → Leaving g first kept (DuringCalls (writes (call ∷ more)) s.store) → AsksIn g first kept done.note.outcome (call ∷ more) → (writes (call ∷ more) ≡ call ∷ more) → (status : Status) (detail : ℕ) (fault : BankFault) (before : StoreParts B)
       → is_restore call ≡ false → CanBreak (is_gate fault) (is_old fault) call s.store → StandsFor g.tells g.now before s.store
       → ((blocks : Blocks) → StandsFor g.tells g.now before blocks → StandsFor g.tells g.now kept (broken (is_gate fault) (is_old fault) call blocks))
       → IsTold done (broken_status fault) 0 [] (broken_note fault untouched)
       → (ended stopped : Bool) (found : List ℕ)
       → IsCalled g first kept (unasked s) done (with_boot ended stopped found (broken_note fault untouched)) (then_call (call ∷ more) (with_boot ended stopped found (broken_note fault untouched)) faulted (answered s status detail))
-  first_broke call more moments all status detail fault before plain can stands err told =
-      calls_broke (call ∷ more) status detail [] untouched moments call refl fault told (err s.store stands) can
+  first_broke call more moments asked all status detail fault before plain can stands err told =
+      calls_broke (call ∷ more) status detail [] untouched moments asked call refl fault told (err s.store stands) can
       (λ is. (plain, all)) tt (λ n restored torn. (restored, torn))
 
   -- a single call that writes
-  pub one_call : (call : StoreCall) → Leaving g first kept (DuringCalls (writes (call ∷ [])) s.store) → (writes (call ∷ []) ≡ call ∷ []) → (ended : Result Unit BankFault) (before : StoreParts B)
+  pub one_call : (call : StoreCall) → Leaving g first kept (DuringCalls (writes (call ∷ [])) s.store) → AsksIn g first kept done.note.outcome (call ∷ []) → (writes (call ∷ []) ≡ call ∷ []) → (ended : Result Unit BankFault) (before : StoreParts B)
       → is_restore call ≡ false → ((store : Blocks) → MayGoOn (call ∷ []) store) → ((n : BankNote) → Plain n → Tells (call ∷ []) n)
       → IfErr ended (λ fault. CanBreak (is_gate fault) (is_old fault) call s.store)
       → StandsFor g.tells g.now before s.store
@@ -169,12 +174,12 @@ module _ {B : Type 0} (g : Ghosts B) (first kept : StoreParts B) (s : State) (do
       → IfErr ended (λ fault. (blocks : Blocks) → StandsFor g.tells g.now before blocks → StandsFor g.tells g.now kept (broken (is_gate fault) (is_old fault) call blocks))
       → IsTold done (call_status ended) 0 [] (call_note ended untouched)
       → Calls g first kept s done (λ n. then_call (call ∷ []) n faulted (answered s SUCCESS 0))
-  one_call call moments all (Ok x) before plain gave says can stands ok err told =
+  one_call call moments asked all (Ok x) before plain gave says can stands ok err told =
       by_note g first kept s done (λ n. then_call (call ∷ []) n faulted (answered s SUCCESS 0)) (done_note untouched) told.note_is
-      (calls_done (call ∷ []) SUCCESS 0 [] untouched moments told (ok s.store stands) (λ is. cc is) refl (refl, refl) (gave s.store) (λ n restored torn. says n (restored, torn)))
-  one_call call moments all (Err fault) before plain gave says can stands ok err told =
+      (calls_done (call ∷ []) SUCCESS 0 [] untouched moments asked told (ok s.store stands) (λ is. cc is) refl (refl, refl) (gave s.store) (λ n restored torn. says n (restored, torn)))
+  one_call call moments asked all (Err fault) before plain gave says can stands ok err told =
       by_note g first kept s done (λ n. then_call (call ∷ []) n faulted (answered s SUCCESS 0)) (broken_note fault untouched) told.note_is
-      (first_broke call [] moments all SUCCESS 0 fault before plain can stands err told)
+      (first_broke call [] moments asked all SUCCESS 0 fault before plain can stands err told)
 
   -- what means the same
   pub calls_same : (one other : BankNote → model.Effect) → ((n : BankNote) → other n ≡ one n) → Calls g first kept s done one → Calls g first kept s done other
@@ -205,6 +210,7 @@ module _ {B : Type 0} (g : Ghosts B) (first kept : StoreParts B) (s : State) (do
         says = is.says;
         writing = is.writing;
         moments = is.moments;
+        asked = is.asked;
       }
 
 -- what is told beside an answer that is silent by itself
@@ -220,20 +226,20 @@ silent_beside done report table silent is = (λ i. record done {
 
 -- a copy of an image of this size, and the deletion of a block
 module _ {B : Type 0} (g : Ghosts B) (first before kept : StoreParts B) (s : State) (done : Effect) (slot : ℕ) (ended : Result Unit BankFault) (stands : StandsFor g.tells g.now before s.store) (told : IsTold done (call_status ended) 0 [] (call_note ended untouched)) where
-  pub copy_called : (image : List ℕ) (size : ℕ) → (g.tells_moments → LeavesOnly g.clock g.left_since first.bank kept.bank (LeavesIn (copy slot image) s.store)) → length image ≡ size → IfErr ended (λ fault. (blocks : Blocks) → CanBreak (is_gate fault) (is_old fault) (copy slot image) blocks)
+  pub copy_called : (image : List ℕ) (size : ℕ) → (g.tells_moments → LeavesOnly g.clock g.left_since first.bank kept.bank (LeavesIn (copy slot image) s.store)) → AsksIn g first kept done.note.outcome (copy slot image ∷ []) → length image ≡ size → IfErr ended (λ fault. (blocks : Blocks) → CanBreak (is_gate fault) (is_old fault) (copy slot image) blocks)
       → OnOk ended ((blocks : Blocks) → StandsFor g.tells g.now before blocks → StandsFor g.tells g.now kept (after (copy slot image) blocks))
       → IfErr ended (λ fault. (blocks : Blocks) → StandsFor g.tells g.now before blocks → StandsFor g.tells g.now kept (broken (is_gate fault) (is_old fault) (copy slot image) blocks))
       → Calls g first kept s done (λ n. if length image == size then then_call (copy slot image ∷ []) n faulted (answered s SUCCESS 0) else answered s ERR_IMAGE_SIZE 0)
-  copy_called image size left fits can ok err =
+  copy_called image size left asked fits can ok err =
       calls_same g first kept s done (λ n. then_call (copy slot image ∷ []) n faulted (answered s SUCCESS 0)) (λ n. if length image == size then then_call (copy slot image ∷ []) n faulted (answered s SUCCESS 0) else answered s ERR_IMAGE_SIZE 0)
       (λ n. ap (λ b. if b then then_call (copy slot image ∷ []) n faulted (answered s SUCCESS 0) else answered s ERR_IMAGE_SIZE 0) (eq-eqb (length image) size fits))
-      (one_call g first kept s done (copy slot image) (one_leaves g first kept (copy slot image) [] s.store left) refl ended before refl (λ store. (tt, tt)) (λ n plain. plain) (IfErr-weaker ended _ _ (λ fault all. all s.store) can) stands ok err told)
+      (one_call g first kept s done (copy slot image) (one_leaves g first kept (copy slot image) [] s.store left) asked refl ended before refl (λ store. (tt, tt)) (λ n plain. plain) (IfErr-weaker ended _ _ (λ fault all. all s.store) can) stands ok err told)
 
-  pub delete_called : (g.tells_moments → LeavesOnly g.clock g.left_since first.bank kept.bank (LeavesIn (delete slot) s.store)) → IfErr ended (HasFlags true false)
+  pub delete_called : (g.tells_moments → LeavesOnly g.clock g.left_since first.bank kept.bank (LeavesIn (delete slot) s.store)) → AsksIn g first kept done.note.outcome (delete slot ∷ []) → IfErr ended (HasFlags true false)
       → OnOk ended ((blocks : Blocks) → StandsFor g.tells g.now before blocks → StandsFor g.tells g.now kept (after (delete slot) blocks))
       → IfErr ended (λ fault. (blocks : Blocks) → StandsFor g.tells g.now before blocks → StandsFor g.tells g.now kept (broken (is_gate fault) (is_old fault) (delete slot) blocks))
       → Calls g first kept s done (λ n. then_call (delete slot ∷ []) n faulted (answered s SUCCESS 0))
-  delete_called left flags ok err = one_call g first kept s done (delete slot) (one_leaves g first kept (delete slot) [] s.store left) refl ended before refl (λ store. (tt, tt)) (λ n plain. plain) (IfErr-weaker ended (HasFlags true false) _ (λ fault has. flags_break true false fault (delete slot) s.store (refl, refl) has) flags) stands ok err told
+  delete_called left asked flags ok err = one_call g first kept s done (delete slot) (one_leaves g first kept (delete slot) [] s.store left) asked refl ended before refl (λ store. (tt, tt)) (λ n plain. plain) (IfErr-weaker ended (HasFlags true false) _ (λ fault has. flags_break true false fault (delete slot) s.store (refl, refl) has) flags) stands ok err told
 
 -- ---- a restore
 
@@ -270,7 +276,7 @@ module _ (bytes : List ℕ) (blocks : Blocks) (slot : ℕ) where
       let at : slot_at slots slot ≡ Some (slot_of b) = slot_is [] slots blocks same slot ∙ ap (option_map slot_of) there in
       subst (MayGive b) (none (slot_of b) at) (held slot b there)
 
-module _ {B : Type 0} (g : Ghosts B) (first before kept : StoreParts B) (s : State) (done : Effect) (slot : ℕ) (stands : StandsFor g.tells g.now before s.store) (moments : Leaving g first kept (DuringCalls [] s.store)) where
+module _ {B : Type 0} (g : Ghosts B) (first before kept : StoreParts B) (s : State) (done : Effect) (slot : ℕ) (stands : StandsFor g.tells g.now before s.store) (moments : Leaving g first kept (DuringCalls [] s.store)) (asked : AsksIn g first kept done.note.outcome (restore slot None ∷ [])) where
   abbrev Restores : Type 0
   Restores = Calls g first kept s done (λ n. then_call (restore slot (restored_image n) ∷ []) n faulted (restore_answer s n.torn (restored_image n)))
 
@@ -286,7 +292,7 @@ module _ {B : Type 0} (g : Ghosts B) (first before kept : StoreParts B) (s : Sta
   given_called image (Some b) is gives sized left told =
       let same : b.list ≡ image = same_Some b.list image is in
       by_note g first kept s done means (record (done_note untouched) { restored = Some b }) told.note_is
-      (calls_done g first kept s done (restore slot (Some b.list) ∷ []) SUCCESS 0 b.list (record untouched { restored = Some b }) moments (told_with (sym same) refl told)
+      (calls_done g first kept s done (restore slot (Some b.list) ∷ []) SUCCESS 0 b.list (record untouched { restored = Some b }) moments asked (told_with (sym same) refl told)
       (subst (λ i. StandsFor g.tells g.now kept (after (restore slot (Some i)) s.store)) (sym same) left) (λ is. cc is) refl (refl, refl)
       (subst (λ (i : List ℕ). MayGo (restore slot (Some i)) s.store) (sym same) (λ b there. (gives b there, sized b there)), tt)
       (λ n restored torn. (ap (option_map (λ (b : Buffer). b.list)) restored, λ given. torn)))
@@ -301,11 +307,11 @@ module _ {B : Type 0} (g : Ghosts B) (first before kept : StoreParts B) (s : Sta
     by (Some told_words) is there answer =
         let gives = gives_none (g.now before.bank) s.store slot before.slots stands.slots (stands.holds told) (λ t at. (unheld (g.now before.bank) slot t.block broke told_words is (none told t at)).no_image) in
         by_note g first kept s done means (record (done_note untouched) { torn = told_words }) answer.note_is
-        (calls_done g first kept s done (restore slot None ∷ []) ERR_CDS_TORN told_words [] (record untouched { torn = told_words }) moments answer there (λ is. cc is) refl (refl, refl) ((λ b there. (gives b there, tt)), tt)
+        (calls_done g first kept s done (restore slot None ∷ []) ERR_CDS_TORN told_words [] (record untouched { torn = told_words }) moments asked answer there (λ is. cc is) refl (refl, refl) ((λ b there. (gives b there, tt)), tt)
         (λ n restored torn. (ap (option_map (λ (b : Buffer). b.list)) restored, λ given. absurd (cc given))))
     by None is there answer =
         by_note g first kept s done means (broken_note (Fault false false) untouched) answer.note_is
-        (calls_broke g first kept s done (restore slot None ∷ []) ERR_CDS_TORN 0 [] untouched moments (restore slot None) refl (Fault false false) answer there (refl, refl) (λ is. absurd (cc is)) tt (λ n restored torn. (restored, torn)))
+        (calls_broke g first kept s done (restore slot None ∷ []) ERR_CDS_TORN 0 [] untouched moments asked (restore slot None) refl (Fault false false) answer there (refl, refl) (λ is. absurd (cc is)) tt (λ n restored torn. (restored, torn)))
 
 -- what it gave is what the block held
 pub ungiven_gave : {B : Type 0} (g : Ghosts B) (before : StoreParts B) (done : Effect) (slot : ℕ) (blocks : Blocks) (broke : RestoreFault) → g.tells → StandsFor g.tells g.now before blocks

@@ -28,6 +28,8 @@ use Rattle.cds_store.specs.declared.fault.BankFault.{BankFault}
 use Rattle.cds_store.specs.declared.fault.BankFault.TheVariants.{Fault, Stopped as Cut}
 use Rattle.tbl_outside.specs.Counts.{Rose, RoseBy}
 use Rattle.std.proofs.lemmas.List.{length-append}
+use Rattle.store_requests.specs.BankCalls.{AsksIn, asked_in}
+use Rattle.store_requests.proofs.BankCalls.{bank_calls_none}
 use Rattle.store_requests.specs.Called.{with_boot, done_note, broken_note, done_first, IsCalled, CallsAfter}
 use Rattle.tbl_session.specs.Crashes.{DuringCalls, writes}
 use Rattle.tbl_outside.specs.Bank.{LeavesOnly}
@@ -66,8 +68,8 @@ module _ {B : Type 0} (g : Ghosts B) (first kept : StoreParts B) (e : model.Effe
       subst (λ (n : BankNote). (ended stopped : Bool) (found : List ℕ) → IsCalled g first kept (done_first e) done (with_boot ended stopped found n) (means (with_boot ended stopped found n))) (sym told) all
 
   -- nothing is copied after it
-  alone : (g.tells_moments → LeavesOnly g.clock g.left_since first.bank kept.bank (λ image. (calls : List StoreCall) → DuringCalls calls e.next.store (store_of image))) → before.note ≡ untouched → StandsFor g.tells g.now kept e.next.store → Copies before (λ n. e)
-  alone moments told stands = by_told before (λ n. e) untouched told (λ ended stopped found. record {
+  alone : (g.tells_moments → LeavesOnly g.clock g.left_since first.bank kept.bank (λ image. (calls : List StoreCall) → DuringCalls calls e.next.store (store_of image))) → kept.bank ≡ first.bank → before.note ≡ untouched → StandsFor g.tells g.now kept e.next.store → Copies before (λ n. e)
+  alone moments still told stands = by_told before (λ n. e) untouched told (λ ended stopped found. record {
     blocks = subst (λ (calls : List StoreCall). StandsFor g.tells g.now kept (left_by calls (with_boot ended stopped found untouched) e.next.store)) (sym is.calls) stands;
     effect = record {
       status = is.status;
@@ -86,22 +88,23 @@ module _ {B : Type 0} (g : Ghosts B) (first kept : StoreParts B) (e : model.Effe
     says = (refl, refl);
     writing = λ stop. absurd (cc stop);
     moments = λ m. leaves_among (moments m) (λ image all. all (writes e.calls));
+    asked = bank_calls_none g first.bank kept.bank (asked_in (g.now first.bank) first.slots e.calls) before.note still told;
   })
 
-  pub stays : (g.tells_moments → LeavesOnly g.clock g.left_since first.bank kept.bank (λ image. (calls : List StoreCall) → DuringCalls calls e.next.store (store_of image))) → (means : BankNote → model.Effect) → ((n : BankNote) → means n ≡ e) → before.note ≡ untouched → StandsFor g.tells g.now kept e.next.store → Copies before means
-  stays moments means same told stands ended stopped found =
+  pub stays : (g.tells_moments → LeavesOnly g.clock g.left_since first.bank kept.bank (λ image. (calls : List StoreCall) → DuringCalls calls e.next.store (store_of image))) → kept.bank ≡ first.bank → (means : BankNote → model.Effect) → ((n : BankNote) → means n ≡ e) → before.note ≡ untouched → StandsFor g.tells g.now kept e.next.store → Copies before means
+  stays moments still means same told stands ended stopped found =
       let n = with_boot ended stopped found before.note in
-      subst (IsCalled g first kept (done_first e) before n) (sym (same n)) (alone moments told stands ended stopped found)
+      subst (IsCalled g first kept (done_first e) before n) (sym (same n)) (alone moments still told stands ended stopped found)
 
   pub with_note : (means : BankNote → model.Effect) (note : BankNote) → note ≡ before.note → Copies before means → Copies (record before { note = note }) means
   with_note means note is all = subst (λ (n : BankNote). Copies (record before { note = n }) means) (sym is) all
 
   -- it is copied into this slot
-  pub copied_after : (prior : StoreParts B) (row slot : ℕ) (image : List ℕ) (done : Effect) (ended : Result Unit BankFault) → (g.tells_moments → LeavesOnly g.clock g.left_since first.bank kept.bank (LeavesIn (copy slot image) e.next.store)) → StandsFor g.tells g.now prior e.next.store → IfErr ended (λ fault. (blocks : Blocks) → CanBreak (is_gate fault) (is_old fault) (copy slot image) blocks)
+  pub copied_after : (prior : StoreParts B) (row slot : ℕ) (image : List ℕ) (done : Effect) (ended : Result Unit BankFault) → (g.tells_moments → LeavesOnly g.clock g.left_since first.bank kept.bank (LeavesIn (copy slot image) e.next.store)) → AsksIn g first kept done.note.outcome (copy slot image ∷ []) → StandsFor g.tells g.now prior e.next.store → IfErr ended (λ fault. (blocks : Blocks) → CanBreak (is_gate fault) (is_old fault) (copy slot image) blocks)
       → OnOk ended ((blocks : Blocks) → StandsFor g.tells g.now prior blocks → StandsFor g.tells g.now kept (after (copy slot image) blocks))
       → IfErr ended (λ fault. (blocks : Blocks) → StandsFor g.tells g.now prior blocks → StandsFor g.tells g.now kept (broken (is_gate fault) (is_old fault) (copy slot image) blocks))
       → IsCopied row slot ended before done → Copies done (λ n. copied_to row n e (Some slot) (Some image))
-  copied_after prior row slot image done (Ok x) left stands can ok err copied = by_told done (λ n. copied_to row n e (Some slot) (Some image)) (done_note untouched) copied.note (λ ended stopped found. record {
+  copied_after prior row slot image done (Ok x) left asked stands can ok err copied = by_told done (λ n. copied_to row n e (Some slot) (Some image)) (done_note untouched) copied.note (λ ended stopped found. record {
     blocks = ok e.next.store stands;
     effect = record {
       status = is.status ∙ ap (λ (a : Answer). a.status) (sym copied.answer);
@@ -120,8 +123,9 @@ module _ {B : Type 0} (g : Ghosts B) (first kept : StoreParts B) (e : model.Effe
     says = (refl, refl);
     writing = λ stop. refl;
     moments = one_leaves g first kept (copy slot image) [] e.next.store left;
+    asked = asked;
   })
-  copied_after prior row slot image done (Err (Fault gate old)) left stands can ok err copied = by_told done (λ n. copied_to row n e (Some slot) (Some image)) (broken_note (Fault gate old) untouched) copied.note (λ ended stopped found. record {
+  copied_after prior row slot image done (Err (Fault gate old)) left asked stands can ok err copied = by_told done (λ n. copied_to row n e (Some slot) (Some image)) (broken_note (Fault gate old) untouched) copied.note (λ ended stopped found. record {
     blocks = err e.next.store stands;
     effect = record {
       status = is.status ∙ ap (λ (a : Answer). a.status) (sym copied.answer);
@@ -140,8 +144,9 @@ module _ {B : Type 0} (g : Ghosts B) (first kept : StoreParts B) (e : model.Effe
     says = (refl, refl);
     writing = λ stop. refl;
     moments = one_leaves g first kept (copy slot image) [] e.next.store left;
+    asked = asked;
   })
-  copied_after prior row slot image done (Err (Cut gate old)) left stands can ok err copied = by_told done (λ n. copied_to row n e (Some slot) (Some image)) (broken_note (Cut gate old) untouched) copied.note (λ ended stopped found. record {
+  copied_after prior row slot image done (Err (Cut gate old)) left asked stands can ok err copied = by_told done (λ n. copied_to row n e (Some slot) (Some image)) (broken_note (Cut gate old) untouched) copied.note (λ ended stopped found. record {
     blocks = err e.next.store stands;
     effect = record {
       status = ap (λ (a : Answer). a.status) (sym copied.answer);
@@ -160,6 +165,7 @@ module _ {B : Type 0} (g : Ghosts B) (first kept : StoreParts B) (e : model.Effe
     says = (refl, refl);
     writing = λ stop. refl;
     moments = one_leaves g first kept (copy slot image) [] e.next.store left;
+    asked = asked;
   })
 
   -- what means the same

@@ -42,7 +42,9 @@ use Rattle.cds_store.specs.declared.fault.ReserveFault.{ReserveFault}
 use Rattle.cds_store.specs.declared.fault.ReserveFault.TheVariants.{NoRoom, Bank}
 use Rattle.tbl_model.specs.BankCounts.{tells_trouble, HasCause}
 use Rattle.request_effects.specs.Effects.{IsEffect, IsWithin}
-use Rattle.store_requests.specs.Called.{NoBoot, Troubled, with_boot, broken_note, done_note, IsTold, IsUngiven, IsCall, unasked, IsCalled, Calls, Leaving}
+use Rattle.store_requests.specs.BankCalls.{AsksIn}
+use Rattle.store_requests.proofs.BankCalls.{asked_none, words_outcome, read_outcome}
+use Rattle.store_requests.specs.Called.{NoBoot, Troubled, with_boot, broken_note, done_note, reserve_note, IsTold, IsUngiven, IsCall, unasked, IsCalled, Calls, Leaving}
 use Rattle.tbl_session.specs.Restores.{GaveHeld, RestoresHeld}
 use Rattle.store_requests.specs.Registering.{Enters, EntersBroken, EntersWithout, EntersRestored, EntersReserved, recovery, making}
 use Rattle.request_effects.specs.Effects.{Effect}
@@ -82,8 +84,8 @@ module _ {B : Type 0} (g : Ghosts B) (first kept : StoreParts B) (s : State) (do
   changed = record s { tables = new }
 
   -- the store isn't called
-  pub enters_alone : Leaving g first kept (DuringCalls [] s.store) → (u : Table) (status : Status) → u.handle ≡ next_handle old → Enters old new u done status untouched → StandsFor g.tells g.now kept s.store → Calls g first kept changed done (λ n. registered s row u status)
-  enters_alone moments u status at enters stands = by_note g first kept changed done (λ n. registered s row u status) untouched enters.told.note_is (λ ended stopped found. record {
+  pub enters_alone : Leaving g first kept (DuringCalls [] s.store) → AsksIn g first kept done.note.outcome [] → (u : Table) (status : Status) → u.handle ≡ next_handle old → Enters old new u done status untouched → StandsFor g.tells g.now kept s.store → Calls g first kept changed done (λ n. registered s row u status)
+  enters_alone moments asked u status at enters stands = by_note g first kept changed done (λ n. registered s row u status) untouched enters.told.note_is (λ ended stopped found. record {
     blocks = stands;
     effect = entered s old new u done status untouched same at enters s.store;
     ends = (refl, refl, (refl, refl));
@@ -91,16 +93,17 @@ module _ {B : Type 0} (g : Ghosts B) (first kept : StoreParts B) (s : State) (do
     says = (refl, refl);
     writing = λ stop. refl;
     moments = moments;
+    asked = asked;
   })
 
   module _ (calls : List StoreCall) (u : Table) (status : Status) (note : BankNote) where
     -- all calls are done
-    pub enters_done : Leaving g first kept (DuringCalls (writes calls) s.store) → u.handle ≡ next_handle old → Enters old new u done status (done_note note) → StandsFor g.tells g.now kept (left_by calls (done_note note) s.store)
+    pub enters_done : Leaving g first kept (DuringCalls (writes calls) s.store) → AsksIn g first kept done.note.outcome calls → u.handle ≡ next_handle old → Enters old new u done status (done_note note) → StandsFor g.tells g.now kept (left_by calls (done_note note) s.store)
         → calls ≢ [] → note.done + 1 ≡ length calls → NoGate note
         → MayGoOn (take (note.done + 1) calls) s.store → ((n : BankNote) → n.restored ≡ note.restored → n.torn ≡ note.torn → Tells (take (note.done + 1) calls) n)
         → (ended stopped : Bool) (found : List ℕ)
         → IsCalled g first kept (unasked changed) done (with_boot ended stopped found (done_note note)) (then_call calls (with_boot ended stopped found (done_note note)) (instead (not_kept s row t)) (registered s row u status))
-    enters_done moments at enters stands some many no_gate gave says ended stopped found = record {
+    enters_done moments asked at enters stands some many no_gate gave says ended stopped found = record {
       blocks = stands;
       effect = entered s old new u done status (done_note note) same at enters (left_by calls (done_note note) s.store);
       ends = (some, many, no_gate);
@@ -108,16 +111,17 @@ module _ {B : Type 0} (g : Ghosts B) (first kept : StoreParts B) (s : State) (do
       says = says (with_boot ended stopped found (done_note note)) refl refl;
       writing = λ stop. absurd (cc stop);
       moments = moments;
+      asked = asked;
     }
 
     -- the next one broke off
-    pub enters_broke : Leaving g first kept (DuringCalls (writes calls) s.store) → (call : StoreCall) → slice_get calls note.done ≡ Some call → (fault : BankFault) → EntersBroken old new t done fault note
+    pub enters_broke : Leaving g first kept (DuringCalls (writes calls) s.store) → AsksIn g first kept done.note.outcome calls → (call : StoreCall) → slice_get calls note.done ≡ Some call → (fault : BankFault) → EntersBroken old new t done fault note
         → StandsFor g.tells g.now kept (broken (is_gate fault) (is_old fault) call (after_first note.done calls s.store))
         → CanBreak (is_gate fault) (is_old fault) call (after_first note.done calls s.store) → ((broken_note fault note).outcome ≡ Stopped → (is_restore call ≡ false) × (writes calls ≡ calls))
         → MayGoOn (take note.done calls) s.store → ((n : BankNote) → n.restored ≡ note.restored → n.torn ≡ note.torn → Tells (take note.done calls) n)
         → (ended stopped : Bool) (found : List ℕ)
         → IsCalled g first kept (unasked changed) done (with_boot ended stopped found (broken_note fault note)) (then_call calls (with_boot ended stopped found (broken_note fault note)) (instead (not_kept s row t)) (registered s row u status))
-    enters_broke moments call next (Fault gate prior) enters stands can writes gave says ended stopped found =
+    enters_broke moments asked call next (Fault gate prior) enters stands can writes gave says ended stopped found =
         let n = broken_note (Fault gate prior) note in record {
           blocks = subst (λ o. StandsFor g.tells g.now kept (then_broken n o (after_first note.done calls s.store))) (sym next) stands;
           effect = entered s old new (uncritical t) done WARN_NOT_CRITICAL n same handle enters (left_by calls n s.store);
@@ -126,8 +130,9 @@ module _ {B : Type 0} (g : Ghosts B) (first kept : StoreParts B) (s : State) (do
           says = says (with_boot ended stopped found n) refl refl;
           writing = λ stop. absurd (cc stop);
           moments = moments;
+          asked = asked;
         }
-    enters_broke moments call next (Cut gate prior) enters stands can stops gave says ended stopped found =
+    enters_broke moments asked call next (Cut gate prior) enters stands can stops gave says ended stopped found =
         let n = broken_note (Cut gate prior) note in
         let left = boot Processor (with_boot ended stopped found n) (record s { store = left_by calls n s.store }) in record {
           blocks = subst (λ o. StandsFor g.tells g.now kept (then_broken n o (after_first note.done calls s.store))) (sym next) stands;
@@ -137,43 +142,57 @@ module _ {B : Type 0} (g : Ghosts B) (first kept : StoreParts B) (s : State) (do
           says = says (with_boot ended stopped found n) refl refl;
           writing = λ stop. (stops refl).1;
           moments = moments;
+          asked = asked;
         }
 
   -- the note is this one, where the call broke off
-  broken_is : (fault : BankFault) (note : BankNote) → EntersBroken old new t done fault note → done.note ≡ broken_note fault note
+  pub broken_is : (fault : BankFault) (note : BankNote) → EntersBroken old new t done fault note → done.note ≡ broken_note fault note
   broken_is (Fault gate prior) note enters = enters.told.note_is
   broken_is (Cut gate prior) note enters = enters.0.note_is
 
+  -- by how the last call ended
+  pub reserved_note : (made : Result ℕ ReserveFault) (note : BankNote) → EntersReserved old new t done made note → done.note ≡ reserve_note made note
+  reserved_note (Ok slot) note enters = enters.told.note_is
+  reserved_note (Err NoRoom) note enters = enters.told.note_is
+  reserved_note (Err (Bank fault)) note enters = broken_is fault note enters
+
+  pub restored_outcome : (ended : Result Unit RestoreFault) (image : List ℕ) → EntersRestored old new t done ended image → done.note.outcome ≡ read_outcome ended
+  restored_outcome (Ok x) image enters = ap (λ (n : BankNote). n.outcome) enters.0.told.note_is
+  restored_outcome (Err broke) image enters = by (words broke) enters where
+    by : (w : Option ℕ) → EntersWithout old new t done w → done.note.outcome ≡ words_outcome w
+    by (Some told) enters = ap (λ (n : BankNote). n.outcome) enters.told.note_is
+    by None enters = ap (λ (n : BankNote). n.outcome) (broken_is (Fault false false) untouched enters)
+
   -- ---- its block is restored
 
-  pub enters_restored : Leaving g first kept (DuringCalls [] s.store) → with_first None t ≡ t → g.tells → (before : StoreParts B) (slot : ℕ) (ended : Result Unit RestoreFault) (image : List ℕ) → StandsFor g.tells g.now before s.store → EntersRestored old new t done ended image
+  pub enters_restored : (slot : ℕ) → Leaving g first kept (DuringCalls [] s.store) → AsksIn g first kept done.note.outcome (restore slot None ∷ []) → with_first None t ≡ t → g.tells → (before : StoreParts B) (ended : Result Unit RestoreFault) (image : List ℕ) → StandsFor g.tells g.now before s.store → EntersRestored old new t done ended image
       → OnOk ended (g.tells → held_at slot (store_of (g.now before.bank)) ≡ Some image)
       → OnOk ended ((blocks : Blocks) → StandsFor g.tells g.now before blocks → StandsFor g.tells g.now kept (after (restore slot (Some image)) blocks))
       → IfErr ended (λ fault. g.tells → ForSome (slot_at before.slots slot) (λ b. TellsTorn (g.now before.bank) slot b.block fault))
       → IfErr ended (λ fault. (blocks : Blocks) → StandsFor g.tells g.now before blocks → StandsFor g.tells g.now kept (after_fault fault slot blocks))
       → ForSome (stored_at s.store slot) (λ b. b.block.size ≡ length image)
       → Calls g first kept changed done (recovery s row t slot)
-  enters_restored moments fresh told before slot (Ok x) image stands enters held ok torn err sized = by done.note.restored enters.1 enters.0 where
+  enters_restored slot moments asked fresh told before (Ok x) image stands enters held ok torn err sized = by done.note.restored enters.1 enters.0 where
     by : (gave : Option Buffer) → option_map (λ (b : Buffer). b.list) gave ≡ Some image → Enters old new (with_first (Some image) t) done INFO_RECOVERED_TBL (record (done_note untouched) { restored = gave }) → Calls g first kept changed done (recovery s row t slot)
     by None is enters = absurd (cc is)
     by (Some b) is enters =
         let whole : b.list ≡ image = same_Some b.list image is in
         by_note g first kept changed done (recovery s row t slot) (record (done_note untouched) { restored = Some b }) enters.told.note_is
-        (enters_done (restore slot (Some b.list) ∷ []) (with_first (Some b.list) t) INFO_RECOVERED_TBL (record untouched { restored = Some b }) moments handle
+        (enters_done (restore slot (Some b.list) ∷ []) (with_first (Some b.list) t) INFO_RECOVERED_TBL (record untouched { restored = Some b }) moments asked handle
         (subst (λ (i : List ℕ). Enters old new (with_first (Some i) t) done INFO_RECOVERED_TBL (record (done_note untouched) { restored = Some b })) (sym whole) enters)
         (subst (λ (i : List ℕ). StandsFor g.tells g.now kept (after (restore slot (Some i)) s.store)) (sym whole) (ok s.store stands)) (λ is. cc is) refl (refl, refl)
         (subst (λ (i : List ℕ). MayGo (restore slot (Some i)) s.store) (sym whole) (λ b there. (gives_image (g.now before.bank) s.store slot image (stands.shows told) (held told) b there, sym (sized b there))), tt)
         (λ n restored torn. (ap (option_map (λ (b : Buffer). b.list)) restored, λ given. torn)))
-  enters_restored moments fresh told before slot (Err broke) image stands enters held ok torn err sized = by (words broke) refl (err s.store stands) enters where
+  enters_restored slot moments asked fresh told before (Err broke) image stands enters held ok torn err sized = by (words broke) refl (err s.store stands) enters where
     by : (w : Option ℕ) → words broke ≡ w → StandsFor g.tells g.now kept (after_words w slot s.store) → EntersWithout old new t done w → Calls g first kept changed done (recovery s row t slot)
     by (Some told_words) is there enters =
         let gives = gives_none (g.now before.bank) s.store slot before.slots stands.slots (stands.holds told) (λ b at. (unheld (g.now before.bank) slot b.block broke told_words is (torn told b at)).no_image) in
         by_note g first kept changed done (recovery s row t slot) (record (done_note untouched) { torn = told_words }) enters.told.note_is
-        (enters_done (restore slot None ∷ []) (with_first None t) SUCCESS (record untouched { torn = told_words }) moments handle (subst (λ (u : Table). Enters old new u done SUCCESS (record (done_note untouched) { torn = told_words })) (sym fresh) enters) there (λ is. cc is) refl (refl, refl) ((λ b at. (gives b at, tt)), tt)
+        (enters_done (restore slot None ∷ []) (with_first None t) SUCCESS (record untouched { torn = told_words }) moments asked handle (subst (λ (u : Table). Enters old new u done SUCCESS (record (done_note untouched) { torn = told_words })) (sym fresh) enters) there (λ is. cc is) refl (refl, refl) ((λ b at. (gives b at, tt)), tt)
         (λ n restored torn. (ap (option_map (λ (b : Buffer). b.list)) restored, λ given. absurd (cc given))))
     by None is there enters =
         by_note g first kept changed done (recovery s row t slot) (broken_note (Fault false false) untouched) (broken_is (Fault false false) untouched enters)
-        (enters_broke (restore slot None ∷ []) (with_first None t) SUCCESS untouched moments (restore slot None) refl (Fault false false) enters there (refl, refl) (λ is. absurd (cc is)) tt (λ n restored torn. (restored, torn)))
+        (enters_broke (restore slot None ∷ []) (with_first None t) SUCCESS untouched moments asked (restore slot None) refl (Fault false false) enters there (refl, refl) (λ is. absurd (cc is)) tt (λ n restored torn. (restored, torn)))
 
   -- ---- its block is made
 
@@ -191,47 +210,47 @@ module _ {B : Type 0} (g : Ghosts B) (first kept : StoreParts B) (s : State) (do
     Breaks result = IfErr result (λ fault. IfBank fault (λ fault. (blocks : Blocks) → StandsFor g.tells g.now before blocks → CanBreak (is_gate fault) (is_old fault) (reserve of_table t.name t.size) blocks))
 
     -- where no open block of its name is there
-    pub new_reserved : (result : Result ℕ ReserveFault) → (g.tells_moments → LeavesOnly g.clock g.left_since first.bank kept.bank (LeavesIn (reserve of_table t.name t.size) s.store)) → (kept ≡ before → Leaving g first kept (DuringCalls [] s.store)) → open_of of_table t.name s.store ≡ None → StandsFor g.tells g.now before s.store
+    pub new_reserved : (result : Result ℕ ReserveFault) → (g.tells_moments → LeavesOnly g.clock g.left_since first.bank kept.bank (LeavesIn (reserve of_table t.name t.size) s.store)) → AsksIn g first kept done.note.outcome (reserve of_table t.name t.size ∷ []) → (kept ≡ before → Leaving g first kept (DuringCalls [] s.store)) → open_of of_table t.name s.store ≡ None → StandsFor g.tells g.now before s.store
         → Made result → Full result → (lacks_room result ≡ true → kept ≡ before) → Broke result → Breaks result → EntersReserved old new t done result untouched
         → Calls g first kept changed done (λ n. kept_effect s row t n None)
-    new_reserved (Ok slot) left still none stands ok full untouched' err breaks enters =
+    new_reserved (Ok slot) left asked still none stands ok full untouched' err breaks enters =
         calls_same g first kept changed done (making s row t None) (λ n. kept_effect s row t n None)
         (λ n. kept_made s row t n None (doubtful_of of_table t.name s.store) (any_is s t None none) refl (not_lacking (has_room t.size (doubtful_of of_table t.name s.store) s.store) (full s.store stands)))
         (by_note g first kept changed done (making s row t None) (done_note untouched) enters.told.note_is
-        (enters_done (reserve of_table t.name t.size ∷ []) t SUCCESS untouched (one_leaves g first kept (reserve of_table t.name t.size) [] s.store left) handle enters (ok s.store stands) (λ is. cc is) refl (refl, refl) (tt, tt) (λ n restored torn. (restored, torn))))
-    new_reserved (Err NoRoom) left still none stands ok full untouched' err breaks enters =
+        (enters_done (reserve of_table t.name t.size ∷ []) t SUCCESS untouched (one_leaves g first kept (reserve of_table t.name t.size) [] s.store left) asked handle enters (ok s.store stands) (λ is. cc is) refl (refl, refl) (tt, tt) (λ n restored torn. (restored, torn))))
+    new_reserved (Err NoRoom) left asked still none stands ok full untouched' err breaks enters =
         calls_same g first kept changed done (λ n. not_kept s row t) (λ n. kept_effect s row t n None)
         (λ n. kept_full s row t n None (doubtful_of of_table t.name s.store) (any_is s t None none) refl (lacking (has_room t.size (doubtful_of of_table t.name s.store) s.store) (full s.store stands)))
-        (enters_alone (still (untouched' refl)) (uncritical t) WARN_NOT_CRITICAL handle enters (subst (λ (parts : StoreParts B). StandsFor g.tells g.now parts s.store) (sym (untouched' refl)) stands))
-    new_reserved (Err (Bank fault)) left still none stands ok full untouched' err breaks enters =
+        (enters_alone (still (untouched' refl)) (asked_none g first.bank kept.bank done.note _ [] enters.told.note_is asked) (uncritical t) WARN_NOT_CRITICAL handle enters (subst (λ (parts : StoreParts B). StandsFor g.tells g.now parts s.store) (sym (untouched' refl)) stands))
+    new_reserved (Err (Bank fault)) left asked still none stands ok full untouched' err breaks enters =
         calls_same g first kept changed done (making s row t None) (λ n. kept_effect s row t n None)
         (λ n. kept_made s row t n None (doubtful_of of_table t.name s.store) (any_is s t None none) refl (not_lacking (has_room t.size (doubtful_of of_table t.name s.store) s.store) (full s.store stands)))
         (by_note g first kept changed done (making s row t None) (broken_note fault untouched) (broken_is fault untouched enters)
-        (enters_broke (reserve of_table t.name t.size ∷ []) t SUCCESS untouched (one_leaves g first kept (reserve of_table t.name t.size) [] s.store left) (reserve of_table t.name t.size) refl fault enters (err s.store stands) (breaks s.store stands) (λ is. (refl, refl)) tt (λ n restored torn. (restored, torn))))
+        (enters_broke (reserve of_table t.name t.size ∷ []) t SUCCESS untouched (one_leaves g first kept (reserve of_table t.name t.size) [] s.store left) asked (reserve of_table t.name t.size) refl fault enters (err s.store stands) (breaks s.store stands) (λ is. (refl, refl)) tt (λ n restored torn. (restored, torn))))
 
     -- after the deletion of the one of another size
-    pub renewed : (result : Result ℕ ReserveFault) (slot : ℕ) → Leaving g first kept (DuringCalls (delete slot ∷ reserve of_table t.name t.size ∷ []) s.store) → StandsFor g.tells g.now before (after (delete slot) s.store) → doubtful_slot of_table t.name before.slots ≡ None → has_room t.size (Some slot) s.store ≡ true
+    pub renewed : (result : Result ℕ ReserveFault) (slot : ℕ) → Leaving g first kept (DuringCalls (delete slot ∷ reserve of_table t.name t.size ∷ []) s.store) → AsksIn g first kept done.note.outcome (delete slot ∷ reserve of_table t.name t.size ∷ []) → StandsFor g.tells g.now before (after (delete slot) s.store) → doubtful_slot of_table t.name before.slots ≡ None → has_room t.size (Some slot) s.store ≡ true
         → Made result → Full result → Broke result → Breaks result → EntersReserved old new t done result (done_note untouched)
         → Calls g first kept changed done (making s row t (Some slot))
-    renewed (Ok x) slot moments stands alone room ok full err breaks enters =
+    renewed (Ok x) slot moments asked stands alone room ok full err breaks enters =
         by_note g first kept changed done (making s row t (Some slot)) (done_note (done_note untouched)) enters.told.note_is
-        (enters_done (delete slot ∷ reserve of_table t.name t.size ∷ []) t SUCCESS (done_note untouched) moments handle enters (ok (after (delete slot) s.store) stands) (λ is. cc is) refl (refl, refl) (tt, (tt, tt)) (λ n restored torn. (restored, torn)))
-    renewed (Err NoRoom) slot moments stands alone room ok full err breaks enters =
+        (enters_done (delete slot ∷ reserve of_table t.name t.size ∷ []) t SUCCESS (done_note untouched) moments asked handle enters (ok (after (delete slot) s.store) stands) (λ is. cc is) refl (refl, refl) (tt, (tt, tt)) (λ n restored torn. (restored, torn)))
+    renewed (Err NoRoom) slot moments asked stands alone room ok full err breaks enters =
         let left = after (delete slot) s.store in
         let none : doubtful_of of_table t.name left ≡ None = sym (doubtful_same of_table t.name before.slots left stands.slots) ∙ alone in
         absurd (cc (lacking (has_room t.size (doubtful_of of_table t.name left) left) (full left stands), none, room))
-    renewed (Err (Bank fault)) slot moments stands alone room ok full err breaks enters =
+    renewed (Err (Bank fault)) slot moments asked stands alone room ok full err breaks enters =
         let left = after (delete slot) s.store in
         by_note g first kept changed done (making s row t (Some slot)) (broken_note fault (done_note untouched)) (broken_is fault (done_note untouched) enters)
-        (enters_broke (delete slot ∷ reserve of_table t.name t.size ∷ []) t SUCCESS (done_note untouched) moments (reserve of_table t.name t.size) refl fault enters (err left stands) (breaks left stands) (λ is. (refl, refl)) (tt, tt) (λ n restored torn. (restored, torn)))
+        (enters_broke (delete slot ∷ reserve of_table t.name t.size ∷ []) t SUCCESS (done_note untouched) moments asked (reserve of_table t.name t.size) refl fault enters (err left stands) (breaks left stands) (λ is. (refl, refl)) (tt, tt) (λ n restored torn. (restored, torn)))
 
     -- that deletion broke off
-    pub delete_lost : (slot : ℕ) (fault : BankFault) → (g.tells_moments → LeavesOnly g.clock g.left_since first.bank kept.bank (LeavesIn (delete slot) s.store)) → StandsFor g.tells g.now before s.store → HasFlags true false fault
+    pub delete_lost : (slot : ℕ) (fault : BankFault) → (g.tells_moments → LeavesOnly g.clock g.left_since first.bank kept.bank (LeavesIn (delete slot) s.store)) → AsksIn g first kept done.note.outcome (delete slot ∷ reserve of_table t.name t.size ∷ []) → StandsFor g.tells g.now before s.store → HasFlags true false fault
         → ((blocks : Blocks) → StandsFor g.tells g.now before blocks → StandsFor g.tells g.now kept (broken (is_gate fault) (is_old fault) (delete slot) blocks)) → EntersBroken old new t done fault untouched
         → Calls g first kept changed done (making s row t (Some slot))
-    delete_lost slot fault left stands flags err enters =
+    delete_lost slot fault left asked stands flags err enters =
         by_note g first kept changed done (making s row t (Some slot)) (broken_note fault untouched) (broken_is fault untouched enters)
-        (enters_broke (delete slot ∷ reserve of_table t.name t.size ∷ []) t SUCCESS untouched (one_leaves g first kept (delete slot) (reserve of_table t.name t.size ∷ []) s.store left) (delete slot) refl fault enters (err s.store stands)
+        (enters_broke (delete slot ∷ reserve of_table t.name t.size ∷ []) t SUCCESS untouched (one_leaves g first kept (delete slot) (reserve of_table t.name t.size ∷ []) s.store left) asked (delete slot) refl fault enters (err s.store stands)
         (subst (λ g. CanBreak g (is_old fault) (delete slot) s.store) (sym flags.gate_is) (subst (λ o. CanBreak true o (delete slot) s.store) (sym flags.old_is) (refl, refl)))
         (λ is. (refl, refl)) tt (λ n restored torn. (restored, torn)))
 

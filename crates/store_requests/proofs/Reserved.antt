@@ -13,6 +13,7 @@ use Rattle.tbl_kinds.specs.StoreCalls.{reserve, delete, after, broken, CanBreak}
 use Rattle.tbl_kinds.specs.StoreSteps.{stored_at, open_of, doubtful_of, has_room, closed}
 use Rattle.tbl_kinds.specs.Free.{least_free}
 use Rattle.tbl_kinds.specs.Notes.{untouched}
+use Rattle.tbl_kinds.specs.declared.block.BlockKind.{BlockKind}
 use Rattle.tbl_kinds.specs.declared.block.BlockKind.TheVariants.{App}
 use Rattle.tbl_kinds.specs.declared.note.BankNote.{BankNote}
 use Rattle.tbl_kinds.specs.declared.status.TheConstants.Status.{SUCCESS, INFO_CDS_EXISTS, ERR_CDS_NO_ROOM, ERR_BAD_APP, ERR_INVALID_NAME, ERR_INVALID_SIZE}
@@ -31,6 +32,8 @@ use Rattle.tbl_session.specs.Crashes.{DuringCalls}
 use Rattle.tbl_outside.specs.Bank.{LeavesOnly}
 use Rattle.cds_store.specs.Moments.{LeavesIn}
 use Rattle.store_requests.proofs.Moments.{one_leaves}
+use Rattle.store_requests.specs.BankCalls.{AsksIn}
+use Rattle.store_requests.proofs.BankCalls.{asked_none}
 use Rattle.store_requests.specs.Called.{Leaving, broken_note, done_note, reserve_note, reserve_status, reserve_detail, IsTold, Calls}
 use Rattle.store_requests.proofs.Calls.{by_note, calls_none, calls_done, calls_broke, calls_same}
 use Rattle.request_effects.specs.Effects.{Effect}
@@ -98,54 +101,54 @@ module _ {B : Type 0} (g : Ghosts B) (first before kept : StoreParts B) (s : Sta
   Breaks result = IfErr result (λ fault. IfBank fault (λ fault. (blocks : Blocks) → StandsFor g.tells g.now before blocks → CanBreak (is_gate fault) (is_old fault) (reserve App name size) blocks))
 
   -- of a name of which no open block is there
-  pub new_called : (result : Result ℕ ReserveFault) → (g.tells_moments → LeavesOnly g.clock g.left_since first.bank kept.bank (LeavesIn (reserve App name size) s.store)) → (kept ≡ before → Leaving g first kept (DuringCalls [] s.store)) → open_of App name s.store ≡ None → StandsFor g.tells g.now before s.store
+  pub new_called : (result : Result ℕ ReserveFault) → (g.tells_moments → LeavesOnly g.clock g.left_since first.bank kept.bank (LeavesIn (reserve App name size) s.store)) → AsksIn g first kept done.note.outcome (reserve App name size ∷ []) → (kept ≡ before → Leaving g first kept (DuringCalls [] s.store)) → open_of App name s.store ≡ None → StandsFor g.tells g.now before s.store
       → Made result → At result → Full result → (lacks_room result ≡ true → kept ≡ before) → Broke result → Breaks result
       → IsTold done (reserve_status result) (reserve_detail result) [] (reserve_note result untouched)
       → Calls g first kept s done (λ n. block_effect s name size n None)
-  new_called (Ok slot) left still none stands ok at full untouched' err breaks told =
+  new_called (Ok slot) left asked still none stands ok at full untouched' err breaks told =
       calls_same g first kept s done (λ n. then_call (reserve App name size ∷ []) n faulted (answered s SUCCESS slot)) (λ n. block_effect s name size n None)
       (λ n. block_means s name size n None (doubtful_of App name s.store) (any_is s name None none) refl (not_lacking (has_room size (doubtful_of App name s.store) s.store) (full s.store stands))
       ∙ ap (λ k. then_call (reserve App name size ∷ []) n faulted (answered s SUCCESS (unwrap_or k 0))) (at s.store stands))
       (by_note g first kept s done (λ n. then_call (reserve App name size ∷ []) n faulted (answered s SUCCESS slot)) (done_note untouched) told.note_is
-      (calls_done g first kept s done (reserve App name size ∷ []) SUCCESS slot [] untouched (one_leaves g first kept (reserve App name size) [] s.store left) told (ok s.store stands) (λ is. cc is) refl (refl, refl) (tt, tt) (λ n restored torn. (restored, torn))))
-  new_called (Err NoRoom) left still none stands ok at full untouched' err breaks told =
+      (calls_done g first kept s done (reserve App name size ∷ []) SUCCESS slot [] untouched (one_leaves g first kept (reserve App name size) [] s.store left) asked told (ok s.store stands) (λ is. cc is) refl (refl, refl) (tt, tt) (λ n restored torn. (restored, torn))))
+  new_called (Err NoRoom) left asked still none stands ok at full untouched' err breaks told =
       calls_same g first kept s done (λ n. answered s ERR_CDS_NO_ROOM 0) (λ n. block_effect s name size n None)
       (λ n. no_room s name size n None (doubtful_of App name s.store) (any_is s name None none) refl (lacking (has_room size (doubtful_of App name s.store) s.store) (full s.store stands)))
-      (calls_none g first kept s done (still (untouched' refl)) ERR_CDS_NO_ROOM 0 told (subst (λ parts. StandsFor g.tells g.now parts s.store) (sym (untouched' refl)) stands))
-  new_called (Err (Bank fault)) left still none stands ok at full untouched' err breaks told =
+      (calls_none g first kept s done (still (untouched' refl)) (asked_none g first.bank kept.bank done.note _ [] told.note_is asked) ERR_CDS_NO_ROOM 0 told (subst (λ parts. StandsFor g.tells g.now parts s.store) (sym (untouched' refl)) stands))
+  new_called (Err (Bank fault)) left asked still none stands ok at full untouched' err breaks told =
       let slot = new_slot App name None s.store in
       calls_same g first kept s done (λ n. then_call (reserve App name size ∷ []) n faulted (answered s SUCCESS slot)) (λ n. block_effect s name size n None)
       (λ n. block_means s name size n None (doubtful_of App name s.store) (any_is s name None none) refl (not_lacking (has_room size (doubtful_of App name s.store) s.store) (full s.store stands)))
       (by_note g first kept s done (λ n. then_call (reserve App name size ∷ []) n faulted (answered s SUCCESS slot)) (broken_note fault untouched) told.note_is
-      (calls_broke g first kept s done (reserve App name size ∷ []) SUCCESS slot [] untouched (one_leaves g first kept (reserve App name size) [] s.store left) (reserve App name size) refl fault told (err s.store stands) (breaks s.store stands) (λ is. (refl, refl)) tt (λ n restored torn. (restored, torn))))
+      (calls_broke g first kept s done (reserve App name size ∷ []) SUCCESS slot [] untouched (one_leaves g first kept (reserve App name size) [] s.store left) asked (reserve App name size) refl fault told (err s.store stands) (breaks s.store stands) (λ is. (refl, refl)) tt (λ n restored torn. (restored, torn))))
 
   -- after the deletion of the one of another size
-  pub renewed : (result : Result ℕ ReserveFault) (old : ℕ) → Leaving g first kept (DuringCalls (delete old ∷ reserve App name size ∷ []) s.store) → StandsFor g.tells g.now before (after (delete old) s.store) → doubtful_slot App name before.slots ≡ None → has_room size (Some old) s.store ≡ true
+  pub renewed : (result : Result ℕ ReserveFault) (old : ℕ) → Leaving g first kept (DuringCalls (delete old ∷ reserve App name size ∷ []) s.store) → AsksIn g first kept done.note.outcome (delete old ∷ reserve App name size ∷ []) → StandsFor g.tells g.now before (after (delete old) s.store) → doubtful_slot App name before.slots ≡ None → has_room size (Some old) s.store ≡ true
       → Made result → At result → Full result → Broke result → Breaks result
       → IsTold done (reserve_status result) (reserve_detail result) [] (reserve_note result (done_note untouched))
       → Calls g first kept s done (λ n. then_call (renewal App name size (Some old)) n faulted (answered s SUCCESS (new_slot App name (Some old) s.store)))
-  renewed (Ok slot) old moments stands alone room ok at full err breaks told =
+  renewed (Ok slot) old moments asked stands alone room ok at full err breaks told =
       let left = after (delete old) s.store in
       calls_same g first kept s done (λ n. then_call (delete old ∷ reserve App name size ∷ []) n faulted (answered s SUCCESS slot)) (λ n. then_call (renewal App name size (Some old)) n faulted (answered s SUCCESS (new_slot App name (Some old) s.store)))
       (λ n. ap (λ k. then_call (delete old ∷ reserve App name size ∷ []) n faulted (answered s SUCCESS (unwrap_or k 0))) (at left stands))
       (by_note g first kept s done (λ n. then_call (delete old ∷ reserve App name size ∷ []) n faulted (answered s SUCCESS slot)) (done_note (done_note untouched)) told.note_is
-      (calls_done g first kept s done (delete old ∷ reserve App name size ∷ []) SUCCESS slot [] (done_note untouched) moments told (ok left stands) (λ is. cc is) refl (refl, refl) (tt, (tt, tt)) (λ n restored torn. (restored, torn))))
-  renewed (Err NoRoom) old moments stands alone room ok at full err breaks told =
+      (calls_done g first kept s done (delete old ∷ reserve App name size ∷ []) SUCCESS slot [] (done_note untouched) moments asked told (ok left stands) (λ is. cc is) refl (refl, refl) (tt, (tt, tt)) (λ n restored torn. (restored, torn))))
+  renewed (Err NoRoom) old moments asked stands alone room ok at full err breaks told =
       let left = after (delete old) s.store in
       let none : doubtful_of App name left ≡ None = sym (doubtful_same App name before.slots left stands.slots) ∙ alone in
       absurd (cc (lacking (has_room size (doubtful_of App name left) left) (full left stands), none, room))
-  renewed (Err (Bank fault)) old moments stands alone room ok at full err breaks told =
+  renewed (Err (Bank fault)) old moments asked stands alone room ok at full err breaks told =
       let left = after (delete old) s.store in
       let slot = new_slot App name (Some old) s.store in
       by_note g first kept s done (λ n. then_call (delete old ∷ reserve App name size ∷ []) n faulted (answered s SUCCESS slot)) (broken_note fault (done_note untouched)) told.note_is
-      (calls_broke g first kept s done (delete old ∷ reserve App name size ∷ []) SUCCESS slot [] (done_note untouched) moments (reserve App name size) refl fault told (err left stands) (breaks left stands) (λ is. (refl, refl)) (tt, tt) (λ n restored torn. (restored, torn)))
+      (calls_broke g first kept s done (delete old ∷ reserve App name size ∷ []) SUCCESS slot [] (done_note untouched) moments asked (reserve App name size) refl fault told (err left stands) (breaks left stands) (λ is. (refl, refl)) (tt, tt) (λ n restored torn. (restored, torn)))
 
 -- where room was asked for before, there is some after the deletion
-pub room_left : (blocks : Blocks) (name : List ℕ) (size old : ℕ) (b : Bool) → has_room size (Some old) blocks ≡ true → doubtful_of App name (after (delete old) blocks) ≡ None
-    → b ≡ not (has_room size (doubtful_of App name (after (delete old) blocks)) (after (delete old) blocks)) → b ≡ true → ⊥
-room_left blocks name size old b room none full lacks =
+pub room_left : (kind : BlockKind) (blocks : Blocks) (name : List ℕ) (size old : ℕ) (b : Bool) → has_room size (Some old) blocks ≡ true → doubtful_of kind name (after (delete old) blocks) ≡ None
+    → b ≡ not (has_room size (doubtful_of kind name (after (delete old) blocks)) (after (delete old) blocks)) → b ≡ true → ⊥
+room_left kind blocks name size old b room none full lacks =
     let left = after (delete old) blocks in
-    let no : has_room size None left ≡ false = subst (λ (o : Option ℕ). has_room size o left ≡ false) none (lacking (has_room size (doubtful_of App name left) left) (sym lacks ∙ full)) in
+    let no : has_room size None left ≡ false = subst (λ (o : Option ℕ). has_room size o left ≡ false) none (lacking (has_room size (doubtful_of kind name left) left) (sym lacks ∙ full)) in
     let yes : has_room size None left ≡ true = room in
     cc (sym yes ∙ no)
 

@@ -30,6 +30,7 @@ use Rattle.cds_store.specs.declared.fault.BankFault.TheVariants.{Fault, Stopped 
 use Rattle.cds_store.specs.declared.fault.ReserveFault.{ReserveFault}
 use Rattle.cds_store.specs.declared.fault.ReserveFault.TheVariants.{NoRoom, Bank}
 use Rattle.request_effects.specs.Effects.{Effect, IsEffect, IsWithin, uncalled}
+use Rattle.store_requests.specs.BankCalls.{AsksIn}
 use Rattle.tbl_outside.specs.declared.bank.Bank.{Ghosts}
 
 -- ---- the boot after it
@@ -156,7 +157,7 @@ done_first e = record { state = e.next; questions = e.questions }
 
 -- a request that did this before it called the store has this effect, where the service has this note after it; before a boot the
 -- store stands for the blocks that the calls leave, and the note is one that they may leave. A reset in one of those that write leaves
--- what those before it and this one made of the blocks, and a restore is never stopped
+-- what those before it and this one made of the blocks, and a restore is never stopped. The bank was asked what its calls ask, once
 pub record IsCalled {B : Type 0} (g : Ghosts B) (old kept : StoreParts B) (first : BeforeCalls) (done : Effect) (note : BankNote) (e : model.Effect) : Type 0 where
   pub blocks : StandsFor g.tells g.now kept (left_by e.calls note first.state.store)
   pub effect : IsEffect done first.questions (boots_after note.outcome note (record first.state { store = left_by e.calls note first.state.store })) (uncalled e)
@@ -165,6 +166,7 @@ pub record IsCalled {B : Type 0} (g : Ghosts B) (old kept : StoreParts B) (first
   pub says : Tells (take note.done e.calls) note
   pub writing : note.outcome ≡ Stopped → writes e.calls ≡ e.calls
   pub moments : Leaving g old kept (DuringCalls (writes e.calls) first.state.store)
+  pub asked : AsksIn g old kept done.note.outcome e.calls
 
 -- this holds whatever a boot after the calls tells
 abbrev pub CallsAfter : {B : Type 0} → Ghosts B → StoreParts B → StoreParts B → BeforeCalls → Effect → (BankNote → model.Effect) → Type 0

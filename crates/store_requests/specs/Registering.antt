@@ -5,7 +5,9 @@ use Rattle.tbl_kinds.specs.Blocks.{Store as Blocks}
 use Rattle.tbl_outside.specs.Bank.{LeavesOnly}
 use Rattle.tbl_kinds.specs.Notes.{untouched, restored_image}
 use Rattle.cds_layout.specs.Images.{store_of}
-use Rattle.cds_layout.specs.Restores.{TellsTorn, RestoreCounted, words}
+use Rattle.tbl_outside.specs.BankCalls.{Asks}
+use Rattle.cds_layout.specs.Order.{restore_calls}
+use Rattle.cds_layout.specs.Restores.{TellsTorn, RestoreCounted, words, was_read}
 use Rattle.cds_layout.specs.declared.blocks.RestoreFault.{RestoreFault}
 use Rattle.cds_store.specs.Sound.{slot_at}
 use Rattle.cds_store.specs.StoreBlocks.{StoreParts, StandsFor, held_at, after_fault}
@@ -104,3 +106,4 @@ pub record Restores {B : Type 0} (g : Ghosts B) (old new : StoreParts B) (slot s
   pub more_faults : g.faults old.bank ≤ g.faults new.bank
   pub more_stops : g.stops old.bank ≤ g.stops new.bank
   pub moments : g.tells_moments → LeavesOnly g.clock g.left_since old.bank new.bank (λ image. image ≡ g.now old.bank)
+  pub bank_calls : g.tells → ForSome (slot_at old.slots slot) (λ s. Asks g.tells_calls g.calls old.bank new.bank (was_read ended) (restore_calls (g.now old.bank) slot s.block))

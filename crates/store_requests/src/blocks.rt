@@ -178,7 +178,7 @@ fn register_new<B: Bank>(
     ensures effect { IfOk result (λ done. B.tells → (s : State) → StandsFor B.tells B.now store.old s.store
         → Calls B.Bank store.old store.new s done (λ n. block_effect s name.now size n None)) }
     ensures call { IfOk result (IsCall B.Bank store.old store.new) }
-    ensures bank_calls { IfOk result (λ done. ForSome (make_at store.old.slots name.now size) (AsksBy B.Bank store.old.bank store.new.bank done.note.outcome)) }
+    ensures bank_calls { IfOk result (λ done. ForSome (make_at kind.App store.old.slots name.now size) (AsksBy B.Bank store.old.bank store.new.bank done.note.outcome)) }
     ensures err { OnErr result (store.new ≡ store.old) }
 {
     let note = note_room(alloc)?;

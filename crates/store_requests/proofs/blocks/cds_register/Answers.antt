@@ -1,4 +1,4 @@
-use Rattle.std.proofs.Common.{◌≡◌, ◌∙◌, ap, sym, refl, None, true, false, rules, ℕ, List, subst}
+use Rattle.std.proofs.Common.{◌≡◌, ◌∙◌, ap, sym, refl, None, true, false, rules, ℕ, List, subst, []}
 use Rattle.std.specs.Prelude.{◌==◌, ◌||◌, nat_lt}
 use Rattle.tbl_kinds.specs.Names.{is_name}
 use Rattle.tbl_kinds.specs.Limits.{table_limit}
@@ -27,7 +27,7 @@ returns-in_default-clause-effect g c = λ tells s apps stands.
     let short = c.args.short.now in
     calls_same b c.args.store.now c.args.store.now s c.plain.result (λ n. answered s ERR_BAD_APP 0) (cds_register_effect s c.args.app short c.args.size)
     (λ n. registered_is s c.args.app short c.args.size n ∙ ap (λ a. registered s (app_name a c.args.app) short c.args.size n) apps ∙ (let none : c.plan_name.result ≡ None = search rules in not_running s short c.args.size n o (sym none ∙ c.plan_name.ensures.name)))
-    (calls_none b c.args.store.now c.args.store.now s c.plain.result (uncalled_leaves b g.met.B.Bank.leaves_only_now g.met.B.Bank.only_now c.args.store.now c.args.store.now s.store refl (stands.shows tells)) ERR_BAD_APP 0 (told_with c.requires.empty refl c.plain.ensures) stands)
+    (calls_none b c.args.store.now c.args.store.now s c.plain.result (uncalled_leaves b g.met.B.Bank.leaves_only_now g.met.B.Bank.only_now c.args.store.now c.args.store.now s.store refl (stands.shows tells)) (bank_calls_none b c.args.store.now.bank c.args.store.now.bank [] c.plain.result.note refl c.plain.ensures.note_is) ERR_BAD_APP 0 (told_with c.requires.empty refl c.plain.ensures) stands)
 
 pub returns-then-not-is_name-clause-effect : goal.returns-then-not-is_name-clause-effect
 returns-then-not-is_name-clause-effect g c = λ tells s apps stands.
@@ -36,7 +36,7 @@ returns-then-not-is_name-clause-effect g c = λ tells s apps stands.
     let short = c.args.short.now in
     calls_same b c.args.store.now c.args.store.now s c.plain-then-not-is_name.result (λ n. answered s ERR_INVALID_NAME 0) (cds_register_effect s c.args.app short c.args.size)
     (λ n. registered_is s c.args.app short c.args.size n ∙ ap (λ a. registered s (app_name a c.args.app) short c.args.size n) apps ∙ (let bad : is_name short ≡ false = search rules in not_named s short c.args.size n o c.in-Some.name c.in-Some.ensures.name bad))
-    (calls_none b c.args.store.now c.args.store.now s c.plain-then-not-is_name.result (uncalled_leaves b g.met.B.Bank.leaves_only_now g.met.B.Bank.only_now c.args.store.now c.args.store.now s.store refl (stands.shows tells)) ERR_INVALID_NAME 0 (told_with c.requires.empty refl c.plain-then-not-is_name.ensures) stands)
+    (calls_none b c.args.store.now c.args.store.now s c.plain-then-not-is_name.result (uncalled_leaves b g.met.B.Bank.leaves_only_now g.met.B.Bank.only_now c.args.store.now c.args.store.now s.store refl (stands.shows tells)) (bank_calls_none b c.args.store.now.bank c.args.store.now.bank [] c.plain-then-not-is_name.result.note refl c.plain-then-not-is_name.ensures.note_is) ERR_INVALID_NAME 0 (told_with c.requires.empty refl c.plain-then-not-is_name.ensures) stands)
 
 pub returns-then-size-eq0-clause-effect : goal.returns-then-size-eq0-clause-effect
 returns-then-size-eq0-clause-effect g c = λ tells s apps stands.
@@ -49,7 +49,7 @@ returns-then-size-eq0-clause-effect g c = λ tells s apps stands.
       | then-size-eq0-via-then-size-eq0 w ↦ size_zero c.args.size w.if-size-eq0.true
       | then-size-eq0-via-else-size-eq0+then-size-gt-BLOCK_LIMIT w ↦ size_over c.args.size w.if-size-gt-BLOCK_LIMIT.true
     ] in not_sized s short c.args.size n o c.in-Some.name c.in-Some.ensures.name good bad))
-    (calls_none b c.args.store.now c.args.store.now s c.plain-then-size-eq0.result (uncalled_leaves b g.met.B.Bank.leaves_only_now g.met.B.Bank.only_now c.args.store.now c.args.store.now s.store refl (stands.shows tells)) ERR_INVALID_SIZE 0 (told_with c.requires.empty refl c.plain-then-size-eq0.ensures) stands)
+    (calls_none b c.args.store.now c.args.store.now s c.plain-then-size-eq0.result (uncalled_leaves b g.met.B.Bank.leaves_only_now g.met.B.Bank.only_now c.args.store.now c.args.store.now s.store refl (stands.shows tells)) (bank_calls_none b c.args.store.now.bank c.args.store.now.bank [] c.plain-then-size-eq0.result.note refl c.plain-then-size-eq0.ensures.note_is) ERR_INVALID_SIZE 0 (told_with c.requires.empty refl c.plain-then-size-eq0.ensures) stands)
 
 pub returns-clause-effect : goal.returns-clause-effect
 returns-clause-effect g c = one c.register_block.result _ _ c.register_block.ensures.effect (λ done is tells s apps stands.

@@ -1,4 +1,4 @@
-use Rattle.std.proofs.Common.{◌≡◌, ◌∙◌, refl, sym, true, false, Some}
+use Rattle.std.proofs.Common.{◌≡◌, ◌∙◌, refl, sym, true, false, Some, []}
 use Rattle.tbl_kinds.specs.declared.block.BlockKind.TheVariants.{App}
 use Rattle.tbl_kinds.specs.StoreSteps.{stored_at, has_room}
 use Rattle.tbl_kinds.specs.declared.status.TheConstants.Status.{SUCCESS, ERR_CDS_NO_ROOM}
@@ -24,7 +24,7 @@ returns-then-not-room-clause-effect g c = λ tells s stands.
     let is = any_is s name (Some slot) (sym (open_same App name c.args.store.now.slots s.store stands.slots) ∙ c.requires.open_block) in
     calls_same b c.args.store.now c.args.store.now s c.plain-then-not-room.result (λ n. answered s ERR_CDS_NO_ROOM 0) (λ n. block_effect s name c.args.size n (Some slot))
     (λ n. no_room s name c.args.size n (Some slot) (Some slot) is other full)
-    (calls_none b c.args.store.now c.args.store.now s c.plain-then-not-room.result (uncalled_leaves b g.met.B.Bank.leaves_only_now g.met.B.Bank.only_now c.args.store.now c.args.store.now s.store refl (stands.shows tells)) ERR_CDS_NO_ROOM 0 (told_with c.requires.empty refl c.plain-then-not-room.ensures) stands)
+    (calls_none b c.args.store.now c.args.store.now s c.plain-then-not-room.result (uncalled_leaves b g.met.B.Bank.leaves_only_now g.met.B.Bank.only_now c.args.store.now c.args.store.now s.store refl (stands.shows tells)) (bank_calls_none b c.args.store.now.bank c.args.store.now.bank [] c.plain-then-not-room.result.note refl c.plain-then-not-room.ensures.note_is) ERR_CDS_NO_ROOM 0 (told_with c.requires.empty refl c.plain-then-not-room.ensures) stands)
 
 pub renew-requires-clause-taken : goal.renew-requires-clause-taken
 renew-requires-clause-taken g c = found_there (is_open_slot App c.args.name.now) c.args.store.now.slots c.args.slot refl c.requires.open_block

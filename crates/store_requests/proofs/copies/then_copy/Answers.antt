@@ -18,7 +18,7 @@ returns-then-not-is_critical-clause-copies g c = λ tells e is same stands.
     let store = c.args.store.now in
     let before = told_effect c.args.answer c.args.bytes.now.list c.args.report.now in
     with_note b store store e before is (λ n. then_copy c.args.row n e) c.args.note.now c.requires.untouched
-    (stays b store store e before is (unmoved b g.met.B.Bank.leaves_only_now g.met.B.Bank.only_now store store (λ left. (calls : List StoreCall) → DuringCalls calls e.next.store left) refl (λ calls. before_calls calls e.next.store _ (stands.shows tells))) (λ n. then_copy c.args.row n e) (λ n. none_critical c.args.row n e c.args.tables.now same (subst (λ (b : Bool). IfSome (table_at c.args.tables.now c.args.row) (λ t. b ≡ is_critical t)) (search rules) c.requires.critical)) refl stands)
+    (stays b store store e before is (unmoved b g.met.B.Bank.leaves_only_now g.met.B.Bank.only_now store store (λ left. (calls : List StoreCall) → DuringCalls calls e.next.store left) refl (λ calls. before_calls calls e.next.store _ (stands.shows tells))) refl (λ n. then_copy c.args.row n e) (λ n. none_critical c.args.row n e c.args.tables.now same (subst (λ (b : Bool). IfSome (table_at c.args.tables.now c.args.row) (λ t. b ≡ is_critical t)) (search rules) c.requires.critical)) refl stands)
 
 pub returns-then-not-is_critical-clause-call : goal.returns-then-not-is_critical-clause-call
 returns-then-not-is_critical-clause-call g c = uncopied_call g.B.Bank c.args.store.now (told_effect c.args.answer c.args.bytes.now.list c.args.report.now) c.args.note.now c.requires.booted c.requires.untouched
@@ -33,7 +33,7 @@ returns-then-not-went_active-clause-copies g c = λ tells e is same stands.
     let store = c.args.store.now in
     let before = told_effect c.args.answer c.args.bytes.now.list c.args.report.now in
     with_note b store store e before is (λ n. then_copy c.args.row n e) c.args.note.now c.requires.untouched
-    (stays b store store e before is (unmoved b g.met.B.Bank.leaves_only_now g.met.B.Bank.only_now store store (λ left. (calls : List StoreCall) → DuringCalls calls e.next.store left) refl (λ calls. before_calls calls e.next.store _ (stands.shows tells))) (λ n. then_copy c.args.row n e) (λ n. none_active c.args.row n e c.args.tables.now same (went_as e c.args.report.now.events false is.events (search rules))) refl stands)
+    (stays b store store e before is (unmoved b g.met.B.Bank.leaves_only_now g.met.B.Bank.only_now store store (λ left. (calls : List StoreCall) → DuringCalls calls e.next.store left) refl (λ calls. before_calls calls e.next.store _ (stands.shows tells))) refl (λ n. then_copy c.args.row n e) (λ n. none_active c.args.row n e c.args.tables.now same (went_as e c.args.report.now.events false is.events (search rules))) refl stands)
 
 pub returns-then-not-went_active-clause-call : goal.returns-then-not-went_active-clause-call
 returns-then-not-went_active-clause-call g c = uncopied_call g.B.Bank c.args.store.now (told_effect c.args.answer c.args.bytes.now.list c.args.report.now) c.args.note.now c.requires.booted c.requires.untouched
@@ -48,7 +48,7 @@ returns-in_default-clause-copies g c = λ tells e is same stands.
     let store = c.args.store.now in
     let before = told_effect c.args.answer c.args.bytes.now.list c.args.report.now in
     with_note b store store e before is (λ n. then_copy c.args.row n e) c.args.note.now c.requires.untouched
-    (stays b store store e before is (unmoved b g.met.B.Bank.leaves_only_now g.met.B.Bank.only_now store store (λ left. (calls : List StoreCall) → DuringCalls calls e.next.store left) refl (λ calls. before_calls calls e.next.store _ (stands.shows tells))) (λ n. then_copy c.args.row n e) (λ n. none_named c.args.row n e c.args.tables.now same (search rules)) refl stands)
+    (stays b store store e before is (unmoved b g.met.B.Bank.leaves_only_now g.met.B.Bank.only_now store store (λ left. (calls : List StoreCall) → DuringCalls calls e.next.store left) refl (λ calls. before_calls calls e.next.store _ (stands.shows tells))) refl (λ n. then_copy c.args.row n e) (λ n. none_named c.args.row n e c.args.tables.now same (search rules)) refl stands)
 
 pub returns-in_default-clause-call : goal.returns-in_default-clause-call
 returns-in_default-clause-call g c = uncopied_call g.B.Bank c.args.store.now (told_effect c.args.answer c.args.bytes.now.list c.args.report.now) c.args.note.now c.requires.booted c.requires.untouched
@@ -63,7 +63,7 @@ returns-in_default-last-clause-copies g c = λ tells e is same stands.
     let store = c.args.store.now in
     let before = told_effect c.args.answer c.args.bytes.now.list c.args.report.now in
     with_note b store store e before is (λ n. then_copy c.args.row n e) c.args.note.now c.requires.untouched
-    (stays b store store e before is (unmoved b g.met.B.Bank.leaves_only_now g.met.B.Bank.only_now store store (λ left. (calls : List StoreCall) → DuringCalls calls e.next.store left) refl (λ calls. before_calls calls e.next.store _ (stands.shows tells))) (λ n. then_copy c.args.row n e) (λ n. none_there c.args.row n e c.args.tables.now same (search rules)) refl stands)
+    (stays b store store e before is (unmoved b g.met.B.Bank.leaves_only_now g.met.B.Bank.only_now store store (λ left. (calls : List StoreCall) → DuringCalls calls e.next.store left) refl (λ calls. before_calls calls e.next.store _ (stands.shows tells))) refl (λ n. then_copy c.args.row n e) (λ n. none_there c.args.row n e c.args.tables.now same (search rules)) refl stands)
 
 pub returns-in_default-last-clause-call : goal.returns-in_default-last-clause-call
 returns-in_default-last-clause-call g c = uncopied_call g.B.Bank c.args.store.now (told_effect c.args.answer c.args.bytes.now.list c.args.report.now) c.args.note.now c.requires.booted c.requires.untouched

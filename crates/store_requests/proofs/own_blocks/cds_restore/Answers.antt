@@ -30,7 +30,7 @@ returns-in-Err-clause-effect g c = λ tells s apps stands.
     let b = g.B.Bank in
     calls_same b c.args.store.now c.args.store.now s c.plain.result (λ n. answered s c.in-Err.status 0) (cds_restore_effect s c.args.app c.args.slot)
     (no_restore s c.args.app c.args.slot c.in-Err.status (λ effect. c.in-Err.ensures.err s effect apps stands))
-    (calls_none b c.args.store.now c.args.store.now s c.plain.result (uncalled_leaves b g.met.B.Bank.leaves_only_now g.met.B.Bank.only_now c.args.store.now c.args.store.now s.store refl (stands.shows tells)) c.in-Err.status 0 (told_with c.requires.empty refl c.plain.ensures) stands)
+    (calls_none b c.args.store.now c.args.store.now s c.plain.result (uncalled_leaves b g.met.B.Bank.leaves_only_now g.met.B.Bank.only_now c.args.store.now c.args.store.now s.store refl (stands.shows tells)) (bank_calls_none b c.args.store.now.bank c.args.store.now.bank [] c.plain.result.note refl c.plain.ensures.note_is) c.in-Err.status 0 (told_with c.requires.empty refl c.plain.ensures) stands)
 
 pub returns-in-Ok-clause-gave : goal.returns-in-Ok-clause-gave
 returns-in-Ok-clause-gave g c =

@@ -1,4 +1,4 @@
-use Rattle.std.proofs.Common.{◌≡◌, ◌∙◌, ℕ, List, Option, refl, sym, subst, inr, true, rules}
+use Rattle.std.proofs.Common.{◌≡◌, ◌∙◌, ℕ, List, Option, refl, sym, subst, inr, true, rules, [], ap}
 use Rattle.tbl_model.specs.Effects as model
 use Rattle.tbl_model.specs.Tables.{is_critical, option_bits}
 use Rattle.tbl_model.specs.TableSteps.{first_image, as_registered}
@@ -17,6 +17,8 @@ use Rattle.tbl_model.specs.Effects.{answered}
 use Rattle.store_requests.proofs.Moments.{uncalled_leaves}
 use Rattle.store_requests.proofs.CriticalTables.{critical_new, plain_new, fits_one, first_sized}
 use Rattle.store_requests.proofs.Registrations.{enters_alone}
+use Rattle.store_requests.proofs.BankCalls.{bank_calls_none}
+use Rattle.request_effects.specs.Effects.{Effect}
 use Rattle.store_requests.proofs.registration.register.Goals as goal
 
 pub returns-then-contains-clause-effect : goal.returns-then-contains-clause-effect
@@ -70,7 +72,7 @@ returns-in-Err-clause-effect g c = λ tells s tables kit apps stands.
     (calls_same b c.args.store.now c.args.store.now s c.of.result (λ n. answered s answer.status answer.detail) means
     (λ n. c.in-Err.ensures.err s n tables kit apps)
     (calls_none b c.args.store.now c.args.store.now s c.of.result
-    (uncalled_leaves b g.met.B.Bank.leaves_only_now g.met.B.Bank.only_now c.args.store.now c.args.store.now s.store refl (stands.shows tells))
+    (uncalled_leaves b g.met.B.Bank.leaves_only_now g.met.B.Bank.only_now c.args.store.now c.args.store.now s.store refl (stands.shows tells)) (bank_calls_none b c.args.store.now.bank c.args.store.now.bank [] c.of.result.note refl (ap (λ (e : Effect). e.note) c.of.ensures))
     answer.status answer.detail (search rules) stands))
 
 -- it isn't to be critical
@@ -84,5 +86,5 @@ returns-clause-effect g c = λ tells s tables kit apps stands.
     calls_same b c.args.store.now c.args.store.now (record s { tables = c.register_plain.new.tables }) c.of-2.result (λ n. registered s (next_row old) (as_registered t) SUCCESS) (register_effect s a.app a.short.now a.size a.flags a.validator)
     (λ n. c.in-Ok.ensures.ok s n tables kit apps ∙ plain_new s (next_row old) t n plain)
     (enters_alone b c.args.store.now c.args.store.now s c.of-2.result old c.register_plain.new.tables t tables refl
-    (uncalled_leaves b g.met.B.Bank.leaves_only_now g.met.B.Bank.only_now c.args.store.now c.args.store.now s.store refl (stands.shows tells))
+    (uncalled_leaves b g.met.B.Bank.leaves_only_now g.met.B.Bank.only_now c.args.store.now c.args.store.now s.store refl (stands.shows tells)) (bank_calls_none b c.args.store.now.bank c.args.store.now.bank [] c.of-2.result.note refl (ap (λ (e : Effect). e.note) c.of-2.ensures))
     (as_registered t) SUCCESS refl (record { told = search rules; tables = search rules }) stands)

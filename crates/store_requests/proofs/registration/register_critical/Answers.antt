@@ -1,4 +1,4 @@
-use Rattle.std.proofs.Common.{◌∙◌, ◌<◌, ◌≤◌, refl, sym, ap, subst, rules}
+use Rattle.std.proofs.Common.{◌∙◌, ◌<◌, ◌≤◌, refl, sym, ap, subst, rules, []}
 use Rattle.tbl_kinds.specs.declared.block.BlockKind.TheVariants.{Table}
 use Rattle.tbl_kinds.specs.StoreSteps.{open_of}
 use Rattle.tbl_model.specs.State.{Tables}
@@ -15,6 +15,8 @@ use Rattle.store_requests.proofs.Calls.{calls_same}
 use Rattle.store_requests.proofs.Moments.{uncalled_leaves}
 use Rattle.store_requests.proofs.CriticalTables.{critical_kept, critical_full}
 use Rattle.store_requests.proofs.Registrations.{enters_alone}
+use Rattle.store_requests.proofs.BankCalls.{bank_calls_none}
+use Rattle.request_effects.specs.Effects.{Effect}
 use Rattle.store_requests.proofs.registration.register_critical.Goals as goal
 
 -- as many are critical as can be
@@ -27,7 +29,7 @@ returns-then-critical_count-ge-MOST_CRITICAL-clause-effect g c = λ tells s same
     calls_same b c.args.store.now c.args.store.now (record s { tables = c.register_uncritical.new.tables }) c.of.result (λ n. not_kept s (next_row old) t) (critical_effect s (next_row old) t)
     (λ n. critical_full s (next_row old) t n c.critical_count.result (ap (λ (tables : Tables). critical_count tables) same ∙ sym c.critical_count.ensures.tables) many)
     (enters_alone b c.args.store.now c.args.store.now s c.of.result old c.register_uncritical.new.tables t same refl
-    (uncalled_leaves b g.met.B.Bank.leaves_only_now g.met.B.Bank.only_now c.args.store.now c.args.store.now s.store refl (stands.shows tells)) (uncritical t) WARN_NOT_CRITICAL refl (record { told = search rules; tables = c.register_uncritical.ensures.tables }) stands)
+    (uncalled_leaves b g.met.B.Bank.leaves_only_now g.met.B.Bank.only_now c.args.store.now c.args.store.now s.store refl (stands.shows tells)) (bank_calls_none b c.args.store.now.bank c.args.store.now.bank [] c.of.result.note refl (ap (λ (e : Effect). e.note) c.of.ensures)) (uncritical t) WARN_NOT_CRITICAL refl (record { told = search rules; tables = c.register_uncritical.ensures.tables }) stands)
 
 pub returns-clause-effect : goal.returns-clause-effect
 returns-clause-effect g c = one c.keep.result _ _ c.keep.ensures.effect (λ done is tells s same stands.

@@ -20,4 +20,5 @@ returns-clause-restores g c =
       more_faults = search rules;
       more_stops = search rules;
       moments = c.restore.ensures.moments;
+      bank_calls = c.restore.ensures.bank_calls;
     })
