@@ -44,7 +44,7 @@ module _ {B C : Type 0} (g : Ghosts B) (v : ValidatorGhosts C) (old new : PartsV
   pub made_plainly : IsMade g v (step_of old new request) means done
   made_plainly = is_made g v old new new request means done done.note makes meets
       (record { ended = done.note.ended; stopped = done.note.stopped; found = done.note.found; is = refl; same = λ _. refl })
-      (rw none refl) (λ told s holds. rw none holds) (λ told s holds stop. absurd (cc (stop, none))) (λ told s holds stop. absurd (cc (stop, none)))
+      (rw none refl) (λ told s holds. rw none holds) (λ told s holds stop. absurd (cc (stop, none))) (λ told s holds stop. absurd (cc (stop, none))) (λ told stop. absurd (cc (stop, none))) (λ stop. absurd (cc (stop, none)))
       (rw none (record { fault_count = omega arith; stop_count = omega arith; fault = inl (omega arith); stop = inl (omega arith); no_fault = λ _. refl; no_stop = λ _. refl }))
       (λ stop. absurd (cc (stop, none)))
 

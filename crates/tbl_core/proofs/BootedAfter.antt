@@ -1,17 +1,20 @@
 -- A request was made: what it did, and the boot after it where a call of the store was stopped.
-use Rattle.std.proofs.Common.{◌≡◌, ◌≢◌, ◌∙◌, ℕ, suc, List, not, Option, Some, None, refl, sym, ap, subst, inl}
+use Rattle.std.proofs.Common.{◌≡◌, ◌≢◌, ◌∙◌, ℕ, suc, List, false, not, Option, Some, None, refl, sym, ap, subst, inl}
 use Rattle.tbl_kinds.specs.Blocks.{Store as Blocks}
 use Rattle.tbl_kinds.specs.StoreCalls.{StoreCall}
 use Rattle.tbl_model.specs.State.{State, Tables}
 use Rattle.tbl_model.specs.Effects as model
 use Rattle.tbl_model.specs.Given.{Given}
-use Rattle.tbl_model.specs.StoreNotes.{Boots, Ends}
+use Rattle.tbl_model.specs.Counts.{is_reset}
+use Rattle.tbl_model.specs.StoreNotes.{Boots, Ends, boot_in}
 use Rattle.tbl_model.specs.Fit.{AreFit}
 use Rattle.tbl_laws.proofs.Ordinary.{fit_at_first}
 use Rattle.tbl_kinds.specs.declared.note.BankNote.{BankNote}
 use Rattle.tbl_kinds.specs.declared.note.Outcome.{Outcome}
 use Rattle.tbl_kinds.specs.declared.note.Outcome.TheVariants.{Untouched, Done, Failed, Stopped}
 use Rattle.tbl_kinds.specs.declared.request.Request.{Request}
+use Rattle.tbl_kinds.specs.declared.request.Request.TheVariants as ask
+use Rattle.tbl_kinds.specs.declared.request.ResetKind.{ResetKind}
 use Rattle.tbl_kinds.specs.declared.request.ResetKind.TheVariants.{Processor}
 use Rattle.tbl_outside.specs.declared.validator.KitEntry.{KitEntry}
 use Rattle.tbl_session.specs.Crashes.{DuringCalls}
@@ -20,6 +23,7 @@ use Rattle.tbl_outside.proofs.Moments.{goes_on}
 use Rattle.tbl_laws.proofs.Crashes.{behind_calls}
 use Rattle.cds_layout.specs.Images.{store_of}
 use Rattle.store_requests.specs.Called.{Leaving, boots_after, Troubled}
+use Rattle.tbl_core.specs.BankAsked.{BootAsks, BankAsked}
 use Rattle.tbl_core.specs.Ended.{Follows, boot_only}
 use Rattle.request_effects.specs.Effects.{given_of}
 use Rattle.tbl_core.specs.Service.{PartsView, HoldsAll, state_of, step_of, EndsIn, HasEffect, Has, Makes, Meets, IsMade, after_stop}
@@ -27,16 +31,23 @@ use Rattle.tbl_core.specs.Verdicts.{Judged}
 use Rattle.request_effects.specs.Effects.{Effect}
 use Rattle.tbl_core.specs.Pins.{HaveImages, PinsGoOn}
 use Rattle.tbl_core.proofs.Pinning.{stopped_pins}
+use Rattle.tbl_core.proofs.StoreRequests.{boot_at, no_boot_at}
 use Rattle.tbl_core.proofs.Trouble.{troubled_after, caused_after}
 use Rattle.tbl_outside.specs.declared.bank.Bank.{Ghosts}
 use Rattle.tbl_outside.specs.declared.validator.Validator.{Ghosts as ValidatorGhosts}
+
+-- only a stop changes which boot comes
+same_boot : (request : Request) → (boot_in request Untouched ≡ boot_in request Done) × (boot_in request Untouched ≡ boot_in request Failed)
+same_boot (ask.Reset kind) = (refl, refl)
+same_boot request = (refl, refl)
 
 module _ {B C : Type 0} (g : Ghosts B) (v : ValidatorGhosts C) (old mid new : PartsView B C) (request : Request) (means : State → Given → Option model.Effect)
     (called : Effect) (note : BankNote) (makes : Makes g v request old mid called) (meets : Meets g v (step_of old mid request) means called)
     (follows : Follows called.note note) (held : new ≡ after_stop called.note.outcome note new.store mid)
     (boots : g.tells → (s : State) → HoldsAll g mid s → HoldsAll g new (boots_after called.note.outcome note s))
     (found : g.tells → (s : State) → HoldsAll g mid s → called.note.outcome ≡ Stopped → Boots (Some Processor) s.store note)
-    (boot_leaves : g.tells → (s : State) → HoldsAll g mid s → called.note.outcome ≡ Stopped → Leaving g mid.store new.store (ShowsBlocks s.store)) where
+    (boot_leaves : g.tells → (s : State) → HoldsAll g mid s → called.note.outcome ≡ Stopped → Leaving g mid.store new.store (ShowsBlocks s.store))
+    (boot_asks : g.tells → called.note.outcome ≡ Stopped → BootAsks g (Some Processor) mid.store.bank new.store.bank (not note.ended)) (plain : called.note.outcome ≡ Stopped → is_reset request ≡ false) where
   abbrev pub done : Effect
   done = record called { note = note }
 
@@ -117,6 +128,30 @@ module _ {B C : Type 0} (g : Ghosts B) (v : ValidatorGhosts C) (old mid new : Pa
     by Failed at is = stays is
     by Stopped at is = λ m. goes_on (has.moments m) (boot_leaves told has.before has.holds at m) (λ image shows. booted_after at (store_of image) shows)
 
+  -- what the bank was asked in the boot comes after what it was asked before
+  asked_after : g.tells → (s : State) (e : model.Effect) → HasEffect g v (step_of old mid request) s called note e → BankAsked g (boot_in request note.outcome) old.store new.store e.calls s.store note
+  asked_after told s e has = by called.note.outcome refl held where
+    outcome : note.outcome ≡ called.note.outcome
+    outcome = ap (λ (n : BankNote). n.outcome) follows.is
+
+    stays : new ≡ mid → boot_in request Untouched ≡ boot_in request note.outcome → BankAsked g (boot_in request note.outcome) old.store new.store e.calls s.store note
+    stays is none =
+        subst (λ (h : PartsView B C). BankAsked g (boot_in request note.outcome) old.store h.store e.calls s.store note) (sym is)
+        (subst (λ (boots : Option ResetKind). BankAsked g boots old.store mid.store e.calls s.store note) none has.asked)
+
+    by : (o : Outcome) → called.note.outcome ≡ o → new ≡ after_stop o note new.store mid → BankAsked g (boot_in request note.outcome) old.store new.store e.calls s.store note
+    by Untouched at is = stays is (ap (boot_in request) (sym (outcome ∙ at)))
+    by Done at is = stays is ((same_boot request).0 ∙ ap (boot_in request) (sym (outcome ∙ at)))
+    by Failed at is = stays is ((same_boot request).1 ∙ ap (boot_in request) (sym (outcome ∙ at)))
+    by Stopped at is =
+        let still : mid.store.bank ≡ has.asked.called.bank = subst (λ (boots : Option ResetKind). BootAsks g boots has.asked.called.bank mid.store.bank (not note.ended)) (no_boot_at request (plain at)).0 has.asked.booted in record {
+          called = has.asked.called;
+          asked = has.asked.asked;
+          blocks_left = has.asked.blocks_left;
+          booted = subst (λ (boots : Option ResetKind). BootAsks g boots has.asked.called.bank new.store.bank (not note.ended)) (sym (ap (boot_in request) (outcome ∙ at) ∙ boot_at request (plain at)))
+              (subst (λ (bank : B). BootAsks g (Some Processor) bank new.store.bank (not note.ended)) still (boot_asks told at));
+        }
+
   pub is_made : Troubled g mid.store.bank new.store.bank (boot_only called.note.outcome note) → (called.note.outcome ≡ Stopped → new.store.booted ≡ not note.ended)
       → IsMade g v (step_of old new request) means done
   is_made trouble boots_store = record {
@@ -143,6 +178,7 @@ module _ {B C : Type 0} (g : Ghosts B) (v : ValidatorGhosts C) (old mid new : Pa
             judged = subst (λ (kit : List (Option (KitEntry C))). Judged v old.kit kit e.0.questions called.verdicts) (sym same_kit) has.judged;
             noted = has.noted (λ stopped. found told has.before has.holds (sym outcome ∙ stopped));
             gave = has.gave;
+            asked = asked_after told s e.0 has;
             moments = moments_after told s holds e.0 has;
           },
         );

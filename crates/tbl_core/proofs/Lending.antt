@@ -1,6 +1,6 @@
 -- Images that the core lends, and bytes that were taken of them.
-use Rattle.std.proofs.Common.{◌≡◌, ◌<◌, ℕ, List, ◌∷◌, [], ◌++◌, length, Option, Some, None, Ok, refl, sym, ap, ◌∙◌, subst, inl, inr, arith}
-use Rattle.std.specs.Prelude.{slice_get, IfSome, OnSome}
+use Rattle.std.proofs.Common.{◌≡◌, ◌<◌, ℕ, List, ◌∷◌, [], ◌++◌, length, Option, Some, None, Result, Ok, Err, refl, sym, ap, ◌∙◌, subst, inl, inr, arith}
+use Rattle.std.specs.Prelude.{slice_get, IfOk, IfSome, OnSome}
 use Rattle.std.specs.Option.{option_map}
 use Rattle.std.proofs.lemmas.Option.{same_Some, slice_get_within}
 use Rattle.tbl_model.specs.TableSteps.{read}
@@ -11,36 +11,47 @@ use Rattle.tbl_kinds.specs.declared.request.Request.TheVariants as ask
 use Rattle.tbl_registry.specs.Lending.{pinned_image, name_by, lent_at}
 use Rattle.tbl_registry.specs.declared.pin.Pin.{Pin}
 use Rattle.tbl_core.specs.Pins.{handle_limit, place_in, MayBeLent, IsSliceOf}
-use Rattle.tbl_core.specs.Service.{CoreView, IsReady, PinsOnward, IsOfPin}
+use Rattle.tbl_core.specs.Engine.{MayStillPin}
+use Rattle.tbl_core.specs.Service.{CoreView, EngineView, core_of, IsReady, IsAfter, PinsOnward, IsOfPin}
 use Rattle.tbl_core.proofs.Pinning.{IsPinnedBy, pinned_by_handle}
 use Rattle.tbl_core.proofs.Places.{earlier_at, read_is_piece, IsPiece}
 use Rattle.tbl_outside.specs.declared.validator.Validator.{Ghosts as ValidatorGhosts}
 
 -- an image that is lent by a handle that pins it
-pub lent_is : {B C : Type 0} (v : ValidatorGhosts C) (core : CoreView B C) (handle : ℕ) (pin : Pin) → IsReady v core → handle < handle_limit → lent_at handle (place_in core.gets handle) core.state.tables ≡ Some pin → IsOfPin pin core
-lent_is v core handle pin ready within is = by (pinned_image handle core.state.tables) refl is where
-  by : (found : Option (List ℕ)) → pinned_image handle core.state.tables ≡ found → option_map (λ (image : List ℕ). let lent : Pin = record { bytes = image; handle = handle; place = place_in core.gets handle; name = name_by handle core.state.tables } in lent) found ≡ Some pin → IsOfPin pin core
+pub lent_is : {B C : Type 0} (engine : EngineView B C) (past : List Entry) (handle : ℕ) (pin : Pin) → IsAfter past engine → handle < handle_limit → lent_at handle (place_in engine.gets handle) engine.state.tables ≡ Some pin → IsOfPin pin (core_of past engine)
+lent_is engine past handle pin after within is = by (pinned_image handle engine.state.tables) refl is where
+  by : (found : Option (List ℕ)) → pinned_image handle engine.state.tables ≡ found → option_map (λ (image : List ℕ). let lent : Pin = record { bytes = image; handle = handle; place = place_in engine.gets handle; name = name_by handle engine.state.tables } in lent) found ≡ Some pin → IsOfPin pin (core_of past engine)
   by None at none = absurd (cc none)
   by (Some image) at some =
-      let who : IsPinnedBy core.state.tables handle image = pinned_by_handle core.state.tables handle image at in
-      subst (λ (p : Pin). IsOfPin p core) (same_Some _ pin some) (record {
+      let who : IsPinnedBy engine.state.tables handle image = pinned_by_handle engine.state.tables handle image at in
+      subst (λ (p : Pin). IsOfPin p (core_of past engine)) (same_Some _ pin some) (record {
         within = within;
-        got = ready.gets handle who.handle who.number within who.at who.pin;
+        got = after.gets handle who.handle who.number within who.at who.pin;
         image = λ other there by_it. same_Some other image (sym there ∙ at);
       })
 
 -- bytes that were taken of it are what a read gives, where the handle still pins by the call that it was lent for
-pub slice_is : {B C : Type 0} (v : ValidatorGhosts C) (core : CoreView B C) (pin : Pin) (request : Request) (slice : List ℕ) → IsReady v core → IsOfPin pin core → place_in core.gets pin.handle ≡ pin.place → IsSliceOf pin request slice → MayBeLent request core.state.tables slice
-slice_is v core pin (ask.Read handle offset len) slice ready is same of = λ bytes gives.
-    let gives' : read pin.handle offset len core.state.tables ≡ Ok bytes = subst (λ (n : ℕ). read n offset len core.state.tables ≡ Ok bytes) of.0 gives in
-    let got : IsPiece core.state.tables pin.handle offset len bytes = read_is_piece core.state.tables ready.images pin.handle offset len bytes gives' in
+pub slice_is : {B C : Type 0} (v : ValidatorGhosts C) (engine : EngineView B C) (pin : Pin) (request : Request) (slice : List ℕ) → IsReady v engine → MayStillPin pin engine → place_in engine.gets pin.handle ≡ pin.place → IsSliceOf pin request slice → MayBeLent request engine.state.tables slice
+slice_is v engine pin (ask.Read handle offset len) slice ready is same of = λ bytes gives.
+    let gives' : read pin.handle offset len engine.state.tables ≡ Ok bytes = subst (λ (n : ℕ). read n offset len engine.state.tables ≡ Ok bytes) of.0 gives in
+    let got : IsPiece engine.state.tables pin.handle offset len bytes = read_is_piece engine.state.tables ready.images pin.handle offset len bytes gives' in
     of.1 ∙ ap (piece offset len) (sym (is.image got.0 got.1 same)) ∙ sym got.2
-slice_is v core pin request slice ready is same of = absurd of
+slice_is v engine pin request slice ready is same of = absurd of
 
 -- each image that is lent
-pub lent_each : {B C : Type 0} (v : ValidatorGhosts C) (core : CoreView B C) (handle : ℕ) (lent : Option Pin) → IsReady v core → lent ≡ lent_at handle (place_in core.gets handle) core.state.tables → OnSome lent (handle < handle_limit) → IfSome lent (λ (pin : Pin). IsOfPin pin core)
-lent_each v core handle None ready is within = tt
-lent_each v core handle (Some pin) ready is within = lent_is v core handle pin ready within (sym is)
+pub lent_each : {B C : Type 0} (engine : EngineView B C) (handle : ℕ) (lent : Option Pin) → lent ≡ lent_at handle (place_in engine.gets handle) engine.state.tables → OnSome lent (handle < handle_limit) → IfSome lent (λ (pin : Pin). (past : List Entry) → IsAfter past engine → IsOfPin pin (core_of past engine))
+lent_each engine handle None is within = tt
+lent_each engine handle (Some pin) is within = λ past after. lent_is engine past handle pin after within (sym is)
+
+-- and so behind the history that a core keeps
+pub lent_behind : {B C : Type 0} (engine : EngineView B C) (past : List Entry) (lent : Option Pin) → IsAfter past engine → IfSome lent (λ (pin : Pin). (past : List Entry) → IsAfter past engine → IsOfPin pin (core_of past engine)) → IfSome lent (λ (pin : Pin). IsOfPin pin (core_of past engine))
+lent_behind engine past None after is = tt
+lent_behind engine past (Some pin) after is = is past after
+
+pub lent_in : {B C E : Type 0} (engine : EngineView B C) (past : List Entry) (r : Result (Option Pin) E) → IsAfter past engine
+    → IfOk r (λ lent. IfSome lent (λ (pin : Pin). (before : List Entry) → IsAfter before engine → IsOfPin pin (core_of before engine))) → IfOk r (λ lent. IfSome lent (λ (pin : Pin). IsOfPin pin (core_of past engine)))
+lent_in engine past (Ok lent) after is = lent_behind engine past lent after is
+lent_in engine past (Err e) after is = tt
 
 -- what was lent stays so over one more entry
 pub pin_stays : {B C : Type 0} (old new : CoreView B C) (e : Entry) → new.entries ≡ old.entries ++ e ∷ [] → PinsOnward old new → (pin : Pin) → IsOfPin pin old → IsOfPin pin new

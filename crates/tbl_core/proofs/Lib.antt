@@ -4,6 +4,7 @@ pub mod Commanding
 pub mod Crashing
 pub mod Doing
 pub mod Functions
+pub mod Images
 pub mod Keeping
 pub mod Owned
 pub mod Owners
@@ -11,6 +12,7 @@ pub mod Ready
 pub mod Resets
 pub mod Restoring
 pub mod Starting
+pub mod Stepping
 pub mod Steps
 pub mod StoreRequests
 pub mod TableRequests
@@ -22,4 +24,5 @@ pub mod Pinning
 pub mod Places
 pub mod Lending
 pub mod Answering
+pub mod Questions
 pub mod Nothing

@@ -1,16 +1,16 @@
 -- What each request may rely on follows from what is kept between two of them.
-use Rattle.std.proofs.Common.{◌≡◌, ◌<◌, ℕ, suc, zero, List, [], ◌∷◌, length, Bool, true, false, Option, Some, None, IsSome, is_some, IfSome, refl, sym, subst, ◌∙◌, arith}
+use Rattle.std.proofs.Common.{◌≡◌, ◌⊎◌, ◌<◌, ◌≤◌, ℕ, suc, zero, List, [], ◌∷◌, Bool, true, false, Option, Some, None, IsSome, is_some, IfSome, inl, inr, refl, sym, subst, ◌∙◌, arith}
 use Rattle.std.specs.Option.{option_map}
-use Rattle.tbl_kinds.specs.Records.{record_limit}
 use Rattle.tbl_model.specs.State.{Table, Load}
 use Rattle.tbl_model.specs.Tables.{table_at}
 use Rattle.tbl_model.specs.TableSteps.{is_checked}
 use Rattle.tbl_model.specs.Pending.{is_pending}
 use Rattle.tbl_model.specs.Fit.{IsFit, FitAt, owner_at}
+use Rattle.tbl_kinds.specs.declared.request.Request.{Request}
 use Rattle.tbl_outside.specs.declared.validator.KitEntry.{KitEntry}
 use Rattle.validation.specs.Kits.{entry_at, owners, MayAskEach}
 use Rattle.validation.specs.Ready.{CanBeJudged, HaveFunctions}
-use Rattle.tbl_core.specs.Service.{CoreView, IsReady, AreReady}
+use Rattle.tbl_core.specs.Service.{EngineView, image_limit, IsReset, HasRoom, IsReady, AreReady}
 use Rattle.table_requests.specs.Limits.{AreCounted, AreSendable}
 use Rattle.tbl_outside.specs.declared.validator.Validator.{Ghosts as ValidatorGhosts}
 
@@ -35,29 +35,35 @@ open_load t checked = by t.load refl where
   by None at = absurd (cc (checked, at))
   by (Some load) at = rw at cc
 
-module _ {B C : Type 0} (v : ValidatorGhosts C) (core : CoreView B C) (ready : IsReady v core) (room : length core.entries < record_limit) where
-  of_row : (row : ℕ) (t : Table) → table_at core.state.tables row ≡ Some t → IsFit (length core.entries) (owners core.state.kit) core.state.pending core.state.tables.handles row t
-  of_row row t is = subst (FitAt (length core.entries) (owners core.state.kit) core.state.pending core.state.tables.handles row) is (ready.fit.each row)
+module _ {B C : Type 0} (v : ValidatorGhosts C) (engine : EngineView B C) (request : Request) (ready : IsReady v engine) (room : HasRoom engine request) where
+  few_images : engine.images ≤ image_limit
+  few_images = by room.images where
+    by : (engine.images < image_limit) ⊎ ((engine.images ≡ image_limit) × IsReset request) → engine.images ≤ image_limit
+    by (inl fewer) = omega (arith, fewer)
+    by (inr (as_many, reset)) = omega (arith, as_many)
 
-  counted : AreCounted core.state.tables
-  counted row t is = let few = (of_row row t is).few in omega (arith, few, room)
+  of_row : (row : ℕ) (t : Table) → table_at engine.state.tables row ≡ Some t → IsFit engine.images (owners engine.state.kit) engine.state.pending engine.state.tables.handles row t
+  of_row row t is = subst (FitAt engine.images (owners engine.state.kit) engine.state.pending engine.state.tables.handles row) is (ready.fit.each row)
 
-  notices : AreSendable core.state.tables
+  counted : AreCounted engine.state.tables
+  counted row t is = let few = (of_row row t is).few in let all = few_images in omega (arith, few, all)
+
+  notices : AreSendable engine.state.tables
   notices row t is = (of_row row t is).notice
 
-  functions : HaveFunctions core.state.tables core.state.kit
-  functions row t is number at = there (entry_at core.state.kit number) t.owner (sym (owner_of_entry core.state.kit number) ∙ owner number at) where
-    owner : (n : ℕ) → t.validator ≡ Some n → owner_at (owners core.state.kit) n ≡ Some t.owner
-    owner n is_n = subst (λ v. IfSome v (λ m. owner_at (owners core.state.kit) m ≡ Some t.owner)) is_n (of_row row t is).function
+  functions : HaveFunctions engine.state.tables engine.state.kit
+  functions row t is number at = there (entry_at engine.state.kit number) t.owner (sym (owner_of_entry engine.state.kit number) ∙ owner number at) where
+    owner : (n : ℕ) → t.validator ≡ Some n → owner_at (owners engine.state.kit) n ≡ Some t.owner
+    owner n is_n = subst (λ v. IfSome v (λ m. owner_at (owners engine.state.kit) m ≡ Some t.owner)) is_n (of_row row t is).function
 
-  few : MayAskEach v.asked 2 core.state.kit
-  few number entry at = let low = ready.kit number entry at in omega (arith, low, room)
+  few : MayAskEach v.asked 2 engine.state.kit
+  few number entry at = let low = ready.kit number entry at in omega (arith, low, room.requests)
 
-  can : (row : ℕ) (active : Bool) (found : Option Table) → table_at core.state.tables row ≡ found → is_pending row active core.state.pending ≡ true → CanBeJudged core.state.tables row active
-  can row active None at pending = absurd (cc (pending, subst (FitAt (length core.entries) (owners core.state.kit) core.state.pending core.state.tables.handles row) at (ready.fit.each row) active))
+  can : (row : ℕ) (active : Bool) (found : Option Table) → table_at engine.state.tables row ≡ found → is_pending row active engine.state.pending ≡ true → CanBeJudged engine.state.tables row active
+  can row active None at pending = absurd (cc (pending, subst (FitAt engine.images (owners engine.state.kit) engine.state.pending engine.state.tables.handles row) at (ready.fit.each row) active))
   can row active (Some t) at pending = (rw at cc, λ u is. let same : t ≡ u = cc (at, is) in (of_row row u is).pends active pending)
 
-  pub are_ready : core.state.ended ≡ false → AreReady v core.state
+  pub are_ready : engine.state.ended ≡ false → AreReady v engine.state
   are_ready live = record {
     relied = record {
       booted = rw (ready.booted, live) refl;
@@ -65,9 +71,9 @@ module _ {B C : Type 0} (v : ValidatorGhosts C) (core : CoreView B C) (ready : I
       notices = notices;
       functions = functions;
       few = few;
-      pending = λ row active pending. can row active (table_at core.state.tables row) refl pending;
+      pending = λ row active pending. can row active (table_at engine.state.tables row) refl pending;
       loads = λ row t is asks. open_load t ((of_row row t is).checked asks);
     };
-    fit = (length core.entries, ready.fit);
+    fit = (engine.images, ready.fit);
     live = live;
   }

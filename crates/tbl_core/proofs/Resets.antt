@@ -21,6 +21,8 @@ use Rattle.tbl_kinds.specs.declared.request.Actor.TheVariants.{Ground}
 use Rattle.tbl_kinds.specs.declared.request.Request.TheVariants as ask
 use Rattle.tbl_kinds.specs.declared.entry.Answer.{Answer}
 use Rattle.tbl_outside.specs.Bank.{LeavesOnly}
+use Rattle.tbl_outside.specs.BankCalls.{Asks}
+use Rattle.cds_layout.specs.Order.{boot_calls}
 use Rattle.tbl_outside.proofs.Moments.{leaves_among}
 use Rattle.tbl_laws.proofs.Crashes.{before_calls}
 use Rattle.cds_layout.specs.Images.{store_of}
@@ -105,8 +107,9 @@ module _ {B C : Type 0} (g : Ghosts B) (v : ValidatorGhosts C) (old new : PartsV
       → (g.tells → (blocks : Blocks) → HasBlocks g.tells g.now old.store blocks → Boots (Some kind) blocks (with_boot ended stopped found untouched))
       → (g.tells → (blocks : Blocks) → HasBlocks g.tells g.now old.store blocks → ended ≡ false → HasBlocks g.tells g.now kept (blocks_after kind (with_boot ended stopped found untouched) blocks))
       → old.ended ≡ false
+      → (g.tells → Asks g.tells_calls g.calls old.store.bank kept.bank (not ended) (boot_calls kind (g.now old.store.bank)))
       → Meets g v (step_of old new (ask.Reset kind)) (λ s given. Some (reset_effect s kind given.note)) done
-  reset_meets moments boots blocks live told s holds n follows =
+  reset_meets moments boots blocks live asked told s holds n follows =
       let same : n ≡ with_boot ended stopped found untouched = follows.same (rw note (λ is. cc is)) ∙ note in
       rw same (record {
         before = boot kind (with_boot ended stopped found untouched) s;
@@ -145,4 +148,10 @@ module _ {B C : Type 0} (g : Ghosts B) (v : ValidatorGhosts C) (old new : PartsV
             let leaves : Leaving g old.store kept (EndsIn (ask.Reset kind) [] s.store) = reset_leaves g old.store kept kind s.store (λ m. moments m s.store (holds.blocks live)) in
             rw (ap (λ (h : PartsView B C). h.store) held) leaves;
         noted = λ _. record { ends = (refl, refl, (refl, refl)); gave = tt; tells = (refl, refl); boots = boots told s.store (holds.blocks live) };
+        asked = record {
+          called = old.store;
+          asked = refl;
+          blocks_left = holds.blocks live;
+          booted = rw (ap (λ (h : PartsView B C). h.store) held) (asked told);
+        };
       })

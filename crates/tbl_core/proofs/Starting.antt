@@ -17,29 +17,28 @@ use Rattle.tbl_kinds.specs.declared.request.ResetKind.TheVariants.{Processor}
 use Rattle.cds_store.specs.declared.fault.BankFault.{BankFault}
 use Rattle.cds_store.specs.declared.fault.BankFault.TheVariants.{Fault, Stopped}
 use Rattle.tbl_outside.specs.declared.validator.KitEntry.{KitEntry}
-use Rattle.tbl_core.specs.Service.{CoreView, FollowsFrom, start_fault, StartCounted}
+use Rattle.tbl_core.specs.Service.{EngineView, Stands, start_fault, StartCounted}
 use Rattle.tbl_outside.specs.declared.bank.Bank.{Ghosts}
 
 -- nothing is registered, runs, is kept or pending, and nothing was told
-pub record IsNew {B C : Type 0} (kit : List (Option (KitEntry C))) (admit : Admitted) (core : CoreView B C) : Type 0 where
-  pub entries : core.entries ≡ []
-  pub counts : core.counts ≡ no_counts
-  pub tables : core.state.tables ≡ no_tables
-  pub pending : core.state.pending ≡ []
-  pub drawer : core.state.drawer ≡ []
-  pub apps : core.state.apps ≡ replicate 16 None
-  pub functions : core.state.kit ≡ kit
-  pub lists : core.state.admit ≡ admit
-  pub seconds : core.state.seconds ≡ 0
-  pub sub : core.state.sub ≡ 0
-  pub live : core.state.ended ≡ false
+pub record IsNew {B C : Type 0} (kit : List (Option (KitEntry C))) (admit : Admitted) (engine : EngineView B C) : Type 0 where
+  pub counts : engine.counts ≡ no_counts
+  pub tables : engine.state.tables ≡ no_tables
+  pub pending : engine.state.pending ≡ []
+  pub drawer : engine.state.drawer ≡ []
+  pub apps : engine.state.apps ≡ replicate 16 None
+  pub functions : engine.state.kit ≡ kit
+  pub lists : engine.state.admit ≡ admit
+  pub seconds : engine.state.seconds ≡ 0
+  pub sub : engine.state.sub ≡ 0
+  pub live : engine.state.ended ≡ false
 
 -- then it stands for the first state, over the blocks for which its store stands
-pub stands_first : {B C : Type 0} (g : Ghosts B) (kit : List (Option (KitEntry C))) (admit : Admitted) (blocks : Blocks) (core : CoreView B C) → IsNew kit admit core → (g.tells → HasBlocks g.tells g.now core.state.store blocks) → FollowsFrom g (first_state blocks (owners kit) admit) core
+pub stands_first : {B C : Type 0} (g : Ghosts B) (kit : List (Option (KitEntry C))) (admit : Admitted) (blocks : Blocks) (engine : EngineView B C) → IsNew kit admit engine → (g.tells → HasBlocks g.tells g.now engine.state.store blocks) → Stands g (first_state blocks (owners kit) admit) [] engine
 unfolding counts_of
-stands_first g kit admit blocks core new has = record {
-  legal = λ told. rw new.entries (record { answered = tt; leads = refl });
-  shows = λ told. rw new.entries (record {
+stands_first g kit admit blocks engine new has = record {
+  legal = λ told. record { answered = tt; leads = refl };
+  shows = λ told. record {
     state = record {
       parts = record {
         tables = sym new.tables;
@@ -56,7 +55,7 @@ stands_first g kit admit blocks core new has = record {
       blocks = λ _. has told;
     };
     counts = sym new.counts;
-  });
+  };
 }
 
 -- the counts of the bank moved as the fault of the boot says

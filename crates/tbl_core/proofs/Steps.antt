@@ -10,6 +10,7 @@ use Rattle.tbl_model.specs.Replies.{packets_by, packets_of}
 use Rattle.tbl_model.specs.History.{Run, begins_at, onward, onward_by, run_from, told, IsAnswered, AreAnswered}
 use Rattle.tbl_model.proofs.CountsLaws.{counts_push}
 use Rattle.tbl_model.proofs.HistoryLaws.{run_push, answered_push}
+use Rattle.tbl_core.specs.BankAsked.{AsksOnce}
 use Rattle.tbl_core.specs.Ended.{OnPlayed, session_end}
 use Rattle.tbl_session.specs.Restores.{RestoresHeld}
 use Rattle.store_requests.specs.Called.{Leaving}
@@ -17,14 +18,14 @@ use Rattle.request_effects.specs.Reports.{Reported}
 use Rattle.request_effects.specs.Effects.{Effect, IsEffect, uncalled, given_of, without_images, told_at}
 use Rattle.tbl_core.specs.Answers.{effect_in, moment_at, Answers}
 use Rattle.tbl_core.specs.Numbers.{AreCounts}
-use Rattle.tbl_core.specs.Service.{CoreView, Shows, FollowsFrom, step_of, HadEffect, IsMade, Plays, IsReady}
+use Rattle.tbl_core.specs.Service.{EngineView, core_of, Shows, Stands, step_of, HadEffect, IsMade, Plays, IsReady, IsAfter, PinsOnward}
 use Rattle.tbl_core.specs.Verdicts.{Judged}
 use Rattle.tbl_session.specs.Verdicts.{questions_in}
 use Rattle.tbl_session.specs.Crashes.{all_calls_in, UnderWay}
 use Rattle.tbl_core.proofs.Verdicts.{answers_each, few_more}
 use Rattle.tbl_core.proofs.Nothing.{counts_below}
 use Rattle.tbl_core.specs.Pins.{gets_after, HaveImages, PinsGoOn}
-use Rattle.tbl_core.proofs.Places.{Kept, Changed, places_kept, gets_on, image_on, got_on}
+use Rattle.tbl_core.proofs.Places.{Kept, Changed, all_places, gets_on, image_on, got_on}
 use Rattle.tbl_core.specs.declared.service.StepFault.{StepFault}
 use Rattle.tbl_core.specs.declared.service.StepFault.TheVariants.{Memory, BootFault, BootStopped}
 use Rattle.tbl_kinds.specs.declared.request.Actor.{Actor}
@@ -61,12 +62,12 @@ module _ (done : Effect) (seconds sub : ℕ) (actor : Actor) (request : Request)
 
 -- ---- one request
 
--- what it keeps, as far as pins are concerned
-abbrev pub kept_of : {B C : Type 0} → CoreView B C → Kept
-kept_of core = record { entries = core.entries; tables = core.state.tables; gets = core.gets }
+-- what it keeps behind a past, as far as pins are concerned
+abbrev pub kept_of : {B C : Type 0} → List Entry → EngineView B C → Kept
+kept_of past engine = record { entries = past; tables = engine.state.tables; gets = engine.gets }
 
 -- what a request did, by its entry
-pub record Did {B C : Type 0} (g : Ghosts B) (v : ValidatorGhosts C) (old new : CoreView B C) : Type 0 where
+pub record Did {B C : Type 0} (g : Ghosts B) (v : ValidatorGhosts C) (old new : EngineView B C) : Type 0 where
   pub began : Entry
   pub entry : Entry
   pub report : Reported
@@ -74,10 +75,11 @@ pub record Did {B C : Type 0} (g : Ghosts B) (v : ValidatorGhosts C) (old new : 
   pub live : old.state.ended ≡ false
   pub ready : IsReady v old
   pub answers : Answers g v (moment_at old.state old.counts began) (moment_at new.state new.counts entry) report
-  pub added : new.entries ≡ old.entries ++ entry ∷ []
-  pub gets : new.gets ≡ gets_after old.gets (length old.entries) entry
+  pub gets : new.gets ≡ gets_after old.gets old.played entry
+  pub played : new.played ≡ suc old.played
+  pub images : new.images ≡ suc old.images
 
-module _ {B C : Type 0} (g : Ghosts B) (v : ValidatorGhosts C) (old new : CoreView B C) (did : Did g v old new) where
+module _ {B C : Type 0} (g : Ghosts B) (v : ValidatorGhosts C) (old new : EngineView B C) (did : Did g v old new) where
   abbrev entry : Entry
   entry = did.entry
 
@@ -88,10 +90,10 @@ module _ {B C : Type 0} (g : Ghosts B) (v : ValidatorGhosts C) (old new : CoreVi
   made = did.answers.made
 
   -- its effect, whatever run the core stood for
-  left : g.tells → (r : Run) → Shows g old r → (e : model.Effect) × (effect_of r.state entry.actor entry.request (given_of done) ≡ Some e) × HadEffect g v (step_of old.state new.state entry.request) r.state done e
+  left : g.tells → (r : Run) → Shows g old.state old.counts r → (e : model.Effect) × (effect_of r.state entry.actor entry.request (given_of done) ≡ Some e) × HadEffect g v (step_of old.state new.state entry.request) r.state done e
   left told r shown = made.effect told r.state shown.state
 
-  counted_on : (is_told : g.tells) (r : Run) (shown : Shows g old r) → counts_of (r.past ++ told r.state entry.actor entry.request (left is_told r shown).0 ∷ []) ≡ new.counts
+  counted_on : (is_told : g.tells) (r : Run) (shown : Shows g old.state old.counts r) → counts_of (r.past ++ told r.state entry.actor entry.request (left is_told r shown).0 ∷ []) ≡ new.counts
   counted_on is_told r shown =
       let e = left is_told r shown in
       counts_push r.past (told r.state entry.actor entry.request e.0)
@@ -99,7 +101,7 @@ module _ {B C : Type 0} (g : Ghosts B) (v : ValidatorGhosts C) (old new : CoreVi
       ∙ ap (λ c. counts_after c (tally_of (told_at old.state.seconds old.state.sub new.state.tables entry.request done))) shown.counts
       ∙ sym did.answers.told.counts
 
-  answered : g.tells → (r : Run) → Shows g old r → IsAnswered r entry
+  answered : g.tells → (r : Run) → Shows g old.state old.counts r → IsAnswered r entry
   unfolding packets_of
   answered is_told r shown =
       let e = left is_told r shown in record {
@@ -117,21 +119,21 @@ module _ {B C : Type 0} (g : Ghosts B) (v : ValidatorGhosts C) (old new : CoreVi
             ∙ ap (λ c. packets_by (counts_of r.past) c (told r.state entry.actor entry.request e.0)) (sym (counted_on is_told r shown));
       }
 
-  shows : g.tells → (r : Run) → Shows g old r → Shows g new (onward r entry)
+  shows : g.tells → (r : Run) → Shows g old.state old.counts r → Shows g new.state new.counts (onward r entry)
   shows is_told r shown =
       let e = left is_told r shown in
-      subst (λ found. Shows g new (onward_by r entry found)) (sym e.1) (record { state = e.2.holds; counts = counted_on is_told r shown })
+      subst (λ found. Shows g new.state new.counts (onward_by r entry found)) (sym e.1) (record { state = e.2.holds; counts = counted_on is_told r shown })
 
-  one_more : length new.entries ≡ suc (length old.entries)
-  one_more = ap length did.added ∙ omega (arith, length-append old.entries (entry ∷ []))
-
-  judged : g.tells → (r : Run) → Shows g old r → Judged v old.state.kit new.state.kit (questions_in r entry) entry.given.verdicts
+  judged : g.tells → (r : Run) → Shows g old.state old.counts r → Judged v old.state.kit new.state.kit (questions_in r entry) entry.given.verdicts
   judged is_told r shown = rw (left is_told r shown).1 (left is_told r shown).2.judged
 
-  gave : g.tells → (r : Run) → Shows g old r → RestoresHeld (g.now old.state.store.bank) (all_calls_in r entry) r.state.store entry.given.note
+  gave : g.tells → (r : Run) → Shows g old.state old.counts r → RestoresHeld (g.now old.state.store.bank) (all_calls_in r entry) r.state.store entry.given.note
   gave is_told r shown = rw (left is_told r shown).1 (left is_told r shown).2.gave
 
-  moments : g.tells → (r : Run) → Shows g old r → Leaving g old.state.store new.state.store (UnderWay r entry)
+  bank_asked : g.tells → (r : Run) → Shows g old.state old.counts r → AsksOnce g old.state.store new.state.store r entry
+  bank_asked is_told r shown = rw (left is_told r shown).1 (left is_told r shown).2.asked
+
+  moments : g.tells → (r : Run) → Shows g old.state old.counts r → Leaving g old.state.store new.state.store (UnderWay r entry)
   moments is_told r shown = rw (left is_told r shown).1 (left is_told r shown).2.moments
 
   -- ---- its pins
@@ -139,26 +141,39 @@ module _ {B C : Type 0} (g : Ghosts B) (v : ValidatorGhosts C) (old new : CoreVi
   pins_on : HaveImages new.state.tables × PinsGoOn old.state.tables new.state.tables entry.request entry.reply.status
   pins_on = made.pins did.ready.images
 
-  changed : Changed (kept_of old) (kept_of new) entry
-  changed = record { added = did.added; gets = did.gets; pins = pins_on.1; places = did.ready.places }
-
   ready : IsReady v new
   ready = record {
-    fit = rw one_more (made.fit (length old.entries) did.ready.fit);
+    fit = rw did.images (made.fit old.images did.ready.fit);
+    few = omega (arith, did.images, did.played, did.ready.few);
     booted = made.booted;
-    kit = rw one_more (few_more v old.state.kit new.state.kit made.judged.0 done.verdicts (length old.entries) made.two made.judged.1 did.ready.kit);
+    kit = rw did.played (few_more v old.state.kit new.state.kit made.judged.0 done.verdicts old.played made.two made.judged.1 did.ready.kit);
     images = pins_on.0;
     numbers = subst AreCounts (sym did.answers.told.counts) (counts_below old.counts (tally_of (told_at old.state.seconds old.state.sub new.state.tables entry.request done)));
-    places = places_kept (kept_of old) (kept_of new) entry changed;
-    gets = gets_on (kept_of old) (kept_of new) entry changed did.ready.gets;
+    places = ap length did.gets ∙ all_places old.gets old.played entry.reply.status entry.request ∙ did.ready.places;
   }
 
-  pub did_play : (actor : Actor) (request : Request) → entry.actor ≡ actor → entry.request ≡ request → (result : Result Unit StepFault) → result ≡ session_end entry.given.note → Plays g v old new actor request result
+  -- ---- behind a past
+
+  module _ (past : List Entry) (before : IsAfter past old) where
+    changed : Changed (kept_of past old) (kept_of (past ++ entry ∷ []) new) entry
+    changed = record { added = refl; gets = did.gets ∙ ap (λ (place : ℕ). gets_after old.gets place entry) (sym before.played); pins = pins_on.1; places = did.ready.places }
+
+    after_it : IsAfter (past ++ entry ∷ []) new
+    after_it = record {
+      played = length-append past (entry ∷ []) ∙ omega (arith, before.played, did.played);
+      gets = gets_on (kept_of past old) (kept_of (past ++ entry ∷ []) new) entry changed before.gets;
+    }
+
+    pins_onward : PinsOnward (core_of past old) (core_of (past ++ entry ∷ []) new)
+    pins_onward = record {
+      each = image_on (kept_of past old) (kept_of (past ++ entry ∷ []) new) entry changed;
+      got = got_on (kept_of past old) (kept_of (past ++ entry ∷ []) new) entry changed;
+    }
+
+  pub did_play : (actor : Actor) (request : Request) → entry.actor ≡ actor → entry.request ≡ request → (result : Result Unit StepFault) → result ≡ session_end entry.given.note → Plays g v old new (actor, request) entry result
   did_play actor request by of result ends = record {
-    entry = entry;
     actor_is = by;
     request_is = of;
-    added = did.added;
     answered = answered;
     shows = shows;
     ended = made.ended;
@@ -167,25 +182,28 @@ module _ {B C : Type 0} (g : Ghosts B) (v : ValidatorGhosts C) (old new : CoreVi
     judged = judged;
     kit = made.judged;
     gave = gave;
+    bank_asked = bank_asked;
     trouble = made.trouble;
     cause = made.cause;
     moments = moments;
-    pins = record { each = image_on (kept_of old) (kept_of new) entry changed; got = got_on (kept_of old) (kept_of new) entry changed };
+    small = did.answers.small;
+    after = after_it;
+    pins = pins_onward;
   }
 
 -- ---- the history
 
--- a step that played a request leads from each opening that the core stood for to one that it stands for
-module _ {B C : Type 0} (g : Ghosts B) (v : ValidatorGhosts C) (old new : CoreView B C) (actor : Actor) (request : Request) (result : Result Unit StepFault)
-    (p : Plays g v old new actor request result) (opening : State) (stood : FollowsFrom g opening old) where
-  goes_on : g.tells → AreAnswered (begins_at opening) new.entries × Shows g new (run_from (begins_at opening) new.entries)
+-- a step that played a request leads from each opening and past that the engine stood for to one that it stands for
+module _ {B C : Type 0} (g : Ghosts B) (v : ValidatorGhosts C) (old new : EngineView B C) (actor : Actor) (request : Request) (e : Entry) (result : Result Unit StepFault)
+    (p : Plays g v old new (actor, request) e result) (opening : State) (past : List Entry) (stood : Stands g opening past old) where
+  goes_on : g.tells → AreAnswered (begins_at opening) (past ++ e ∷ []) × Shows g new.state new.counts (run_from (begins_at opening) (past ++ e ∷ []))
   goes_on told =
-      let run = run_from (begins_at opening) old.entries in
-      let all : AreAnswered (begins_at opening) (old.entries ++ p.entry ∷ []) = answered_push (begins_at opening) old.entries p.entry (stood.legal told).answered (p.answered told run (stood.shows told)) in
-      let shown : Shows g new (run_from (begins_at opening) (old.entries ++ p.entry ∷ [])) = subst (λ (r : Run). Shows g new r) (sym (run_push (begins_at opening) old.entries p.entry)) (p.shows told run (stood.shows told)) in
-      subst (λ (es : List Entry). AreAnswered (begins_at opening) es × Shows g new (run_from (begins_at opening) es)) (sym p.added) (all, shown)
+      let run = run_from (begins_at opening) past in (
+        answered_push (begins_at opening) past e (stood.legal told).answered (p.answered told run (stood.shows told)),
+        subst (λ (r : Run). Shows g new.state new.counts r) (sym (run_push (begins_at opening) past e)) (p.shows told run (stood.shows told)),
+      )
 
-  pub plays_on : FollowsFrom g opening new
+  pub plays_on : Stands g opening (past ++ e ∷ []) new
   plays_on = record { legal = λ told. record { answered = (goes_on told).0; leads = refl }; shows = λ told. (goes_on told).1 }
 
 -- what follows from a request that was played

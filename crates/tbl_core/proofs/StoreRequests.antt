@@ -37,6 +37,8 @@ use Rattle.validation.specs.Kits.{owners}
 use Rattle.tbl_session.specs.Crashes.{DuringCalls, writes}
 use Rattle.tbl_outside.proofs.Moments.{leaves_among}
 use Rattle.cds_layout.specs.Images.{store_of}
+use Rattle.cds_store.specs.StoreBlocks.{StandsFor}
+use Rattle.tbl_core.specs.BankAsked.{BootAsks}
 use Rattle.store_requests.specs.Called.{NoBoot, with_boot, IsCall, IsCalled, Calls, GaveAsHeld}
 use Rattle.tbl_session.specs.Restores.{RestoresHeld}
 use Rattle.tbl_core.specs.Service.{PartsView, IsStateOf, HoldsAll, state_of, step_of, HasEffect, Makes, Meets}
@@ -47,11 +49,11 @@ use Rattle.tbl_outside.specs.declared.bank.Bank.{Ghosts}
 use Rattle.tbl_outside.specs.declared.validator.Validator.{Ghosts as ValidatorGhosts}
 
 -- which boot comes after a request that isn't a Reset
-boot_at : (request : Request) → is_reset request ≡ false → boot_in request Stopped ≡ Some Processor
+pub boot_at : (request : Request) → is_reset request ≡ false → boot_in request Stopped ≡ Some Processor
 boot_at (ask.Reset kind) plain = absurd (cc plain)
 boot_at request plain = refl
 
-no_boot_at : (request : Request) → is_reset request ≡ false → (boot_in request Untouched ≡ None) × (boot_in request Done ≡ None) × (boot_in request Failed ≡ None)
+pub no_boot_at : (request : Request) → is_reset request ≡ false → (boot_in request Untouched ≡ None) × (boot_in request Done ≡ None) × (boot_in request Failed ≡ None)
 no_boot_at (ask.Reset kind) plain = absurd (cc plain)
 no_boot_at request plain = (refl, refl, refl)
 
@@ -118,6 +120,12 @@ module _ {B C : Type 0} (g : Ghosts B) (v : ValidatorGhosts C) (old new : PartsV
         moments = λ m. leaves_among (c.moments m) (λ image during. inl (subst (λ (store : Blocks). DuringCalls (writes e.calls) store (store_of image)) kept during));
         noted = λ boots. subst (λ (store : Blocks). IsNoteOf request e.calls store note) kept
             (record { ends = c.ends; gave = c.gave; tells = c.says; boots = boots_at request plain done.note no_boot left ended stopped found same boots });
+        asked = record {
+          called = new.store;
+          asked = c.asked;
+          blocks_left = subst (λ (store : Blocks). StandsFor g.tells g.now new.store (left_by e.calls note store)) kept c.blocks;
+          booted = subst (λ (boots : Option ResetKind). BootAsks g boots new.store.bank new.store.bank (not note.ended)) (sym (no_boot_at request plain).0) refl;
+        };
       }
 
   module _ (held : new ≡ record old { store = new.store; tables = new.tables }) (live : old.ended ≡ false) (call : IsCall g old.store new.store done) where

@@ -1,5 +1,5 @@
 -- A request about tables was made: the parts stand for the state that it leaves, over the same blocks.
-use Rattle.std.proofs.Common.{◌≡◌, ◌≤◌, ◌∙◌, ℕ, suc, List, [], false, Option, Some, None, ℤ, refl, sym, ap, subst, inl, arith}
+use Rattle.std.proofs.Common.{◌≡◌, ◌≤◌, ◌∙◌, ℕ, suc, List, [], false, not, Option, Some, None, ℤ, refl, sym, ap, subst, inl, arith}
 use Rattle.tbl_kinds.specs.Notes.{untouched}
 use Rattle.tbl_kinds.specs.Blocks.{Store as Blocks}
 use Rattle.tbl_kinds.specs.StoreCalls.{StoreCall}
@@ -9,6 +9,8 @@ use Rattle.tbl_model.specs.BankCounts.{HasCause}
 use Rattle.tbl_model.specs.Counts.{is_reset}
 use Rattle.tbl_model.specs.Dispatch.{effect_of}
 use Rattle.tbl_model.specs.StoreNotes.{IsNoteOf}
+use Rattle.tbl_model.specs.StoreUse.{left_by}
+use Rattle.tbl_kinds.specs.declared.request.ResetKind.{ResetKind}
 use Rattle.tbl_model.proofs.NoteLaws.{may_be_untouched}
 use Rattle.tbl_model.specs.Fit.{AreFit}
 use Rattle.tbl_laws.proofs.Cases.{OfEffect}
@@ -26,6 +28,9 @@ use Rattle.tbl_session.specs.Crashes.{DuringCalls, writes}
 use Rattle.tbl_outside.proofs.Moments.{leaves_among}
 use Rattle.cds_layout.specs.Images.{store_of}
 use Rattle.store_requests.specs.Called.{Leaving, boots_after}
+use Rattle.store_requests.proofs.BankCalls.{bank_calls_none}
+use Rattle.tbl_core.specs.BankAsked.{BootAsks}
+use Rattle.tbl_core.proofs.StoreRequests.{no_boot_at}
 use Rattle.tbl_session.specs.Restores.{RestoresHeld}
 use Rattle.request_effects.specs.Effects.{IsEffect, given_of}
 use Rattle.tbl_core.specs.Service.{PartsView, IsStateOf, state_of, step_of, Leaves, IsJudged, Does, HasEffect, Has, Makes, Meets, AreReady}
@@ -135,6 +140,13 @@ module _ {B C : Type 0} (g : Ghosts B) (v : ValidatorGhosts C) (most : ℕ) (old
         writing = λ stop. absurd (cc (stop, does.note));
         moments = λ m. leaves_among (moved told s.store (holds.blocks ready.live) m) (λ image during. inl (subst (λ (calls : List StoreCall). DuringCalls (writes calls) s.store (store_of image)) (sym found.2.calls) during));
         noted = λ _. subst (IsNoteOf request found.0.calls s.store) noted (subst (λ (calls : List StoreCall). IsNoteOf request calls s.store untouched) (sym found.2.calls) (may_be_untouched request s.store plain));
+        asked = record {
+          called = old.store;
+          asked = bank_calls_none g old.store.bank old.store.bank _ done.note refl does.note;
+          blocks_left = subst (λ (n : BankNote). HasBlocks g.tells g.now old.store (left_by found.0.calls n s.store)) noted
+              (subst (λ (calls : List StoreCall). HasBlocks g.tells g.now old.store (left_by calls untouched s.store)) (sym found.2.calls) (holds.blocks ready.live));
+          booted = subst (λ (boots : Option ResetKind). BootAsks g boots old.store.bank new.store.bank (not done.note.ended)) (sym (no_boot_at request plain).0) (ap (λ (kept : StoreParts B). kept.bank) does.store);
+        };
       } in
       subst (λ (n : BankNote). Has g v (step_of old new request) s done n (effect_of s actor request (record { note = n; verdicts = done.verdicts }))) (sym same)
       (subst (Has g v (step_of old new request) s done done.note) (sym found.1) had)

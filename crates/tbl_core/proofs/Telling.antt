@@ -3,6 +3,8 @@ use Rattle.std.proofs.Common.{◌≡◌, ℕ, true, false, Some, None, IsSome, r
 use Rattle.tbl_model.specs.Counts.{is_reset}
 use Rattle.tbl_model.specs.Commands.{read_command_in}
 use Rattle.tbl_model.specs.Whole.{asks_address}
+use Rattle.tbl_kinds.specs.Requests.{Fits}
+use Rattle.tbl_kinds.specs.declared.request.Actor.TheVariants.{App}
 use Rattle.tbl_kinds.specs.declared.request.Request.{Request}
 use Rattle.tbl_kinds.specs.declared.request.Request.TheVariants as ask
 use Rattle.request_effects.specs.Requests.{asks_store}
@@ -36,6 +38,11 @@ store_no_get request asks n = refl
 pub told_no_reset : (request : Request) → IsSome (told_handle request) → is_reset request ≡ false
 told_no_reset (ask.Reset kind) some = absurd (cc some)
 told_no_reset request some = refl
+
+-- nor is what an application requests
+pub app_no_reset : (app : ℕ) (request : Request) → Fits (App app) request → is_reset request ≡ false
+app_no_reset app (ask.Reset kind) fits = absurd (fits.2 tt)
+app_no_reset app request fits = refl
 
 pub told_no_command : (request : Request) → IsSome (told_handle request) → read_command_in request ≡ None
 told_no_command (ask.Command packet) some = absurd (cc some)

@@ -1,5 +1,5 @@
 -- The verdicts of a history are those of the functions that it began with.
-use Rattle.std.proofs.Common.{◌≡◌, ◌⊎◌, ◌∙◌, ℕ, List, [], ◌∷◌, ◌++◌, count_by, Option, Some, None, IsSome, Result, ℤ, refl, sym, subst}
+use Rattle.std.proofs.Common.{◌≡◌, ◌⊎◌, ◌∙◌, ℕ, List, [], ◌∷◌, ◌++◌, count_by, Option, Some, None, IsSome, Result, ℤ, refl, subst}
 use Rattle.std.specs.Option.{ForSome}
 use Rattle.tbl_model.specs.Telemetry.{Question}
 use Rattle.tbl_model.specs.State.{State}
@@ -10,7 +10,7 @@ use Rattle.tbl_kinds.specs.declared.request.Request.{Request}
 use Rattle.tbl_outside.specs.declared.validator.KitEntry.{KitEntry}
 use Rattle.validation.specs.Kits.{entry_at}
 use Rattle.validation.specs.Asked.{is_for, GivesEach, Stays}
-use Rattle.tbl_core.specs.Service.{CoreView, FollowsFrom, Vouches, Plays}
+use Rattle.tbl_core.specs.Service.{CoreView, EngineView, core_of, FollowsFrom, Vouches, Plays}
 use Rattle.tbl_core.proofs.Verdicts.{was_there}
 use Rattle.tbl_session.specs.Verdicts.{questions_in, AreGiven, IsOf, AreOf}
 use Rattle.tbl_core.specs.declared.service.StepFault.{StepFault}
@@ -62,14 +62,13 @@ module _ {C : Type 0} (v : ValidatorGhosts C) where
       by None before of steady = absurd of
       by (Some entry) before of steady = λ image. steady image ∙ of image
 
-  pub vouches_on : {B : Type 0} (g : Ghosts B) (old new : CoreView B C) (actor : Actor) (request : Request) (result : Result Unit StepFault)
-      → Plays g v old new actor request result
-      → (opening : State) (given : List (Option (KitEntry C))) → Vouches g v.verdict given opening old → Vouches g v.verdict given opening new
-  vouches_on g old new actor request result p opening given vouched = record {
-    stands = plays_on g v old new actor request result p opening vouched.stands;
+  pub vouches_on : {B : Type 0} (g : Ghosts B) (old new : EngineView B C) (actor : Actor) (request : Request) (e : Entry) (result : Result Unit StepFault)
+      → Plays g v old new (actor, request) e result
+      → (opening : State) (past : List Entry) (given : List (Option (KitEntry C))) → Vouches g v.verdict given opening (core_of past old) → Vouches g v.verdict given opening (core_of (past ++ e ∷ []) new)
+  vouches_on g old new actor request e result p opening past given vouched = record {
+    stands = plays_on g v old new actor request e result p opening past vouched.stands;
     verdicts = λ told.
-        let judged = p.judged told (run_from (begins_at opening) old.entries) (vouched.stands.shows told) in
-        subst (λ (es : List Entry). AreGiven v.verdict given (begins_at opening) es) (sym p.added)
-        (given_push v.verdict given (begins_at opening) old.entries p.entry (vouched.verdicts told) (each_first v.verdict given old.state.kit vouched.functions _ p.entry.given.verdicts judged.gives));
+        let judged = p.judged told (run_from (begins_at opening) past) (vouched.stands.shows told) in
+        given_push v.verdict given (begins_at opening) past e (vouched.verdicts told) (each_first v.verdict given old.state.kit vouched.functions _ e.given.verdicts judged.gives);
     functions = λ number. of_before (count_by (is_for number) p.kit.0) (entry_at given number) (entry_at old.state.kit number) (entry_at new.state.kit number) (vouched.functions number) (p.kit.1.each number);
   }

@@ -1,9 +1,13 @@
 pub mod Ended
 pub mod Requests
 pub mod Answers
+pub mod Asking
+pub mod Lent
 pub mod Log
 pub mod Numbers
 pub mod Owned
 pub mod Pins
 pub mod Service
+pub mod Engine
+pub mod BankAsked
 pub mod Verdicts

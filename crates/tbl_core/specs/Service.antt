@@ -1,5 +1,5 @@
 -- What the core keeps, and which histories it stands for.
-use Rattle.std.specs.Prelude.{◌≡◌, ◌⊎◌, ℕ, suc, ◌+◌, ◌*◌, ◌^◌, ◌<◌, List, [], ◌∷◌, ◌++◌, length, Bool, true, false, not, Option, Some, None, IsSome, Result, slice_get}
+use Rattle.std.specs.Prelude.{◌≡◌, ◌⊎◌, ℕ, suc, ◌+◌, ◌*◌, ◌^◌, ◌-◌, ◌<◌, ◌≤◌, List, [], ◌∷◌, ◌++◌, length, Bool, true, false, not, Option, Some, None, IsSome, Result, slice_get}
 use Rattle.std.specs.Option.{ForSome}
 use Rattle.std.proofs.Common.{ℤ}
 use Rattle.tbl_model.specs.State.{State, Handle, Tables, no_tables}
@@ -26,10 +26,11 @@ use Rattle.tbl_core.specs.Numbers.{AreCounts}
 use Rattle.tbl_core.specs.Pins.{handle_limit, place_in, gets_address, HaveImages, PinsGoOn, IsGetAt}
 use Rattle.tbl_model.specs.TableSteps.{handle_at}
 use Rattle.tbl_registry.specs.Lending.{pins_image, pinned_image}
+use Rattle.tbl_registry.specs.Images.{most_images}
 use Rattle.tbl_registry.specs.declared.pin.Pin.{Pin}
 use Rattle.tbl_model.specs.Telemetry.{Question}
 use Rattle.tbl_model.specs.BankCounts.{HasCause}
-use Rattle.tbl_model.specs.StoreNotes.{Boots, IsNoteOf}
+use Rattle.tbl_model.specs.StoreNotes.{Boots, IsNoteOf, boot_in}
 use Rattle.tbl_model.specs.StoreUse.{left_by}
 use Rattle.cds_store.specs.StoreBlocks.{StoreParts, StandsFor as HasBlocks}
 use Rattle.cds_store.specs.declared.fault.BankFault.{BankFault}
@@ -38,12 +39,14 @@ use Rattle.tbl_kinds.specs.declared.note.BankNote.{BankNote}
 use Rattle.tbl_kinds.specs.declared.note.Outcome.{Outcome}
 use Rattle.tbl_kinds.specs.declared.note.Outcome.TheVariants.{Untouched, Done, Failed, Stopped}
 use Rattle.tbl_kinds.specs.declared.request.Request.TheVariants as ask
+use Rattle.tbl_kinds.specs.declared.request.ResetKind.{ResetKind}
 use Rattle.tbl_kinds.specs.declared.request.ResetKind.TheVariants.{Processor, PowerOn}
 use Rattle.tbl_kinds.specs.declared.status.TheConstants.Status.{INFO_STOPPED}
 use Rattle.tbl_model.specs.Copies.{then_copy}
 use Rattle.store_requests.specs.Called.{NoBoot, boots_after, Troubled, Leaving, done_first, CallsAfter}
 use Rattle.tbl_session.specs.Restores.{RestoresHeld}
 use Rattle.tbl_core.specs.Ended.{Follows, session_end}
+use Rattle.tbl_core.specs.BankAsked.{BankAsked, AsksOnce}
 use Rattle.tbl_core.specs.Owned.{owned_at, copied_at}
 use Rattle.table_requests.specs.Limits.{AreCounted, AreSendable}
 use Rattle.store_requests.specs.Copying.{IsCopyCall}
@@ -55,7 +58,8 @@ use Rattle.tbl_core.specs.Verdicts.{Judged}
 use Rattle.tbl_session.specs.Verdicts.{questions_in, AreGiven, AreOf}
 use Rattle.reply_packets.specs.Counters.{counts_view}
 use Rattle.tbl_core.specs.declared.parts.Parts.{Parts}
-use Rattle.tbl_core.specs.declared.playing.Service.{Service}
+use Rattle.tbl_core.specs.Log.{IsSmall}
+use Rattle.tbl_core.specs.declared.playing.Works.{Works}
 use Rattle.tbl_core.specs.declared.service.StartFault.{StartFault}
 use Rattle.tbl_core.specs.declared.service.StartFault.TheVariants.{Memory, BootFault, BootStopped}
 use Rattle.tbl_core.specs.declared.service.StepFault.{StepFault}
@@ -76,6 +80,15 @@ pub record PartsView (B C : Type 0) : Type 0 where
   pub seconds : ℕ
   pub sub : ℕ
   pub ended : Bool
+
+-- the parts, the running numbers of telemetry, for each handle the place of the call that got an address by it last, how many
+-- requests were played, and a bound on the images of a table. No history is kept
+pub record EngineView (B C : Type 0) : Type 0 where
+  pub state : PartsView B C
+  pub counts : Counts
+  pub gets : List ℕ
+  pub played : ℕ
+  pub images : ℕ
 
 -- the history, the parts, the running numbers of telemetry, and for each handle the place of the call that got an address by it last
 pub record CoreView (B C : Type 0) : Type 0 where
@@ -98,8 +111,12 @@ parts_view parts = record {
   ended = parts.ended;
 }
 
-abbrev pub view_of : {B C : Type 0} → Service B C → CoreView B C
-view_of service = record { entries = service.log.entries; state = parts_view service.parts; counts = counts_view service.counters; gets = service.log.gets }
+abbrev pub works_view : {B C : Type 0} → Works B C → EngineView B C
+works_view works = record { state = parts_view works.parts; counts = counts_view works.counters; gets = works.gets.items; played = works.played; images = works.images }
+
+-- an engine and what it played, as a core that had kept it
+abbrev pub core_of : {B C : Type 0} → List Entry → EngineView B C → CoreView B C
+core_of past engine = record { entries = past; state = engine.state; counts = engine.counts; gets = engine.gets }
 
 -- ---- what the parts stand for
 
@@ -136,15 +153,20 @@ pub record HoldsAll {B C : Type 0} (g : Ghosts B) (held : PartsView B C) (s : St
   pub parts : IsStateOf s.store held s
   pub blocks : held.ended ≡ false → HasBlocks g.tells g.now held.store s.store
 
--- the core stands for a run: its state, and what is counted over what was told
-pub record Shows {B C : Type 0} (g : Ghosts B) (core : CoreView B C) (r : Run) : Type 0 where
-  pub state : HoldsAll g core.state r.state
-  pub counts : counts_of r.past ≡ core.counts
+-- the parts and the running numbers stand for a run: its state, and what is counted over what was told
+pub record Shows {B C : Type 0} (g : Ghosts B) (held : PartsView B C) (numbers : Counts) (r : Run) : Type 0 where
+  pub state : HoldsAll g held r.state
+  pub counts : counts_of r.past ≡ numbers
 
 -- where the bank tells its bytes, the core's history is legal from the opening state on, and the core stands for what it leads to
 pub record FollowsFrom {B C : Type 0} (g : Ghosts B) (opening : State) (core : CoreView B C) : Type 0 where
   pub legal : g.tells → IsLegal opening core.entries (run_from (begins_at opening) core.entries).state
-  pub shows : g.tells → Shows g core (run_from (begins_at opening) core.entries)
+  pub shows : g.tells → Shows g core.state core.counts (run_from (begins_at opening) core.entries)
+
+-- the same of an engine, for a past that it doesn't keep: from the opening state on that past is legal, and the engine stands for what
+-- it leads to
+abbrev pub Stands : {B C : Type 0} → Ghosts B → State → List Entry → EngineView B C → Type 0
+Stands g opening past engine = FollowsFrom g opening (core_of past engine)
 
 -- and the verdicts in it are those of these functions, of which each that stands in the kit is one
 pub record Vouches {B C : Type 0} (g : Ghosts B) (verdict : C → List ℕ → ℤ) (given : List (Option (KitEntry C))) (opening : State) (core : CoreView B C) : Type 0 where
@@ -158,17 +180,45 @@ pub record Vouches {B C : Type 0} (g : Ghosts B) (verdict : C → List ℕ → �
 abbrev pub AskedBelow : {C : Type 0} → (C → ℕ) → ℕ → List (Option (KitEntry C)) → Type 0
 AskedBelow asked most kit = (number : ℕ) → ForSome (entry_at kit number) (λ entry. asked entry.check < most)
 
--- no table has had more images than there are entries, what is pending can be done, the store was booted unless the service has
--- ended, and no function was asked more than twice for each entry since it was given. Each pin is of an image that is there, by the
--- call at the place that is kept for its handle
-pub record IsReady {B C : Type 0} (v : ValidatorGhosts C) (core : CoreView B C) : Type 0 where
-  pub fit : AreFit (length core.entries) (state_of core.state)
-  pub booted : core.state.store.booted ≡ not core.state.ended
-  pub kit : AskedBelow v.asked (2 ^ 62 + 2 * length core.entries) core.state.kit
-  pub images : HaveImages core.state.tables
-  pub numbers : AreCounts core.counts
-  pub places : length core.gets ≡ handle_limit
-  pub gets : (handle : ℕ) (h : Handle) (p : ℕ) → handle < handle_limit → handle_at core.state.tables handle ≡ Some h → h.pin ≡ Some p → IsGetAt core.entries (place_in core.gets handle) handle
+-- how many requests an engine plays: a million a second for seventy thousand years
+abbrev pub engine_limit : ℕ
+engine_limit = 2 ^ 61 - 1
+
+-- how many images a table may have had: its count doesn't wrap in the request after
+abbrev pub image_limit : ℕ
+image_limit = 4294967293
+
+abbrev pub IsReset : Request → Type 0
+IsReset request = (kind : ResetKind) × (request ≡ ask.Reset kind)
+
+-- the engine may play this request; a reset may come later than others, since it leaves no tables
+pub record HasRoom {B C : Type 0} (engine : EngineView B C) (request : Request) : Type 0 where
+  pub requests : engine.played < engine_limit
+  pub images : (engine.images < image_limit) ⊎ ((engine.images ≡ image_limit) × IsReset request)
+
+-- why it may not: it has met this limit
+abbrev pub IsLimit : {B C : Type 0} → EngineView B C → ℕ → Type 0
+IsLimit engine limit = ((limit ≡ engine_limit) × (engine_limit ≤ engine.played)) ⊎ ((limit ≡ image_limit) × (image_limit ≤ engine.images))
+
+-- no table has had more images than the bound says, what is pending can be done, the store was booted unless the service has ended,
+-- and no function was asked more than twice for each request since it was given. Each pin is of an image that is there
+pub record IsReady {B C : Type 0} (v : ValidatorGhosts C) (engine : EngineView B C) : Type 0 where
+  pub fit : AreFit engine.images (state_of engine.state)
+  pub few : engine.images ≤ engine.played
+  pub booted : engine.state.store.booted ≡ not engine.state.ended
+  pub kit : AskedBelow v.asked (2 ^ 62 + 2 * engine.played) engine.state.kit
+  pub images : HaveImages engine.state.tables
+  pub numbers : AreCounts engine.counts
+  pub places : length engine.gets ≡ handle_limit
+
+-- the engine with the bound on images taken anew
+abbrev pub recounted : {B C : Type 0} → EngineView B C → EngineView B C
+recounted engine = record engine { images = most_images engine.state.tables }
+
+-- the engine has played just this: so many requests, and each pin is by the call at the place that is kept for its handle
+pub record IsAfter {B C : Type 0} (past : List Entry) (engine : EngineView B C) : Type 0 where
+  pub played : length past ≡ engine.played
+  pub gets : (handle : ℕ) (h : Handle) (p : ℕ) → handle < handle_limit → handle_at engine.state.tables handle ≡ Some h → h.pin ≡ Some p → IsGetAt past (place_in engine.gets handle) handle
 
 -- what each request may rely on
 pub record MayPlay {B C : Type 0} (v : ValidatorGhosts C) (held : PartsView B C) : Type 0 where
@@ -253,6 +303,7 @@ pub record HasEffect {B C : Type 0} (g : Ghosts B) (v : ValidatorGhosts C) (step
   pub writing : note.outcome ≡ Stopped → writes e.calls ≡ e.calls
   pub moments : Leaving g step.old.store step.new.store (EndsIn step.request e.calls s.store)
   pub noted : (note.outcome ≡ Stopped → Boots (Some Processor) before.store note) → IsNoteOf step.request e.calls s.store note
+  pub asked : BankAsked g (boot_in step.request Untouched) step.old.store step.new.store e.calls s.store note
 
 abbrev pub Has : {B C : Type 0} → Ghosts B → ValidatorGhosts C → Step B C → State → Effect → BankNote → Option model.Effect → Type 0
 Has g v step s done note None = ⊥
@@ -292,6 +343,7 @@ pub record HadEffect {B C : Type 0} (g : Ghosts B) (v : ValidatorGhosts C) (step
   pub judged : Judged v step.old.kit step.new.kit e.questions done.verdicts
   pub noted : IsNoteOf step.request e.calls s.store done.note
   pub gave : RestoresHeld (g.now step.old.store.bank) e.calls s.store done.note
+  pub asked : BankAsked g (boot_in step.request done.note.outcome) step.old.store step.new.store e.calls s.store done.note
   pub moments : Leaving g step.old.store step.new.store (EndsIn step.request e.calls s.store)
 
 -- the request was made, and the service booted after it where it was stopped
@@ -316,24 +368,25 @@ pub record PinsOnward {B C : Type 0} (old new : CoreView B C) : Type 0 where
   pub got : (handle : ℕ) (e : Entry) → slice_get new.entries (length old.entries) ≡ Some e → gets_address handle e.request e.reply.status ≡ true
       → (pins_image handle new.state.tables ≡ true) × (handle < handle_limit → place_in new.gets handle ≡ length old.entries)
 
--- one request was played: one entry more, answered rightly whatever run the core stood for
-pub record Plays {B C : Type 0} (g : Ghosts B) (v : ValidatorGhosts C) (old new : CoreView B C) (actor : Actor) (request : Request) (result : Result Unit StepFault) : Type 0 where
-  pub entry : Entry
-  pub actor_is : entry.actor ≡ actor
-  pub request_is : entry.request ≡ request
-  pub added : new.entries ≡ old.entries ++ entry ∷ []
-  pub answered : g.tells → (r : Run) → Shows g old r → IsAnswered r entry
-  pub shows : g.tells → (r : Run) → Shows g old r → Shows g new (onward r entry)
+-- one request was played, and this is its entry: it is answered rightly whatever run the engine stood for
+pub record Plays {B C : Type 0} (g : Ghosts B) (v : ValidatorGhosts C) (old new : EngineView B C) (asked : Actor × Request) (entry : Entry) (result : Result Unit StepFault) : Type 0 where
+  pub actor_is : entry.actor ≡ asked.0
+  pub request_is : entry.request ≡ asked.1
+  pub answered : g.tells → (r : Run) → Shows g old.state old.counts r → IsAnswered r entry
+  pub shows : g.tells → (r : Run) → Shows g old.state old.counts r → Shows g new.state new.counts (onward r entry)
   pub ended : new.state.ended ≡ entry.given.note.ended
   pub ends : result ≡ session_end entry.given.note
   pub ready : IsReady v new
-  pub judged : g.tells → (r : Run) → Shows g old r → Judged v old.state.kit new.state.kit (questions_in r entry) entry.given.verdicts
+  pub judged : g.tells → (r : Run) → Shows g old.state old.counts r → Judged v old.state.kit new.state.kit (questions_in r entry) entry.given.verdicts
   pub kit : (questions : List Question) × Judged v old.state.kit new.state.kit questions entry.given.verdicts
-  pub gave : g.tells → (r : Run) → Shows g old r → RestoresHeld (g.now old.state.store.bank) (all_calls_in r entry) r.state.store entry.given.note
+  pub gave : g.tells → (r : Run) → Shows g old.state old.counts r → RestoresHeld (g.now old.state.store.bank) (all_calls_in r entry) r.state.store entry.given.note
+  pub bank_asked : g.tells → (r : Run) → Shows g old.state old.counts r → AsksOnce g old.state.store new.state.store r entry
   pub trouble : Troubled g old.state.store.bank new.state.store.bank entry.given.note
   pub cause : HasCause entry.reply.status entry.given.note
-  pub moments : g.tells → (r : Run) → Shows g old r → Leaving g old.state.store new.state.store (UnderWay r entry)
-  pub pins : PinsOnward old new
+  pub moments : g.tells → (r : Run) → Shows g old.state old.counts r → Leaving g old.state.store new.state.store (UnderWay r entry)
+  pub small : IsSmall entry
+  pub after : (past : List Entry) → IsAfter past old → IsAfter (past ++ entry ∷ []) new
+  pub pins : (past : List Entry) → IsAfter past old → PinsOnward (core_of past old) (core_of (past ++ entry ∷ []) new)
 
 -- ---- the core
 

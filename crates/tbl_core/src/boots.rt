@@ -13,6 +13,7 @@ ghost use Rattle.cds_store.specs.Moments.{BootLeaves};
 ghost use Rattle.cds_store.specs.StoreBlocks.{StandsFor as HasBlocks};
 ghost use Rattle.tbl_kinds.specs.StoreSteps.{Shows as ShowsBlocks};
 ghost use Rattle.tbl_outside.specs.Bank.{LeavesOnly};
+ghost use Rattle.tbl_core.specs.BankAsked.{BootAsks};
 ghost use Rattle.tbl_core.specs.Ended.{Follows, boot_only, session_end};
 ghost use Rattle.store_requests.specs.Called.{NoBoot, Leaving, boots_after, with_boot, Troubled};
 ghost use Rattle.tbl_core.specs.Service.{HoldsAll, Makes, Meets, parts_view, step_of, after_stop};
@@ -36,6 +37,7 @@ fn boot_store<B: Bank>(store: &mut Store<B>, kind: ResetKind, note: &mut BankNot
         → HasBlocks B.tells B.now store.new (blocks_after kind note.exit.now blocks) }
     ensures found { B.tells → (blocks : Blocks) → HasBlocks B.tells B.now store.old blocks → Boots (Some kind) blocks note.exit.now }
     ensures trouble { Troubled B.Bank store.old.bank store.new.bank (with_boot note.exit.now.ended note.exit.now.stopped [] untouched) }
+    ensures asked { B.tells → BootAsks B.Bank (Some kind) store.old.bank store.new.bank (not note.exit.now.ended) }
     ensures moments { B.tells_moments → (blocks : Blocks) → HasBlocks B.tells B.now store.old blocks
         → LeavesOnly B.clock B.left_since store.old.bank store.new.bank (BootLeaves kind blocks) }
 {
@@ -86,6 +88,7 @@ impl<B: Bank, C: Validator> Parts<B, C> {
             → HasBlocks B.tells B.now self.new.store (blocks_after kind note.exit.now blocks) }
         ensures found { B.tells → (blocks : Blocks) → HasBlocks B.tells B.now self.old.store blocks → Boots (Some kind) blocks note.exit.now }
         ensures trouble { Troubled B.Bank self.old.store.bank self.new.store.bank (with_boot note.exit.now.ended note.exit.now.stopped [] untouched) }
+        ensures asked { B.tells → BootAsks B.Bank (Some kind) self.old.store.bank self.new.store.bank (not note.exit.now.ended) }
         ensures moments { B.tells_moments → (blocks : Blocks) → HasBlocks B.tells B.now self.old.store blocks
             → LeavesOnly B.clock B.left_since self.old.store.bank self.new.store.bank (BootLeaves kind blocks) }
         ensures report { self.new.report ≡ self.old.report }
@@ -141,6 +144,7 @@ impl<B: Bank, C: Validator> Parts<B, C> {
         ensures found { B.tells → (s : State) → HoldsAll B.Bank (parts_view self.old) s → note.old.outcome ≡ Stopped
             → Boots (Some Processor) s.store note.new }
         ensures trouble { Troubled B.Bank self.old.store.bank self.new.store.bank (boot_only note.old.outcome note.new) }
+        ensures asked { B.tells → note.old.outcome ≡ Stopped → BootAsks B.Bank (Some Processor) self.old.store.bank self.new.store.bank (not note.new.ended) }
         ensures moments { B.tells → (s : State) → HoldsAll B.Bank (parts_view self.old) s → note.old.outcome ≡ Stopped
             → Leaving B.Bank self.old.store self.new.store (ShowsBlocks s.store) }
         ensures report { self.new.report ≡ self.old.report }

@@ -1,8 +1,10 @@
 //! The service itself: one step plays one request of one actor and adds one legal entry to the history that it keeps.
 #![tactic(auto)]
 
+mod asking;
 mod boots;
 mod dispatch;
+mod engine;
 mod log;
 mod parts;
 mod playing;
@@ -10,4 +12,5 @@ mod quiet;
 mod service;
 mod storing;
 
+pub use engine::Engine;
 pub use service::{Core, StartFault, StepFault};

@@ -1,34 +1,28 @@
-//! The history, and where in it addresses were got.
+//! The history, as it is kept.
 
-ghost use Rattle.std.specs.Prelude.{◌≡◌, ◌<◌, ◌||◌, ◌==◌, ◌∷◌, [], ◌++◌, length, replicate, Err, IfOk, OnOk, OnErr, All, vec_capacity, if◌then◌else◌, slice_set};
+ghost use Rattle.std.specs.Prelude.{◌≡◌, false, ◌<◌, [], length, Err, All, vec_capacity, OnOk};
 ghost use Rattle.tbl_kinds.specs.Records.{record_limit};
 ghost use Rattle.tbl_kinds.specs.Requests.{Fits};
-ghost use Rattle.tbl_model.specs.Whole.{is_done};
-ghost use Rattle.reply_packets.specs.Counters.{counts_view};
-ghost use Rattle.tbl_core.specs.Log.{IsSmall, IsEntered};
-ghost use Rattle.tbl_core.specs.Pins.{place_in, gets_after};
-ghost use Rattle.tbl_core.specs.Ended.{OnPlayed, session_end};
-ghost use Rattle.tbl_core.specs.Answers.{Answers, moment_of, CanAnswer};
-ghost use Rattle.tbl_core.specs.Service.{parts_view};
+ghost use Rattle.tbl_core.specs.Log.{IsSmall};
+ghost use Rattle.tbl_core.specs.Lent.{StillPins, LastGives};
+ghost use Rattle.tbl_core.specs.Pins.{IsSliceOf};
+ghost use Rattle.tbl_core.specs.Ended.{OnPlayed};
+ghost use Rattle.tbl_core.specs.Answers.{IsBegun};
+ghost use Rattle.tbl_core.specs.Engine.{Steps, Enters, MayStillPin};
+ghost use Rattle.tbl_core.specs.Service.{IsAfter, HasRoom};
 
-use crate::boots::session_end;
-use crate::parts::Parts;
+use crate::engine::Engine;
 use crate::service::StepFault;
-use reply_packets::Counters;
 use std::alloc::Global;
 use std::marker::Model;
-use tbl_kinds::{Entry, Memory, Request, Status};
+use tbl_kinds::{Actor, Bytes, Entry, Memory, Request};
 use tbl_outside::{Bank, Validator};
-
-/// How many handles there can be (`CFE_PLATFORM_TBL_MAX_NUM_HANDLES`).
-const HANDLES: usize = 256;
+use tbl_registry::Pin;
 
 /// The entries in their order, and reserved room for further ones.
 #[derive(Drop)]
 pub(crate) struct Log {
     entries: Vec<Entry>,
-    /// For each handle the place of the latest entry that got an address by it.
-    gets: Vec<u32>,
 }
 
 impl Model for Log {
@@ -36,87 +30,80 @@ impl Model for Log {
 
     ghost Value = { Logged };
 
-    ghost use Rattle.std.specs.Prelude.{◌≡◌, ◌-◌, All, length, vec_len, vec_capacity};
+    ghost use Rattle.std.specs.Prelude.{◌-◌, All, vec_len, vec_capacity};
     ghost use Rattle.tbl_core.specs.Log.{IsSmall};
-    ghost use Rattle.tbl_core.specs.Pins.{handle_limit};
 
-    ghost view = { λ l. record { entries = l.entries.items; gets = l.gets.items; spare = vec_capacity l.entries - vec_len l.entries } };
+    ghost view = { λ l. record { entries = l.entries.items; spare = vec_capacity l.entries - vec_len l.entries } };
 
-    ghost invariant = { λ l. All IsSmall l.entries.items × (length l.gets.items ≡ handle_limit) };
+    ghost invariant = { λ l. All IsSmall l.entries.items };
 }
 
-/// Whether a call with this status did what was requested.
-fn is_done(status: Status) -> bool
-    ensures { result ≡ is_done status }
-{
-    status == Status::SUCCESS || status == Status::INFO_UPDATED
-}
-
-/// Keeps the place of a call that got an address by this handle.
-#[tactic(auto, using(crate::proofs::Places::past_end))]
-fn keep_at(gets: &mut [u32], handle: u16, place: u32)
-    ensures { gets.new ≡ slice_set gets.old handle place }
-{
-    let at = usize::from(handle);
-    if at < gets.len() {
-        gets[at] = place;
-    }
-}
-
-/// Keeps the place of an entry, if it got an address.
-fn keep_place(gets: &mut [u32], entry: &Entry, place: u32)
-    ensures { gets.new ≡ gets_after gets.old place entry.now }
-{
-    match &entry.request {
-        Request::Get { handle } if is_done(entry.reply.status) => keep_at(gets, *handle, place),
-        _ => {}
-    }
-}
-
-/// Adds a request to which nothing is answered yet, and has it answered where its entry stands. If memory runs out, it is taken back.
+/// Adds a request to which nothing is answered yet, and has it played where its entry stands. If memory runs out, it is taken back.
 #[inline(always)]
-fn push_answered<B: Bank, C: Validator>(
+fn push_played<B: Bank, C: Validator>(
     entries: &mut Vec<Entry>,
     begun: Entry,
-    parts: &mut Parts<B, C>,
-    counters: &mut Counters,
-) -> Result<(), Memory>
+    engine: &mut Engine<B, C>,
+) -> Result<(), StepFault>
     requires room { length entries.old.items < vec_capacity entries.old }
+    requires begun { IsBegun begun }
     requires fits { Fits begun.actor begun.request }
-    requires stands { CanAnswer C.Validator (moment_of parts.old counters.old begun) }
-    ensures answered { OnOk result ((e : Entry) × (entries.new.items ≡ entries.old.items ++ e ∷ [])
-        × Answers B.Bank C.Validator (moment_of parts.old counters.old begun) (moment_of parts.new counters.new e) parts.new.report) }
-    ensures err_entries { OnErr result (entries.new.items ≡ entries.old.items) }
-    ensures err { OnErr result (parts_view parts.new ≡ parts_view parts.old) }
-    ensures err_counts { OnErr result (counts_view counters.new ≡ counts_view counters.old) }
+    requires live { engine.old.state.ended ≡ false }
+    requires few { HasRoom engine.old begun.request }
+    ensures steps { OnPlayed result (Enters (λ e. Steps B.Bank C.Validator engine.old engine.new (begun.actor, begun.request) e result) entries.old.items entries.new.items) }
+    ensures live { OnOk result (engine.new.state.ended ≡ false) }
+    ensures err_entries { result ≡ Err StepFault.Memory → entries.new.items ≡ entries.old.items }
+    ensures err { result ≡ Err StepFault.Memory → engine.new ≡ engine.old }
 {
     let place = entries.len();
     entries.push_reserved(begun);
     let entry = &mut entries[place];
-    if parts.answer(entry, counters).is_err() {
+    let played = engine.play(entry);
+    if let Err(StepFault::Memory) = played {
         let _ = entries.pop();
-        return Err(Memory);
     }
-    Ok(())
+    played
 }
 
-/// A place for each handle, of no call yet.
-fn no_places(alloc: Global) -> Result<Vec<u32>, Memory>
-    ensures { IfOk result (λ places. places.items ≡ replicate 256 0) }
+/// The same for a Read whose bytes were lent.
+fn push_read<B: Bank, C: Validator>(
+    entries: &mut Vec<Entry>,
+    begun: Entry,
+    engine: &mut Engine<B, C>,
+    pin: &Pin,
+    slice: Bytes,
+) -> Result<(), StepFault>
+    requires room { length entries.old.items < vec_capacity entries.old }
+    requires begun { IsBegun begun }
+    requires fits { Fits begun.actor begun.request }
+    requires live { engine.old.state.ended ≡ false }
+    requires few { HasRoom engine.old begun.request }
+    requires pin { MayStillPin pin.now engine.old }
+    requires slice { IsSliceOf pin.now begun.request slice.list }
+    ensures lent { StillPins pin.now engine.old.gets → OnPlayed result (LastGives engine.old.state entries.old.items entries.new.items slice) }
+    ensures steps { OnPlayed result (Enters (λ e. Steps B.Bank C.Validator engine.old engine.new (begun.actor, begun.request) e result) entries.old.items entries.new.items) }
+    ensures live { OnOk result (engine.new.state.ended ≡ false) }
+    ensures err_entries { result ≡ Err StepFault.Memory → entries.new.items ≡ entries.old.items }
+    ensures err { result ≡ Err StepFault.Memory → engine.new ≡ engine.old }
 {
-    Ok(vec![in alloc; 0; HANDLES]?)
+    let place = entries.len();
+    entries.push_reserved(begun);
+    let entry = &mut entries[place];
+    let played = engine.play_read(entry, pin, slice);
+    if let Err(StepFault::Memory) = played {
+        let _ = entries.pop();
+    }
+    played
 }
 
 impl Log {
     /// An empty history.
-    pub(crate) fn make(alloc: Global) -> Result<Log, Memory>
-        ensures entries { IfOk result (λ log. log.entries ≡ []) }
-        ensures places { IfOk result (λ log. length log.gets ≡ 256) }
+    pub(crate) fn make(alloc: Global) -> Log
+        ensures entries { result.entries ≡ [] }
     {
-        Ok(Log {
+        Log {
             entries: Vec::new(alloc),
-            gets: no_places(alloc)?,
-        })
+        }
     }
 
     /// The entries.
@@ -127,64 +114,115 @@ impl Log {
         self.entries.as_slice()
     }
 
-    /// The place of the latest entry that got an address by this handle, 0 where there is none.
-    pub(crate) fn place_of(&self, handle: u16) -> u32
-        ensures { result ≡ place_in self.now.gets handle }
-    {
-        match self.gets.get(usize::from(handle)) {
-            Some(place) => *place,
-            None => 0,
-        }
-    }
-
     /// Reserves room for one entry more.
-    pub(crate) fn reserve(&mut self) -> Result<(), Memory>
+    fn reserve(&mut self) -> Result<(), Memory>
         ensures entries { self.new.entries ≡ self.old.entries }
-        ensures gets { self.new.gets ≡ self.old.gets }
         ensures room { OnOk result (0 < self.new.spare) }
     {
         self.entries.reserve(1)?;
         Ok(())
     }
 
-    /// Adds an entry that was answered beside the log, as that of a Read whose bytes were lent is.
-    pub(crate) fn enter(&mut self, entry: Entry)
-        requires room { 0 < self.old.spare }
-        requires few { length self.old.entries < record_limit }
-        requires small { IsSmall entry }
-        ensures gets { self.new.gets ≡ gets_after self.old.gets (length self.old.entries) entry }
-        ensures entries { self.new.entries ≡ self.old.entries ++ entry ∷ [] }
-    {
-        keep_place(&mut self.gets, &entry, self.entries.len() as u32);
-        self.entries.push_reserved(entry);
-    }
-
-    /// Enters a request to which nothing is answered yet, and has it answered where its entry stands. If memory runs out, it is
-    /// taken back.
+    /// Enters a request to which nothing is answered yet, and has it played where its entry stands. If memory runs out, it is taken
+    /// back.
     #[inline(always)]
-    pub(crate) fn enter_answered<B: Bank, C: Validator>(
+    fn enter<B: Bank, C: Validator>(
         &mut self,
         begun: Entry,
-        parts: &mut Parts<B, C>,
-        counters: &mut Counters,
+        engine: &mut Engine<B, C>,
     ) -> Result<(), StepFault>
         requires room { 0 < self.old.spare }
-        requires few { length self.old.entries < record_limit }
+        requires begun { IsBegun begun }
         requires fits { Fits begun.actor begun.request }
-        requires stands { CanAnswer C.Validator (moment_of parts.old counters.old begun) }
-        ensures answered { OnPlayed result ((e : Entry) × IsEntered self.old self.new e × (result ≡ session_end e.given.note)
-            × Answers B.Bank C.Validator (moment_of parts.old counters.old begun) (moment_of parts.new counters.new e) parts.new.report) }
+        requires live { engine.old.state.ended ≡ false }
+        requires few { HasRoom engine.old begun.request }
+        ensures steps { OnPlayed result (Enters (λ e. Steps B.Bank C.Validator engine.old engine.new (begun.actor, begun.request) e result) self.old.entries self.new.entries) }
+        ensures live { OnOk result (engine.new.state.ended ≡ false) }
         ensures err_entries { result ≡ Err StepFault.Memory → self.new.entries ≡ self.old.entries }
-        ensures err_gets { result ≡ Err StepFault.Memory → self.new.gets ≡ self.old.gets }
-        ensures err { result ≡ Err StepFault.Memory → parts_view parts.new ≡ parts_view parts.old }
-        ensures err_counts { result ≡ Err StepFault.Memory → counts_view counters.new ≡ counts_view counters.old }
+        ensures err { result ≡ Err StepFault.Memory → engine.new ≡ engine.old }
     {
-        let place = self.entries.len();
-        if push_answered(&mut self.entries, begun, parts, counters).is_err() {
+        push_played(&mut self.entries, begun, engine)
+    }
+
+    /// The same for a Read whose bytes were lent.
+    fn enter_lent<B: Bank, C: Validator>(
+        &mut self,
+        begun: Entry,
+        engine: &mut Engine<B, C>,
+        pin: &Pin,
+        slice: Bytes,
+    ) -> Result<(), StepFault>
+        requires room { 0 < self.old.spare }
+        requires begun { IsBegun begun }
+        requires fits { Fits begun.actor begun.request }
+        requires live { engine.old.state.ended ≡ false }
+        requires few { HasRoom engine.old begun.request }
+        requires pin { MayStillPin pin.now engine.old }
+        requires slice { IsSliceOf pin.now begun.request slice.list }
+        ensures lent { StillPins pin.now engine.old.gets → OnPlayed result (LastGives engine.old.state self.old.entries self.new.entries slice) }
+        ensures steps { OnPlayed result (Enters (λ e. Steps B.Bank C.Validator engine.old engine.new (begun.actor, begun.request) e result) self.old.entries self.new.entries) }
+        ensures live { OnOk result (engine.new.state.ended ≡ false) }
+        ensures err_entries { result ≡ Err StepFault.Memory → self.new.entries ≡ self.old.entries }
+        ensures err { result ≡ Err StepFault.Memory → engine.new ≡ engine.old }
+    {
+        push_read(&mut self.entries, begun, engine, pin, slice)
+    }
+
+    /// Has a request played, and enters it with its answer. If memory runs out, nothing is changed.
+    #[inline(always)]
+    pub(crate) fn play<B: Bank, C: Validator>(
+        &mut self,
+        engine: &mut Engine<B, C>,
+        actor: Actor,
+        request: Request,
+    ) -> Result<(), StepFault>
+        requires fits { Fits actor request }
+        requires live { engine.old.state.ended ≡ false }
+        requires room { length self.old.entries < record_limit }
+        requires after { IsAfter self.old.entries engine.old }
+        ensures steps { OnPlayed result (Enters (λ e. Steps B.Bank C.Validator engine.old engine.new (actor, request) e result) self.old.entries self.new.entries) }
+        ensures after { IsAfter self.new.entries engine.new }
+        ensures live { OnOk result (engine.new.state.ended ≡ false) }
+        ensures err_entries { result ≡ Err StepFault.Memory → self.new.entries ≡ self.old.entries }
+        ensures err { result ≡ Err StepFault.Memory → engine.new ≡ engine.old }
+    {
+        let Ok(begun) = engine.begin(actor, request) else {
+            return Err(StepFault::Memory);
+        };
+        if self.reserve().is_err() {
             return Err(StepFault::Memory);
         }
-        let entry = &self.entries[place];
-        keep_place(&mut self.gets, entry, place as u32);
-        session_end(&entry.given)
+        self.enter(begun, engine)
+    }
+
+    /// The same for a Read whose bytes were lent.
+    pub(crate) fn play_read<B: Bank, C: Validator>(
+        &mut self,
+        engine: &mut Engine<B, C>,
+        actor: Actor,
+        request: Request,
+        pin: &Pin,
+        slice: Bytes,
+    ) -> Result<(), StepFault>
+        requires fits { Fits actor request }
+        requires live { engine.old.state.ended ≡ false }
+        requires room { length self.old.entries < record_limit }
+        requires after { IsAfter self.old.entries engine.old }
+        requires pin { MayStillPin pin.now engine.old }
+        requires slice { IsSliceOf pin.now request slice.list }
+        ensures lent { StillPins pin.now engine.old.gets → OnPlayed result (LastGives engine.old.state self.old.entries self.new.entries slice) }
+        ensures steps { OnPlayed result (Enters (λ e. Steps B.Bank C.Validator engine.old engine.new (actor, request) e result) self.old.entries self.new.entries) }
+        ensures after { IsAfter self.new.entries engine.new }
+        ensures live { OnOk result (engine.new.state.ended ≡ false) }
+        ensures err_entries { result ≡ Err StepFault.Memory → self.new.entries ≡ self.old.entries }
+        ensures err { result ≡ Err StepFault.Memory → engine.new ≡ engine.old }
+    {
+        let Ok(begun) = engine.begin(actor, request) else {
+            return Err(StepFault::Memory);
+        };
+        if self.reserve().is_err() {
+            return Err(StepFault::Memory);
+        }
+        self.enter_lent(begun, engine, pin, slice)
     }
 }

@@ -10,6 +10,7 @@ ghost use Rattle.request_effects.specs.Reports.{nothing_reported};
 ghost use Rattle.request_effects.specs.Effects.{quiet_effect};
 ghost use Rattle.tbl_core.specs.Numbers.{AreCounts};
 ghost use Rattle.tbl_core.specs.Pins.{MayBeLent};
+ghost use Rattle.tbl_core.specs.Lent.{GivesLent};
 ghost use Rattle.tbl_core.specs.Answers.{IsBegun, Answers, moment_at, Answered};
 ghost use Rattle.tbl_model.specs.Counts.{Counts};
 ghost use Rattle.tbl_core.specs.Requests.{is_uplink, told_handle};
@@ -134,6 +135,7 @@ impl<B: Bank, C: Validator> Parts<B, C> {
         ensures answers { (counts : Counts) → AreCounts counts
             → Answers B.Bank C.Validator (moment_at (parts_view self.old) counts entry.old) (moment_at (parts_view self.new) counts entry.new) nothing_reported }
         ensures given { entry.new.given ≡ nothing_given }
+        ensures lent { GivesLent (parts_view self.old) slice entry.new }
     {
         let (
             Actor::App(app),

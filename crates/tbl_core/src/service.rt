@@ -1,6 +1,6 @@
 //! The core, and one step of it.
 
-ghost use Rattle.std.specs.Prelude.{◌≡◌, ◌≢◌, ℕ, false, ◌+◌, ◌^◌, ◌<◌, ◌≤◌, ◌↔◌, Option, List, [], ◌∷◌, ◌++◌, length, Err, IsTrue, OnOk, All, IfOk, IfErr, IfSome, is_some};
+ghost use Rattle.std.specs.Prelude.{◌≡◌, ◌≢◌, ℕ, true, false, ◌+◌, ◌^◌, ◌<◌, ◌≤◌, ◌↔◌, Option, Some, List, [], ◌∷◌, ◌++◌, length, Err, IsTrue, OnOk, All, IfOk, IfErr, IfSome, is_some};
 ghost use Rattle.tbl_model.specs.State.{State, first_state, no_tables};
 ghost use Rattle.tbl_model.specs.Vouched.{IsVouched};
 ghost use Rattle.tbl_model.specs.Whole.{IsWhole};
@@ -9,16 +9,18 @@ ghost use Rattle.tbl_session.specs.Completed.{HasCompleted, LeaveAlone};
 ghost use Rattle.cds_store.specs.Moments.{ShowsIn};
 ghost use Rattle.tbl_kinds.specs.declared.block.Block.{Block};
 ghost use Rattle.tbl_kinds.specs.declared.request.Request.TheVariants as ask;
-ghost use Rattle.tbl_kinds.specs.declared.request.ResetKind.TheVariants.{PowerOn};
+ghost use Rattle.tbl_kinds.specs.declared.request.ResetKind.TheVariants.{Processor, PowerOn};
 ghost use Rattle.tbl_outside.specs.Bank.{LeavesOnly};
 ghost use Rattle.tbl_session.specs.Backed.{AreSingle, AreBacked};
 ghost use Rattle.tbl_kinds.specs.Requests.{Fits};
 ghost use Rattle.tbl_kinds.specs.Records.{record_limit};
 ghost use Rattle.tbl_kinds.specs.Places.{bank_size};
 ghost use Rattle.cds_layout.specs.Images.{store_of};
+ghost use Rattle.tbl_core.specs.BankAsked.{BootAsks, AsksOnce};
 ghost use Rattle.tbl_core.specs.Ended.{OnPlayed};
 ghost use Rattle.tbl_session.specs.Restores.{RestoresHeld};
 ghost use Rattle.tbl_core.specs.Log.{IsSmall};
+ghost use Rattle.tbl_core.specs.Lent.{StillPins, LastGives};
 ghost use Rattle.tbl_model.specs.History.{begins_at, run_from};
 ghost use Rattle.validation.specs.Kits.{owners};
 ghost use Rattle.tbl_outside.specs.Counts.{Still};
@@ -31,11 +33,12 @@ ghost use Rattle.tbl_core.specs.Verdicts.{Judged};
 ghost use Rattle.tbl_session.specs.Verdicts.{questions_in, KeepsToFunctions};
 ghost use Rattle.tbl_kinds.specs.declared.entry.Entry.{Entry};
 
-use crate::playing::Service;
+use crate::engine::Engine;
+use crate::log::Log;
 use cds_store::BankFault;
 use std::alloc::Global;
 use std::marker::Model;
-use tbl_kinds::{Actor, Admit, Bytes, Entry, Memory, Request, ResetKind};
+use tbl_kinds::{Actor, Admit, Bytes, Entry, Memory, Request};
 use tbl_outside::{Back, Bank, Validator};
 use tbl_registry::Pin;
 use validation::Kit;
@@ -77,7 +80,8 @@ impl From<BankFault> for StartFault {
 /// history of all that was requested and answered.
 #[derive(Drop)]
 pub struct Core<B: Bank, C: Validator> {
-    service: Service<B, C>,
+    log: Log,
+    engine: Engine<B, C>,
 }
 
 impl<B: Bank, C: Validator> Model for Core<B, C> {
@@ -85,18 +89,17 @@ impl<B: Bank, C: Validator> Model for Core<B, C> {
 
     ghost Value = { CoreView B C };
 
-    ghost use Rattle.tbl_core.specs.Service.{view_of, IsReady};
+    ghost use Rattle.tbl_core.specs.Service.{core_of, IsAfter};
 
-    ghost view = { λ c. view_of c.service };
+    ghost view = { λ c. core_of c.log.entries c.engine };
 
-    ghost invariant = { λ c. IsReady C.Validator (view_of c.service) };
+    ghost invariant = { λ c. IsAfter c.log.entries c.engine };
 }
 
 impl<B: Bank, C: Validator> Core<B, C> {
     /// The service at its start, with an empty history and these validation functions. Table files may come from these spacecraft
     /// and processors, also after each reset. It boots as after a reset of the processor, since the bank may have blocks of an
     /// earlier session; the bank again where that fails or is stopped, or where memory runs out.
-    #[tactic(auto, unfolding(tbl_model::specs::Counts::counts_of))]
     pub fn start(
         alloc: Global,
         bank: B,
@@ -116,25 +119,19 @@ impl<B: Bank, C: Validator> Core<B, C> {
         ensures crash { IfOk result (λ core. B.tells_moments → LeavesOnly B.clock B.left_since bank core.state.store.bank (ShowsIn (store_of (B.now bank)))) }
         ensures crash_err { IfErr result (λ back. B.tells_moments → LeavesOnly B.clock B.left_since bank back.bank (ShowsIn (store_of (B.now bank)))) }
         ensures cause { IfErr result (λ back. StartCounted B.Bank bank back.bank back.cause) }
+        // The bank was asked what a boot asks, and no more.
+        ensures asked { IfOk result (λ core. B.tells → BootAsks B.Bank (Some Processor) bank core.state.store.bank true) }
+        ensures asked_err { IfErr result (λ back. back.cause ≢ NoMemory → B.tells → BootAsks B.Bank (Some Processor) bank back.bank false) }
         // Out of memory comes before anything is asked of the bank.
         ensures memory { IfErr result (λ back. back.cause ≡ NoMemory → back.bank ≡ bank) }
         ensures room_err { IfErr result (λ back. bank_size ≤ B.size back.bank) }
     {
-        let mut service = match Service::make(alloc, bank, kit, admit) {
-            Ok(service) => service,
-            Err(Back { bank, .. }) => {
-                return Err(Back {
-                    cause: StartFault::Memory,
-                    bank,
-                });
-            }
-        };
-        match service.parts.store.boot(ResetKind::Processor) {
-            Ok(_found) => Ok(Core { service }),
-            Err(fault) => Err(Back {
-                cause: StartFault::from(fault),
-                bank: service.parts.end(),
+        match Engine::start(alloc, bank, kit, admit) {
+            Ok(engine) => Ok(Core {
+                log: Log::make(alloc),
+                engine,
             }),
+            Err(back) => Err(back),
         }
     }
 
@@ -143,7 +140,7 @@ impl<B: Bank, C: Validator> Core<B, C> {
         ensures bank { result ≡ self.state.store.bank }
         ensures room { bank_size ≤ B.size result }
     {
-        self.service.parts.end()
+        self.engine.end()
     }
 
     /// All that was requested and answered, in order.
@@ -151,14 +148,14 @@ impl<B: Bank, C: Validator> Core<B, C> {
         ensures entries { result.now ≡ self.now.entries }
         ensures small { All IsSmall result.now }
     {
-        self.service.log.entries()
+        self.log.entries()
     }
 
     /// Whether the service plays a further request: no boot of it has failed or was stopped.
     pub fn is_live(&self) -> bool
         ensures { IsTrue result ↔ (self.now.state.ended ≡ false) }
     {
-        self.service.parts.is_live()
+        self.engine.is_live()
     }
 
     /// Plays one request, and adds its entry to the history. Where the service boots in it and that boot fails or is stopped,
@@ -191,6 +188,9 @@ impl<B: Bank, C: Validator> Core<B, C> {
         ensures gave { OnPlayed result ((e : Entry) × (self.new.entries ≡ self.old.entries ++ e ∷ []) × (B.tells → (opening : State) → FollowsFrom B.Bank opening self.old
             → RestoresHeld (B.now self.old.state.store.bank) (all_calls_in (run_from (begins_at opening) self.old.entries) e)
             (run_from (begins_at opening) self.old.entries).state.store e.given.note)) }
+        // The bank was asked what the request asks, and no more.
+        ensures asked { OnPlayed result ((e : Entry) × (self.new.entries ≡ self.old.entries ++ e ∷ []) × (B.tells → (opening : State) → FollowsFrom B.Bank opening self.old
+            → AsksOnce B.Bank self.old.state.store self.new.state.store (run_from (begins_at opening) self.old.entries) e)) }
         // A reset at any moment in it leaves the store as it was after the entries before, or what this request made of it so far.
         ensures crash { OnPlayed result (B.tells_moments → (opening : State) → FollowsFrom B.Bank opening self.old
             → LeavesOnly B.clock B.left_since self.old.state.store.bank self.new.state.store.bank (λ image. AfterCrash opening self.new.entries (length self.old.entries) (store_of image))) }
@@ -208,12 +208,11 @@ impl<B: Bank, C: Validator> Core<B, C> {
         ensures live { OnOk result (self.new.state.ended ≡ false) }
         ensures err { result ≡ Err StepFault.Memory → self.new ≡ self.old }
     {
-        self.service.play(actor, request)
+        self.log.play(&mut self.engine, actor, request)
     }
 
-    /// Plays a Read by a handle whose image was lent, like `step`, with the bytes that were taken of it before. Where the handle
-    /// still pins by the call that the pin was lent for, they are the answer, and no byte of the image is read here; else the Read
-    /// is played as by `step`.
+    /// Plays a Read by a handle whose image was lent, like `step`, with the bytes that were taken of it before. If the handle still
+    /// pins by the call that the pin was lent for, the reply is this very buffer; else the Read is played as by `step`.
     pub fn step_read(
         &mut self,
         actor: Actor,
@@ -226,6 +225,8 @@ impl<B: Bank, C: Validator> Core<B, C> {
         requires room { length self.old.entries < record_limit }
         requires pin { IsOfPin pin.now self.old }
         requires slice { IsSliceOf pin.now request slice.list }
+        // Over any bank: what was handed in is what is answered, or the Read is refused.
+        ensures lent { StillPins pin.now self.old.gets → OnPlayed result (LastGives self.old.state self.old.entries self.new.entries slice) }
         // One entry more, also where a boot in the request was the last; its note and its answer have their causes in the counts
         // of the bank.
         ensures adds { OnPlayed result (AddsOne B.Bank self.old self.new actor request result) }
@@ -249,6 +250,9 @@ impl<B: Bank, C: Validator> Core<B, C> {
         ensures gave { OnPlayed result ((e : Entry) × (self.new.entries ≡ self.old.entries ++ e ∷ []) × (B.tells → (opening : State) → FollowsFrom B.Bank opening self.old
             → RestoresHeld (B.now self.old.state.store.bank) (all_calls_in (run_from (begins_at opening) self.old.entries) e)
             (run_from (begins_at opening) self.old.entries).state.store e.given.note)) }
+        // The bank was asked what the request asks, and no more.
+        ensures asked { OnPlayed result ((e : Entry) × (self.new.entries ≡ self.old.entries ++ e ∷ []) × (B.tells → (opening : State) → FollowsFrom B.Bank opening self.old
+            → AsksOnce B.Bank self.old.state.store self.new.state.store (run_from (begins_at opening) self.old.entries) e)) }
         // A reset at any moment in it leaves the store as it was after the entries before, or what this request made of it so far.
         ensures crash { OnPlayed result (B.tells_moments → (opening : State) → FollowsFrom B.Bank opening self.old
             → LeavesOnly B.clock B.left_since self.old.state.store.bank self.new.state.store.bank (λ image. AfterCrash opening self.new.entries (length self.old.entries) (store_of image))) }
@@ -266,17 +270,17 @@ impl<B: Bank, C: Validator> Core<B, C> {
         ensures live { OnOk result (self.new.state.ended ≡ false) }
         ensures err { result ≡ Err StepFault.Memory → self.new ≡ self.old }
     {
-        self.service.play_read(actor, request, pin, slice)
+        self.log
+            .play_read(&mut self.engine, actor, request, pin, slice)
     }
 
     /// Lends the image that a handle pins, with the place of the call that got its address. None where the handle leads to no
-    /// table, or pins no image. No byte is copied, and no memory is taken; an Err means that the image has as many owners as can
-    /// be counted.
+    /// table, or pins no image. An Err means that the image has as many owners as can be counted.
     pub fn lend(&self, handle: u16) -> Result<Option<Pin>, Memory>
         ensures lent { IfOk result (λ lent. lent ≡ lent_at handle (place_in self.now.gets handle) self.now.state.tables) }
         ensures none { IfOk result (λ lent. is_some lent ≡ pins_image handle self.now.state.tables) }
         ensures pin { IfOk result (λ lent. IfSome lent (λ pin. IsOfPin pin self.now)) }
     {
-        self.service.lend(handle)
+        self.engine.lend(handle)
     }
 }

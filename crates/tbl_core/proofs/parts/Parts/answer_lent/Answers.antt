@@ -1,4 +1,4 @@
-use Rattle.std.proofs.Common.{refl, rules}
+use Rattle.std.proofs.Common.{refl, sym, rules}
 use Rattle.store_requests.proofs.Moments.{uncalled_leaves}
 use Rattle.tbl_core.specs.Service.{parts_view}
 use Rattle.tbl_core.proofs.Answering.{quietly_answered}
@@ -20,4 +20,8 @@ returns g c =
           (λ told blocks stands. uncalled_leaves b g.met.B.Bank.leaves_only_now g.met.B.Bank.only_now c.args.self.now.store _ blocks refl (stands.shows told))
           c.requires.begun.reply.no_packets refl are);
       given = c.requires.begun.nothing;
+      lent = rw (c.put_answer.ensures, c.in-App-Read.is-1, c.in-App-Read.is-0) (record {
+        answered = λ s stands. let e = is s stands.tables stands.apps in record { effect = _; effect_is = refl; status = sym e.status; bytes = sym e.bytes };
+        lent = c.read_lent-answer.ensures.lent;
+      });
     }

@@ -29,7 +29,7 @@ returns g c =
     let boot = c.boot_if_stopped.ensures in
     let makes = c.in_ok-answer.ensures.makes packet read in
     let made = is_made b v (parts_view c.args.self.now) (parts_view c.command_effect.new.self) (parts_view c.boot_if_stopped.new.self) (ask.Command packet) (λ s given. ground_effect s (ask.Command packet) given) _ c.boot_if_stopped.new.note
-    makes (c.in_ok-answer.ensures.meets packet read) boot.note boot.held boot.boots boot.found boot.moments boot.trouble boot.booted in
+    makes (c.in_ok-answer.ensures.meets packet read) boot.note boot.held boot.boots boot.found boot.moments boot.asked (λ stop. refl) boot.trouble boot.booted in
     rw (c.keep_given.ensures, boot.report, c.put_answer.ensures, c.requires.actor, c.in-Command.is) (record {
       answered = record {
         actor_is = refl;

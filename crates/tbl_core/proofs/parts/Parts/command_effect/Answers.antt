@@ -23,6 +23,13 @@ returns-in-Err-clause-makes g c packet is =
     (table_makes g.B.Bank g.C.Validator 0 _ _ Ground (ask.Command packet) _ (refused_does g.C.Validator (parts_view c.args.self.now) packet c.answer.result (sym is ∙ ap read_of c.in-Err.is ∙ ap (λ (a : Answer). Err a) (sym c.answer.ensures.answer)))
     (omega arith) c.requires.ready refl)
 
+pub returns-in-Err-clause-meets : goal.returns-in-Err-clause-meets
+returns-in-Err-clause-meets g c packet is =
+    let b = g.B.Bank in
+    rw (c.requires.empty.no_bytes, c.requires.nothing, c.requires.untouched)
+    (table_meets b g.C.Validator 0 _ _ Ground (ask.Command packet) _ (refused_does g.C.Validator (parts_view c.args.self.now) packet c.answer.result (sym is ∙ ap read_of c.in-Err.is ∙ ap (λ (a : Answer). Err a) (sym c.answer.ensures.answer)))
+    (omega arith) c.requires.ready (λ told blocks stands. uncalled_leaves b g.met.B.Bank.leaves_only_now g.met.B.Bank.only_now c.args.self.now.store _ blocks refl (stands.shows told)) refl)
+
 pub returns-in_ok-effect-in-Ok-DeleteCds-clause-makes : goal.returns-in_ok-effect-in-Ok-DeleteCds-clause-makes
 returns-in_ok-effect-in-Ok-DeleteCds-clause-makes g c packet is =
     let b = g.B.Bank in

@@ -6,6 +6,7 @@ use Rattle.reply_packets.specs.Counters.{counts_view}
 use Rattle.reply_packets.specs.Telling.{Tells}
 use Rattle.tbl_core.specs.Service.{parts_view, step_of, Makes, Meets}
 use Rattle.tbl_core.proofs.BootedAfter.{is_made}
+use Rattle.tbl_core.proofs.Telling.{app_no_reset}
 use Rattle.tbl_core.proofs.parts.Parts.store_call.Goals as goal
 
 pub returns : goal.returns
@@ -19,7 +20,7 @@ returns g c =
     let makes = subst (λ (e : Effect). Makes b v request old mid e) (sym c.effect.view_is) c.in_ok-effect.ensures.makes in
     let meets = subst (λ (e : Effect). Meets b v (step_of old mid request) (λ s given. app_effect s c.args.app request given) e) (sym c.effect.view_is) c.in_ok-effect.ensures.meets in
     let made = is_made b v old mid (parts_view c.boot_if_stopped.new.self) request (λ s given. app_effect s c.args.app request given) _ c.boot_if_stopped.new.note
-    makes meets boot.note boot.held boot.boots boot.found boot.moments boot.trouble boot.booted in
+    makes meets boot.note boot.held boot.boots boot.found boot.moments boot.asked (λ stop. app_no_reset c.args.app request c.requires.fits) boot.trouble boot.booted in
     rw (c.of.ensures, boot.report, c.app_store_request.ensures.report, c.requires.nothing, c.put_answer.ensures, c.requires.actor) (record {
       answered = record {
         actor_is = refl;

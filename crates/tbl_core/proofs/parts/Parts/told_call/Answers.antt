@@ -2,6 +2,7 @@ use Rattle.std.proofs.Common.{◌∙◌, refl}
 use Rattle.tbl_model.specs.Dispatch.{effect_of}
 use Rattle.tbl_core.specs.Service.{parts_view}
 use Rattle.tbl_core.proofs.BootedAfter.{is_made}
+use Rattle.tbl_core.proofs.Telling.{told_no_reset}
 use Rattle.tbl_core.proofs.parts.Parts.told_call.Goals as goal
 
 pub boot_if_stopped-requires-clause-fresh : goal.boot_if_stopped-requires-clause-fresh
@@ -27,7 +28,7 @@ returns g c =
     let boot = c.boot_if_stopped.ensures in
     let makes = c.in_ok-answer.ensures.makes actor c.requires.leads in
     let made = is_made b v (parts_view c.args.self.now) (parts_view c.told_effect.new.self) (parts_view c.boot_if_stopped.new.self) request (λ s given. effect_of s actor request given) _ c.boot_if_stopped.new.note
-    makes (c.in_ok-answer.ensures.meets actor c.requires.leads) boot.note boot.held boot.boots boot.found boot.moments boot.trouble boot.booted in
+    makes (c.in_ok-answer.ensures.meets actor c.requires.leads) boot.note boot.held boot.boots boot.found boot.moments boot.asked (λ stop. told_no_reset request c.requires.asks) boot.trouble boot.booted in
     rw (c.keep_given.ensures, boot.report, c.put_answer.ensures, c.in_ok-answer.ensures.request) (record {
       answered = record {
         actor_is = refl;

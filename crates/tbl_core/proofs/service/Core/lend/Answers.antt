@@ -1,6 +1,5 @@
-use Rattle.store_requests.proofs.Both.{both}
-use Rattle.tbl_core.proofs.Lending.{lent_each}
+use Rattle.tbl_core.proofs.Lending.{lent_in}
 use Rattle.tbl_core.proofs.service.Core.lend.Goals as goal
 
 pub returns-clause-pin : goal.returns-clause-pin
-returns-clause-pin g c = rw (← c.self.view_is) (both c.lend.result _ _ _ c.lend.ensures.lent c.lend.ensures.within (λ lent is within. lent_each g.C.Validator _ c.args.handle lent c.self.invariant is within))
+returns-clause-pin g c = rw (← c.self.view_is) (lent_in c.self.inside.engine c.self.inside.log.entries c.lend.result c.self.invariant c.lend.ensures.pin)

@@ -1,67 +1,15 @@
-use Rattle.std.proofs.Common.{◌≡◌, Some, length, ap, refl, subst, inr, arith, rules}
-use Rattle.validation.specs.Kits.{entry_at}
+use Rattle.std.proofs.Common.{List, sym, subst}
 use Rattle.cds_layout.specs.Images.{store_of}
-use Rattle.cds_store.specs.StoreBlocks.{StandsFor as HasBlocks}
-use Rattle.cds_store.proofs.Recovered.{booted_alike}
-use Rattle.tbl_core.specs.Service.{parts_view, state_of, StartCounted}
-use Rattle.tbl_laws.proofs.Ordinary.{fit_at_first}
-use Rattle.tbl_core.proofs.Nothing.{none_counted}
-use Rattle.tbl_core.proofs.Pinning.{no_images, no_handle}
-use Rattle.tbl_core.proofs.Starting.{stands_first, start_counted, start_leaves, stays_shown}
+use Rattle.tbl_model.specs.State.{first_state}
+use Rattle.validation.specs.Kits.{owners}
+use Rattle.tbl_kinds.specs.declared.entry.Entry.{Entry}
+use Rattle.tbl_core.specs.Service.{FollowsFrom, IsAfter, core_of}
 use Rattle.tbl_core.proofs.service.Core.start.Goals as goal
 
 pub invariant_of-result : goal.invariant_of-result
-invariant_of-result g c = record {
-  fit = fit_at_first (length c.in-Ok.service.log.entries) (state_of (parts_view (record c.in-Ok.service.parts { store = c.boot.new.self }))) c.in-Ok.ensures.tables c.in-Ok.ensures.pending;
-  booted = search rules;
-  kit = λ number entry there.
-      let low = c.requires.asked number entry (subst (λ kit. entry_at kit number ≡ Some entry) c.in-Ok.ensures.kit there) in
-      omega (arith, low);
-  images = no_images c.in-Ok.service.parts.tables c.in-Ok.ensures.tables;
-  numbers = rw c.in-Ok.ensures.counts none_counted;
-  places = c.in-Ok.ensures.places;
-  gets = λ handle h p within at pin. absurd (no_handle c.in-Ok.service.parts.tables handle h c.in-Ok.ensures.tables at);
-}
+invariant_of-result g c = subst (λ (es : List Entry). IsAfter es c.in-Ok.engine) (sym c.make.ensures.entries) c.in-Ok.ensures.after
 
-pub returns-in-Ok-boot-clause-stands : goal.returns-in-Ok-boot-clause-stands
-returns-in-Ok-boot-clause-stands g c =
+pub returns-in-Ok-clause-stands : goal.returns-in-Ok-clause-stands
+returns-in-Ok-clause-stands g c =
     let b = g.B.Bank in
-    let bytes = b.now c.args.bank in
-    stands_first b c.args.kit c.args.admit (store_of bytes) _ (record {
-      entries = c.in-Ok.ensures.entries;
-      counts = c.in-Ok.ensures.counts;
-      tables = c.in-Ok.ensures.tables;
-      pending = c.in-Ok.ensures.pending;
-      drawer = c.in-Ok.ensures.drawer;
-      apps = c.in-Ok.ensures.apps;
-      functions = c.in-Ok.ensures.kit;
-      lists = c.in-Ok.ensures.admit;
-      seconds = c.in-Ok.ensures.seconds;
-      sub = c.in-Ok.ensures.sub;
-      live = c.in-Ok.ensures.ended;
-    })
-    (λ told. subst (HasBlocks b.tells b.now c.boot.new.self) (ap (λ bank. store_of (b.now bank)) c.in-Ok.ensures.bank)
-    (subst (HasBlocks b.tells b.now c.boot.new.self) (booted_alike (b.now c.in-Ok.service.parts.store.bank) c.in-Ok-boot._found) (c.in-Ok-boot.ensures.ok told (store_of (b.now c.in-Ok.service.parts.store.bank)) (inr (told, refl)))))
-
-pub returns-in-Err-boot-clause-cause : goal.returns-in-Err-boot-clause-cause
-returns-in-Err-boot-clause-cause g c =
-    let b = g.B.Bank in
-    subst (λ bank. StartCounted b bank c.end.result c.from.result) c.in-Ok.ensures.bank
-    (rw (c.end.ensures.bank, c.from.ensures) (start_counted b c.in-Ok.service.parts.store.bank c.boot.new.self.bank c.boot.result c.in-Err-boot.fault c.in-Err-boot.is c.boot.ensures.counted))
-
-pub returns-in-Ok-boot-clause-crash : goal.returns-in-Ok-boot-clause-crash
-returns-in-Ok-boot-clause-crash g c told =
-    let b = g.B.Bank in
-    start_leaves b c.in-Ok.service.parts.store c.boot.new.self c.args.bank c.in-Ok.ensures.bank c.boot.ensures.moments g.met.B.Bank.tells_both told
-
-pub returns-in-Err-boot-clause-crash_err : goal.returns-in-Err-boot-clause-crash_err
-returns-in-Err-boot-clause-crash_err g c told =
-    let b = g.B.Bank in
-    rw c.end.ensures.bank
-    (start_leaves b c.in-Ok.service.parts.store c.boot.new.self c.args.bank c.in-Ok.ensures.bank c.boot.ensures.moments g.met.B.Bank.tells_both told)
-
-pub returns-in-Err-clause-crash_err : goal.returns-in-Err-clause-crash_err
-returns-in-Err-clause-crash_err g c told =
-    let b = g.B.Bank in
-    rw c.in-Err.ensures.err
-    (stays_shown b g.met.B.Bank.leaves_only_now g.met.B.Bank.only_now c.args.bank told)
+    subst (λ (es : List Entry). FollowsFrom b (first_state (store_of (b.now c.args.bank)) (owners c.args.kit) c.args.admit) (core_of es c.in-Ok.engine)) (sym c.make.ensures.entries) c.in-Ok.ensures.stands
