@@ -1,28 +1,29 @@
 //! A part of an image, or the whole of it.
 
-ghost use Rattle.std.specs.Prelude.{◌≡◌, IfSome};
+ghost use Rattle.std.specs.Prelude.{◌≡◌, ◌+◌, ◌<◌, length, IfOk, IfSome, IfNone};
 ghost use Rattle.tbl_kinds.specs.Numbers.{piece};
 
 use std::alloc::Global;
-use tbl_kinds::{Bytes, INLINE_LIMIT};
+use tbl_kinds::{Bytes, INLINE_LIMIT, Memory};
 use tbl_registry::Pin;
 
-/// The bytes that a Read asks for, of the image: so many from an offset on; None where they don't lie inside it, or where memory runs
-/// out. Where they are the whole image and more than stand in a value itself, they aren't copied: they have the memory of the image.
+/// The bytes that a Read asks for, of the image: so many from an offset on; None if they don't lie inside it. An Err means that memory
+/// ran out. If they are the whole image and more than stand in a value itself, they aren't copied: they have the memory of the image.
 #[tactic(auto, using(crate::proofs::WholeImages::whole_image))]
-pub fn slice_of(alloc: Global, pin: &Pin, offset: u32, len: u32) -> Option<Bytes>
-    ensures { IfSome result (λ slice. slice.list ≡ piece offset len pin.now.bytes) }
+pub fn slice_of(alloc: Global, pin: &Pin, offset: u32, len: u32) -> Result<Option<Bytes>, Memory>
+    ensures slice { IfOk result (λ taken. IfSome taken (λ slice. slice.list ≡ piece offset len pin.now.bytes)) }
+    ensures outside { IfOk result (λ taken. IfNone taken (length pin.now.bytes < offset + len)) }
 {
     let bytes = pin.bytes();
     let from = offset as usize;
     let to = from + len as usize;
     if to > bytes.len() {
-        return None;
+        return Ok(None);
     }
     if from == 0 && to == bytes.len() && to > INLINE_LIMIT {
-        return pin.bytes_again(alloc).ok();
+        return Ok(Some(pin.bytes_again(alloc)?));
     }
-    let mut slice = Bytes::make(alloc, to - from).ok()?;
+    let mut slice = Bytes::make(alloc, to - from)?;
     slice.append(&bytes[from..to]);
-    Some(slice)
+    Ok(Some(slice))
 }

@@ -1,5 +1,5 @@
 -- What a watcher sees: application 16 looks at each image that its calls get.
-use Rattle.std.specs.Prelude.{ℕ, ◌+◌, List, [], Option, Some, None, if◌then◌else◌}
+use Rattle.std.specs.Prelude.{◌≡◌, ℕ, ◌+◌, List, [], ◌∷◌, ◌++◌, map, Option, Some, None, if◌then◌else◌}
 use Rattle.std.specs.List.{fold}
 use Rattle.std.specs.Option.{unwrap_or}
 use Rattle.tbl_kinds.specs.Check.{check16}
@@ -54,3 +54,24 @@ unwatched opening = record { looks = []; place = 0; run = begins_at opening }
 -- name of the table and the check word of the image that the handle pins from then on
 abbrev pub watched_by : State → List Entry → List Look
 watched_by opening entries = (watch_on (unwatched opening) entries).looks
+
+-- ---- what is known of them over any bank
+
+-- the place of an entry, if the watcher got an address by it
+abbrev pub place_by : ℕ → Option ℕ → List ℕ
+place_by place None = []
+place_by place (Some handle) = place ∷ []
+
+-- the places of these entries, of which the first has this one, at which the watcher got an address
+abbrev pub places_from : ℕ → List Entry → List ℕ
+places_from place [] = []
+places_from place (e ∷ entries) = place_by place (handle_watched e) ++ places_from (place + 1) entries
+
+abbrev pub places_of : List Look → List ℕ
+places_of looks = map (λ (look : Look). look.place) looks
+
+-- These are the looks of a history. There is one for each call by which the watcher got an address, in order, with the place of its entry;
+-- and where the bank tells its bytes, each one has the name and the check word of its image.
+pub record AreLooksOf (tells : Type 0) (opening : State) (entries : List Entry) (looks : List Look) : Type 0 where
+  pub places : places_of looks ≡ places_from 0 entries
+  pub seen : tells → looks ≡ watched_by opening entries

@@ -57,7 +57,7 @@ fn put_seen(out: &mut Bytes, before: Option<u16>, word: u16) -> Result<(), Memor
 fn put_line(out: &mut Bytes, look: &Look) -> Result<(), Memory>
     ensures { OnOk result (out.new.list ≡ out.old.list ++ line_of look.now) }
 {
-    append_decimal(out, u64::from(look.place))?;
+    append_decimal(out, look.place)?;
     append_text(out, b" ")?;
     append_text(out, look.name.bytes())?;
     append_text(out, b" ")?;

@@ -35,7 +35,7 @@ pub enum Seen {
 /// A look: the place of the entry that got the image, the table, the check word, and the one before.
 #[derive(Drop)]
 pub(crate) struct Look {
-    pub(crate) place: u32,
+    pub(crate) place: u64,
     pub(crate) name: Name40,
     pub(crate) word: u16,
     pub(crate) before: Option<u16>,
@@ -97,7 +97,7 @@ impl Watch {
     }
 
     /// Notes a check word, and tells what was seen. An Err is out of memory.
-    fn note(&mut self, place: u32, name: &Name40, word: u16) -> Result<Seen, Memory>
+    fn note(&mut self, place: u64, name: &Name40, word: u16) -> Result<Seen, Memory>
         ensures look { OnOk result (self.new ≡ looked self.old place name.now word) }
         ensures seen { IfOk result (λ seen. seen ≡ seen_after (latest_word self.old name.now) word) }
         ensures err { OnErr result (self.new ≡ self.old) }
