@@ -1,6 +1,7 @@
 //! Standard input and standard output as a session's two ends. What passes through them no contract tells.
 
 ghost use Rattle.std.specs.Prelude.{◌≡◌, None};
+ghost use Rattle.tbl_outside.specs.declared.stream.HowFar.TheVariants.{Overrun};
 
 use std::io::{Read, Write};
 use std::marker::Model;
@@ -42,6 +43,8 @@ impl Source for StandardInput {
     ghost left = { λ _. None };
 
     ghost faults = { λ s. s };
+
+    ghost how_far = { λ _. Overrun };
 
     fn read(&mut self, into: &mut [u8]) -> Result<usize, Failed> {
         match self.stdin.read(into) {

@@ -1,12 +1,14 @@
 -- What contracts see of a source and of a sink in memory.
 use Rattle.std.specs.Prelude.{ℕ, ◌-◌, ◌==◌, List, Bool, false, Option, Some, None, min}
+use Rattle.tbl_outside.specs.declared.stream.HowFar.{HowFar}
 use Rattle.tbl_fakes.specs.Calls.{Calls}
 
--- the bytes that are still to come, the reads, and how many bytes come before each read fails, where that is so
+-- the bytes that are still to come, the reads, how many bytes come before each read fails, where that is so, and how far it was read
 pub record Reading : Type 0 where
   pub left : List ℕ
   pub calls : Calls
   pub cut : Option ℕ
+  pub how_far : HowFar
 
 -- each read fails from here on
 abbrev pub is_cut : Option ℕ → Bool

@@ -1,6 +1,7 @@
 // A source and a sink that never fail.
 ghost use Rattle.std.specs.Prelude.{◌≡◌, ◌<◌, ◌≤◌, ◌++◌, [], length, take, drop, min, Some, None, Ok, Result, ℕ, Option, List};
 ghost use Rattle.std.specs.Io.KnownBytes.{prepend_known, IsAtEnd};
+ghost use Rattle.tbl_outside.specs.declared.stream.HowFar.TheVariants.{Overrun};
 
 use crate::supply::Supply;
 use std::marker::Model;
@@ -43,6 +44,8 @@ impl Source for CalmSource {
     ghost left = { λ s. Some s };
 
     ghost faults = { λ _. 0 };
+
+    ghost how_far = { λ _. Overrun };
 
     fn read(&mut self, into: &mut [u8]) -> Result<usize, Failed>
         ensures most { result ≡ Ok (min (length into.old) (length self.old)) }

@@ -2,6 +2,8 @@
 ghost use Rattle.std.specs.Prelude.{◌≡◌, ◌<◌, ◌≤◌, ◌++◌, ◌||◌, [], length, take, drop, min, Some, None, IfOk, OnOk, OnErr, is_err};
 ghost use Rattle.std.specs.Io.KnownBytes.{prepend_known, IsAtEnd};
 ghost use Rattle.tbl_outside.specs.Counts.{Rose};
+ghost use Rattle.tbl_outside.specs.Streams.{after_read};
+ghost use Rattle.tbl_outside.specs.declared.stream.HowFar.TheVariants.{Going};
 ghost use Rattle.tbl_fakes.specs.Calls.{is_listed, passed, failed, none_made};
 ghost use Rattle.tbl_fakes.specs.Contents.{Reading, is_cut, before_cut, cut_after};
 
@@ -10,7 +12,7 @@ use crate::supply::Supply;
 use std::alloc::Global;
 use std::marker::Model;
 use tbl_kinds::{Bytes, Memory};
-use tbl_outside::{Failed, Source};
+use tbl_outside::{Failed, HowFar, Source};
 
 /// A source of given bytes whose reads fail where their number is listed, or from a number of bytes on. A read that fails
 /// moves nothing.
@@ -20,6 +22,7 @@ pub struct MemSource {
     plan: Plan,
     /// How many bytes come before each read fails.
     cut: Option<usize>,
+    how_far: HowFar,
 }
 
 impl Model for MemSource {
@@ -27,7 +30,24 @@ impl Model for MemSource {
 
     ghost Value = { Reading };
 
-    ghost view = { λ s. record { left = s.supply; calls = s.plan; cut = s.cut } };
+    ghost view = { λ s. record { left = s.supply; calls = s.plan; cut = s.cut; how_far = s.how_far } };
+}
+
+/// How far a source is read after one read more, which gave so many bytes.
+fn after_read(count: usize, before: HowFar) -> HowFar
+    ensures { result ≡ after_read count before }
+{
+    match before {
+        HowFar::Going => {
+            if count == 0 {
+                HowFar::Ended
+            } else {
+                HowFar::Going
+            }
+        }
+        HowFar::Ended => HowFar::Overrun,
+        HowFar::Overrun => HowFar::Overrun,
+    }
 }
 
 impl MemSource {
@@ -36,11 +56,13 @@ impl MemSource {
         ensures left { IfOk result (λ s. s.left ≡ bytes.list) }
         ensures calls { IfOk result (λ s. s.calls ≡ none_made fails.now) }
         ensures whole { IfOk result (λ s. s.cut ≡ None) }
+        ensures unread { IfOk result (λ s. s.how_far ≡ Going) }
     {
         Ok(MemSource {
             supply: Supply::of(bytes),
             plan: Plan::make(alloc, fails)?,
             cut: None,
+            how_far: HowFar::Going,
         })
     }
 
@@ -50,12 +72,14 @@ impl MemSource {
         ensures left { result.left ≡ bytes.list }
         ensures calls { result.calls ≡ none_made [] }
         ensures cut { result.cut ≡ Some after }
+        ensures unread { result.how_far ≡ Going }
     {
         let plan = Plan::empty(bytes.allocator());
         MemSource {
             supply: Supply::of(bytes),
             plan,
             cut: Some(after as usize),
+            how_far: HowFar::Going,
         }
     }
 
@@ -71,6 +95,13 @@ impl MemSource {
         ensures { result ≡ self.now.calls.faults }
     {
         self.plan.faults()
+    }
+
+    /// How far it was read.
+    pub fn how_far(&self) -> HowFar
+        ensures { result ≡ self.now.how_far }
+    {
+        self.how_far
     }
 
     /// Whether each read fails from here on.
@@ -90,6 +121,7 @@ impl MemSource {
         ensures left { self.new.left ≡ drop result self.old.left }
         ensures cut { self.new.cut ≡ cut_after self.old.cut result }
         ensures calls { self.new.calls ≡ self.old.calls }
+        ensures far { self.new.how_far ≡ self.old.how_far }
     {
         match self.cut {
             None => self.supply.fill(into),
@@ -107,6 +139,8 @@ impl Source for MemSource {
 
     ghost faults = { λ s. s.calls.faults };
 
+    ghost how_far = { λ s. s.how_far };
+
     fn read(&mut self, into: &mut [u8]) -> Result<usize, Failed>
         ensures fits { IfOk result (λ n. n ≤ length into.old) }
         ensures moved { IfOk result (λ n. Some self.old.left ≡ prepend_known (take n into.new) (Some self.new.left)) }
@@ -115,6 +149,8 @@ impl Source for MemSource {
         ensures kept { OnErr result (Some self.new.left ≡ Some self.old.left) }
         ensures cause { OnErr result (Rose self.old.calls.faults self.new.calls.faults) }
         ensures count { self.old.calls.faults ≤ self.new.calls.faults }
+        ensures far_ok { IfOk result (λ n. self.new.how_far ≡ after_read n self.old.how_far) }
+        ensures far_err { OnErr result (self.new.how_far ≡ after_read 0 self.old.how_far) }
 
         // It fails exactly where its number is listed or as many bytes were taken as come before the cut, and else moves as
         // much as it can, up to the cut.
@@ -129,8 +165,11 @@ impl Source for MemSource {
         let listed = self.plan.fails_next();
         if listed || self.is_cut() {
             self.plan.fault();
+            self.how_far = after_read(0, self.how_far);
             return Err(Failed);
         }
-        Ok(self.fill(into))
+        let count = self.fill(into);
+        self.how_far = after_read(count, self.how_far);
+        Ok(count)
     }
 }

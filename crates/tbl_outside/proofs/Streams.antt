@@ -1,9 +1,12 @@
 -- Lemmas on what several reads and writes in a row do to known bytes.
-use Rattle.std.proofs.Common.{◌≡◌, ℕ, Option, None, Some, List, [], ◌++◌, take, refl, sym, ap, subst, ◌∙◌, append_assoc, append-nil, IfSome, ◌+◌, length, min, ◌≤◌, arith}
+use Rattle.std.proofs.Common.{◌≡◌, ℕ, Option, None, Some, List, [], ◌++◌, take, refl, sym, ap, subst, ◌∙◌, append_assoc, append-nil, IfSome, ◌+◌, length, min, ◌≤◌, ◌<◌, ◌≢◌, Bool, true, false, arith}
+use Rattle.std.specs.Prelude.{◌==◌, if◌then◌else◌}
 use Rattle.std.proofs.lemmas.List.{take-append-le, take_min}
 use Rattle.std.proofs.Math.Seq.{take-append-add, take-length}
 use Rattle.std.specs.Io.KnownBytes.{prepend_known, append_known, IsAtEnd}
-use Rattle.tbl_outside.specs.Streams.{TakesFront}
+use Rattle.tbl_outside.specs.Streams.{TakesFront, after_read, ReadsOn, ReadsToEnd}
+use Rattle.tbl_outside.specs.declared.stream.HowFar.{HowFar}
+use Rattle.tbl_outside.specs.declared.stream.HowFar.TheVariants.{Going, Ended, Overrun}
 
 -- two reads in a row
 pub prepend_known-twice : (a : Option (List ℕ)) (bs cs : List ℕ) → prepend_known bs (prepend_known cs a) ≡ prepend_known (bs ++ cs) a
@@ -60,3 +63,30 @@ front_of_second a b c bs cs p q = record {
 -- what was taken whole was taken up to a front
 pub front_of_whole : (a b : Option (List ℕ)) (bs : List ℕ) → b ≡ append_known a bs → TakesFront a b bs
 front_of_whole a b bs p = record { count = length bs; grown = p ∙ ap (append_known a) (sym (take-length bs)) }
+
+-- ---- how far a source was read
+
+gave : (none : Bool) → none ≡ false → (if none then Ended else Going) ≡ Going
+gave true is = absurd cc
+gave false is = refl
+
+-- one read more, which gave a byte
+pub reads_on : (count : ℕ) (before after : HowFar) → after ≡ after_read count before → 0 < count → ReadsOn before after
+reads_on count before after e some going =
+    let none : (count == 0) ≡ false = grind arith in
+    let one : after ≡ after_read count Going = subst (λ (at : HowFar). after ≡ after_read count at) going e in
+    one ∙ gave (count == 0) none
+
+not_overrun : (none : Bool) → (if none then Ended else Going) ≢ Overrun
+not_overrun true is = absurd cc
+not_overrun false is = absurd cc
+
+-- one read more, whatever it gave
+pub reads_once : (count : ℕ) (before after : HowFar) → after ≡ after_read count before → ReadsToEnd before after
+reads_once count before after e going over =
+    let one : after ≡ after_read count Going = subst (λ (at : HowFar). after ≡ after_read count at) going e in
+    not_overrun (count == 0) (sym one ∙ over)
+
+-- none
+pub unread : (at : HowFar) → ReadsToEnd at at
+unread at going over = absurd cc

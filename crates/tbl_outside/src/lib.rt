@@ -10,5 +10,5 @@ mod validator;
 
 pub use bank::{Back, Bank, Written};
 pub use gate::Gate;
-pub use stream::{Failed, Sink, Source};
+pub use stream::{Failed, HowFar, Sink, Source};
 pub use validator::{KitEntry, Validator};

@@ -2,11 +2,23 @@
 ghost use Rattle.std.specs.Prelude.{◌≡◌, ◌<◌, ◌≤◌, ℕ, Option, List, length, take, IfOk, OnOk, OnErr};
 ghost use Rattle.std.specs.Io.KnownBytes.{prepend_known, append_known, IsAtEnd};
 ghost use Rattle.tbl_outside.specs.Counts.{Rose};
-ghost use Rattle.tbl_outside.specs.Streams.{TakesFront};
+ghost use Rattle.tbl_outside.specs.Streams.{TakesFront, after_read};
+ghost use Rattle.tbl_outside.specs.declared.stream.HowFar.{HowFar};
 
 /// The outside failed. The count of faults of the object that answers this says so too.
 #[derive(Clone, Copy, Debug, PartialEq, Eq)]
 pub struct Failed;
+
+/// How far a source was read.
+#[derive(Clone, Copy, Debug, PartialEq, Eq)]
+pub enum HowFar {
+    /// Each read gave a byte.
+    Going,
+    /// The last read gave none: the input was at its end, or the read failed.
+    Ended,
+    /// It was read again after that.
+    Overrun,
+}
 
 /// Where bytes come from, in order, as a command uplink or standard input.
 pub trait Source {
@@ -15,6 +27,9 @@ pub trait Source {
 
     /// How often a read has failed. It stands still at 2^64 - 1.
     ghost faults: { Self → ℕ };
+
+    /// How far it was read. A source that doesn't tell is at `Overrun` from the first.
+    ghost how_far: { Self → HowFar };
 
     /// Moves bytes from the front of what is left into the front of a piece, and answers how many. What stands in the
     /// piece after them, and in the whole piece after a failure, is left open.
@@ -26,7 +41,9 @@ pub trait Source {
         ensures still { OnOk result (faults self.new ≡ faults self.old) }
         ensures kept { OnErr result (left self.new ≡ left self.old) }
         ensures cause { OnErr result (Rose (faults self.old) (faults self.new)) }
-        ensures count { faults self.old ≤ faults self.new };
+        ensures count { faults self.old ≤ faults self.new }
+        ensures far_ok { IfOk result (λ n. how_far self.new ≡ after_read n (how_far self.old)) }
+        ensures far_err { OnErr result (how_far self.new ≡ after_read 0 (how_far self.old)) };
 }
 
 /// Where bytes go, in order, as a telemetry downlink or standard output.

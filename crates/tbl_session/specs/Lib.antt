@@ -12,4 +12,3 @@ pub mod Recovery
 pub mod Inputs
 pub mod Session
 pub mod Orders
-pub mod Recovered

@@ -14,8 +14,7 @@ use Rattle.tbl_session.specs.Trouble.{Rises, HaveCauses}
 use Rattle.tbl_session.specs.Verdicts.{AreGiven, KeepsToFunctions}
 use Rattle.tbl_kinds.specs.declared.entry.Entry.{Entry}
 
--- One history whose every answer is the sequential service's, in which each pinned read is of one whole activated image, and from
--- which a reset at any moment recovers each critical table's last completed image, one whose copy broke off since, or none.
+-- The one history of which `Session` speaks.
 --
 -- Each answer that tells of trouble has its cause in its note, and the counts of the bank rose by what the notes tell at least. Where
 -- the bank tells its bytes, the history is legal, no image goes active that its table's function didn't answer for, each verdict, also

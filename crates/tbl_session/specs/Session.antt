@@ -132,12 +132,12 @@ Ends r played rest status = EndsAs status played rest (IsAtEnd r.left_then) (Ros
 abbrev pub Boots : {B : Type 0} → Ghosts B → B → Ran B → List Entry → List ℕ → ℕ → Type 0
 Boots g bank r entries read status = BootsAs status entries read (Rose (g.faults bank) (g.faults r.bank_then)) (Rose (g.stops bank) (g.stops r.bank_then))
 
--- Every session, played in order or with one thread per actor, writes the transcript of one history whose every status and telemetry
--- byte is the sequential service's, in which each pinned read is of one whole activated image, and from which a reset at any moment
--- recovers each critical table's last completed image, one whose copy broke off since, or none.
+-- Every session, played in order or with one thread per actor, writes the transcript of one history. Its every status and telemetry byte
+-- is the sequential service's. Each read through an address is of one whole activated image. From it a reset at any moment recovers each
+-- critical table's last completed image or one whose copy broke off since.
 --
 -- The records of what was read were requested as `plays` says, in order or by actor. The history is the one that was served
--- (`IsServed`). What a registration over an image that a reset left has of its table is the law of recovery (`Recovered.antt`).
+-- (`IsServed`). What is recovered from it is said of two runs, by the law of recovery (`Recovered.antt` of `tbl_top`).
 pub record Session {B C : Type 0} (plays : ℕ → List Pair → List Entry → Type 0) (g : Ghosts B) (verdict : C → List ℕ → ℤ) (o : Opening B C) (r : Ran B) : Type 0 where
   -- what was read: records, and the rest after them
   pub read : List ℕ
