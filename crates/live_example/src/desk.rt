@@ -9,17 +9,18 @@ use shipped_kit::FirstByte;
 use std::alloc::{AllocError, AllocFailed};
 use std::io;
 use std::sync::Wait;
+use tbl_core::Core;
 use tbl_fakes::CalmBank;
 use tbl_kinds::{Bytes, Memory, Request, Status};
 use tbl_live::{Board, CallFault, REPLY_LIMIT, Receipt, Seat, Service, Ticket};
 
 /// A seat at the service of this program.
-pub(crate) type Place = Seat<CalmBank, FirstByte>;
+pub(crate) type Place = Seat<CalmBank, FirstByte, Core<CalmBank, FirstByte>>;
 
 /// The service and the board.
 #[derive(Drop)]
 pub(crate) struct Desk {
-    pub(crate) service: Service<CalmBank, FirstByte>,
+    pub(crate) service: Service<CalmBank, FirstByte, Core<CalmBank, FirstByte>>,
     pub(crate) board: Board,
 }
 

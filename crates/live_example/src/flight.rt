@@ -137,7 +137,7 @@ fn read_and_load<R: Threads + Wait + Sync>(
     rt: &R,
     alloc: Global,
     desk: &Desk,
-    seats: &mut Seats<CalmBank, FirstByte>,
+    seats: &mut Seats<CalmBank, FirstByte, Core<CalmBank, FirstByte>>,
     rooms: &Rooms,
 ) -> Result<[Ticket; 4], Stop>
     requires seats { AreSeats desk.now.service.of (seats.old.ground ∷ seats.old.apps.items) }
@@ -159,7 +159,7 @@ fn begin_first<R: Wait>(
     rt: &R,
     alloc: Global,
     desk: &Desk,
-    seats: &mut Seats<CalmBank, FirstByte>,
+    seats: &mut Seats<CalmBank, FirstByte, Core<CalmBank, FirstByte>>,
 ) -> Result<[Ticket; 3], Stop>
     requires seats { AreSeats desk.now.service.of (seats.old.ground ∷ seats.old.apps.items) }
     ensures seats { AreSeats desk.now.service.of (seats.new.ground ∷ seats.new.apps.items) }
@@ -174,7 +174,7 @@ fn begin_second<R: Wait>(
     rt: &R,
     alloc: Global,
     desk: &Desk,
-    seats: &mut Seats<CalmBank, FirstByte>,
+    seats: &mut Seats<CalmBank, FirstByte, Core<CalmBank, FirstByte>>,
 ) -> Result<[Ticket; 2], Stop>
     requires seats { AreSeats desk.now.service.of (seats.old.ground ∷ seats.old.apps.items) }
     ensures seats { AreSeats desk.now.service.of (seats.new.ground ∷ seats.new.apps.items) }
@@ -189,7 +189,7 @@ fn read_in_the_end<R: Wait>(
     rt: &R,
     alloc: Global,
     desk: &Desk,
-    seats: &mut Seats<CalmBank, FirstByte>,
+    seats: &mut Seats<CalmBank, FirstByte, Core<CalmBank, FirstByte>>,
     place: usize,
     handle: u16,
 ) -> Result<[u8; LIMITS], Stop>
@@ -215,7 +215,7 @@ fn fly_over<R: Threads + Wait + Sync>(
     rt: &R,
     alloc: Global,
     desk: &Desk,
-    seats: &mut Seats<CalmBank, FirstByte>,
+    seats: &mut Seats<CalmBank, FirstByte, Core<CalmBank, FirstByte>>,
     rooms: &Rooms,
 ) -> Result<Flown, Stop>
     requires seats { AreSeats desk.now.service.of (seats.old.ground ∷ seats.old.apps.items) }

@@ -1,6 +1,6 @@
 -- A call by a seat, from the seat before to the seat after.
 use Rattle.std.proofs.Common.{◌≡◌, ◌≢◌, ℕ, ◌+◌, List, [], ◌∷◌, length, Option, refl, sym, ap, ◌∙◌, subst, arith, ℤ}
-use Rattle.std.specs.Prelude.{Result, Some, None, IfSome}
+use Rattle.std.specs.Prelude.{Result, IfSome}
 use Rattle.atomic_table.specs.Seated.{TableId}
 use Rattle.atomic_table.specs.Table.{Me}
 use Rattle.turn_lock.specs.Turns.{Idle, Holds, Knows, Leads}
@@ -11,25 +11,22 @@ use Rattle.tbl_kinds.specs.declared.request.Request.{Request}
 use Rattle.tbl_outside.specs.declared.bank.Bank.{Ghosts}
 use Rattle.tbl_core.specs.declared.service.StepFault.{StepFault}
 use Rattle.tbl_live.specs.Answers.{Answers}
+use Rattle.tbl_live.specs.Bounds.{Bound}
 use Rattle.tbl_live.specs.Moves.{Moves}
 use Rattle.tbl_registry.specs.declared.pin.Pin.{Pin}
 use Rattle.tbl_core.specs.Service.{IsOfPin}
 use Rattle.tbl_core.specs.Pins.{IsSliceOf}
-use Rattle.tbl_live.specs.Lent.{IsLentIn, IsTaken}
+use Rattle.tbl_live.specs.Lent.{IsLentIn, IsTaken, LentCall, CallGives, IsGivenIn}
 use Rattle.tbl_live.specs.Saying.{Says, CallsNothing}
 use Rattle.tbl_live.specs.Seats.{SeatView, IsSeat, seat_of}
 use Rattle.tbl_live.specs.ServedView.{ServedView}
 use Rattle.tbl_live.specs.declared.receipts.CallFault.{CallFault}
 use Rattle.tbl_live.specs.declared.receipts.Receipt.{Receipt}
 use Rattle.tbl_live.proofs.FollowingLemmas.{follows, longer}
+use Rattle.tbl_live.proofs.GivingLemmas.{on_some}
 use Rattle.tbl_live.proofs.SayingLemmas.{says, calls_nothing}
 
--- what holds of what is there
-on_some : {A : Type 0} {P Q : A → Type 0} → ((a : A) → P a → Q a) → (found : Option A) → IfSome found P → IfSome found Q
-on_some each (Some a) is = each a is
-on_some each None is = tt
-
-module _ {B C : Type 0} (g : Ghosts B) (verdict : C → List ℕ → ℤ) (me taken : Me (Option (ServedView B C)) (View (ServedView B C))) (actor : Actor) (saw : ℕ) (met : Option StepFault) (y : ServedView B C)
+module _ {B C : Type 0} (g : Ghosts B) (verdict : C → List ℕ → ℤ) (bound : Bound) (me taken : Me (Option (ServedView B C)) (View (ServedView B C))) (actor : Actor) (saw : ℕ) (met : Option StepFault) (y : ServedView B C)
     (inv : IsSeat me actor saw met) (knows : Knows (Moves g verdict) me.0.from me.0.seen y) (holds : Holds taken me.0.from me.0.seen y) where
   led : Leads (Moves g verdict) (λ other. other ≢ actor_number actor) inv.last y
   led =
@@ -68,17 +65,24 @@ module _ {B C : Type 0} (g : Ghosts B) (verdict : C → List ℕ → ℤ) (me ta
       tells = record { saw_at_most = omega (arith, saw_is); met_is = met_is };
     }
 
+    -- what was taken of a lent image is what the call gives
+    given : (call : LentCall) → CallGives call y.core z.core → IsGivenIn g verdict (actor_number actor) call me.0.seen back.0.seen
+    given call gives = rw (seen_is, back_seen) (record { found = y; beside = led; gives = gives })
+
+    pub is_given : {A : Type 0} (ahead : Option A) (call : A → LentCall) → IfSome ahead (λ (a : A). CallGives (call a) y.core z.core) → IfSome ahead (λ (a : A). IsGivenIn g verdict (actor_number actor) (call a) me.0.seen back.0.seen)
+    is_given {A} ahead call is = on_some {P = λ (a : A). CallGives (call a) y.core z.core} {Q = λ (a : A). IsGivenIn g verdict (actor_number actor) (call a) me.0.seen back.0.seen} (λ a gives. given (call a) gives) ahead is
+
     pub called : (of of' : TableId) (saw' : ℕ) (met' : Option StepFault) (request : Request) (bytes after : List ℕ) (result : Result Receipt CallFault) → of' ≡ of → saw' ≡ length z.core.entries → met' ≡ z.fault
-        → Answers y z actor request bytes after result → Says (seat_of of actor me.0.seen saw met) (seat_of of' actor back.0.seen saw' met') request bytes after result
+        → Answers bound y z actor request (bytes, after) result → Says bound (seat_of of actor me.0.seen saw met) (seat_of of' actor back.0.seen saw' met') request bytes after result
     called of of' saw' met' request bytes after result of_is saw_is met_is answers =
-        let said = says g verdict of actor saw met inv.last y z inv.past inv.tells (follows g verdict (actor_number actor) inv.last y led) moves request bytes after result answers in
+        let said = says g verdict bound of actor saw met inv.last y z inv.past inv.tells (follows g verdict (actor_number actor) inv.last y led) moves request bytes after result answers in
         let old_is : seat_of of actor me.0.seen saw met ≡ seat_of of actor (inv.last ∷ []) saw met = ap (λ (s : List (ServedView B C)). seat_of of actor s saw met) seen_is in
         let new_is : seat_of of' actor back.0.seen saw' met' ≡ seat_of of actor (z ∷ []) (length z.core.entries) z.fault = λ i. seat_of (of_is i) actor (back_seen i) (saw_is i) (met_is i) in
-        subst (λ (p : SeatView B C × SeatView B C). Says p.0 p.1 request bytes after result) (λ i. (sym old_is i, sym new_is i)) said
+        subst (λ (p : SeatView B C × SeatView B C). Says bound p.0 p.1 request bytes after result) (λ i. (sym old_is i, sym new_is i)) said
 
     pub looked : (of of' : TableId) (saw' : ℕ) (met' : Option StepFault) → of' ≡ of → saw' ≡ length z.core.entries → met' ≡ z.fault → z ≡ y → CallsNothing (seat_of of actor me.0.seen saw met) (seat_of of' actor back.0.seen saw' met')
     looked of of' saw' met' of_is saw_is met_is same =
-        let told = calls_nothing g verdict of actor saw met inv.last y z inv.past inv.tells (follows g verdict (actor_number actor) inv.last y led) moves same in
+        let told = calls_nothing g verdict bound of actor saw met inv.last y z inv.past inv.tells (follows g verdict (actor_number actor) inv.last y led) moves same in
         let old_is : seat_of of actor me.0.seen saw met ≡ seat_of of actor (inv.last ∷ []) saw met = ap (λ (s : List (ServedView B C)). seat_of of actor s saw met) seen_is in
         let new_is : seat_of of' actor back.0.seen saw' met' ≡ seat_of of actor (z ∷ []) (length z.core.entries) z.fault = λ i. seat_of (of_is i) actor (back_seen i) (saw_is i) (met_is i) in
         subst (λ (p : SeatView B C × SeatView B C). CallsNothing p.0 p.1) (λ i. (sym old_is i, sym new_is i)) told

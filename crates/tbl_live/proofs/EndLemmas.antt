@@ -18,8 +18,8 @@ there_is [] i lt = absurd (omega (arith, lt))
 there_is (x ∷ l) zero lt = (x, refl)
 there_is (x ∷ l) (suc i) lt = there_is l i (omega (arith, lt))
 
-module _ {B C : Type 0} (g : Ghosts B) (verdict : C → List ℕ → ℤ) (first last : ServedView B C) (seen : List (ServedView B C)) (seats : List (SeatView B C)) (since : Since (Moves g verdict) first last) (knows : Knows (Moves g verdict) 0 seen last)
-    (each : AreOf 0 seen seats) (many : length seen ≡ actor_count) (count : length seats ≡ actor_count) (served : IsServed last) where
+module _ {B C : Type 0} (g : Ghosts B) (verdict : C → List ℕ → ℤ) (limit : ℕ) (first last : ServedView B C) (seen : List (ServedView B C)) (seats : List (SeatView B C)) (since : Since (Moves g verdict) first last) (knows : Knows (Moves g verdict) 0 seen last)
+    (each : AreOf 0 seen seats) (many : length seen ≡ actor_count) (count : length seats ≡ actor_count) (served : IsServed limit last) where
   pub tells : (number : ℕ) (seat : SeatView B C) → get_elem? seats number ≡ some seat → TellsOf first.base last.core seat
   tells number seat at =
       let x = there_is seen number (omega (arith, many, count, there seats number seat at)) in

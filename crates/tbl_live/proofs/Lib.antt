@@ -1,7 +1,9 @@
+pub mod LastingLemmas
 pub mod OwnLemmas
 pub mod FollowingLemmas
 pub mod StepLemmas
 pub mod SayingLemmas
+pub mod GivingLemmas
 pub mod CallLemmas
 pub mod SeatLemmas
 pub mod EndLemmas

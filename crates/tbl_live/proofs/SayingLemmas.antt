@@ -9,7 +9,8 @@ use Rattle.tbl_kinds.specs.declared.request.Actor.{Actor}
 use Rattle.tbl_kinds.specs.declared.request.Request.{Request}
 use Rattle.tbl_outside.specs.declared.bank.Bank.{Ghosts}
 use Rattle.tbl_core.specs.declared.service.StepFault.{StepFault}
-use Rattle.tbl_live.specs.Answers.{Adds, Refuses, Answers}
+use Rattle.tbl_live.specs.Answers.{MayStep, Adds, Refuses, Answers}
+use Rattle.tbl_live.specs.Bounds.{Bound}
 use Rattle.tbl_live.specs.Calls.{Call, call_of, own}
 use Rattle.tbl_live.specs.Moves.{Moves}
 use Rattle.tbl_live.specs.Saying.{AddsCall, Stays, Told, GoesOn, Says, CallsNothing}
@@ -26,7 +27,7 @@ none_of : (met : Option StepFault) → ((fault : StepFault) → met ≡ Some fau
 none_of None not_one = refl
 none_of (Some fault) not_one = absurd (not_one fault refl)
 
-module _ {B C : Type 0} (g : Ghosts B) (verdict : C → List ℕ → ℤ) (of : TableId) (actor : Actor) (saw : ℕ) (met : Option StepFault) (x y z : ServedView B C) (past : x.base ≤ length x.core.entries) (last : TellsLast saw met x)
+module _ {B C : Type 0} (g : Ghosts B) (verdict : C → List ℕ → ℤ) (bound : Bound) (of : TableId) (actor : Actor) (saw : ℕ) (met : Option StepFault) (x y z : ServedView B C) (past : x.base ≤ length x.core.entries) (last : TellsLast saw met x)
     (follows : Follows (actor_number actor) x y) (moves : Moves g verdict y (actor_number actor) z) where
   -- the seat before, and after
   abbrev old : SeatView B C
@@ -58,13 +59,13 @@ module _ {B C : Type 0} (g : Ghosts B) (verdict : C → List ℕ → ℤ) (of : 
   calls_nothing same = record { same = still_same; calls = calls_stay same; goes_on = goes_on }
 
   module _ (request : Request) (bytes after : List ℕ) where
-    adds : (e : Entry) → Adds y z actor request e bytes after → AddsCall old new request (call_of (length y.core.entries) e) bytes after
-    adds e one = record {
+    adds : (e : Entry) → MayStep bound.limit y.fault y.core → Adds y z actor request e bytes after → AddsCall bound.limit old new request (call_of (length y.core.entries) e) bytes after
+    adds e may one = record {
       added = ap (λ (n : ℕ). own n (actor_number actor) z.core.entries) bases ∙ ap (own x.base (actor_number actor)) one.added
           ∙ own_mine x.base (actor_number actor) y.core.entries e past_y (ap actor_number one.actor_is) ∙ ap (λ (l : List Call). l ++ call_of (length y.core.entries) e ∷ []) follows.calls;
       request_is = one.request_is;
       above = subst (AllByRecursion (λ (c : Call). c.place < length y.core.entries)) follows.calls (below x.base (actor_number actor) y.core.entries past_y);
-      room = one.may.room;
+      room = may.room;
       saw = ap length one.added ∙ length-append y.core.entries (e ∷ []);
       appended = one.appended;
     }
@@ -85,12 +86,12 @@ module _ {B C : Type 0} (g : Ghosts B) (verdict : C → List ℕ → ℤ) (of : 
     none_met : y.fault ≡ None → met ≡ None
     none_met went = none_of met (λ fault is. let there = follows.fault fault (sym last.met_is ∙ is) in absurd (cc (went, there)))
 
-    told : (result : Result Receipt CallFault) → Answers y z actor request bytes after result → Told old new request bytes after result
-    told (Ok receipt) a = (call_of (length y.core.entries) a.0, adds a.0 a.1, a.3 ∙ (λ i. record { place = length y.core.entries; actor = a.1.actor_is i; status = a.0.reply.status; detail = a.0.reply.detail }), a.2)
+    told : (result : Result Receipt CallFault) → Answers bound y z actor request (bytes, after) result → Told bound old new request bytes after result
+    told (Ok receipt) (may, (e, one, no_fault, is)) = (call_of (length y.core.entries) e, adds e may one, is ∙ (λ i. record { place = length y.core.entries; actor = one.actor_is i; status = e.reply.status; detail = e.reply.detail }), no_fault)
     told (Err (Ended fault)) a = (stays a.1, still_fault a.1.same ∙ a.0)
-    told (Err (Full count)) a = (stays a.1, still_fault a.1.same ∙ a.0.0, a.0.2, let same = still_count a.1.same in let full = a.0.1 in omega (arith, same, full))
-    told (Err (Step fault)) a = ((call_of (length y.core.entries) a.0.0, adds a.0.0 a.0.1), none_met a.0.1.may.went, a.1)
+    told (Err (Full count)) a = (stays a.1, still_fault a.1.same ∙ a.0.0, subst (λ (v : ServedView B C). bound.full (length v.core.entries) v.core.state.tables count) (sym a.1.same) a.0.1)
+    told (Err (Step fault)) (may, (e, one), is) = ((call_of (length y.core.entries) e, adds e may one), none_met may.went, is)
     told (Err Memory) a = (stays a.1, still_fault a.1.same ∙ a.0.went, let same = still_count a.1.same in let room = a.0.room in omega (arith, same, room))
 
-    pub says : (result : Result Receipt CallFault) → Answers y z actor request bytes after result → Says old new request bytes after result
+    pub says : (result : Result Receipt CallFault) → Answers bound y z actor request (bytes, after) result → Says bound old new request bytes after result
     says result a = record { same = still_same; told = told result a; goes_on = goes_on }

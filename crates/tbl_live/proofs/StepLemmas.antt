@@ -1,8 +1,8 @@
 -- What a step makes of what the lock holds.
 use Rattle.std.proofs.Common.{◌≡◌, ℕ, ◌+◌, ◌<◌, ◌≤◌, List, [], ◌∷◌, ◌++◌, length, Bool, true, false, Option, Some, None, Result, Ok, Err, refl, sym, ap, subst, ◌∙◌, inl, inr, arith, ℤ}
-use Rattle.std.specs.Prelude.{All, OnOk, slice_index_or}
+use Rattle.std.specs.Prelude.{OnOk, slice_index_or}
 use Rattle.std.proofs.lemmas.List.{get_or_at, length-append}
-use Rattle.tbl_kinds.specs.Records.{actor_number, record_limit}
+use Rattle.tbl_kinds.specs.Records.{actor_number}
 use Rattle.tbl_kinds.specs.Requests.{Fits}
 use Rattle.tbl_kinds.specs.declared.entry.Entry.{Entry}
 use Rattle.tbl_kinds.specs.declared.request.Actor.{Actor}
@@ -28,6 +28,7 @@ use Rattle.tbl_history.proofs.Laws.{Laws}
 use Rattle.tbl_history.proofs.ServingLemmas.{continues_same, step_continues}
 use Rattle.tbl_history.proofs.TroubleLemmas.{ends_in_fault, ends_in_stop}
 use Rattle.tbl_live.specs.Answers.{receipt_of, MayStep, Adds, IsRefusal, TakesLast, IsOutcome, kept_of, Answers}
+use Rattle.tbl_live.specs.Bounds.{Bound}
 use Rattle.tbl_live.specs.Moves.{Moves}
 use Rattle.tbl_live.specs.ServedView.{ServedView, TellsFault, HasEnded, IsServed}
 use Rattle.tbl_live.specs.declared.receipts.CallFault.{CallFault}
@@ -37,11 +38,17 @@ use Rattle.tbl_live.specs.declared.receipts.Receipt.{Receipt}
 -- ---- the last entry
 
 -- what is found at the last place is the last entry
-pub takes_last : (entries : List Entry) (place : ℕ) (found : Entry) (bytes after : List ℕ) → found ≡ slice_index_or entries place found → place + 1 ≡ length entries → after ≡ bytes ++ found.reply.bytes.list
-    → TakesLast entries (receipt_of place found) bytes after
-takes_last entries place found bytes after at is appended before e parts =
+pub is_last : (entries : List Entry) (place : ℕ) (found : Entry) → found ≡ slice_index_or entries place found → place + 1 ≡ length entries → (before : List Entry) (e : Entry) → entries ≡ before ++ e ∷ [] → found ≡ e
+is_last entries place found at is before e parts =
     let here : place ≡ length before = omega (arith, is, ap length parts, length-append before (e ∷ [])) in
-    let same : found ≡ e = at ∙ (λ i. slice_index_or (parts i) (here i) found) ∙ get_or_at before e [] found (length before) (omega arith) in
+    at ∙ (λ i. slice_index_or (parts i) (here i) found) ∙ get_or_at before e [] found (length before) (omega arith)
+
+-- and so is its receipt that of the last one
+pub takes_last : (entries : List Entry) (place : ℕ) (found : Entry) (bytes after : List ℕ) → ((before : List Entry) (e : Entry) → entries ≡ before ++ e ∷ [] → found ≡ e) → place + 1 ≡ length entries → after ≡ bytes ++ found.reply.bytes.list
+    → TakesLast entries (receipt_of place found) bytes after
+takes_last entries place found bytes after last is appended before e parts =
+    let here : place ≡ length before = omega (arith, is, ap length parts, length-append before (e ∷ [])) in
+    let same : found ≡ e = last before e parts in
     ((λ i. receipt_of (here i) (same i)), appended ∙ ap (λ (x : Entry). bytes ++ x.reply.bytes.list) same)
 
 -- what a call answers after a step that answered a fault in a boot
@@ -52,16 +59,13 @@ pub outcome_stop : (entries : List Entry) (done : Result Unit StepFault) (receip
 outcome_stop entries done receipt bytes after is takes = subst (λ (d : Result Unit StepFault). IsOutcome entries d bytes after (Err (Step BootStopped))) (sym is) (receipt, refl, takes)
 
 -- there is room for the bytes of its reply
-pub has_room : (entries : List Entry) (place spare : ℕ) (found : Entry) → All IsSmall entries → found ≡ slice_index_or entries place found → place < length entries → reply_limit ≤ spare → length found.reply.bytes.list ≤ spare
-has_room entries place spare found small at within room =
-    let it : IsSmall found = subst IsSmall (sym at) (small place found within) in
-    let few = it.bytes in
-    omega (arith, few, room)
+pub has_room : (spare : ℕ) (found : Entry) → IsSmall found → reply_limit ≤ spare → length found.reply.bytes.list ≤ spare
+has_room spare found it room = let few = it.bytes in omega (arith, few, room)
 
 -- ---- what a step leaves
 
-pub lives : {B C : Type 0} (s : ServedView B C) → IsServed s → s.fault ≡ None → s.core.state.ended ≡ false
-lives s served went = subst (λ (f : Option StepFault). TellsFault f s.base s.core) went served.tells
+pub lives : {B C : Type 0} (limit : ℕ) (s : ServedView B C) → IsServed limit s → s.fault ≡ None → s.core.state.ended ≡ false
+lives limit s served went = subst (λ (f : Option StepFault). TellsFault f s.base s.core) went served.tells
 
 pub same_view : {B C : Type 0} (old new : ServedView B C) → new.core ≡ old.core → new.fault ≡ old.fault → new.base ≡ old.base → new ≡ old
 same_view old new core fault base = λ i. record { core = core i; fault = fault i; base = base i }
@@ -100,14 +104,7 @@ module _ {B C : Type 0} (g : Ghosts B) (old new : CoreView B C) where
   some_entry actor request (Err BootFault) one = omega (arith, ap length one.added, length-append old.entries (one.entry ∷ []))
   some_entry actor request (Err BootStopped) one = omega (arith, ap length one.added, length-append old.entries (one.entry ∷ []))
 
-  -- one at most
-  pub few_entries : (actor : Actor) (request : Request) (done : Result Unit StepFault) → length old.entries < record_limit → OnPlayed done (AddsOne g old new actor request done) → (done ≡ Err NoMemory → new ≡ old) → length new.entries ≤ record_limit
-  few_entries actor request (Ok x) room one err = omega (arith, room, ap length one.added, length-append old.entries (one.entry ∷ []))
-  few_entries actor request (Err NoMemory) room one err = omega (arith, room, ap (λ (c : CoreView B C). length c.entries) (err refl))
-  few_entries actor request (Err BootFault) room one err = omega (arith, room, ap length one.added, length-append old.entries (one.entry ∷ []))
-  few_entries actor request (Err BootStopped) room one err = omega (arith, room, ap length one.added, length-append old.entries (one.entry ∷ []))
-
-module _ {B C : Type 0} (g : Ghosts B) (verdict : C → List ℕ → ℤ) (old new : ServedView B C) (served : IsServed old) where
+module _ {B C : Type 0} (g : Ghosts B) (verdict : C → List ℕ → ℤ) (bound : Bound) (old new : ServedView B C) (served : IsServed bound.limit old) where
   -- ---- nothing was done
 
   pub moves_itself : (actor : ℕ) → Moves g verdict old actor old
@@ -120,13 +117,13 @@ module _ {B C : Type 0} (g : Ghosts B) (verdict : C → List ℕ → ℤ) (old n
     pins = λ pin is. is;
   }
 
-  pub refused : (actor : Actor) (request : Request) (bytes : List ℕ) (cause : CallFault) → IsRefusal old.fault old.core cause → Answers old old actor request bytes bytes (Err cause)
+  pub refused : (actor : Actor) (request : Request) (bytes : List ℕ) (cause : CallFault) → IsRefusal bound old.fault old.core cause → Answers bound old old actor request (bytes, bytes) (Err cause)
   refused actor request bytes (Ended fault) is = (is, record { same = refl; none = refl })
   refused actor request bytes (Full count) is = (is, record { same = refl; none = refl })
   refused actor request bytes (Step fault) is = absurd is
   refused actor request bytes Memory is = absurd is
 
-  module _ (may : MayStep old.fault old.core) (base : new.base ≡ old.base) where
+  module _ (may : MayStep bound.limit old.fault old.core) (base : new.base ≡ old.base) where
     -- ---- one entry more
 
     fresh : (fault : StepFault) → old.fault ≡ Some fault → ⊥
@@ -146,7 +143,7 @@ module _ {B C : Type 0} (g : Ghosts B) (verdict : C → List ℕ → ℤ) (old n
       pins = λ pin is. pin_stays old.core new.core one.entry one.added onward pin is;
     }
 
-    served_with : (e : Entry) → new.core.entries ≡ old.core.entries ++ e ∷ [] → TellsFault new.fault new.base new.core → IsServed new
+    served_with : (e : Entry) → new.core.entries ≡ old.core.entries ++ e ∷ [] → TellsFault new.fault new.base new.core → IsServed bound.limit new
     served_with e added tells =
         let more = longer e added in
         let was = served.past in
@@ -157,16 +154,16 @@ module _ {B C : Type 0} (g : Ghosts B) (verdict : C → List ℕ → ℤ) (old n
           few = λ within. omega (arith, room, more);
         }
 
-    tells_end : (fault : StepFault) (e : Entry) → new.core.entries ≡ old.core.entries ++ e ∷ [] → HasEnded fault new.base new.core → new.fault ≡ Some fault → IsServed new
+    tells_end : (fault : StepFault) (e : Entry) → new.core.entries ≡ old.core.entries ++ e ∷ [] → HasEnded fault new.base new.core → new.fault ≡ Some fault → IsServed bound.limit new
     tells_end fault e added ended is = served_with e added (subst (λ (f : Option StepFault). TellsFault f new.base new.core) (sym is) ended)
 
     later : (e : Entry) → new.core.entries ≡ old.core.entries ++ e ∷ [] → new.base < length new.core.entries
     later e added = let more = longer e added in let was = served.past in omega (arith, base, was, more)
 
     pub served_on : (actor : Actor) (request : Request) (done : Result Unit StepFault) → new.fault ≡ kept_of done → OnPlayed done (AddsOne g old.core new.core actor request done) → OnOk done (new.core.state.ended ≡ false)
-        → (done ≡ Err NoMemory → new.core ≡ old.core) → IsServed new
+        → (done ≡ Err NoMemory → new.core ≡ old.core) → IsServed bound.limit new
     served_on actor request (Ok x) kept one live err = served_with one.entry one.added (subst (λ (f : Option StepFault). TellsFault f new.base new.core) (sym kept) live)
-    served_on actor request (Err NoMemory) kept one live err = subst IsServed (sym (same_view old new (err refl) (kept ∙ sym may.went) base)) served
+    served_on actor request (Err NoMemory) kept one live err = subst (IsServed bound.limit) (sym (same_view old new (err refl) (kept ∙ sym may.went) base)) served
     served_on actor request (Err BootFault) kept one live err =
         let boot = ends_in_fault g old.core new.core actor request one in
         tells_end BootFault one.entry one.added (record { ended = one.ended ∙ ended_by BootFault one.entry.given.note one.entry.given.note.ended refl one.ends; boot = boot; later = later one.entry one.added }) kept
@@ -186,7 +183,6 @@ module _ {B C : Type 0} (g : Ghosts B) (verdict : C → List ℕ → ℤ) (old n
     module _ (actor : Actor) (request : Request) (bytes after : List ℕ) where
       adds : (done : Result Unit StepFault) (receipt : Receipt) (one : AddsOne g old.core new.core actor request done) → TakesLast new.core.entries receipt bytes after → Adds old new actor request one.entry bytes after
       adds done receipt one takes = record {
-        may = may;
         actor_is = one.actor_is;
         request_is = one.request_is;
         added = one.added;
@@ -194,10 +190,10 @@ module _ {B C : Type 0} (g : Ghosts B) (verdict : C → List ℕ → ℤ) (old n
       }
 
       pub answers_on : (done : Result Unit StepFault) (result : Result Receipt CallFault) → new.fault ≡ kept_of done → OnPlayed done (AddsOne g old.core new.core actor request done) → (done ≡ Err NoMemory → new.core ≡ old.core)
-          → IsOutcome new.core.entries done bytes after result → Answers old new actor request bytes after result
+          → IsOutcome new.core.entries done bytes after result → Answers bound old new actor request (bytes, after) result
       answers_on (Ok x) result kept one err o =
-          subst (Answers old new actor request bytes after) (sym o.1) (one.entry, adds (Ok x) o.0 one o.2, kept, (o.2 old.core.entries one.entry one.added).0)
+          subst (Answers bound old new actor request (bytes, after)) (sym o.1) (may, (one.entry, adds (Ok x) o.0 one o.2, kept, (o.2 old.core.entries one.entry one.added).0))
       answers_on (Err NoMemory) result kept one err o =
-          subst (Answers old new actor request bytes after) (sym o.0) (may, record { same = same_view old new (err refl) (kept ∙ sym may.went) base; none = o.1 })
-      answers_on (Err BootFault) result kept one err o = subst (Answers old new actor request bytes after) (sym o.1) ((one.entry, adds (Err BootFault) o.0 one o.2), kept)
-      answers_on (Err BootStopped) result kept one err o = subst (Answers old new actor request bytes after) (sym o.1) ((one.entry, adds (Err BootStopped) o.0 one o.2), kept)
+          subst (Answers bound old new actor request (bytes, after)) (sym o.0) (may, record { same = same_view old new (err refl) (kept ∙ sym may.went) base; none = o.1 })
+      answers_on (Err BootFault) result kept one err o = subst (Answers bound old new actor request (bytes, after)) (sym o.1) (may, (one.entry, adds (Err BootFault) o.0 one o.2), kept)
+      answers_on (Err BootStopped) result kept one err o = subst (Answers bound old new actor request (bytes, after)) (sym o.1) (may, (one.entry, adds (Err BootStopped) o.0 one o.2), kept)

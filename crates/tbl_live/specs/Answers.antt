@@ -1,13 +1,13 @@
 -- What one call does to what the lock holds, and what it answers.
 use Rattle.std.specs.Prelude.{◌≡◌, ℕ, ◌<◌, ◌≤◌, List, [], ◌∷◌, ◌++◌, length, Some, None, Result, Ok, Err, Option}
 use Rattle.tbl_kinds.specs.Buffers.{Buffer}
-use Rattle.tbl_kinds.specs.Records.{record_limit}
 use Rattle.tbl_kinds.specs.declared.entry.Entry.{Entry}
 use Rattle.tbl_kinds.specs.declared.request.Actor.{Actor}
 use Rattle.tbl_kinds.specs.declared.request.Request.{Request}
 use Rattle.tbl_core.specs.Service.{CoreView}
 use Rattle.tbl_core.specs.declared.service.StepFault.{StepFault}
 use Rattle.tbl_core.specs.declared.service.StepFault.TheVariants.{Memory as NoMemory, BootFault, BootStopped}
+use Rattle.tbl_live.specs.Bounds.{Bound}
 use Rattle.tbl_live.specs.ServedView.{ServedView}
 use Rattle.tbl_live.specs.declared.receipts.Receipt.{Receipt}
 use Rattle.tbl_live.specs.declared.receipts.CallFault.{CallFault}
@@ -17,14 +17,13 @@ use Rattle.tbl_live.specs.declared.receipts.CallFault.TheVariants.{Ended, Full, 
 abbrev pub receipt_of : ℕ → Entry → Receipt
 receipt_of place e = record { place = place; actor = e.actor; status = e.reply.status; detail = e.reply.detail }
 
--- no step answered a fault before, and the history had room
-pub record MayStep {B C : Type 0} (fault : Option StepFault) (core : CoreView B C) : Type 0 where
+-- no step answered a fault before, and there was room for an entry
+pub record MayStep {B C : Type 0} (limit : ℕ) (fault : Option StepFault) (core : CoreView B C) : Type 0 where
   pub went : fault ≡ None
-  pub room : length core.entries < record_limit
+  pub room : length core.entries < limit
 
 -- the call is this entry, the last one, and its reply's bytes are appended to those that were there
 pub record Adds {B C : Type 0} (old new : ServedView B C) (actor : Actor) (request : Request) (entry : Entry) (bytes after : List ℕ) : Type 0 where
-  pub may : MayStep old.fault old.core
   pub actor_is : entry.actor ≡ actor
   pub request_is : entry.request ≡ request
   pub added : new.core.entries ≡ old.core.entries ++ entry ∷ []
@@ -35,12 +34,12 @@ pub record Refuses {B C : Type 0} (old new : ServedView B C) (bytes after : List
   pub same : new ≡ old
   pub none : after ≡ bytes
 
--- why nothing is played: a step answered this before, or the history is full
-abbrev pub IsRefusal : {B C : Type 0} → Option StepFault → CoreView B C → CallFault → Type 0
-IsRefusal kept core (Ended fault) = kept ≡ Some fault
-IsRefusal kept core (Full count) = (kept ≡ None) × (record_limit ≤ length core.entries) × (count ≡ record_limit)
-IsRefusal kept core (Step fault) = ⊥
-IsRefusal kept core Memory = ⊥
+-- why nothing is played: a step answered this before, or there is no room
+abbrev pub IsRefusal : {B C : Type 0} → Bound → Option StepFault → CoreView B C → CallFault → Type 0
+IsRefusal bound kept core (Ended fault) = kept ≡ Some fault
+IsRefusal bound kept core (Full count) = (kept ≡ None) × bound.full (length core.entries) core.state.tables count
+IsRefusal bound kept core (Step fault) = ⊥
+IsRefusal bound kept core Memory = ⊥
 
 -- ---- after a step
 
@@ -76,10 +75,10 @@ HasRoomFor (Some later) out = length later.list ≤ out.spare
 
 -- ---- the whole
 
--- by what is answered
-abbrev pub Answers : {B C : Type 0} → ServedView B C → ServedView B C → Actor → Request → List ℕ → List ℕ → Result Receipt CallFault → Type 0
-Answers old new actor request bytes after (Ok receipt) = (entry : Entry) × Adds old new actor request entry bytes after × (new.fault ≡ None) × (receipt ≡ receipt_of (length old.core.entries) entry)
-Answers old new actor request bytes after (Err (Ended fault)) = IsRefusal old.fault old.core (Ended fault) × Refuses old new bytes after
-Answers old new actor request bytes after (Err (Full count)) = IsRefusal old.fault old.core (Full count) × Refuses old new bytes after
-Answers old new actor request bytes after (Err (Step fault)) = ((entry : Entry) × Adds old new actor request entry bytes after) × (new.fault ≡ Some fault)
-Answers old new actor request bytes after (Err Memory) = MayStep old.fault old.core × Refuses old new bytes after
+-- by what is answered; `out` is the caller's bytes before and after
+abbrev pub Answers : {B C : Type 0} → Bound → ServedView B C → ServedView B C → Actor → Request → List ℕ × List ℕ → Result Receipt CallFault → Type 0
+Answers bound old new actor request out (Ok receipt) = MayStep bound.limit old.fault old.core × ((entry : Entry) × Adds old new actor request entry out.0 out.1 × (new.fault ≡ None) × (receipt ≡ receipt_of (length old.core.entries) entry))
+Answers bound old new actor request out (Err (Ended fault)) = IsRefusal bound old.fault old.core (Ended fault) × Refuses old new out.0 out.1
+Answers bound old new actor request out (Err (Full count)) = IsRefusal bound old.fault old.core (Full count) × Refuses old new out.0 out.1
+Answers bound old new actor request out (Err (Step fault)) = MayStep bound.limit old.fault old.core × ((entry : Entry) × Adds old new actor request entry out.0 out.1) × (new.fault ≡ Some fault)
+Answers bound old new actor request out (Err Memory) = MayStep bound.limit old.fault old.core × Refuses old new out.0 out.1

@@ -3,6 +3,8 @@ pub mod ServedView
 pub mod Moves
 pub mod Answers
 pub mod Seats
+pub mod Lasting
 pub mod Lent
 pub mod Saying
 pub mod Boards
+pub mod Bounds

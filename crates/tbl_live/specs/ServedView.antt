@@ -1,6 +1,5 @@
 -- What the lock of a service holds: the core, the fault that a step answered, and where the history stood as the service opened.
 use Rattle.std.specs.Prelude.{◌≡◌, ℕ, ◌<◌, ◌≤◌, List, length, Option, Some, None, true, false}
-use Rattle.tbl_kinds.specs.Records.{record_limit}
 use Rattle.tbl_kinds.specs.declared.entry.Entry.{Entry}
 use Rattle.tbl_session.specs.Trouble.{EndsInBoot}
 use Rattle.tbl_core.specs.Service.{CoreView}
@@ -32,8 +31,8 @@ abbrev pub TellsFault : {B C : Type 0} → Option StepFault → ℕ → CoreView
 TellsFault None base core = core.state.ended ≡ false
 TellsFault (Some fault) base core = HasEnded fault base core
 
--- and no entry was added past the most that a history may have
-pub record IsServed {B C : Type 0} (s : ServedView B C) : Type 0 where
+-- and no entry was added past the most that there may be
+pub record IsServed {B C : Type 0} (limit : ℕ) (s : ServedView B C) : Type 0 where
   pub tells : TellsFault s.fault s.base s.core
   pub past : s.base ≤ length s.core.entries
-  pub few : s.base ≤ record_limit → length s.core.entries ≤ record_limit
+  pub few : s.base ≤ limit → length s.core.entries ≤ limit

@@ -3,12 +3,16 @@
 #![tactic(auto)]
 
 mod board;
+mod cores;
+mod lasting;
 mod receipts;
 mod seats;
 mod served;
 mod service;
 
 pub use board::{Board, Ticket};
+pub use cores::{ServiceCore, Taken};
+pub use lasting::Lasting;
 pub use receipts::{CallFault, Receipt};
 pub use seats::{Seat, Seats};
 pub use served::Served;

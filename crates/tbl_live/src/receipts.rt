@@ -8,7 +8,7 @@ use tbl_kinds::{Actor, Status};
 /// Where a call stands in the history, and how it was answered.
 #[derive(Clone, Copy, PartialEq, Eq)]
 pub struct Receipt {
-    pub(crate) place: u32,
+    pub(crate) place: u64,
     pub(crate) actor: Actor,
     pub(crate) status: Status,
     pub(crate) detail: u32,
@@ -16,7 +16,7 @@ pub struct Receipt {
 
 impl Receipt {
     /// The number of entries before the call's.
-    pub fn place(&self) -> u32
+    pub fn place(&self) -> u64
         ensures { result ≡ self.now.place }
     {
         self.place
@@ -49,8 +49,10 @@ impl Receipt {
 pub enum CallFault {
     /// A boot in an earlier call failed or was stopped, as this says. The service plays no further request.
     Ended(StepFault),
-    /// The history has as many entries as it may have, which is `count`.
-    Full { count: u32 },
+    /// There is no room for the call. Over a `Core` its history has as many entries as it may have, which is `count`. Over a `Lasting`
+    /// a table has had as many images as can be counted, which is `count`: a reset, which is played, makes room by it. Or so many
+    /// requests were played, 2^61 - 1.
+    Full { count: u64 },
     /// The service booted in this call, and that boot failed or was stopped. The call stands in the history as its last entry, and
     /// the bytes of its reply were appended.
     Step(StepFault),

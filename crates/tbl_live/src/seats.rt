@@ -7,6 +7,7 @@ ghost use Rattle.turn_lock.specs.Turns.{Idle};
 ghost use Rattle.tbl_live.specs.Seats.{IsSeat, IsOf, seat_of};
 ghost use Rattle.tbl_live.specs.ServedView.{ServedView};
 
+use crate::cores::ServiceCore;
 use crate::served::Served;
 use std::marker::Model;
 use tbl_core::StepFault;
@@ -17,14 +18,14 @@ use turn_lock::Place;
 /// A seat at a service: whoever has it calls as its actor. Contracts see it as its actor, its calls, and what its last call saw
 /// under the lock.
 #[derive(Drop)]
-pub struct Seat<B: Bank, C: Validator> {
-    pub(crate) place: Place<Served<B, C>>,
+pub struct Seat<B: Bank, C: Validator, K: ServiceCore<B, C>> {
+    pub(crate) place: Place<Served<B, C, K>>,
     pub(crate) actor: Actor,
-    pub(crate) saw: usize,
+    pub(crate) saw: u64,
     pub(crate) met: Option<StepFault>,
 }
 
-impl<B: Bank, C: Validator> Model for Seat<B, C> {
+impl<B: Bank, C: Validator, K: ServiceCore<B, C>> Model for Seat<B, C, K> {
     ghost use Rattle.tbl_live.specs.Seats.{SeatView, IsSeat, seat_of};
 
     ghost Value = { SeatView B C };
@@ -36,9 +37,9 @@ impl<B: Bank, C: Validator> Model for Seat<B, C> {
 
 /// The seats of a service: that of the ground, and those of applications 1 to 16 in this order.
 #[derive(Drop)]
-pub struct Seats<B: Bank, C: Validator> {
-    pub ground: Seat<B, C>,
-    pub apps: Vec<Seat<B, C>>,
+pub struct Seats<B: Bank, C: Validator, K: ServiceCore<B, C>> {
+    pub ground: Seat<B, C, K>,
+    pub apps: Vec<Seat<B, C, K>>,
 }
 
 /// The actor of a number.
@@ -52,9 +53,9 @@ fn actor_at(number: u8) -> Actor
     }
 }
 
-impl<B: Bank, C: Validator> Seat<B, C> {
+impl<B: Bank, C: Validator, K: ServiceCore<B, C>> Seat<B, C, K> {
     /// The seat of the actor of this number, by which no call was made.
-    pub(crate) fn make(place: Place<Served<B, C>>, number: u8) -> Seat<B, C>
+    pub(crate) fn make(place: Place<Served<B, C, K>>, number: u8) -> Seat<B, C, K>
         requires { IsSeat place.me (actor_of number) 0 None }
         ensures { result ≡ seat_of place.table_id (actor_of number) place.me.0.seen 0 None }
     {
@@ -67,7 +68,7 @@ impl<B: Bank, C: Validator> Seat<B, C> {
     }
 
     /// Its place, with what its actor saw last.
-    pub(crate) fn leave(self) -> Place<Served<B, C>>
+    pub(crate) fn leave(self) -> Place<Served<B, C, K>>
         ensures own { result.table_id ≡ self.of }
         ensures last { (last : ServedView B C) × Idle result.me (actor_number self.actor) (last ∷ []) × IsOf (actor_number self.actor) last self }
     {

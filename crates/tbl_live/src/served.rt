@@ -11,52 +11,42 @@ ghost use Rattle.tbl_history.specs.Serving.{Continues};
 ghost use Rattle.tbl_live.specs.ServedView.{IsServed, served_view};
 ghost use Rattle.tbl_live.specs.Moves.{Moves};
 ghost use Rattle.tbl_live.specs.Answers.{kept_of, MayStep, IsRefusal, Answers, TakesLast, IsOutcome, with_later, HasRoomFor};
-ghost use Rattle.tbl_live.specs.Lent.{IsTaken, LendsNow};
+ghost use Rattle.tbl_live.specs.Lent.{IsTaken, LendsNow, CallGives};
 
+use crate::cores::{ServiceCore, Taken};
 use crate::receipts::{CallFault, Receipt};
 use std::alloc::{AllocFailed, Global};
-use std::marker::Model;
-use tbl_core::{Core, StepFault};
+use std::marker::{Model, PhantomData};
+use tbl_core::StepFault;
 use tbl_kinds::{Actor, Bytes, Memory, Request};
 use tbl_outside::{Bank, Validator};
 use tbl_registry::Pin;
 use turn_lock::Turns;
 
-/// The most entries of a history.
-const RECORD_LIMIT: usize = 32_768;
-
 /// A reply of at least so many bytes is appended after the lock is free. To append a shorter one takes less time than to own it too.
 const LATER: usize = 1_024;
-
-/// What was taken of a lent image for a Read, before its turn.
-#[derive(Drop)]
-pub(crate) struct Taken<'a> {
-    /// The image, lent to the handle of the Read.
-    pub(crate) pin: &'a Pin,
-    /// The bytes of it that the Read asks for.
-    pub(crate) slice: Bytes,
-}
 
 /// The core, the fault that a step answered, and how many entries the history had as the service opened. The core lies in a box,
 /// since a turn at the lock moves this value out and back.
 #[derive(Drop)]
-pub struct Served<B: Bank, C: Validator> {
-    core: Box<Core<B, C>>,
+pub struct Served<B: Bank, C: Validator, K: ServiceCore<B, C>> {
+    core: Box<K>,
     fault: Option<StepFault>,
-    base: usize,
+    base: u64,
+    of: PhantomData<(B, C)>,
 }
 
-impl<B: Bank, C: Validator> Model for Served<B, C> {
+impl<B: Bank, C: Validator, K: ServiceCore<B, C>> Model for Served<B, C, K> {
     ghost use Rattle.tbl_live.specs.ServedView.{ServedView, IsServed, served_view};
 
     ghost Value = { ServedView B C };
 
-    ghost view = { λ s. served_view s.core.value s.fault s.base };
+    ghost view = { λ s. served_view (K.core s.core.value) s.fault s.base };
 
-    ghost invariant = { λ s. IsServed (served_view s.core.value s.fault s.base) };
+    ghost invariant = { λ s. IsServed K.bound.limit (served_view (K.core s.core.value) s.fault s.base) };
 }
 
-impl<B: Bank, C: Validator> Turns for Served<B, C> {
+impl<B: Bank, C: Validator, K: ServiceCore<B, C>> Turns for Served<B, C, K> {
     ghost use Rattle.tbl_session.specs.Actors.{actor_count};
     ghost use Rattle.tbl_live.specs.Moves.{Moves};
 
@@ -65,39 +55,40 @@ impl<B: Bank, C: Validator> Turns for Served<B, C> {
     ghost moves = { Moves B.Bank C.verdict };
 }
 
-impl<B: Bank, C: Validator> Served<B, C> {
+impl<B: Bank, C: Validator, K: ServiceCore<B, C>> Served<B, C, K> {
     /// A live core, as it is now. An Err means out of memory, with the core.
-    pub(crate) fn open(alloc: Global, core: Core<B, C>) -> Result<Served<B, C>, Core<B, C>>
-        requires live { core.state.ended ≡ false }
-        ensures core { IfOk result (λ served. served.core ≡ core) }
+    pub(crate) fn open(alloc: Global, core: K) -> Result<Served<B, C, K>, K>
+        requires live { (K.core core).state.ended ≡ false }
+        ensures core { IfOk result (λ served. served.core ≡ K.core core) }
         ensures fault { IfOk result (λ served. served.fault ≡ None) }
-        ensures base { IfOk result (λ served. served.base ≡ length core.entries) }
+        ensures base { IfOk result (λ served. served.base ≡ length (K.core core).entries) }
         ensures err { IfErr result (λ back. back ≡ core) }
     {
-        let base = core.history().len();
+        let base = core.count();
         match Box::new(alloc, core) {
             Ok(core) => Ok(Served {
                 core,
                 fault: None,
                 base,
+                of: PhantomData,
             }),
             Err(AllocFailed { value }) => Err(value),
         }
     }
 
     /// The core as it is.
-    pub(crate) fn end(self) -> Core<B, C>
-        ensures core { result ≡ self.core }
-        ensures served { IsServed self }
+    pub(crate) fn end(self) -> K
+        ensures core { K.core result ≡ self.core }
+        ensures served { IsServed K.bound.limit self }
     {
         Box::into_inner(self.core)
     }
 
     /// How many entries the history has.
-    pub(crate) fn count(&self) -> usize
+    pub(crate) fn count(&self) -> u64
         ensures { result ≡ length self.now.core.entries }
     {
-        self.core.history().len()
+        self.core.as_ref().count()
     }
 
     /// The fault that a step answered.
@@ -111,12 +102,12 @@ impl<B: Bank, C: Validator> Served<B, C> {
     pub(crate) fn lend(&self, handle: u16) -> Result<Option<Pin>, Memory>
         ensures lent { IfOk result (LendsNow handle self.now.core) }
         ensures pin { IfOk result (λ lent. IfSome lent (λ pin. IsOfPin pin self.now.core)) }
-        ensures served { IsServed self.now }
+        ensures served { IsServed K.bound.limit self.now }
     {
         self.core.as_ref().lend(handle)
     }
 
-    /// Plays one request of an actor, unless a step answered a fault before or the history is full; a Read with what was taken of a
+    /// Plays one request of an actor, unless a step answered a fault before or there is no room; a Read with what was taken of a
     /// lent image, if anything was. The bytes of the reply are appended to `out`, or are handed out to be appended to it later.
     pub(crate) fn answer(
         &mut self,
@@ -128,12 +119,13 @@ impl<B: Bank, C: Validator> Served<B, C> {
         requires fits { Fits actor request }
         requires taken { IfSome taken (λ taken. IsTaken taken.pin.now taken.slice.list request self.old.core) }
         requires room { reply_limit ≤ out.old.spare }
+        ensures lent { IfSome taken.entry (λ taken. CallGives (record { pin = taken.pin.now; slice = taken.slice; result = result.0 }) self.old.core self.new.core) }
         ensures moves { Moves B.Bank C.verdict self.old (actor_number actor) self.new }
-        ensures answers { Answers self.old self.new actor request out.old.list (with_later out.new.list result.1) result.0 }
+        ensures answers { Answers K.bound self.old self.new actor request (out.old.list, with_later out.new.list result.1) result.0 }
         ensures later { HasRoomFor result.1 out.new }
         ensures room { out.old.spare + length out.old.list ≤ out.new.spare + length out.new.list }
     {
-        answer_fields(
+        answer_fields::<B, C, K>(
             self.core.as_mut(),
             &mut self.fault,
             self.base,
@@ -146,18 +138,21 @@ impl<B: Bank, C: Validator> Served<B, C> {
 }
 
 /// Why no request is played.
-fn refusal<B: Bank, C: Validator>(core: &Core<B, C>, fault: Option<StepFault>) -> Option<CallFault>
-    ensures { MatchOption result (MayStep fault core.now) (IsRefusal fault core.now) }
+fn refusal<B: Bank, C: Validator, K: ServiceCore<B, C>>(
+    core: &mut K,
+    fault: Option<StepFault>,
+    request: &Request,
+) -> Option<CallFault>
+    ensures same { K.core core.new ≡ K.core core.old }
+    ensures refusal { MatchOption result (MayStep K.bound.limit fault (K.core core.new) × K.may_play core.new request.now) (IsRefusal K.bound fault (K.core core.new)) }
 {
     if let Some(cause) = fault {
         return Some(CallFault::Ended(cause));
     }
-    if core.history().len() >= RECORD_LIMIT {
-        return Some(CallFault::Full {
-            count: RECORD_LIMIT as u32,
-        });
+    match core.refusal(request) {
+        Some(count) => Some(CallFault::Full { count }),
+        None => None,
     }
-    None
 }
 
 /// Appends the bytes of a reply if they are few, and else gives a further owner of them, where there is one to be had.
@@ -189,20 +184,21 @@ pub(crate) fn append_later(later: Option<Bytes>, out: &mut Bytes)
 }
 
 /// The receipt of the last entry. The bytes of its reply are appended, or are handed out to be appended later.
-fn take_last<B: Bank, C: Validator>(core: &Core<B, C>, out: &mut Bytes) -> (Receipt, Option<Bytes>)
-    requires some { 0 < length core.now.entries }
-    requires few { length core.now.entries ≤ record_limit }
+fn take_last<B: Bank, C: Validator, K: ServiceCore<B, C>>(
+    core: &K,
+    out: &mut Bytes,
+) -> (Receipt, Option<Bytes>)
+    requires some { 0 < length (K.core core.now).entries }
     requires room { reply_limit ≤ out.old.spare }
-    ensures last { TakesLast core.now.entries result.0 out.old.list (with_later out.new.list result.1) }
+    ensures last { TakesLast (K.core core.now).entries result.0 out.old.list (with_later out.new.list result.1) }
     ensures later { HasRoomFor result.1 out.new }
     ensures room { out.old.spare + length out.old.list ≤ out.new.spare + length out.new.list }
 {
-    let entries = core.history();
-    let place = entries.len() - 1;
-    let entry = &entries[place];
+    let place = core.count() - 1;
+    let entry = core.last();
     let later = append_or_own(&entry.reply.bytes, out);
     let receipt = Receipt {
-        place: place as u32,
+        place,
         actor: entry.actor,
         status: entry.reply.status,
         detail: entry.reply.detail,
@@ -211,30 +207,29 @@ fn take_last<B: Bank, C: Validator>(core: &Core<B, C>, out: &mut Bytes) -> (Rece
 }
 
 /// What a call answers after its step.
-fn outcome<B: Bank, C: Validator>(
-    core: &Core<B, C>,
+fn outcome<B: Bank, C: Validator, K: ServiceCore<B, C>>(
+    core: &K,
     done: Result<(), StepFault>,
     out: &mut Bytes,
 ) -> (Result<Receipt, CallFault>, Option<Bytes>)
-    requires some { OnPlayed done (0 < length core.now.entries) }
-    requires few { length core.now.entries ≤ record_limit }
+    requires some { OnPlayed done (0 < length (K.core core.now).entries) }
     requires room { reply_limit ≤ out.old.spare }
-    ensures outcome { IsOutcome core.now.entries done out.old.list (with_later out.new.list result.1) result.0 }
+    ensures outcome { IsOutcome (K.core core.now).entries done out.old.list (with_later out.new.list result.1) result.0 }
     ensures later { HasRoomFor result.1 out.new }
     ensures room { out.old.spare + length out.old.list ≤ out.new.spare + length out.new.list }
 {
     match done {
         Ok(()) => {
-            let (receipt, later) = take_last(core, out);
+            let (receipt, later) = take_last::<B, C, K>(core, out);
             (Ok(receipt), later)
         }
         Err(StepFault::Memory) => (Err(CallFault::Memory), None),
         Err(StepFault::BootFault) => {
-            let (_receipt, later) = take_last(core, out);
+            let (_receipt, later) = take_last::<B, C, K>(core, out);
             (Err(CallFault::Step(StepFault::BootFault)), later)
         }
         Err(StepFault::BootStopped) => {
-            let (_receipt, later) = take_last(core, out);
+            let (_receipt, later) = take_last::<B, C, K>(core, out);
             (Err(CallFault::Step(StepFault::BootStopped)), later)
         }
     }
@@ -251,53 +246,32 @@ fn kept(done: Result<(), StepFault>) -> Option<StepFault>
     }
 }
 
-/// Plays one request; a Read with what was taken of a lent image, if anything was.
-fn play_one<B: Bank, C: Validator>(
-    core: &mut Core<B, C>,
-    actor: Actor,
-    request: Request,
-    taken: Option<Taken<'_>>,
-) -> Result<(), StepFault>
-    requires fits { Fits actor request }
-    requires live { core.old.state.ended ≡ false }
-    requires room { length core.old.entries < record_limit }
-    requires taken { IfSome taken (λ taken. IsTaken taken.pin.now taken.slice.list request core.old) }
-    ensures adds { OnPlayed result (AddsOne B.Bank core.old core.new actor request result) }
-    ensures continues { OnPlayed result (Continues B.Bank C.verdict core.old core.new) }
-    ensures pins { OnPlayed result (PinsOnward core.old core.new) }
-    ensures live { OnOk result (core.new.state.ended ≡ false) }
-    ensures err { result ≡ Err StepFault.Memory → core.new ≡ core.old }
-{
-    match taken {
-        None => core.step(actor, request),
-        Some(Taken { pin, slice }) => core.step_read(actor, request, pin, slice),
-    }
-}
-
 /// Plays one request, and keeps a fault that its step answers.
-fn answer_fields<B: Bank, C: Validator>(
-    core: &mut Core<B, C>,
+fn answer_fields<B: Bank, C: Validator, K: ServiceCore<B, C>>(
+    core: &mut K,
     fault: &mut Option<StepFault>,
-    base: usize,
+    base: u64,
     actor: Actor,
     request: Request,
     taken: Option<Taken<'_>>,
     out: &mut Bytes,
 ) -> (Result<Receipt, CallFault>, Option<Bytes>)
-    requires served { IsServed (served_view core.old fault.old base) }
+    requires served { IsServed K.bound.limit (served_view (K.core core.old) fault.old base) }
     requires fits { Fits actor request }
-    requires taken { IfSome taken (λ taken. IsTaken taken.pin.now taken.slice.list request core.old) }
+    requires taken { IfSome taken (λ taken. IsTaken taken.pin.now taken.slice.list request (K.core core.old)) }
     requires room { reply_limit ≤ out.old.spare }
-    ensures served { IsServed (served_view core.new fault.new base) }
-    ensures moves { Moves B.Bank C.verdict (served_view core.old fault.old base) (actor_number actor) (served_view core.new fault.new base) }
-    ensures answers { Answers (served_view core.old fault.old base) (served_view core.new fault.new base) actor request out.old.list (with_later out.new.list result.1) result.0 }
+    ensures lent { IfSome taken.entry (λ taken. CallGives (record { pin = taken.pin.now; slice = taken.slice; result = result.0 }) (K.core core.old) (K.core core.new)) }
+    ensures served { IsServed K.bound.limit (served_view (K.core core.new) fault.new base) }
+    ensures moves { Moves B.Bank C.verdict (served_view (K.core core.old) fault.old base) (actor_number actor) (served_view (K.core core.new) fault.new base) }
+    ensures answers { Answers K.bound (served_view (K.core core.old) fault.old base) (served_view (K.core core.new) fault.new base) actor request
+        (out.old.list, with_later out.new.list result.1) result.0 }
     ensures later { HasRoomFor result.1 out.new }
     ensures room { out.old.spare + length out.old.list ≤ out.new.spare + length out.new.list }
 {
-    if let Some(cause) = refusal(core, *fault) {
+    if let Some(cause) = refusal::<B, C, K>(core, *fault, &request) {
         return (Err(cause), None);
     }
-    let done = play_one(core, actor, request, taken);
+    let done = core.play(actor, request, taken);
     *fault = kept(done);
-    outcome(core, done, out)
+    outcome::<B, C, K>(core, done, out)
 }

@@ -1,7 +1,6 @@
 //! The service that a program's threads share.
 
 ghost use Rattle.std.specs.Prelude.{◌≡◌, ℕ, ◌+◌, ◌<◌, ◌≤◌, false, None, List, [], ◌∷◌, length, replicate, IfOk, IfErr, IfSome, vec_capacity};
-ghost use Rattle.tbl_kinds.specs.Records.{record_limit};
 ghost use Rattle.tbl_core.specs.Pins.{IsSliceOf};
 ghost use Rattle.tbl_kinds.specs.Requests.{Fits};
 ghost use Rattle.tbl_kinds.specs.declared.request.Request.TheVariants as ask;
@@ -12,21 +11,20 @@ ghost use Rattle.tbl_session.specs.Served.{IsServed};
 ghost use Rattle.tbl_history.specs.Serving.{Serves};
 ghost use Rattle.turn_lock.specs.Turns.{Idle};
 ghost use Rattle.tbl_live.specs.Moves.{Extends};
-ghost use Rattle.tbl_live.specs.Lent.{IsLentTo, LendsTo};
+ghost use Rattle.tbl_live.specs.Lent.{IsLentTo, LendsTo, IsGivenTo};
 ghost use Rattle.tbl_live.specs.Saying.{Says, CallsNothing};
 ghost use Rattle.tbl_live.specs.Seats.{SeatView, AreSeats, AreFresh, AreDealt, AreOf, TellsOf};
 ghost use mathlib.Core.Option.{some};
 ghost use lib.ListN.{get_elem?};
 
+use crate::cores::{ServiceCore, Taken};
 use crate::receipts::{CallFault, Receipt};
 use crate::seats::{Seat, Seats};
-use crate::served::{Served, Taken, append_later};
-use lent_images::slice_of;
+use crate::served::{Served, append_later};
 use std::alloc::Global;
 use std::marker::Model;
 use std::snapshot::Snapshot;
 use std::sync::Wait;
-use tbl_core::Core;
 use tbl_kinds::{Bytes, Memory, Request};
 use tbl_outside::{Bank, Validator};
 use tbl_registry::Pin;
@@ -40,11 +38,11 @@ pub const REPLY_LIMIT: usize = 66_000;
 
 /// A service that threads call, each by a seat of its own. Contracts see it as which one it is, and the core that it was opened over.
 #[derive(Drop)]
-pub struct Service<B: Bank, C: Validator> {
-    lock: TurnLock<Served<B, C>>,
+pub struct Service<B: Bank, C: Validator, K: ServiceCore<B, C>> {
+    lock: TurnLock<Served<B, C, K>>,
 }
 
-impl<B: Bank, C: Validator> Model for Service<B, C> {
+impl<B: Bank, C: Validator, K: ServiceCore<B, C>> Model for Service<B, C, K> {
     ghost use Rattle.std.specs.Prelude.{◌≡◌, length};
     ghost use Rattle.tbl_live.specs.Seats.{ServiceView};
 
@@ -55,14 +53,14 @@ impl<B: Bank, C: Validator> Model for Service<B, C> {
     ghost invariant = { λ s. s.lock.table.shared.key.value.base ≡ length s.lock.table.shared.key.value.core.entries };
 }
 
-impl<B: Bank, C: Validator> Service<B, C> {
+impl<B: Bank, C: Validator, K: ServiceCore<B, C>> Service<B, C, K> {
     /// A service over a core, and a seat for each actor. An Err means out of memory, with the core as it was.
-    pub fn open(alloc: Global, core: Core<B, C>) -> Result<(Service<B, C>, Seats<B, C>), Core<B, C>>
-        requires live { core.state.ended ≡ false }
-        ensures opened { IfOk result (λ made. made.0.opened ≡ core) }
+    pub fn open(alloc: Global, core: K) -> Result<(Service<B, C, K>, Seats<B, C, K>), K>
+        requires live { (K.core core).state.ended ≡ false }
+        ensures opened { IfOk result (λ made. made.0.opened ≡ K.core core) }
         ensures seats { IfOk result (λ made. AreSeats made.0.of (made.1.ground ∷ made.1.apps.items)) }
         ensures fresh { IfOk result (λ made. AreFresh (made.1.ground ∷ made.1.apps.items)) }
-        ensures err { IfErr result (λ back. back ≡ core) }
+        ensures err { IfErr result (λ back. K.core back ≡ K.core core) }
     {
         let Ok(seats) = Vec::with_capacity(alloc, usize::from(ACTOR_COUNT)) else {
             return Err(core);
@@ -82,14 +80,14 @@ impl<B: Bank, C: Validator> Service<B, C> {
     pub fn call<R: Wait>(
         &self,
         rt: &R,
-        seat: &mut Seat<B, C>,
+        seat: &mut Seat<B, C, K>,
         request: Request,
         out: &mut Bytes,
     ) -> Result<Receipt, CallFault>
         requires own { seat.old.of ≡ self.now.of }
         requires fits { Fits seat.old.actor request }
         requires room { reply_limit ≤ out.old.spare }
-        ensures says { Says seat.old seat.new request out.old.list out.new.list result }
+        ensures says { Says K.bound seat.old seat.new request out.old.list out.new.list result }
         ensures room { out.old.spare + length out.old.list ≤ out.new.spare + length out.new.list }
     {
         self.turn(rt, seat, request, None, out)
@@ -101,7 +99,7 @@ impl<B: Bank, C: Validator> Service<B, C> {
     pub fn lend<R: Wait>(
         &self,
         rt: &R,
-        seat: &mut Seat<B, C>,
+        seat: &mut Seat<B, C, K>,
         handle: u16,
     ) -> Result<Option<Pin>, Memory>
         requires own { seat.old.of ≡ self.now.of }
@@ -124,7 +122,7 @@ impl<B: Bank, C: Validator> Service<B, C> {
     pub fn read_pinned<R: Wait>(
         &self,
         rt: &R,
-        seat: &mut Seat<B, C>,
+        seat: &mut Seat<B, C, K>,
         pin: &Pin,
         offset: u32,
         len: u32,
@@ -134,7 +132,7 @@ impl<B: Bank, C: Validator> Service<B, C> {
         requires lent { IsLentTo seat.old pin.now }
         requires fits { Fits seat.old.actor (ask.Read pin.now.handle offset len) }
         requires room { reply_limit ≤ out.old.spare }
-        ensures says { Says seat.old seat.new (ask.Read pin.now.handle offset len) out.old.list out.new.list result }
+        ensures says { Says K.bound seat.old seat.new (ask.Read pin.now.handle offset len) out.old.list out.new.list result }
         ensures room { out.old.spare + length out.old.list ≤ out.new.spare + length out.new.list }
     {
         let request = Request::Read {
@@ -142,18 +140,39 @@ impl<B: Bank, C: Validator> Service<B, C> {
             offset,
             len,
         };
-        let taken = match slice_of(out.allocator(), pin, offset, len) {
-            Some(slice) => Some(Taken { pin, slice }),
-            None => None,
-        };
-        self.turn(rt, seat, request, taken, out)
+        match Taken::of(out.allocator(), pin, offset, len) {
+            Ok(Some(taken)) => self.read_taken(rt, seat, request, taken, out),
+            Ok(None) | Err(_) => self.call(rt, seat, request, out),
+        }
+    }
+
+    /// Plays a Read with what was taken of a lent image before, like `call`. If the handle still pins by the call that the image was
+    /// lent for, the reply is this very buffer.
+    pub fn read_taken<R: Wait>(
+        &self,
+        rt: &R,
+        seat: &mut Seat<B, C, K>,
+        request: Request,
+        taken: Taken<'_>,
+        out: &mut Bytes,
+    ) -> Result<Receipt, CallFault>
+        requires own { seat.old.of ≡ self.now.of }
+        requires fits { Fits seat.old.actor request }
+        requires taken { IsLentTo seat.old taken.pin.now × IsSliceOf taken.pin.now request taken.slice.list }
+        requires room { reply_limit ≤ out.old.spare }
+        ensures says { Says K.bound seat.old seat.new request out.old.list out.new.list result }
+        // Over any bank: what was taken is what is answered, or the Read is refused.
+        ensures lent { IsGivenTo B.Bank C.verdict (record { pin = taken.entry.pin.now; slice = taken.entry.slice; result = result }) seat.old seat.new }
+        ensures room { out.old.spare + length out.old.list ≤ out.new.spare + length out.new.list }
+    {
+        self.turn(rt, seat, request, Some(taken), out)
     }
 
     /// A turn of a seat, in which its request is played; a Read with what was taken of a lent image, if anything was.
     fn turn<R: Wait>(
         &self,
         rt: &R,
-        seat: &mut Seat<B, C>,
+        seat: &mut Seat<B, C, K>,
         request: Request,
         taken: Option<Taken<'_>>,
         out: &mut Bytes,
@@ -162,7 +181,8 @@ impl<B: Bank, C: Validator> Service<B, C> {
         requires fits { Fits seat.old.actor request }
         requires taken { IfSome taken (λ taken. IsLentTo seat.old taken.pin.now × IsSliceOf taken.pin.now request taken.slice.list) }
         requires room { reply_limit ≤ out.old.spare }
-        ensures says { Says seat.old seat.new request out.old.list out.new.list result }
+        ensures says { Says K.bound seat.old seat.new request out.old.list out.new.list result }
+        ensures lent { IfSome taken.entry (λ taken. IsGivenTo B.Bank C.verdict (record { pin = taken.pin.now; slice = taken.slice; result = result }) seat.old seat.new) }
         ensures room { out.old.spare + length out.old.list ≤ out.new.spare + length out.new.list }
     {
         let actor = seat.actor;
@@ -176,17 +196,18 @@ impl<B: Bank, C: Validator> Service<B, C> {
         answer
     }
 
-    /// The core with all calls in its history, once all seats are back. It waits for nobody.
-    pub fn close(self, seats: Seats<B, C>) -> Core<B, C>
+    /// The core with all calls in its history, once all seats are back: the history that `Core` keeps, and that of `Lasting`, which nobody
+    /// keeps. It waits for nobody.
+    pub fn close(self, seats: Seats<B, C, K>) -> K
         requires seats { AreSeats self.of (seats.ground ∷ seats.apps.items) }
         // Whatever opening the core stood for as the service opened, it stands for it still.
-        ensures serves { (o : Opening B C) → Serves B.Bank C.verdict o self.opened → Serves B.Bank C.verdict o result }
+        ensures serves { (o : Opening B C) → Serves B.Bank C.verdict o self.opened → Serves B.Bank C.verdict o (K.core result) }
         // So all that a session promises of its history holds of this one.
-        ensures served { (o : Opening B C) → Serves B.Bank C.verdict o self.opened → IsServed B.Bank C.verdict o result.state.store.bank result.entries }
-        ensures extends { Extends self.opened.entries result.entries }
-        ensures few { length self.opened.entries ≤ record_limit → length result.entries ≤ record_limit }
+        ensures served { (o : Opening B C) → Serves B.Bank C.verdict o self.opened → IsServed B.Bank C.verdict o (K.core result).state.store.bank (K.core result).entries }
+        ensures extends { Extends self.opened.entries (K.core result).entries }
+        ensures few { length self.opened.entries ≤ K.bound.limit → length (K.core result).entries ≤ K.bound.limit }
         // Each seat's calls are all that the history has of its actor since.
-        ensures own { (number : ℕ) (seat : SeatView B C) → get_elem? (seats.ground ∷ seats.apps.items) number ≡ some seat → TellsOf (length self.opened.entries) result seat }
+        ensures own { (number : ℕ) (seat : SeatView B C) → get_elem? (seats.ground ∷ seats.apps.items) number ≡ some seat → TellsOf (length self.opened.entries) (K.core result) seat }
     {
         let Service { lock } = self;
         let place = gather(&lock, seats.ground, seats.apps);
@@ -195,11 +216,11 @@ impl<B: Bank, C: Validator> Service<B, C> {
 }
 
 /// Gives each actor a seat of its own.
-fn deal_all<B: Bank, C: Validator>(
-    lock: &TurnLock<Served<B, C>>,
-    place: Place<Served<B, C>>,
-    mut seats: Vec<Seat<B, C>>,
-) -> Seats<B, C>
+fn deal_all<B: Bank, C: Validator, K: ServiceCore<B, C>>(
+    lock: &TurnLock<Served<B, C, K>>,
+    place: Place<Served<B, C, K>>,
+    mut seats: Vec<Seat<B, C, K>>,
+) -> Seats<B, C, K>
     requires own { place.table_id ≡ lock.now.table.shared.table_id }
     requires all { Idle place.me 0 (replicate actor_count lock.now.table.shared.key.value) }
     requires first { lock.now.table.shared.key.value.base ≡ length lock.now.table.shared.key.value.core.entries }
@@ -217,12 +238,12 @@ fn deal_all<B: Bank, C: Validator>(
 }
 
 /// Gives so many actors, from one on, a seat each, after the seats of those before them.
-fn deal<B: Bank, C: Validator>(
-    lock: &TurnLock<Served<B, C>>,
-    mut place: Place<Served<B, C>>,
+fn deal<B: Bank, C: Validator, K: ServiceCore<B, C>>(
+    lock: &TurnLock<Served<B, C, K>>,
+    mut place: Place<Served<B, C, K>>,
     from: u8,
     count: u8,
-    seats: &mut Vec<Seat<B, C>>,
+    seats: &mut Vec<Seat<B, C, K>>,
 )
     requires some { 0 < count }
     requires within { from + count ≤ actor_count }
@@ -246,11 +267,11 @@ fn deal<B: Bank, C: Validator>(
 }
 
 /// Makes one seat of all, the last first.
-fn gather<B: Bank, C: Validator>(
-    lock: &TurnLock<Served<B, C>>,
-    ground: Seat<B, C>,
-    mut apps: Vec<Seat<B, C>>,
-) -> Place<Served<B, C>>
+fn gather<B: Bank, C: Validator, K: ServiceCore<B, C>>(
+    lock: &TurnLock<Served<B, C, K>>,
+    ground: Seat<B, C, K>,
+    mut apps: Vec<Seat<B, C, K>>,
+) -> Place<Served<B, C, K>>
     requires seats { AreSeats lock.now.table.shared.table_id (ground ∷ apps.items) }
     ensures own { result.table_id ≡ lock.now.table.shared.table_id }
     ensures all { Idle result.me 0 result.me.0.seen × (length result.me.0.seen ≡ actor_count) }

@@ -1,5 +1,4 @@
 use Rattle.std.proofs.Common.{◌≤◌, ◌∷◌, sym, subst, ◌∙◌}
-use Rattle.tbl_kinds.specs.Records.{record_limit}
 use Rattle.tbl_history.proofs.ServingLemmas.{serves_on, served_of}
 use Rattle.tbl_live.proofs.FollowingLemmas.{goes}
 use Rattle.tbl_live.proofs.EndLemmas.{tells}
@@ -23,11 +22,11 @@ returns-clause-extends g c = rw (← c.self.view_is) (rw c.end.ensures.core (goe
 pub returns-clause-few : goal.returns-clause-few
 returns-clause-few g c =
     let at = (goes g.B.Bank g.C.Validator.verdict _ c.close.result c.close.ensures.since).base ∙ c.self.invariant in
-    rw (← c.self.view_is) (rw c.end.ensures.core (λ within. c.end.ensures.served.few (subst (λ n. n ≤ record_limit) (sym at) within)))
+    rw (← c.self.view_is) (rw c.end.ensures.core (λ within. c.end.ensures.served.few (subst (λ n. n ≤ g.K.ServiceCore.bound.limit) (sym at) within)))
 
 pub returns-clause-own : goal.returns-clause-own
 returns-clause-own g c =
     let b = g.B.Bank in
     let v = g.C.Validator.verdict in
     rw (← c.self.view_is) (rw (c.end.ensures.core, ← c.self.invariant)
-    (tells b v _ c.close.result c.gather-place.result.me.0.seen (c.args.seats.ground ∷ c.args.seats.apps.items) c.close.ensures.since c.close.ensures.knows c.gather-place.ensures.each c.gather-place.ensures.all.1 c.requires.seats.count c.end.ensures.served))
+    (tells b v g.K.ServiceCore.bound.limit _ c.close.result c.gather-place.result.me.0.seen (c.args.seats.ground ∷ c.args.seats.apps.items) c.close.ensures.since c.close.ensures.knows c.gather-place.ensures.each c.gather-place.ensures.all.1 c.requires.seats.count c.end.ensures.served))

@@ -1,0 +1,30 @@
+use Rattle.std.proofs.Common.{◌≡◌, false, sym, subst}
+use Rattle.tbl_live.specs.Lasting.{core_in}
+use Rattle.tbl_history.proofs.Laws.{Laws}
+use Rattle.tbl_live.proofs.GivingLemmas.{engine_given}
+use Rattle.tbl_live.proofs.LastingLemmas.{firsts, one_more, keeps_on, lasting_continues}
+use Rattle.tbl_live.proofs.lasting.LastingServiceCore.play.Goals as goal
+
+pub invariant_of-self-2 : goal.invariant_of-self-2
+invariant_of-self-2 g c =
+    let entry = c.play_on-played.new.entry in
+    let items = c.self.inside.past.items in
+    rw c.keep.ensures.last
+    (keeps_on g.B.Bank g.C.Validator (firsts items) c.self.inside.engine c.play_on-played.new.engine c.in-Ok.entry.actor c.in-Ok.entry.request entry (firsts c.keep.new.past.items) c.play_on-played.result (one_more items c.keep.new.past.items entry c.keep.ensures.past)
+    c.play_on-played.ensures.steps (λ none. absurd (cc (c.if-ran_out.false, c.ran_out.ensures.1 none))) c.self.invariant.after)
+
+pub returns-clause-continues : goal.returns-clause-continues
+returns-clause-continues g c =
+    let laws : Laws g.B.Bank = record { tells_both = g.met.B.Bank.tells_both; leaves_now = g.met.B.Bank.leaves_now; leaves_only_now = g.met.B.Bank.leaves_only_now; counts_now = g.met.B.Bank.counts_now } in
+    let entry = c.play_on-played.new.entry in
+    let items = c.self.inside.past.items in
+    rw (← c.self.view_is)
+    (lasting_continues g.B.Bank g.C.Validator (firsts items) c.self.inside.engine c.play_on-played.new.engine c.in-Ok.entry.actor c.in-Ok.entry.request entry (firsts c.keep.new.past.items) c.play_on-played.result (one_more items c.keep.new.past.items entry c.keep.ensures.past)
+    c.play_on-played.ensures.steps laws (subst (λ it. (core_in it).state.ended ≡ false) (sym c.self.view_is) c.requires.live))
+
+pub returns-clause-lent : goal.returns-clause-lent
+returns-clause-lent g c =
+    let entry = c.play_on-played.new.entry in
+    let items = c.self.inside.past.items in
+    rw (← c.self.view_is)
+    (engine_given c.args.taken (λ taken. taken.pin.now) (λ taken. taken.slice) (firsts items) (firsts c.keep.new.past.items) c.self.inside.engine c.play_on-played.new.engine entry c.play_on-played.result (one_more items c.keep.new.past.items entry c.keep.ensures.past) c.play_on-played.ensures.lent)
