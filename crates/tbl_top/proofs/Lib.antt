@@ -16,6 +16,6 @@ pub mod WatchingLemmas
 pub mod SummaryLemmas
 pub mod ListingLemmas
 pub mod DrillLemmas
-pub mod Dropping
 pub mod WordsLemmas
 pub mod MakerLemmas
+pub mod HistoryLemmas

@@ -1,22 +1,25 @@
 -- A listing of which nothing was written.
-use Rattle.std.proofs.Common.{◌≡◌, ◌≢◌, ℕ, refl, arith, ◌⊎◌, inl, inr}
+use Rattle.std.proofs.Common.{◌≡◌, ◌≢◌, ℕ, List, Result, Ok, Err, refl, sym, ◌∙◌, arith, ◌⊎◌, inl, inr}
+use Rattle.cds_layout.specs.declared.listing.TextFault.{TextFault}
+use Rattle.cds_layout.specs.declared.listing.TextFault.TheVariants.{Fault, Memory}
 use Rattle.cds_layout.specs.Images.{store_of}
 use Rattle.cds_layout.specs.Texts.{text_of}
 use Rattle.tbl_outside.specs.Bank.{LeavesOnly}
-use Rattle.tbl_outside.specs.Counts.{Rose}
+use Rattle.tbl_outside.specs.Counts.{Rose, Still}
 use Rattle.tbl_outside.specs.declared.bank.Bank.{Ghosts}
 use Rattle.tbl_top.specs.Finishing.{Taken}
-use Rattle.tbl_top.specs.Listing.{ListsStore, ListsThrough}
+use Rattle.tbl_top.specs.Listing.{ListsStore, ListsThrough, TellsText}
 
 module _ {B : Type 0} (g : Ghosts B) (bank bank_then : B) (before : Taken) (kept : g.tells → g.now bank_then ≡ g.now bank)
     (moments : g.tells_moments → LeavesOnly g.clock g.left_since bank bank_then (λ image. image ≡ g.now bank)) where
-  pub without_memory : ListsStore g bank bank_then 1 before before
-  without_memory = record {
+  pub without_memory : Still g.faults g.stops bank bank_then → ListsStore g bank bank_then 1 before before
+  without_memory still = record {
     known = inr (inl refl);
     text = text_of (store_of (g.now bank));
     shown = λ _. refl;
     told = record { whole = λ e. absurd (omega (arith, e)); broken = λ e. absurd (omega (arith, e)); silent = inr (inr refl); calm = λ _. refl };
     fault = λ e. absurd (omega (arith, e));
+    still = λ _. still;
     kept = kept;
     moments = moments;
   }
@@ -28,9 +31,37 @@ module _ {B : Type 0} (g : Ghosts B) (bank bank_then : B) (before : Taken) (kept
     shown = λ _. refl;
     told = record { whole = λ e. absurd (omega (arith, e)); broken = λ e. absurd (omega (arith, e)); silent = inr (inr refl); calm = λ _. refl };
     fault = λ _. rose;
+    still = λ other. absurd (other refl);
     kept = kept;
     moments = moments;
   }
+
+  pub written : (text : List ℕ) (status : ℕ) (after : Taken) → (g.tells → text ≡ text_of (store_of (g.now bank))) → (status ≡ 0) ⊎ (status ≡ 4) → TellsText status text before after → Still g.faults g.stops bank bank_then
+      → ListsStore g bank bank_then status before after
+  written text status after shown ended told still = record {
+    known = known ended;
+    text = text;
+    shown = shown;
+    told = told;
+    fault = λ seven. absurd (other ended seven);
+    still = λ _. still;
+    kept = kept;
+    moments = moments;
+  } where
+    known : (status ≡ 0) ⊎ (status ≡ 4) → (status ≡ 0) ⊎ (status ≡ 1) ⊎ (status ≡ 4) ⊎ (status ≡ 7)
+    known (inl zero) = inl zero
+    known (inr four) = inr (inr (inl four))
+
+    other : (status ≡ 0) ⊎ (status ≡ 4) → status ≡ 7 → ⊥
+    other (inl zero) seven = omega (arith, zero, seven)
+    other (inr four) seven = omega (arith, four, seven)
+
+-- an answer that memory ran out, or that there is a text, isn't one that the bank failed
+pub memory_other : {T : Type 0} (answer : Result T TextFault) → answer ≡ Err Memory → answer ≢ Err Fault
+memory_other answer memory fault = let clash = sym memory ∙ fault in absurd cc
+
+pub text_other : {T : Type 0} (answer : Result T TextFault) (text : T) → answer ≡ Ok text → answer ≢ Err Fault
+text_other answer text ok fault = let clash = sym ok ∙ fault in absurd cc
 
 -- it is written, unless something failed
 pub lists_through : {B : Type 0} (g : Ghosts B) (bank bank_then : B) (status : ℕ) (before after : Taken) → ListsStore g bank bank_then status before after → ListsThrough g bank bank_then status before.1 after.1

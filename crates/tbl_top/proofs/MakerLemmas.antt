@@ -21,22 +21,23 @@ asks_describe words with_shape word admit asks =
     (found.1, found.2)
 
 -- nothing was read, written or touched
-describes_nothing : {B : Type 0} (shape : List Form) (bank : B) (r : Ran B) → r.status ≡ 1 → r.left_then ≡ r.left → r.taken_then ≡ r.taken → r.bank_then ≡ bank → DescribesFile shape bank r
-describes_nothing shape bank r one left taken same = record {
+describes_nothing : {B : Type 0} (shape : List Form) (bank : B) (r : Ran B) → r.status ≡ 1 → r.left_then ≡ r.left → r.taken_then ≡ r.taken → (r.unread_then ≡ r.unread) × (r.unwritten_then ≡ r.unwritten) → r.bank_then ≡ bank → DescribesFile shape bank r
+describes_nothing shape bank r one left taken calm same = record {
   answers = record {
     read = [];
     came = subst (λ o. r.left ≡ prepend_known [] o) (sym left) (prepend_nothing r.left);
     ends = inl (record { cause = inr (inr (one, omega arith)); silent = taken });
   };
   described = λ zero. absurd (omega (arith, one, zero));
+  failures = record { reads = λ other. calm.0; writes = λ other. calm.1 };
   untouched = same;
 }
 
 pub starved : {B C : Type 0} (words : List Buffer) → AsksWithShape words → (g : Ghosts B) (verdict : C → List ℕ → ℤ) (o : Opening B C) (r : Ran B)
-    → r.status ≡ 1 → r.left_then ≡ r.left → r.taken_then ≡ r.taken → r.bank_then ≡ o.bank → (word : Word) (admit : Admitted) → Asks words word admit → Outcome word g verdict o r
-starved words with_shape g verdict o r one left taken same word admit asks =
+    → r.status ≡ 1 → r.left_then ≡ r.left → r.taken_then ≡ r.taken → (r.unread_then ≡ r.unread) × (r.unwritten_then ≡ r.unwritten) → r.bank_then ≡ o.bank → (word : Word) (admit : Admitted) → Asks words word admit → Outcome word g verdict o r
+starved words with_shape g verdict o r one left taken calm same word admit asks =
     let found = asks_describe words with_shape word admit asks in
-    subst (λ (w : Word). Outcome w g verdict o r) (sym found.1) (describes_nothing found.0 o.bank r one left taken same)
+    subst (λ (w : Word). Outcome w g verdict o r) (sym found.1) (describes_nothing found.0 o.bank r one left taken calm same)
 
 pub starved_through : {B : Type 0} (words : List Buffer) → AsksWithShape words → (g : Ghosts B) (bank : B) (r : Ran B) → r.status ≡ 1 → (word : Word) (admit : Admitted) → Asks words word admit → Completes word g bank r
 starved_through words with_shape g bank r one word admit asks =

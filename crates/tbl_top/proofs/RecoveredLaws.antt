@@ -1,9 +1,11 @@
--- Recovery over two sessions: from the moments of the first one, and the history of the second.
-use Rattle.std.proofs.Common.{◌≡◌, ℕ, zero, suc, List, [], ◌∷◌, take, Bool, true, false, not, ◌||◌, Option, Some, None, refl, sym, ap, ◌∙◌, subst, inl, inr, arith}
+-- Recovery over two histories: from the moments of the first one, and the answers of the second.
+use Rattle.std.proofs.Common.{◌≡◌, ℕ, zero, suc, List, [], ◌∷◌, length, take, Bool, true, false, not, ◌||◌, Option, Some, None, refl, sym, ap, ◌∙◌, subst, inl, inr, arith}
 use Rattle.std.specs.Prelude.{◌-◌, if◌then◌else◌, is_some, slice_get, slice_set}
-use Rattle.std.proofs.lemmas.Option.{same_Some}
+use Rattle.std.proofs.Math.Seq.{take-length}
+use Rattle.std.proofs.lemmas.Option.{same_Some, slice_get_past}
 use Rattle.tbl_kinds.specs.Admitted.{Admitted}
 use Rattle.tbl_kinds.specs.Blocks.{Store}
+use Rattle.tbl_kinds.specs.StoreSteps.{Shows}
 use Rattle.tbl_kinds.specs.Names.{is_name}
 use Rattle.tbl_kinds.specs.Requests.{Fits}
 use Rattle.tbl_model.specs.State.{State, first_state}
@@ -14,7 +16,7 @@ use Rattle.tbl_model.specs.Effects.{Effect, answered}
 use Rattle.tbl_model.specs.Dispatch.{effect_of}
 use Rattle.tbl_model.specs.StoreNotes.{IsNoteOf}
 use Rattle.tbl_model.specs.History.{Run, begins_at, effect_in, onward, onward_by, run_from, IsAnswered, AreAnswered}
-use Rattle.tbl_session.specs.Recovery.{IsHistory, Registration, registering, request_of, Registers, Begins, ComesBack, started}
+use Rattle.tbl_session.specs.Recovery.{IsHistory, blocks_at, Registration, registering, request_of, Registers, Begins, ComesBack, started}
 use Rattle.tbl_laws.proofs.RecoveryLaws.{StartsWith, recovers, gives_what_it_holds, recovers_copied, loses_none, registers_at_start}
 use Rattle.cds_layout.specs.Images.{store_of}
 use Rattle.validation.specs.Kits.{owners}
@@ -27,9 +29,10 @@ use Rattle.tbl_kinds.specs.declared.request.Request.{Request}
 use Rattle.tbl_kinds.specs.declared.request.Request.TheVariants as ask
 use Rattle.tbl_kinds.specs.declared.status.Status.{Status}
 use Rattle.tbl_kinds.specs.declared.status.TheConstants.Status.{SUCCESS, ERR_APP_RUNNING, ERR_INVALID_NAME}
-use Rattle.tbl_session.specs.Moments.{run_at, AtSomePlace}
-use Rattle.tbl_session.specs.Recovered.{Asks, RegistersAt, RegistersFirst, TableBegins, IsRecoveredOrEmpty, IsGivenBack, RecoversFrom, RecoversBoth}
+use Rattle.tbl_session.specs.Crashes.{AfterCrash}
+use Rattle.tbl_session.specs.Moments.{run_at, AtSomePlace, AtExit}
 use Rattle.tbl_session.specs.Session.{given_of, state_from}
+use Rattle.tbl_top.specs.Recovered.{Asks, RegistersAt, RegistersFirst, TableBegins, IsRecoveredOrEmpty, IsGivenBack, GivesBack, RecoversFrom, AllComeBack, RecoversBoth, RecoversLast, StaysUp}
 
 -- ---- an entry of an answered history
 
@@ -72,31 +75,28 @@ module _ (run : Run) (e : Entry) (r : Registration) (asks : Asks e r) (is : IsAn
       (subst (λ (request : Request). IsNoteOf request (registering run.state r).calls run.state.store e.given.note) asks.request
       (subst (λ (x : Effect). IsNoteOf e.request x.calls run.state.store e.given.note) same is.given.note))
 
-  gives_back : (left : Store) (name : List ℕ) (held : Option (List ℕ)) → StartsWith left (registering run.state r) name held → IsGivenBack held run e name
-  gives_back left name None starts = begins left name _ _ starts.status starts.begins
-  gives_back left name (Some image) starts = begins left name _ _ starts.status starts.begins
+  gives_back_held : (left : Store) (name : List ℕ) (held : Option (List ℕ)) → StartsWith left (registering run.state r) name held → IsGivenBack held run e name
+  gives_back_held left name None starts = begins left name _ _ starts.status starts.begins
+  gives_back_held left name (Some image) starts = begins left name _ _ starts.status starts.begins
 
 -- ---- over an image that a reset left at a place of a history
 
-recovers_from : (opening : State) (entries : List Entry) (image : List ℕ) → IsHistory opening entries → AtSomePlace opening entries image
+gives_back : (opening : State) (entries : List Entry) (at : ℕ) (image : List ℕ) (crash : AfterCrash opening entries at (store_of image)) → IsHistory opening entries
     → (next_opening : State) (next : List Entry) → AreAnswered (begins_at next_opening) next
     → (place : ℕ) (e : Entry) (name : List ℕ) (r : Registration) → RegistersAt (store_of image) next_opening next place e name r
-    → RecoversFrom opening entries image (run_at next_opening next place) e name r.size
-recovers_from opening entries image history at next_opening next answered place e name r registers =
+    → GivesBack (blocks_at opening entries at (store_of image) crash) image (run_at next_opening next place) e name r.size
+gives_back opening entries at image crash history next_opening next answered place e name r registers =
     let left = store_of image in
     let run = run_at next_opening next place in
     let is = answered_at (begins_at next_opening) next place e answered registers.at in
     record {
-      place = at.0;
-      within = at.1;
-      crash = at.2;
       completed = λ slot block copied of holds.
-          let recovered = recovers opening entries at.0 left at.2 history run.state name r registers.over slot block copied of holds in
+          let recovered = recovers opening entries at left crash history run.state name r registers.over slot block copied of holds in
           begins run e r registers.asks is left name _ _ recovered.status recovered.begins;
-      sure = λ slot b of shown none. gives_back run e r registers.asks is left name b.held (gives_what_it_holds opening entries at.0 left at.2 history run.state name r registers.over slot b of shown none);
-      copied = λ slot b of shown. comes_back run e r registers.asks is _ left name (recovers_copied opening entries at.0 left at.2 history run.state name r registers.over slot b of shown);
+      sure = λ slot b of shown none. gives_back_held run e r registers.asks is left name b.held (gives_what_it_holds opening entries at left crash history run.state name r registers.over slot b of shown none);
+      copied = λ slot b of shown. comes_back run e r registers.asks is _ left name (recovers_copied opening entries at left crash history run.state name r registers.over slot b of shown);
       never_lost = λ slot b of shown some.
-          let found = loses_none opening entries at.0 left at.2 history run.state name r registers.over slot b of shown some in
+          let found = loses_none opening entries at left crash history run.state name r registers.over slot b of shown some in
           (found.0, found.1, begins run e r registers.asks is left name _ _ found.2.status found.2.begins);
     }
 
@@ -140,15 +140,36 @@ registers_first left kit admit entries are first e app_name r begun =
           (subst (λ (s : State). IsNoteOf (request_of r) (registering s r).calls s.store r.note) state (noted (run_at opening entries 1) e r begun.asks is)) begun.done);
     }
 
--- ---- two sessions
+-- ---- two histories
+
+-- whatever comes back of the blocks that the second one began with
+all_come_back : {C : Type 0} (ComesBackSo : Run → Entry → List ℕ → ℕ → Type 0) (image : List ℕ) (kit : List (KitEntry C)) (admit : Admitted) (next : List Entry) → AreAnswered (begins_at (state_from image kit admit)) next
+    → ((place : ℕ) (e : Entry) (name : List ℕ) (r : Registration) → RegistersAt (store_of image) (state_from image kit admit) next place e name r → ComesBackSo (run_at (state_from image kit admit) next place) e name r.size)
+    → AllComeBack ComesBackSo image kit admit next
+all_come_back ComesBackSo image kit admit next answered by_place = record {
+  recovered = by_place;
+  recovered_first = λ start e app_name r begun. by_place 1 e (full_name app_name r.short) r (registers_first (store_of image) (owners (given_of kit)) admit next answered start e app_name r begun);
+}
 
 -- the second began with the blocks that a reset in the first one, or after it, left
 pub recovers_both : {C : Type 0} (opening : State) (entries : List Entry) (image : List ℕ) (kit : List (KitEntry C)) (admit : Admitted) (next : List Entry) → IsHistory opening entries → AtSomePlace opening entries image
     → AreAnswered (begins_at (state_from image kit admit)) next → RecoversBoth opening entries image kit admit next
-recovers_both opening entries image kit admit next history at answered = record {
-  recovered = by_place;
-  recovered_first = λ start e app_name r begun. by_place 1 e (full_name app_name r.short) r (registers_first (store_of image) (owners (given_of kit)) admit next answered start e app_name r begun);
-} where
-  by_place : (place : ℕ) (e : Entry) (name : List ℕ) (r : Registration) → RegistersAt (store_of image) (state_from image kit admit) next place e name r
-      → RecoversFrom opening entries image (run_at (state_from image kit admit) next place) e name r.size
-  by_place place e name r registers = recovers_from opening entries image history at (state_from image kit admit) next answered place e name r registers
+recovers_both opening entries image kit admit next history at answered = all_come_back (RecoversFrom opening entries image) image kit admit next answered (λ place e name r registers. record {
+  place = at.0;
+  within = at.1;
+  crash = at.2;
+  back = gives_back opening entries at.0 image at.2 history (state_from image kit admit) next answered place e name r registers;
+})
+
+-- where no boot ended the first one, what its bank may leave at its end shows the blocks that stand then
+exit_shows : (opening : State) (entries : List Entry) (image : List ℕ) → AtExit opening entries image → StaysUp entries → Shows (run_at opening entries (length entries)).state.store (store_of image)
+exit_shows opening entries image (inl (inl shows)) up = shows
+exit_shows opening entries image (inl (inr next)) up = let none : slice_get entries (length entries) ≡ None = slice_get_past entries (length entries) (omega arith) in absurd (cc (none, next.1))
+exit_shows opening entries image (inr boot) up = absurd (up boot.last.given.note.stopped (boot.before, boot.last, boot.parts, boot.ended, refl))
+
+-- so the second began with these
+pub recovers_last : {C : Type 0} (opening : State) (entries : List Entry) (image : List ℕ) (kit : List (KitEntry C)) (admit : Admitted) (next : List Entry) → IsHistory opening entries → AtExit opening entries image → StaysUp entries
+    → AreAnswered (begins_at (state_from image kit admit)) next → RecoversLast opening entries image kit admit next
+recovers_last opening entries image kit admit next history exit up answered = all_come_back (GivesBack (run_from (begins_at opening) entries).state.store image) image kit admit next answered (λ place e name r registers.
+    subst (λ (es : List Entry). GivesBack (run_from (begins_at opening) es).state.store image (run_at (state_from image kit admit) next place) e name r.size) (take-length entries)
+    (gives_back opening entries (length entries) image (inl (exit_shows opening entries image exit up)) history (state_from image kit admit) next answered place e name r registers))

@@ -5,7 +5,8 @@ use Rattle.tbl_kinds.specs.Records.{Pair}
 use Rattle.tbl_kinds.specs.StoreSteps.{Shows}
 use Rattle.cds_layout.specs.Images.{store_of}
 use Rattle.table_watch.specs.Report.{report}
-use Rattle.table_watch.specs.Watching.{watched_by}
+use Rattle.table_watch.specs.Watching.{watched_by, AreLooksOf}
+use Rattle.table_watch.proofs.LookLaws.{all_looks}
 use Rattle.table_watch.specs.declared.watch.Look.{Look}
 use Rattle.tbl_outside.specs.Bank.{LeavesOnly}
 use Rattle.tbl_outside.specs.Counts.{Rose}
@@ -71,9 +72,9 @@ looks_told None watched all = watched
 looks_told (Some why) watched all = all
 
 module _ {B C : Type 0} (g : Ghosts B) (verdict : C → List ℕ → ℤ) (o : Opening B C) (scripts : List (List Request)) (core : CoreView B C) where
-  looks_are : (end : Option WatchEnd) (looks : List Look) → IsWatched g verdict o scripts end looks core → g.tells → looks_told end looks (watched_by o.state core.entries) ≡ watched_by o.state core.entries
-  looks_are None looks is tells = is.1 tells
-  looks_are (Some why) looks is tells = refl
+  looks_are : (end : Option WatchEnd) (looks : List Look) → IsWatched g verdict o scripts end looks core → AreLooksOf g.tells o.state core.entries (looks_told end looks (watched_by o.state core.entries))
+  looks_are None looks is = is.1
+  looks_are (Some why) looks is = all_looks g.tells o.state core.entries
 
 -- what ended a crew leaves no report
 fault_status : (why : WatchEnd) (read : Standing) (failed whole : Bool) → (status_of (standing_behind (fault_of (Some why)) read) failed whole ≢ 0) × (status_of (standing_behind (fault_of (Some why)) read) failed whole ≢ 4)
@@ -239,6 +240,6 @@ unwatched g laws verdict o first r same crash nothing still fault counted status
     let no = unbegun_silent fault in
     record {
       looks = none;
-      session = unbegun (Watched g o none) g laws verdict o first (but_for_sink r) same crash (nothing_requested r.status, λ _. refl) fault counted (unbegun_finishes fault r.status r.unwritten r.unwritten_then status still);
+      session = unbegun (Watched g o none) g laws verdict o first (but_for_sink r) same crash (nothing_requested r.status, all_looks g.tells o.state []) fault counted (unbegun_finishes fault r.status r.unwritten r.unwritten_then status still);
       told = record { whole = λ zero. absurd (no.0 (sym status ∙ zero)); broken = λ four. absurd (no.1 (sym status ∙ four)); silent = inr (inr nothing); calm = λ _. still };
     }

@@ -11,3 +11,5 @@ pub mod Reading
 pub mod Collecting
 pub mod Listing
 pub mod Drilling
+pub mod Recovered
+pub mod Histories

@@ -4,7 +4,7 @@ use Rattle.std.specs.Io.KnownBytes.{append_known}
 use Rattle.cds_layout.specs.Images.{store_of}
 use Rattle.cds_layout.specs.Texts.{text_of}
 use Rattle.tbl_outside.specs.Bank.{LeavesOnly}
-use Rattle.tbl_outside.specs.Counts.{Rose}
+use Rattle.tbl_outside.specs.Counts.{Rose, Still}
 use Rattle.tbl_outside.specs.Streams.{TakesFront}
 use Rattle.tbl_outside.specs.declared.bank.Bank.{Ghosts}
 use Rattle.tbl_top.specs.Finishing.{Taken}
@@ -24,6 +24,7 @@ pub record ListsStore {B : Type 0} (g : Ghosts B) (bank bank_then : B) (status :
   pub shown : g.tells → text ≡ text_of (store_of (g.now bank))
   pub told : TellsText status text before after
   pub fault : status ≡ 7 → Rose (g.faults bank) (g.faults bank_then)
+  pub still : status ≢ 7 → Still g.faults g.stops bank bank_then
   pub kept : g.tells → g.now bank_then ≡ g.now bank
   pub moments : g.tells_moments → LeavesOnly g.clock g.left_since bank bank_then (λ image. image ≡ g.now bank)
 

@@ -2,7 +2,7 @@
 use Rattle.std.specs.Prelude.{◌≡◌, List}
 use Rattle.tbl_session.specs.Session.{Ran}
 use Rattle.tbl_maker.specs.declared.form.Form.{Form}
-use Rattle.maker_words.specs.Answers.{Told, ComesOfText, ComesOfFile, Answers, MakesOnly, DescribesOnly, MakesThrough, DescribesThrough}
+use Rattle.maker_words.specs.Answers.{Told, ComesOfText, ComesOfFile, Answers, MakesOnly, DescribesOnly, TellsFailures, MakesThrough, DescribesThrough}
 
 -- what the source and the sink told, before the run and after it
 abbrev pub source_of : {B : Type 0} → Ran B → Told
@@ -21,12 +21,14 @@ sink_after r = record { bytes = r.taken_then; faults = r.unwritten_then }
 pub record MakesFile {B : Type 0} (bank : B) (r : Ran B) : Type 0 where
   pub answers : Answers ComesOfText r.status (source_of r) (source_after r) (sink_of r) (sink_after r)
   pub made : MakesOnly r.status (source_of r) (source_after r) (sink_of r) (sink_after r)
+  pub failures : TellsFailures r.status (source_of r) (source_after r) (sink_of r) (sink_after r)
   pub untouched : r.bank_then ≡ bank
 
 -- `describe` answers what comes of the file that was read, and 0 only where the shape describes it. The bank isn't touched.
 pub record DescribesFile {B : Type 0} (shape : List Form) (bank : B) (r : Ran B) : Type 0 where
   pub answers : Answers (ComesOfFile shape) r.status (source_of r) (source_after r) (sink_of r) (sink_after r)
   pub described : DescribesOnly shape r.status (source_of r) (source_after r) (sink_of r) (sink_after r)
+  pub failures : TellsFailures r.status (source_of r) (source_after r) (sink_of r) (sink_after r)
   pub untouched : r.bank_then ≡ bank
 
 -- each does so always, unless something outside failed or memory ran out

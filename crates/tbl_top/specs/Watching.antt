@@ -3,7 +3,7 @@ use Rattle.std.specs.Prelude.{◌≡◌, ◌⊎◌, ℕ, List, Option, Some, Non
 use Rattle.std.proofs.Common.{ℤ}
 use Rattle.tbl_kinds.specs.Records.{Pair}
 use Rattle.table_watch.specs.Report.{report}
-use Rattle.table_watch.specs.Watching.{watched_by}
+use Rattle.table_watch.specs.Watching.{AreLooksOf}
 use Rattle.table_watch.specs.declared.watch.Look.{Look}
 use Rattle.tbl_core.specs.declared.service.StepFault.{StepFault}
 use Rattle.tbl_core.specs.declared.service.StepFault.TheVariants as fault
@@ -16,9 +16,9 @@ use Rattle.tbl_session.specs.Session.{Ran, Session}
 use Rattle.tbl_top.specs.Listing.{TellsText}
 use Rattle.tbl_kinds.specs.declared.entry.Entry.{Entry}
 
--- each actor requested its own, and these are the looks of application 16 at what its calls got
+-- each actor requested its own, and these are the looks of application 16: one for each of its calls that got an address
 abbrev pub Watched : {B C : Type 0} → Ghosts B → Opening B C → List Look → ℕ → List Pair → List Entry → Type 0
-Watched g o looks status pairs entries = ByActor status pairs entries × (g.tells → looks ≡ watched_by o.state entries)
+Watched g o looks status pairs entries = ByActor status pairs entries × AreLooksOf g.tells o.state entries looks
 
 -- what was seen of a run, but for what its sink took
 abbrev pub but_for_sink : {B : Type 0} → Ran B → Ran B

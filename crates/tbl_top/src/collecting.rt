@@ -1,18 +1,18 @@
 //! Reads all records of an input, by their actors, before any of them is played.
 
-ghost use Rattle.std.specs.Prelude.{◌≡◌, ◌==◌, ◌<◌, ◌≤◌, ◌+◌, List, ℕ, [], ◌++◌, length, IfOk, MatchOption};
+ghost use Rattle.std.specs.Prelude.{◌≡◌, ◌==◌, ◌<◌, ◌≤◌, ◌+◌, List, None, ℕ, [], ◌++◌, length, IfOk, MatchOption};
 ghost use Rattle.std.specs.Io.KnownBytes.{prepend_known, IsAtEnd};
 ghost use Rattle.tbl_kinds.specs.Records.{Pair};
+ghost use Rattle.tbl_outside.specs.Streams.{ReadsOn, ReadsToEnd};
 ghost use Rattle.tbl_top.specs.Collecting.{HasTaken, TakesMore, TakesNone, TakesOne, scripts_of};
 ghost use Rattle.tbl_top.specs.Reading.{HasRead, HasFailed};
 ghost use Rattle.tbl_session.specs.Inputs.{piece_limit};
 ghost use Rattle.tbl_top.specs.Standing.{IsOfInput};
 ghost use Rattle.tbl_top.specs.declared.playback.Standing.TheVariants.{Open};
 
-use crate::kept::drop_front;
 use crate::playback::{RECORD_LIMIT, Standing};
 use crate::reading::{MOST_READS, PIECE_LENGTH};
-use session_records::{Next, next_record};
+use session_records::{Next, drop_front, next_record};
 use std::alloc::Global;
 use std::marker::Model;
 use tbl_crew::Scripts;
@@ -31,6 +31,7 @@ pub(crate) struct Collector {
 }
 
 impl Model for Collector {
+    ghost use Rattle.tbl_outside.specs.Streams.{ReadsOn, ReadsToEnd};
     ghost use Rattle.tbl_top.specs.Collecting.{Collecting};
 
     ghost Value = { Collecting };
@@ -118,6 +119,8 @@ impl Collector {
             × ((fed : List ℕ) (most : ℕ) (pairs : List Pair) → HasTaken Open fed most pairs self.old → TakesMore result (fed ++ read) self.new (0 < length read) (IsAtEnd (S.left source.new))) }
         ensures input { MatchOption result (Unit {0}) (λ ended. IsOfInput ended.0) }
         ensures source_cause { MatchOption result (S.faults source.new ≡ S.faults source.old) (λ ended. HasFailed ended.1 (S.faults source.old) (S.faults source.new)) }
+        ensures goes_on { result ≡ None → ReadsOn (S.how_far source.old) (S.how_far source.new) }
+        ensures once { ReadsToEnd (S.how_far source.old) (S.how_far source.new) }
         ensures count { S.faults source.old ≤ S.faults source.new }
     {
         match source.read(piece) {
@@ -137,6 +140,7 @@ impl Collector {
             × (pairs : List Pair) × (self.new.scripts ≡ scripts_of pairs) × HasRead result.0 pairs self.new.rest read result.1 (IsAtEnd (S.left source.new)) }
         ensures input { IsOfInput result.0 }
         ensures source_cause { HasFailed result.1 (S.faults source.old) (S.faults source.new) }
+        ensures once { ReadsToEnd (S.how_far source.old) (S.how_far source.new) }
         ensures count { S.faults source.old ≤ S.faults source.new }
     {
         let mut piece = [0u8; PIECE_LENGTH];

@@ -5,7 +5,6 @@ mod collecting;
 mod crewing;
 mod drilling;
 mod finishing;
-mod kept;
 mod listing;
 mod playback;
 mod player;

@@ -19,9 +19,8 @@ ghost use Rattle.tbl_top.specs.Finishing.{Finishes, status_of};
 ghost use Rattle.tbl_top.specs.declared.playback.Standing.TheVariants.{Open};
 
 use crate::finishing::finish;
-use crate::kept::drop_front;
 use crate::playback::{Playback, Standing};
-use session_records::bytes_lacking;
+use session_records::{bytes_lacking, drop_front};
 use std::alloc::Global;
 use std::marker::Model;
 use tbl_core::Core;

@@ -1,8 +1,9 @@
 //! Reads the input piece by piece, and feeds it to the session.
 
-ghost use Rattle.std.specs.Prelude.{◌≡◌, ℕ, ◌+◌, ◌<◌, ◌≤◌, Option, List, [], ◌++◌, length, false};
+ghost use Rattle.std.specs.Prelude.{◌≡◌, ℕ, ◌+◌, ◌<◌, ◌≤◌, Option, None, List, [], ◌++◌, length, false};
 ghost use Rattle.std.specs.Io.KnownBytes.{prepend_known, IsAtEnd};
 ghost use Rattle.tbl_history.specs.Serving.{Continues};
+ghost use Rattle.tbl_outside.specs.Streams.{ReadsOn as GaveBytes, ReadsToEnd};
 ghost use Rattle.tbl_top.specs.Playing.{bytes_fed, IsSession, IsWritten};
 ghost use Rattle.tbl_session.specs.Inputs.{IsBeginning, piece_limit};
 ghost use Rattle.tbl_top.specs.Standing.{TellsWritten, TellsCause, TellsBoot};
@@ -37,6 +38,8 @@ fn read_piece<B: Bank, C: Validator, S: Source, K: Sink>(
     ensures boot { TellsBoot player.new.standing player.new.core }
     ensures written { (first : Option (List ℕ)) → IsWritten first player.old.core.entries (K.taken sink.old) → TellsWritten player.new.standing first player.new.core.entries (K.taken sink.new) }
     ensures source_cause { HasFailedAtEnd result (S.faults source.old) (S.faults source.new) }
+    ensures goes_on { result ≡ None → GaveBytes (S.how_far source.old) (S.how_far source.new) }
+    ensures once { ReadsToEnd (S.how_far source.old) (S.how_far source.new) }
     ensures cause { TellsCause player.new.standing (K.faults sink.old) (K.faults sink.new) }
     ensures source_count { S.faults source.old ≤ S.faults source.new }
     ensures sink_count { K.faults sink.old ≤ K.faults sink.new }
@@ -71,6 +74,7 @@ pub(crate) fn read_all<B: Bank, C: Validator, S: Source, K: Sink>(
     ensures boot { TellsBoot player.new.standing player.new.core }
     ensures written { (first : Option (List ℕ)) → IsWritten first player.old.core.entries (K.taken sink.old) → TellsWritten player.new.standing first player.new.core.entries (K.taken sink.new) }
     ensures source_cause { HasFailed result (S.faults source.old) (S.faults source.new) }
+    ensures once { ReadsToEnd (S.how_far source.old) (S.how_far source.new) }
     ensures cause { TellsCause player.new.standing (K.faults sink.old) (K.faults sink.new) }
     ensures source_count { S.faults source.old ≤ S.faults source.new }
     ensures sink_count { K.faults sink.old ≤ K.faults sink.new }

@@ -3,6 +3,7 @@
 ghost use Rattle.std.specs.Prelude.{◌≡◌, ◌≤◌, ◌<◌, ◌^◌, All};
 ghost use Rattle.tbl_kinds.specs.Admitted.{Admitted};
 ghost use Rattle.tbl_kinds.specs.Places.{bank_size};
+ghost use Rattle.tbl_outside.specs.Streams.{ReadsToEnd};
 ghost use Rattle.tbl_outside.specs.declared.validator.KitEntry.{KitEntry as Entry};
 ghost use Rattle.tbl_session.specs.Session.{opening_of, ran};
 ghost use Rattle.tbl_top.specs.Words.{Asks, IsUnknown, Outcome, Completes, ReadsNothing};
@@ -51,8 +52,9 @@ pub fn run<
     ensures unknown { ((word : CommandWord) (admit : Admitted) → ¬ Asks words.now word admit) → IsUnknown words.now result.0 }
     ensures untouched { ((word : CommandWord) (admit : Admitted) → ¬ Asks words.now word admit) → (source.new ≡ source.old) × (sink.new ≡ sink.old) × (result.1 ≡ bank) }
 
-    // Where the word needs no records, the source isn't read.
+    // Where the word needs no records, the source isn't read. Nothing is read after the end of the input, nor after a read that failed.
     ensures unread { (word : CommandWord) (admit : Admitted) → Asks words.now word admit → ReadsNothing word → source.new ≡ source.old }
+    ensures once { ReadsToEnd (S.how_far source.old) (S.how_far source.new) }
 
     // What each word does, from the history that is served to the status and the bytes that the sink took.
     ensures outcome { (word : CommandWord) (admit : Admitted) → Asks words.now word admit

@@ -9,6 +9,7 @@ ghost use Rattle.cds_layout.specs.Images.{store_of};
 ghost use Rattle.tbl_core.specs.Service.{StartCounted};
 ghost use Rattle.tbl_outside.specs.Bank.{LeavesOnly};
 ghost use Rattle.tbl_outside.specs.declared.validator.KitEntry.{KitEntry as Entry};
+ghost use Rattle.tbl_outside.specs.Streams.{ReadsToEnd};
 ghost use Rattle.tbl_session.specs.Openings.{Opening};
 ghost use Rattle.tbl_session.specs.Session.{opening_of, ran};
 ghost use Rattle.tbl_history.specs.Serving.{Serves};
@@ -78,6 +79,7 @@ fn play<B: Bank, C: Validator, S: Source, K: Sink>(
     ensures session { (o : Opening B C) → Serves B.Bank C.verdict o player.old.core
         → Plays B.Bank C.verdict o (ran S.Source K.Sink (source.old, sink.old) (source.new, sink.new) (result, player.new.core.state.store.bank)) }
     ensures failures { TellsFailures (ran S.Source K.Sink (source.old, sink.old) (source.new, sink.new) (result, player.new.core.state.store.bank)) }
+    ensures once { ReadsToEnd (S.how_far source.old) (S.how_far source.new) }
     ensures not_usage { result ≢ 2 }
 {
     let read_failed = read_all(player, source, sink);
@@ -98,6 +100,7 @@ pub(crate) fn play_in_order<S: Source, K: Sink, B: Bank, C: Validator>(
     ensures not_usage { result.0 ≢ 2 }
     ensures session { Plays B.Bank C.verdict (opening_of B.Bank bank kit.items admit) (ran S.Source K.Sink (source.old, sink.old) (source.new, sink.new) result) }
     ensures failures { TellsFailures (ran S.Source K.Sink (source.old, sink.old) (source.new, sink.new) result) }
+    ensures once { ReadsToEnd (S.how_far source.old) (S.how_far source.new) }
     ensures room { bank_size ≤ B.size result.1 }
 {
     match begin(alloc, bank, kit, admit) {
@@ -125,6 +128,7 @@ fn do_word<S: Source, K: Sink, B: Bank, C: Validator>(
     ensures usage { result.0 ≡ 2 → HasThreads word }
     ensures threads { HasThreads word → (result.0 ≡ 2) × (source.new ≡ source.old) × (sink.new ≡ sink.old) × (result.1 ≡ bank) }
     ensures unread { ReadsNothing word → source.new ≡ source.old }
+    ensures once { ReadsToEnd (S.how_far source.old) (S.how_far source.new) }
     ensures outcome { ¬ HasThreads word → Outcome word B.Bank C.verdict (opening_of B.Bank bank kit.items admit) (ran S.Source K.Sink (source.old, sink.old) (source.new, sink.new) result) }
     ensures complete { ¬ HasThreads word → Completes word B.Bank bank (ran S.Source K.Sink (source.old, sink.old) (source.new, sink.new) result) }
     ensures room { bank_size ≤ B.size result.1 }
@@ -159,6 +163,7 @@ pub fn run_in_order<S: Source, K: Sink, B: Bank, C: Validator>(
     ensures unknown { ((word : CommandWord) (admit : Admitted) → Asks words.now word admit → HasThreads word) → IsUnknown words.now result.0 }
     ensures untouched { ((word : CommandWord) (admit : Admitted) → Asks words.now word admit → HasThreads word) → (source.new ≡ source.old) × (sink.new ≡ sink.old) × (result.1 ≡ bank) }
     ensures unread { (word : CommandWord) (admit : Admitted) → Asks words.now word admit → ReadsNothing word → source.new ≡ source.old }
+    ensures once { ReadsToEnd (S.how_far source.old) (S.how_far source.new) }
     ensures outcome { (word : CommandWord) (admit : Admitted) → Asks words.now word admit → ¬ HasThreads word
         → Outcome word B.Bank C.verdict (opening_of B.Bank bank kit.items admit) (ran S.Source K.Sink (source.old, sink.old) (source.new, sink.new) result) }
     ensures complete { (word : CommandWord) (admit : Admitted) → Asks words.now word admit → ¬ HasThreads word

@@ -6,6 +6,7 @@ ghost use Rattle.tbl_kinds.specs.StoreSteps.{Shows};
 ghost use Rattle.cds_layout.specs.Images.{store_of};
 ghost use Rattle.tbl_core.specs.Service.{StartCounted};
 ghost use Rattle.tbl_outside.specs.Bank.{LeavesOnly};
+ghost use Rattle.tbl_outside.specs.Streams.{ReadsToEnd};
 ghost use Rattle.table_watch.specs.Report.{report};
 ghost use Rattle.tbl_outside.specs.declared.validator.KitEntry.{KitEntry as Entry};
 ghost use Rattle.tbl_session.specs.Openings.{Opening};
@@ -92,6 +93,7 @@ fn play_watched<
     ensures watches { (o : Opening B C) → Serves B.Bank C.verdict o core
         → Watches B.Bank C.verdict o (ran S.Source K.Sink (source.old, sink.old) (source.new, sink.new) (result.0, result.1.state.store.bank)) }
     ensures failures { TellsFailures (ran S.Source K.Sink (source.old, sink.old) (source.new, sink.new) (result.0, result.1.state.store.bank)) }
+    ensures once { ReadsToEnd (S.how_far source.old) (S.how_far source.new) }
     ensures not_usage { result.0 ≢ 2 }
 {
     let (read, read_failed) = collector.read_all(source);
@@ -160,6 +162,7 @@ pub(crate) fn run_watch<
     ensures not_usage { result.0 ≢ 2 }
     ensures watches { Watches B.Bank C.verdict (opening_of B.Bank bank kit.items admit) (ran S.Source K.Sink (source.old, sink.old) (source.new, sink.new) result) }
     ensures failures { TellsFailures (ran S.Source K.Sink (source.old, sink.old) (source.new, sink.new) result) }
+    ensures once { ReadsToEnd (S.how_far source.old) (S.how_far source.new) }
     ensures room { bank_size ≤ B.size result.1 }
 {
     match begin_watch(alloc, bank, kit, admit) {

@@ -1,84 +1,17 @@
 //! Writes entries to the sink.
 
-ghost use Rattle.std.specs.Prelude.{◌≡◌, ◌<◌, ◌≤◌, ◌++◌, List, length, MatchOption, OnOk, OnErr};
+ghost use Rattle.std.specs.Prelude.{◌≡◌, ◌<◌, ◌≤◌, MatchOption};
 ghost use Rattle.std.specs.Io.KnownBytes.{append_known};
-ghost use Rattle.tbl_kinds.specs.Transcript.{fields_of, entry_bytes};
-ghost use Rattle.tbl_outside.specs.Counts.{Rose};
-ghost use Rattle.tbl_outside.specs.Streams.{TakesFront};
-ghost use Rattle.transcript.specs.Writing.{front_of, rest_of};
+ghost use Rattle.tbl_kinds.specs.Transcript.{entry_bytes};
 ghost use Rattle.tbl_core.specs.Log.{IsSmall};
 ghost use Rattle.tbl_top.specs.Standing.{TellsStop, TellsWhy};
 
 use crate::playback::Standing;
+use entry_output::{WriteFault, write_entry};
 use tbl_kinds::Entry;
-use tbl_outside::{Failed, Sink};
-use transcript::{FRONT_LENGTH, spell_around, spell_entry};
+use tbl_outside::Sink;
 
-/// From how many bytes on a reply is written from where it stands, which takes two further writes, and isn't copied.
-const LONG_REPLY: usize = 4_096;
-
-/// Writes three pieces, one after the other.
-#[tactic(auto, using(tbl_outside::proofs::Streams::written_more, tbl_outside::proofs::Streams::front_of_first, tbl_outside::proofs::Streams::front_of_second))]
-fn write_pieces<K: Sink>(
-    sink: &mut K,
-    first: &[u8],
-    second: &[u8],
-    third: &[u8],
-) -> Result<(), Failed>
-    ensures ok { OnOk result (K.taken sink.new ≡ append_known (K.taken sink.old) (first.now ++ second.now ++ third.now)) }
-    ensures front { OnErr result (TakesFront (K.taken sink.old) (K.taken sink.new) (first.now ++ second.now ++ third.now)) }
-    ensures still { OnOk result (K.faults sink.new ≡ K.faults sink.old) }
-    ensures cause { OnErr result (Rose (K.faults sink.old) (K.faults sink.new)) }
-    ensures count { K.faults sink.old ≤ K.faults sink.new }
-{
-    sink.write(first)?;
-    sink.write(second)?;
-    sink.write(third)
-}
-
-/// Writes an entry from where its parts stand: the bytes of its reply, between what comes before them and what comes after them.
-fn write_parts<K: Sink>(
-    around: &[u8],
-    place: u32,
-    entry: &Entry,
-    sink: &mut K,
-) -> Result<(), Failed>
-    requires { around.now ≡ front_of (fields_of place entry.now) ++ rest_of (fields_of place entry.now) }
-    ensures ok { OnOk result (K.taken sink.new ≡ append_known (K.taken sink.old) (entry_bytes place entry.now)) }
-    ensures front { OnErr result (TakesFront (K.taken sink.old) (K.taken sink.new) (entry_bytes place entry.now)) }
-    ensures still { OnOk result (K.faults sink.new ≡ K.faults sink.old) }
-    ensures cause { OnErr result (Rose (K.faults sink.old) (K.faults sink.new)) }
-    ensures count { K.faults sink.old ≤ K.faults sink.new }
-{
-    let (front, rest) = around.split_at(FRONT_LENGTH);
-    write_pieces(sink, front, entry.reply.bytes.bytes(), rest)
-}
-
-/// Writes the spelling of an entry whose reply is long; None where the sink took it.
-#[inline(never)]
-fn write_long<K: Sink>(
-    out: &mut Vec<u8>,
-    place: usize,
-    entry: &Entry,
-    sink: &mut K,
-) -> Option<Standing>
-    requires place { place < 4294967295 }
-    requires small { IsSmall entry.now }
-    ensures wrote { MatchOption result (K.taken sink.new ≡ append_known (K.taken sink.old) (entry_bytes place entry.now))
-        (λ standing. TellsStop standing (K.taken sink.old) (K.taken sink.new) (entry_bytes place entry.now)) }
-    ensures why { TellsWhy result (K.faults sink.old) (K.faults sink.new) }
-    ensures count { K.faults sink.old ≤ K.faults sink.new }
-{
-    let Ok(around) = spell_around(out, place as u32, entry) else {
-        return Some(Standing::Unwritten);
-    };
-    match write_parts(around, place as u32, entry, sink) {
-        Ok(()) => None,
-        Err(Failed) => Some(Standing::SinkFailed),
-    }
-}
-
-/// Writes the spelling of an entry, which is put together in `out` unless its reply is long; None where the sink took it.
+/// Writes the spelling of an entry, which is put together in `out` unless its reply is long; None if the sink took it.
 pub(crate) fn write<K: Sink>(
     out: &mut Vec<u8>,
     place: usize,
@@ -92,14 +25,9 @@ pub(crate) fn write<K: Sink>(
     ensures why { TellsWhy result (K.faults sink.old) (K.faults sink.new) }
     ensures count { K.faults sink.old ≤ K.faults sink.new }
 {
-    if entry.reply.bytes.bytes().len() >= LONG_REPLY {
-        return write_long(out, place, entry, sink);
-    }
-    match spell_entry(out, place as u32, entry) {
-        Ok(spelling) => match sink.write(spelling) {
-            Ok(()) => None,
-            Err(Failed) => Some(Standing::SinkFailed),
-        },
-        Err(_) => Some(Standing::Unwritten),
+    match write_entry(out, place as u32, entry, sink) {
+        Ok(()) => None,
+        Err(WriteFault::Sink) => Some(Standing::SinkFailed),
+        Err(WriteFault::Memory) => Some(Standing::Unwritten),
     }
 }

@@ -1,5 +1,6 @@
 use Rattle.std.proofs.Common.{refl}
 use Rattle.tbl_session.specs.Orders.{ByActor}
+use Rattle.tbl_outside.proofs.Streams.{unread}
 use Rattle.tbl_session.specs.Session.{opening_of, ran}
 use Rattle.tbl_history.proofs.Laws.{Laws}
 use Rattle.tbl_top.proofs.CrewLemmas.{nothing_requested}
@@ -35,3 +36,6 @@ returns-in-Err-clause-failures g c =
 
 pub returns-in-Ok-clause-failures : goal.returns-in-Ok-clause-failures
 returns-in-Ok-clause-failures g c = rw (c.end.ensures.bank) c.play_crew-status.ensures.failures
+
+pub returns-in-Err-clause-once : goal.returns-in-Err-clause-once
+returns-in-Err-clause-once g c = unread (g.S.Source.how_far c.args.source.now)

@@ -20,6 +20,7 @@ reads-init g c = record {
   continues = continues_same g.B.Bank g.C.Validator.verdict c.args.player.now.core;
   live = c.requires.live;
   written = λ first written. written;
+  once = λ going. going;
   source_still = refl;
   sink_still = refl;
 }
@@ -58,6 +59,10 @@ reads-preserved g c = record {
   continues = then_continues g.B.Bank g.C.Validator.verdict _ _ _ c.reads.invariant.continues c.in_default.ensures.continues;
   live = search rules;
   written = search rules;
+  once = λ going. c.in_default.ensures.goes_on refl (c.reads.invariant.once going);
   source_still = c.in_default.ensures.source_cause ∙ c.reads.invariant.source_still;
   sink_still = subst (λ (s : Standing). TellsCause s (g.K.Sink.faults c.reads.sink) (g.K.Sink.faults c.read_piece.new.sink)) c.in_default.ensures.reads.2.is_open c.in_default.ensures.cause ∙ c.reads.invariant.sink_still;
 }
+
+pub returns-in-Some-clause-once : goal.returns-in-Some-clause-once
+returns-in-Some-clause-once g c going = c.in-Some.ensures.once (c.reads.invariant.once going)

@@ -2,6 +2,7 @@ use Rattle.std.proofs.Common.{[], sym, ap, ◌∙◌, arith, ⊎_elim}
 use Rattle.std.specs.Prelude.{take, true, false}
 use Rattle.std.proofs.lemmas.List.{length-take}
 use Rattle.std.specs.Io.KnownBytes.{prepend_known, IsAtEnd}
+use Rattle.tbl_outside.proofs.Streams.{reads_on, reads_once}
 use Rattle.tbl_top.proofs.ReadingLemmas.{prepend_nothing, ends_here, ends_over, over_is, memory_is}
 use Rattle.tbl_top.proofs.reading.read_piece.Goals as goal
 

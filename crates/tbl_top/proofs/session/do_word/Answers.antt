@@ -1,4 +1,5 @@
 use Rattle.std.proofs.Common.{None, refl, sym, subst}
+use Rattle.tbl_outside.proofs.Streams.{unread}
 use Rattle.tbl_session.specs.Session.{opening_of, ran}
 use Rattle.maker_words.proofs.Answering.{makes_not_usage, describes_not_usage}
 use Rattle.tbl_top.specs.InTurn.{InTurn}
@@ -91,7 +92,7 @@ returns-in-Make-clause-outcome g c other =
     let b = g.B.Bank in
     let r = ran g.S.Source g.K.Sink (c.args.source.now, c.args.sink.now) (c.make_input.new.source, c.make_input.new.sink) (c.make_input.result, c.args.bank) in
     subst (λ (w : Word). Outcome w b g.C.Validator.verdict (opening_of b c.args.bank c.args.kit.items c.args.admit) r) (sym c.in-Make.is)
-    (record { answers = c.make_input.ensures.answers; made = c.make_input.ensures.made; untouched = refl })
+    (record { answers = c.make_input.ensures.answers; made = c.make_input.ensures.made; failures = c.make_input.ensures.failures; untouched = refl })
 
 pub returns-in-Make-clause-complete : goal.returns-in-Make-clause-complete
 returns-in-Make-clause-complete g c other =
@@ -112,7 +113,7 @@ returns-in-Describe-clause-outcome g c other =
     let b = g.B.Bank in
     let r = ran g.S.Source g.K.Sink (c.args.source.now, c.args.sink.now) (c.describe_input.new.source, c.describe_input.new.sink) (c.describe_input.result, c.args.bank) in
     subst (λ (w : Word). Outcome w b g.C.Validator.verdict (opening_of b c.args.bank c.args.kit.items c.args.admit) r) (sym c.in-Describe.is)
-    (record { answers = c.describe_input.ensures.answers; described = c.describe_input.ensures.described; untouched = refl })
+    (record { answers = c.describe_input.ensures.answers; described = c.describe_input.ensures.described; failures = c.describe_input.ensures.failures; untouched = refl })
 
 pub returns-in-Describe-clause-complete : goal.returns-in-Describe-clause-complete
 returns-in-Describe-clause-complete g c other =
@@ -139,3 +140,17 @@ returns-in-Watch-clause-outcome g c other = absurd (other (subst HasThreads (sym
 
 pub returns-in-Watch-clause-complete : goal.returns-in-Watch-clause-complete
 returns-in-Watch-clause-complete g c other = absurd (other (subst HasThreads (sym c.in-Watch.is) tt))
+
+-- ---- what isn't read
+
+pub returns-in-Store-clause-once : goal.returns-in-Store-clause-once
+returns-in-Store-clause-once g c = unread (g.S.Source.how_far c.args.source.now)
+
+pub returns-in-Drill-clause-once : goal.returns-in-Drill-clause-once
+returns-in-Drill-clause-once g c = unread (g.S.Source.how_far c.args.source.now)
+
+pub returns-in-Crew-clause-once : goal.returns-in-Crew-clause-once
+returns-in-Crew-clause-once g c = unread (g.S.Source.how_far c.args.source.now)
+
+pub returns-in-Watch-clause-once : goal.returns-in-Watch-clause-once
+returns-in-Watch-clause-once g c = unread (g.S.Source.how_far c.args.source.now)

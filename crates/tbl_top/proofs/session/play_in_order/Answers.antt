@@ -1,4 +1,5 @@
 use Rattle.std.proofs.Common.{refl, ap, ◌∙◌}
+use Rattle.tbl_outside.proofs.Streams.{unread}
 use Rattle.tbl_session.specs.Session.{opening_of, ran}
 use Rattle.tbl_history.proofs.Laws.{Laws}
 use Rattle.tbl_top.specs.InTurn.{InTurn}
@@ -30,3 +31,6 @@ returns-in-Err-clause-failures g c =
 
 pub returns-in-Ok-clause-failures : goal.returns-in-Ok-clause-failures
 returns-in-Ok-clause-failures g c = rw (c.end-in-Ok.ensures.bank ∙ ap (λ core. core.state.store.bank) c.end.ensures) c.play-status.ensures.failures
+
+pub returns-in-Err-clause-once : goal.returns-in-Err-clause-once
+returns-in-Err-clause-once g c = unread (g.S.Source.how_far c.args.source.now)

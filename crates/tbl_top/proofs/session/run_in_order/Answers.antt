@@ -1,4 +1,5 @@
 use Rattle.std.proofs.Common.{◌≡◌, inl, inr, refl}
+use Rattle.tbl_outside.proofs.Streams.{unread}
 use Rattle.tbl_session.specs.Session.{opening_of, ran}
 use Rattle.tbl_top.specs.Words.{Completes, HasThreads, Outcome, ReadsNothing}
 use Rattle.tbl_top.proofs.MakerLemmas.{starved, starved_through}
@@ -14,13 +15,19 @@ pub returns-in_default-clause-outcome : goal.returns-in_default-clause-outcome
 returns-in_default-clause-outcome g c word admit asks other =
     let b = g.B.Bank in
     let r = ran g.S.Source g.K.Sink (c.args.source.now, c.args.sink.now) (c.args.source.now, c.args.sink.now) (1, c.args.bank) in
-    starved c.args.words.now c.in_default.ensures.memory b g.C.Validator.verdict (opening_of b c.args.bank c.args.kit.items admit) r refl refl refl refl word admit asks
+    starved c.args.words.now c.in_default.ensures.memory b g.C.Validator.verdict (opening_of b c.args.bank c.args.kit.items admit) r refl refl refl (refl, refl) refl word admit asks
 
 pub returns-in_default-clause-complete : goal.returns-in_default-clause-complete
 returns-in_default-clause-complete g c word admit asks other =
     let b = g.B.Bank in
     let r = ran g.S.Source g.K.Sink (c.args.source.now, c.args.sink.now) (c.args.source.now, c.args.sink.now) (1, c.args.bank) in
     starved_through c.args.words.now c.in_default.ensures.memory b c.args.bank r refl word admit asks
+
+pub returns-in_default-clause-once : goal.returns-in_default-clause-once
+returns-in_default-clause-once g c = unread (g.S.Source.how_far c.args.source.now)
+
+pub returns-in-None-clause-once : goal.returns-in-None-clause-once
+returns-in-None-clause-once g c = unread (g.S.Source.how_far c.args.source.now)
 
 -- ---- what was found
 

@@ -1,38 +1,47 @@
 use Rattle.std.proofs.Common.{refl}
 use Rattle.cds_layout.proofs.SingleBlocks.{store-single}
-use Rattle.tbl_session.specs.Session.{opening_of, ran, state_from}
-use Rattle.tbl_top.specs.InTurn.{InTurn}
-use Rattle.tbl_top.proofs.CompletenessLemmas.{complete}
-use Rattle.tbl_top.proofs.RecoveredLaws.{recovers_both}
+use Rattle.tbl_session.specs.Recovery.{IsHistory}
+use Rattle.tbl_session.specs.Session.{opening_of, ran}
+use Rattle.tbl_top.specs.Histories.{history_of}
+use Rattle.tbl_top.proofs.HistoryLemmas.{served_of, answered_of, up}
+use Rattle.tbl_top.proofs.RecoveredLaws.{recovers_both, recovers_last}
 use Rattle.tbl_top.proofs.twice.run_again.Goals as goal
 
 pub returns : goal.returns
 returns g c =
     let b = g.B.Bank in
     let n = g.N.Bank in
-    let first = c.play_in_order-status.ensures.session in
-    let second = c.play_in_order.ensures.session in
-    let opening = state_from (b.now c.args.bank) c.args.kit.items c.args.admit in
+    let met = g.met.B.Bank g.world.𝓛 g.world.𝓜 g.world.𝓡 ((λ s x. x), (λ x. x), (λ x. x), λ x. x) in
     let image = n.now c.reset-next.result in
-    let r = ran g.S.Source g.K.Sink (c.args.source.now, c.args.sink.now) (c.play_in_order-status.new.source, c.play_in_order-status.new.sink) c.play_in_order-status.result in
-    let next = ran g.S.Source g.K.Sink (c.args.next_source.now, c.args.next_sink.now) (c.play_in_order.new.source, c.play_in_order.new.sink) c.play_in_order.result in
+    let r = ran g.S.Source g.K.Sink (c.args.source.now, c.args.sink.now) (c.run-status.new.source, c.run-status.new.sink) c.run-status.result in
+    let next = ran g.S.Source g.K.Sink (c.args.next_source.now, c.args.next_sink.now) (c.run.new.source, c.run.new.sink) c.run.result in
     record {
       recovers = (
-        c.play_in_order-status.result.1,
+        c.run-status.result.1,
         c.reset-next.result,
-        first,
-        second,
-        λ told told_next.
-            recovers_both opening first.entries image c.args.next_kit.items c.args.next_admit second.entries
-            (record { tables = refl; single = store-single (b.now c.args.bank); answered = (first.served.legal (g.met.B.Bank.tells_both told)).answered })
-            ((first.served.moments told).each image (rw (← c.of-began.ensures) (c.reset-next.ensures.left told told_next)))
-            (second.served.legal told_next).answered,
-        complete (InTurn r) b g.C.Validator.verdict (opening_of b c.args.bank c.args.kit.items c.args.admit) r first,
-        complete (InTurn next) n g.D.Validator.verdict (opening_of n c.reset-next.result c.args.next_kit.items c.args.next_admit) next second,
+        c.reset-next.ensures.left_now,
+        λ word next_word admit next_admit asks next_asks.
+            let o = opening_of b c.args.bank c.args.kit.items admit in
+            let next_o = opening_of n c.reset-next.result c.args.next_kit.items next_admit in
+            let first = c.run-status.ensures.outcome word admit asks in
+            let second = c.run.ensures.outcome next_word next_admit next_asks in
+            let entries = history_of word b g.C.Validator.verdict o r first in
+            let next_entries = history_of next_word n g.D.Validator.verdict next_o next second in
+            let history : b.tells_moments → IsHistory o.state entries = λ told. record { tables = refl; single = store-single (b.now c.args.bank); answered = answered_of b g.C.Validator.verdict o r word first (met.tells_both told) } in
+            let answered = answered_of n g.D.Validator.verdict next_o next next_word second in (
+              record { outcome = first; completes = c.run-status.ensures.complete word admit asks; entries = entries; served = refl },
+              record { outcome = second; completes = c.run.ensures.complete next_word next_admit next_asks; entries = next_entries; served = refl },
+              λ plays told told_next.
+                  let moments = (served_of b g.C.Validator.verdict o r word plays first).moments told in
+                  recovers_both o.state entries image c.args.next_kit.items next_admit next_entries (history told)
+                  (moments.each image (rw (← c.of-began.ensures) (c.reset-next.ensures.left told told_next (rw c.of-began.ensures moments.later))))
+                  (answered told_next),
+              λ plays told told_next may ends.
+                  recovers_last o.state entries image c.args.next_kit.items next_admit next_entries (history told)
+                  ((served_of b g.C.Validator.verdict o r word plays first).exit told image may)
+                  (up b g.C.Validator.verdict o r word plays first ends)
+                  (answered told_next),
+            ),
       );
-      room = c.play_in_order.ensures.room;
+      room = c.run.ensures.room;
     }
-
--- the first session's moments don't fall
-pub reset-next-requires-clause-later : goal.reset-next-requires-clause-later
-reset-next-requires-clause-later g c told = rw c.of-began.ensures (c.play_in_order-status.ensures.session.served.moments told).later

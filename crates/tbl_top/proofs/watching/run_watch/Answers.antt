@@ -1,4 +1,5 @@
 use Rattle.std.proofs.Common.{refl, sym, ◌∙◌}
+use Rattle.tbl_outside.proofs.Streams.{unread}
 use Rattle.tbl_session.specs.Session.{opening_of, ran}
 use Rattle.tbl_history.proofs.Laws.{Laws}
 use Rattle.tbl_history.proofs.Openings.{first_opening}
@@ -28,3 +29,6 @@ returns-in-Err-clause-failures g c = record { reads = λ _ _. refl; writes = λ 
 
 pub returns-in-Ok-clause-failures : goal.returns-in-Ok-clause-failures
 returns-in-Ok-clause-failures g c = rw (c.end.ensures.bank) c.play_watched-status.ensures.failures
+
+pub returns-in-Err-clause-once : goal.returns-in-Err-clause-once
+returns-in-Err-clause-once g c = unread (g.S.Source.how_far c.args.source.now)

@@ -1,4 +1,4 @@
-use Rattle.std.proofs.Common.{◌++◌, ◌∙◌, arith, rules}
+use Rattle.std.proofs.Common.{◌++◌, ◌∙◌, arith, refl, rules}
 use Rattle.std.proofs.lemmas.List.{length-append}
 use Rattle.tbl_outside.proofs.Streams.{read_more}
 use Rattle.tbl_top.proofs.CollectingLemmas.{taken_bound}
@@ -25,6 +25,7 @@ reads-preserved g c = record {
         more.2,
         more.3,
       );
+  once = λ going. c.in_default.ensures.goes_on refl (c.reads.invariant.once going);
   still = c.in_default.ensures.source_cause ∙ c.reads.invariant.still;
 }
 
@@ -32,3 +33,6 @@ pub unreachable-requires : goal.unreachable-requires
 unreachable-requires g c =
     let old = c.reads.invariant.takes in
     omega (arith, old.2, taken_bound old.0 old.3 old.4 c.reads.self old.5)
+
+pub returns-in-Some-clause-once : goal.returns-in-Some-clause-once
+returns-in-Some-clause-once g c going = c.in-Some.ensures.once (c.reads.invariant.once going)
