@@ -23,7 +23,9 @@ use Rattle.tbl_outside.specs.declared.bank.Bank.{Ghosts}
 use Rattle.tbl_crew.specs.CrewView.{CrewView}
 use Rattle.table_watch.specs.Watching.{handle_by, handle_got}
 use Rattle.tbl_crew.specs.Reads.{last_got, PinsLast, IsLent, Lends}
-use Rattle.tbl_crew.specs.Turns.{Takes, Turns}
+use Rattle.tbl_kinds.specs.Buffers.{Buffer}
+use Rattle.tbl_core.specs.Lent.{LastGives}
+use Rattle.tbl_crew.specs.Turns.{Takes, Turns, ReadsLent}
 use Rattle.tbl_crew.specs.declared.held.Turn.{Turn}
 use Rattle.tbl_crew.specs.declared.held.Turn.TheVariants.{Played, Pinned, PinMemory, Ended, Done}
 
@@ -88,3 +90,11 @@ pub pins_broken : {B C : Type 0} (g : Ghosts B) (old new : CoreView B C) (actor 
 pins_broken g old new actor request Memory adds onward same pin is = subst (λ (core : CoreView _ _). IsOfPin pin core) (sym (same refl)) is
 pins_broken g old new actor request BootFault adds onward same pin is = pin_stays old new adds.entry adds.added onward pin is
 pins_broken g old new actor request BootStopped adds onward same pin is = pin_stays old new adds.entry adds.added onward pin is
+
+-- a Read that was played with bytes that were taken before
+pub reads_lent : {B C : Type 0} (old new : CoreView B C) (slice : Buffer) (turn : Turn) → LastGives old.state old.entries new.entries slice → ReadsLent old new slice turn
+reads_lent old new slice Played gives = gives
+reads_lent old new slice (Pinned pin) gives = gives
+reads_lent old new slice PinMemory gives = gives
+reads_lent old new slice Ended gives = tt
+reads_lent old new slice Done gives = tt

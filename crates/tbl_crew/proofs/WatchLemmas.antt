@@ -5,7 +5,7 @@ use Rattle.std.proofs.Math.Decide.{dec_lt}
 use Rattle.std.proofs.Math.Logic.{dite}
 use Rattle.std.specs.Option.{unwrap_or}
 use Rattle.std.proofs.lemmas.Bool.Decides.{nat_tests}
-use Rattle.std.proofs.lemmas.List.{append-nil, get_or_past}
+use Rattle.std.proofs.lemmas.List.{append-nil, get_or_past, map-append}
 use Rattle.std.proofs.lemmas.List.Elements.{All-nil, All-push}
 use Rattle.std.proofs.lemmas.List.Sums.{fold_push}
 use lib.ListN.{get_elem?}
@@ -22,8 +22,8 @@ use Rattle.tbl_outside.specs.declared.bank.Bank.{Ghosts}
 use Rattle.tbl_registry.specs.Lending.{pinned_image, name_by}
 use Rattle.tbl_session.specs.Actors.{actor_count, actor_of}
 use Rattle.tbl_session.specs.Openings.{Opening}
-use Rattle.table_watch.specs.Looks.{looked}
-use Rattle.table_watch.specs.Watching.{watcher, handle_got, handle_watched, look_by, Watched, watch_entry, watch_on, unwatched, watched_by}
+use Rattle.table_watch.specs.Looks.{looked, next_look}
+use Rattle.table_watch.specs.Watching.{watcher, handle_got, handle_watched, look_by, Watched, watch_entry, watch_on, unwatched, watched_by, place_by, places_from, places_of, AreLooksOf}
 use Rattle.table_watch.specs.declared.watch.Look.{Look}
 use Rattle.tbl_crew.specs.CrewView.{CrewView, MayGoOn, TellsFault}
 use Rattle.tbl_crew.specs.Leading.{IsPlayed, LeadsFrom, LeadsOn}
@@ -73,6 +73,16 @@ watched_push opening entries e =
     let run : onward w.run e ≡ run_from (begins_at opening) (entries ++ e ∷ []) = ap (λ (r : Run). onward r e) (run_on (unwatched opening) entries) ∙ sym (fold_push onward (begins_at opening) entries e) in
     ap (λ (x : Watched). x.looks) (fold_push watch_entry (unwatched opening) entries e) ∙ (λ i. look_by (run i).state.tables (place i) w.looks (handle_watched e))
 
+-- its place comes last
+places_push : (place : ℕ) (entries : List Entry) (e : Entry) → places_from place (entries ++ e ∷ []) ≡ places_from place entries ++ place_by (place + length entries) (handle_watched e)
+places_push place [] e =
+    let here : place ≡ place + 0 = omega arith in
+    append-nil (place_by place (handle_watched e)) ∙ ap (λ (n : ℕ). place_by n (handle_watched e)) here
+places_push place (x ∷ entries) e =
+    let here : (place + 1) + length entries ≡ place + suc (length entries) = omega arith in
+    ap (λ (l : List ℕ). place_by place (handle_watched x) ++ l) (places_push (place + 1) entries e ∙ ap (λ (n : ℕ). places_from (place + 1) entries ++ place_by n (handle_watched e)) here)
+    ∙ sym (append_assoc (place_by place (handle_watched x)) (places_from (place + 1) entries) (place_by (place + suc (length entries)) (handle_watched e)))
+
 -- an entry of another actor
 other_actor : (n : ℕ) → n ≢ watcher → is_by watcher (actor_of n) ≡ false
 other_actor zero apart = refl
@@ -93,20 +103,29 @@ none_got e none = by (is_by watcher e.actor) where
   by false = refl
 
 -- it leaves the looks
-same_looks : (opening : State) (old new : List Entry) (e : Entry) → new ≡ old ++ e ∷ [] → handle_watched e ≡ None → watched_by opening old ≡ watched_by opening new
-same_looks opening old new e added none =
-    sym (ap (watched_by opening) added ∙ watched_push opening old e ∙ ap (look_by (tables_after opening (old ++ e ∷ [])) (length old) (watched_by opening old)) none)
+same_looks : (tells : Type 0) (opening : State) (looks : List Look) (old new : List Entry) (e : Entry) → new ≡ old ++ e ∷ [] → handle_watched e ≡ None → AreLooksOf tells opening old looks → AreLooksOf tells opening new looks
+same_looks tells opening looks old new e added none had = record {
+  places = had.places ∙ sym (ap (places_from 0) added ∙ places_push 0 old e ∙ ap (λ (handle : Option ℕ). places_from 0 old ++ place_by (0 + length old) handle) none ∙ append-nil (places_from 0 old));
+  seen = λ told. had.seen told ∙ sym (ap (watched_by opening) added ∙ watched_push opening old e ∙ ap (look_by (tables_after opening (old ++ e ∷ [])) (length old) (watched_by opening old)) none);
+}
+
+-- nothing was looked at in no history
+no_looks : (tells : Type 0) (opening : State) (looks : List Look) (entries : List Entry) → looks ≡ [] → entries ≡ [] → AreLooksOf tells opening entries looks
+no_looks tells opening looks entries nothing empty = record {
+  places = ap places_of nothing ∙ sym (ap (places_from 0) empty);
+  seen = λ told. nothing ∙ sym (ap (watched_by opening) empty);
+}
 
 -- ---- the looks of a turn without one
 
 module _ {B C : Type 0} (g : Ghosts B) (o : Opening B C) (looks : List Look) where
-  all_looks : (fault : Option StepFault) (entries : List Entry) → (g.tells → looks ≡ watched_by o.state entries) → AreLooks g o fault looks entries
+  all_looks : (fault : Option StepFault) (entries : List Entry) → AreLooksOf g.tells o.state entries looks → AreLooks g o fault looks entries
   all_looks None entries are = are
   all_looks (Some cause) entries are = (entries, [], sym (append-nil entries), omega arith, are)
 
   looks_on : (was now : Option StepFault) (actor : ℕ) (old new : List Entry) → (now ≡ None → was ≡ None) → ((cause : StepFault) → was ≡ Some cause → new ≡ old) → Grows old actor new
-      → (now ≡ None → watched_by o.state old ≡ watched_by o.state new) → AreLooks g o was looks old → AreLooks g o now looks new
-  looks_on None None actor old new went stops grows same had = λ tells. had tells ∙ same refl
+      → (now ≡ None → AreLooksOf g.tells o.state old looks → AreLooksOf g.tells o.state new looks) → AreLooks g o was looks old → AreLooks g o now looks new
+  looks_on None None actor old new went stops grows same had = same refl had
   looks_on None (Some cause) actor old new went stops (inl is) same had = (old, [], is ∙ sym (append-nil old), omega arith, had)
   looks_on None (Some cause) actor old new went stops (inr more) same had = (old, more.0 ∷ [], more.1, omega arith, had)
   looks_on (Some before) None actor old new went stops grows same had = absurd (let none = went refl in cc none)
@@ -133,7 +152,7 @@ module _ {B C : Type 0} (g : Ghosts B) (verdict : C → List ℕ → ℤ) (first
   abbrev Misses : CrewView B C → Type 0
   Misses h = HasMissed g verdict first looks h
 
-  without : (y z : CrewView B C) (actor : ℕ) → Moves g verdict y actor z → (o : Opening B C) → (z.fault ≡ None → watched_by o.state y.core.entries ≡ watched_by o.state z.core.entries)
+  without : (y z : CrewView B C) (actor : ℕ) → Moves g verdict y actor z → (o : Opening B C) → (z.fault ≡ None → AreLooksOf g.tells o.state y.core.entries looks → AreLooksOf g.tells o.state z.core.entries looks)
       → AreLooks g o y.fault looks y.core.entries → AreLooks g o z.fault looks z.core.entries
   without y z actor m o same had = looks_on g o looks y.fault z.fault actor y.core.entries z.core.entries m.went (λ cause is. ap (λ (h : CrewView B C). h.core.entries) (m.stops cause is)) m.grows same had
 
@@ -144,9 +163,9 @@ module _ {B C : Type 0} (g : Ghosts B) (verdict : C → List ℕ → ℤ) (first
       let was = had o scripts from in
       (m.leads o scripts was.0, without y z actor m o (λ _. same m.grows) was.1)
     where
-      same : Grows y.core.entries actor z.core.entries → watched_by o.state y.core.entries ≡ watched_by o.state z.core.entries
-      same (inl is) = ap (watched_by o.state) (sym is)
-      same (inr more) = same_looks o.state y.core.entries z.core.entries more.0 more.1 (by_other actor more.0 apart more.2)
+      same : Grows y.core.entries actor z.core.entries → AreLooksOf g.tells o.state y.core.entries looks → AreLooksOf g.tells o.state z.core.entries looks
+      same (inl is) was = subst (λ (entries : List Entry). AreLooksOf g.tells o.state entries looks) (sym is) was
+      same (inr more) was = same_looks g.tells o.state looks y.core.entries z.core.entries more.0 more.1 (by_other actor more.0 apart more.2) was
 
   missed_other : (y z : CrewView B C) (actor : ℕ) → actor ≢ watcher → Misses y → Moves g verdict y actor z → Misses z
   missed_other y z actor apart had m o scripts from = lacks_on g o looks actor y.core.entries z.core.entries apart m.grows (had o scripts from)
@@ -160,30 +179,37 @@ module _ {B C : Type 0} (g : Ghosts B) (verdict : C → List ℕ → ℤ) (first
   -- ---- a turn of the watcher
 
   pinned_looks : (y z : CrewView B C) (pin : Pin) → PlaysNext g y z watcher (Pinned pin) → (o : Opening B C) (scripts : List (List Request)) → LeadsFrom g verdict o scripts z
-      → (g.tells → looks ≡ watched_by o.state y.core.entries) → g.tells → looked looks pin.place pin.name (check16 pin.bytes) ≡ watched_by o.state z.core.entries
-  pinned_looks y z pin turned o scripts leads were tells =
+      → AreLooksOf g.tells o.state y.core.entries looks → AreLooksOf g.tells o.state z.core.entries (looked looks pin.place pin.name (check16 pin.bytes))
+  pinned_looks y z pin turned o scripts leads were =
       let e = turned.adds.entry in
       let added = turned.adds.added in
       let lent = turned.lends in
       let got : handle_watched e ≡ Some pin.handle = by_watcher e turned.adds.actor_is ∙ sym (last_of y.core.entries z.core.entries e added) ∙ lent.handle in
       let long : length z.core.entries ≡ length y.core.entries + 1 = ap length added ∙ omega (arith, length-append y.core.entries (e ∷ [])) in
       let place : pin.place ≡ length y.core.entries = omega (arith, long, lent.place) in
+      let here : pin.place ≡ 0 + length y.core.entries = omega (arith, long, lent.place) in
       let after : List Entry = y.core.entries ++ e ∷ [] in
-      let tables : tables_after o.state after ≡ z.core.state.tables = ap (tables_after o.state) (sym added) ∙ (leads.serves.vouches.stands.shows tells).state.parts.tables in
-      let name : pin.name ≡ name_by pin.handle (tables_after o.state after) = sym (ap (name_by pin.handle) tables ∙ lent.name) in
-      let bytes : pin.bytes ≡ unwrap_or (pinned_image pin.handle (tables_after o.state after)) [] = sym (ap (λ (t : Tables). unwrap_or (pinned_image pin.handle t) []) tables ∙ ap (λ (image : Option (List ℕ)). unwrap_or image []) lent.image) in
-      (λ i. looked (were tells i) (place i) (name i) (check16 (bytes i)))
-      ∙ sym (ap (watched_by o.state) added ∙ watched_push o.state y.core.entries e ∙ ap (look_by (tables_after o.state after) (length y.core.entries) (watched_by o.state y.core.entries)) got)
+      let tables : g.tells → tables_after o.state after ≡ z.core.state.tables = λ tells. ap (tables_after o.state) (sym added) ∙ (leads.serves.vouches.stands.shows tells).state.parts.tables in
+      let name : g.tells → pin.name ≡ name_by pin.handle (tables_after o.state after) = λ tells. sym (ap (name_by pin.handle) (tables tells) ∙ lent.name) in
+      let bytes : g.tells → pin.bytes ≡ unwrap_or (pinned_image pin.handle (tables_after o.state after)) [] = λ tells.
+      sym (ap (λ (t : Tables). unwrap_or (pinned_image pin.handle t) []) (tables tells) ∙ ap (λ (image : Option (List ℕ)). unwrap_or image []) lent.image) in
+      record {
+        places = map-append (λ (look : Look). look.place) looks (next_look looks pin.place pin.name (check16 pin.bytes) ∷ [])
+            ∙ (λ i. were.places i ++ here i ∷ [])
+            ∙ sym (ap (places_from 0) added ∙ places_push 0 y.core.entries e ∙ ap (λ (handle : Option ℕ). places_from 0 y.core.entries ++ place_by (0 + length y.core.entries) handle) got);
+        seen = λ tells. (λ i. looked (were.seen tells i) (place i) (name tells i) (check16 (bytes tells i)))
+            ∙ sym (ap (watched_by o.state) added ∙ watched_push o.state y.core.entries e ∙ ap (look_by (tables_after o.state after) (length y.core.entries) (watched_by o.state y.core.entries)) got);
+      }
 
   -- before a turn by which a request was played, no step had answered a fault
-  looks_before : (y z : CrewView B C) (turn : Turn) → PlaysNext g y z watcher turn → (o : Opening B C) → AreLooks g o y.fault looks y.core.entries → g.tells → looks ≡ watched_by o.state y.core.entries
+  looks_before : (y z : CrewView B C) (turn : Turn) → PlaysNext g y z watcher turn → (o : Opening B C) → AreLooks g o y.fault looks y.core.entries → AreLooksOf g.tells o.state y.core.entries looks
   looks_before y z turn turned o had = subst (λ (f : Option StepFault). AreLooks g o f looks y.core.entries) turned.went had
 
   watched_own : (y z : CrewView B C) (turn : Turn) → turn ≢ PinMemory → Has y → Turns g y z watcher turn → Moves g verdict y watcher z → HasWatched g verdict first (looks_after looks turn) z
   watched_own y z Played ne had turned m o scripts from =
       let was = had o scripts from in
       let none = sym (last_of y.core.entries z.core.entries turned.adds.entry turned.adds.added) ∙ turned.lends in
-      let same = same_looks o.state y.core.entries z.core.entries turned.adds.entry turned.adds.added (none_got turned.adds.entry none) in
+      let same = same_looks g.tells o.state looks y.core.entries z.core.entries turned.adds.entry turned.adds.added (none_got turned.adds.entry none) in
       (m.leads o scripts was.0, without y z watcher m o (λ _. same) was.1)
   watched_own y z (Pinned pin) ne had turned m o scripts from =
       let was = had o scripts from in
@@ -196,10 +222,10 @@ module _ {B C : Type 0} (g : Ghosts B) (verdict : C → List ℕ → ℤ) (first
       (m.leads o scripts was.0, without y z watcher m o (λ goes. absurd (let is = now.keeps in cc (is, goes))) was.1)
   watched_own y z Ended ne had (inr before) m o scripts from =
       let was = had o scripts from in
-      (m.leads o scripts was.0, without y z watcher m o (λ goes. ap (λ (h : CrewView B C). watched_by o.state h.core.entries) (sym before.same)) was.1)
+      (m.leads o scripts was.0, without y z watcher m o (λ goes. subst (λ (h : CrewView B C). AreLooksOf g.tells o.state h.core.entries looks) (sym before.same)) was.1)
   watched_own y z Done ne had turned m o scripts from =
       let was = had o scripts from in
-      (m.leads o scripts was.0, without y z watcher m o (λ goes. ap (λ (h : CrewView B C). watched_by o.state h.core.entries) (sym turned.same)) was.1)
+      (m.leads o scripts was.0, without y z watcher m o (λ goes. subst (λ (h : CrewView B C). AreLooksOf g.tells o.state h.core.entries looks) (sym turned.same)) was.1)
 
   -- a turn that got an address, without a look
   missed_own : (y z : CrewView B C) (turn : Turn) (handle : ℕ) → last_got z.core.entries ≡ Some handle → PlaysNext g y z watcher turn → Has y → Misses z
@@ -259,8 +285,8 @@ module _ {B C : Type 0} (g : Ghosts B) (verdict : C → List ℕ → ℤ) (first
 
   pub watched_first : looks ≡ [] → first.core.entries ≡ [] → Has first
   watched_first nothing empty o scripts from =
-      let none : looks ≡ watched_by o.state first.core.entries = nothing ∙ sym (ap (watched_by o.state) empty) in
-      (from, all_looks g o looks first.fault first.core.entries (λ tells. none))
+      let none : AreLooksOf g.tells o.state first.core.entries looks = no_looks g.tells o.state looks first.core.entries nothing empty in
+      (from, all_looks g o looks first.fault first.core.entries none)
 
   pub watched_begin : looks ≡ [] → first.core.entries ≡ [] → (seen : List (CrewView B C)) → seen ≡ replicate actor_count first → HaveWatched g verdict first looks (drop watcher seen)
   watched_begin nothing empty seen is = subst (λ (l : List (CrewView B C)). HaveWatched g verdict first looks (drop watcher l)) (sym is) (watched_first nothing empty)
@@ -433,5 +459,5 @@ module _ {B C : Type 0} (g : Ghosts B) (verdict : C → List ℕ → ℤ) where
   -- of one that played nothing
   pub nothing_watched : (M : Type 0) (o : Opening B C) (scripts : List (List Request)) (fault : Option StepFault) (looks : List Look) (core : CoreView B C) → looks ≡ [] → core.entries ≡ [] → OneHistory g verdict o scripts fault core
       → IsWatched g verdict o scripts (end_of {M = M} fault (Ok tt)) looks core
-  nothing_watched M o scripts None looks core none empty one = (one, λ tells. none ∙ sym (ap (watched_by o.state) empty))
-  nothing_watched M o scripts (Some cause) looks core none empty one = (one, inl ([], [], empty, omega arith, λ tells. none))
+  nothing_watched M o scripts None looks core none empty one = (one, no_looks g.tells o.state looks core.entries none empty)
+  nothing_watched M o scripts (Some cause) looks core none empty one = (one, inl ([], [], empty, omega arith, no_looks g.tells o.state looks [] none refl))

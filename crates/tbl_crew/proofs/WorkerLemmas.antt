@@ -1,6 +1,9 @@
 -- What a worker knows of its actor's pins and of its next request, and keeps knowing over turns of others.
 use Rattle.std.proofs.Common.{◌≡◌, ◌≢◌, ◌⊎◌, ℕ, zero, suc, ◌+◌, List, [], ◌∷◌, length, Option, Some, None, refl, sym, ap, ◌∙◌, subst, inl, inr, arith, ℤ}
-use Rattle.std.specs.Prelude.{All}
+use Rattle.std.specs.Prelude.{All, position, option_and_then, slice_get, slice_index_or}
+use Rattle.std.proofs.lemmas.Bool.{eqb-true}
+use Rattle.std.proofs.lemmas.List.Quantifiers.{position-Some}
+use Rattle.std.proofs.lemmas.Option.{slice_get_within, get_or_from_slice_get}
 use Rattle.std.proofs.lemmas.List.{nil_from_length}
 use Rattle.std.proofs.lemmas.List.Elements.{All-push, All-set}
 use mathlib.Core.Option.{some, some-ne-none}
@@ -18,10 +21,12 @@ use Rattle.tbl_registry.specs.declared.pin.Pin.{Pin}
 use Rattle.tbl_core.specs.Pins.{IsSliceOf}
 use Rattle.tbl_core.specs.Service.{IsOfPin}
 use Rattle.tbl_crew.specs.CrewView.{CrewView}
-use Rattle.tbl_crew.specs.Moves.{Moves, HasEnded, HaveEnded, HaveLeft, HaveTurned, IsKnown, AreKnown, IsTurned, AreTurned}
-use Rattle.tbl_crew.specs.Reads.{plan_by, plan_of, IsNextSlice, Keeps}
+use Rattle.tbl_crew.specs.Moves.{Moves, HasEnded, HaveEnded, HaveLeft, HaveTurned, LentRead, HaveReadLent, IsKnown, AreKnown, IsTurned, AreTurned}
+use Rattle.tbl_crew.specs.Reads.{plan_by, plan_of, is_of, lent_by, IsNextSlice, Keeps}
 use Rattle.tbl_crew.specs.Scripts.{script_of}
-use Rattle.tbl_crew.specs.Turns.{Turns}
+use Rattle.tbl_crew.specs.Turns.{Turns, ReadsLent}
+use Rattle.tbl_kinds.specs.Buffers.{Buffer}
+use Rattle.tbl_core.specs.Lent.{StillPins}
 use Rattle.tbl_crew.proofs.MoveLemmas.{own_stays, one_ended}
 use Rattle.tbl_crew.proofs.RestLemmas.{is_turned}
 use Rattle.tbl_crew.specs.declared.held.ReadPlan.{ReadPlan}
@@ -49,6 +54,29 @@ next_slice pin read (request ∷ script) slice plan handle is = by request plan 
     len_in None = 0
     len_in (Some p) = p.len
   by request same = absurd (cc same)
+
+-- ---- the image that was lent by a handle
+
+module _ (pins : List Pin) (handle : ℕ) (pin : Pin) where
+  found_at : lent_by pins handle ≡ Some pin → (n : ℕ) × (position (is_of handle) pins ≡ Some n) × (slice_get pins n ≡ Some pin)
+  found_at = by (position (is_of handle) pins) refl where
+    by : (found : Option ℕ) → position (is_of handle) pins ≡ found → option_and_then (slice_get pins) found ≡ Some pin → (n : ℕ) × (position (is_of handle) pins ≡ Some n) × (slice_get pins n ≡ Some pin)
+    by None at is = absurd (cc is)
+    by (Some n) at is = (n, at, is)
+
+  pub lent_handle : lent_by pins handle ≡ Some pin → handle ≡ pin.handle
+  lent_handle lent =
+      let found = found_at lent in
+      let is : slice_index_or pins found.0 pin ≡ pin = get_or_from_slice_get pins found.0 pin pin found.2 in
+      sym (eqb-true pin.handle handle (ap (is_of handle) (sym is) ∙ (position-Some (is_of handle) pins found.0 pin found.1).1))
+
+-- it has what each of them has
+pub lent_has : (P : Pin → Type 0) (pins : List Pin) (handle : ℕ) (pin : Pin) → All P pins → lent_by pins handle ≡ Some pin → P pin
+lent_has P pins handle pin each lent =
+    let found = found_at pins handle pin lent in
+    subst P (get_or_from_slice_get pins found.0 pin pin found.2) (each found.0 pin (slice_get_within pins found.0 pin found.2))
+
+-- ---- from turn to turn
 
 module _ {B C : Type 0} (g : Ghosts B) (verdict : C → List ℕ → ℤ) where
   abbrev Moved : CrewView B C → ℕ → CrewView B C → Type 0
@@ -82,6 +110,10 @@ module _ {B C : Type 0} (g : Ghosts B) (verdict : C → List ℕ → ℤ) where
     had_by [] k l z turn turned moves = absurd k
     had_by (x ∷ xs) k l z turn turned moves = record { taken = y; beside = beside_by (x ∷ xs) l x refl; turns = turned; moves = moves }
 
+    read_by : (seen : List (CrewView B C)) → AreKnown pins plan actor seen → Knows Moved actor seen y → (z : CrewView B C) (read : LentRead) → (StillPins read.pin y.core.gets → ReadsLent y.core z.core read.slice read.turn) → HaveReadLent g verdict actor read seen (z ∷ [])
+    read_by [] k l z read lent = absurd k
+    read_by (x ∷ xs) k l z read lent = record { taken = y; beside = beside_by (x ∷ xs) l x refl; lent = lent }
+
     module _ (z : CrewView B C) (back : Me (Option (CrewView B C)) (View (CrewView B C))) (moves : Moved y actor z) (idle : Idle back taken.0.from (z ∷ [])) where
       from_is : taken.0.from ≡ actor
       from_is = ap (λ (m : Me (Option (CrewView B C)) (View (CrewView B C))). m.0.from) holds ∙ at
@@ -94,6 +126,9 @@ module _ {B C : Type 0} (g : Ghosts B) (verdict : C → List ℕ → ℤ) where
 
       pub turned_back : (turn : Turn) → Turns g y z actor turn → HaveTurned g verdict actor turn me.0.seen back.0.seen
       turned_back turn turned = rw back_seen (had_by me.0.seen known (subst (λ (n : ℕ). Knows Moved n me.0.seen y) at knows) z turn turned moves)
+
+      pub lent_back : (read : LentRead) → (StillPins read.pin y.core.gets → ReadsLent y.core z.core read.slice read.turn) → HaveReadLent g verdict actor read me.0.seen back.0.seen
+      lent_back read lent = rw back_seen (read_by me.0.seen known (subst (λ (n : ℕ). Knows Moved n me.0.seen y) at knows) z read lent)
 
   -- how many requests are left after a turn
   pub turned_of : (actor count : ℕ) (turn : Turn) (olds news : List (CrewView B C)) → HaveTurned g verdict actor turn olds news → HaveLeft (λ _. count) actor olds → AreTurned count actor turn news

@@ -8,7 +8,9 @@ use Rattle.tbl_core.specs.declared.service.StepFault.{StepFault}
 use Rattle.tbl_crew.specs.CrewView.{CrewView}
 use Rattle.tbl_crew.specs.Leading.{LeadsOn}
 use Rattle.tbl_crew.specs.Scripts.{script_of}
-use Rattle.tbl_crew.specs.Turns.{Turns}
+use Rattle.tbl_crew.specs.Turns.{Turns, ReadsLent}
+use Rattle.tbl_kinds.specs.Buffers.{Buffer}
+use Rattle.tbl_core.specs.Lent.{StillPins}
 use Rattle.tbl_kinds.specs.declared.entry.Entry.{Entry}
 use Rattle.tbl_session.specs.Actors.{actor_of}
 use Rattle.turn_lock.specs.Turns.{Beside}
@@ -45,6 +47,23 @@ abbrev pub HaveTurned : {B C : Type 0} → Ghosts B → (C → List ℕ → ℤ)
 HaveTurned g verdict actor turn [] news = ⊥
 HaveTurned g verdict actor turn (old ∷ olds) [] = ⊥
 HaveTurned g verdict actor turn (old ∷ olds) (new ∷ news) = HasTurned g verdict actor turn old new
+
+-- a turn with a Read: the image that was lent, what was taken of it before the turn, and what came of it
+pub record LentRead : Type 0 where
+  pub pin : Pin
+  pub slice : Buffer
+  pub turn : Turn
+
+-- if the image's handle still pinned by the call that it was lent for as this turn came, the Read was answered with what was taken before
+pub record HasReadLent {B C : Type 0} (g : Ghosts B) (verdict : C → List ℕ → ℤ) (actor : ℕ) (read : LentRead) (old new : CrewView B C) : Type 0 where
+  pub taken : CrewView B C
+  pub beside : Beside (Moves g verdict) actor old taken
+  pub lent : StillPins read.pin taken.core.gets → ReadsLent taken.core new.core read.slice read.turn
+
+abbrev pub HaveReadLent : {B C : Type 0} → Ghosts B → (C → List ℕ → ℤ) → ℕ → LentRead → List (CrewView B C) → List (CrewView B C) → Type 0
+HaveReadLent g verdict actor read [] news = ⊥
+HaveReadLent g verdict actor read (old ∷ olds) [] = ⊥
+HaveReadLent g verdict actor read (old ∷ olds) (new ∷ news) = HasReadLent g verdict actor read old new
 
 -- the actor's script was played to its end, or a step answered a fault
 abbrev pub HasEnded : {B C : Type 0} → CrewView B C → ℕ → Type 0

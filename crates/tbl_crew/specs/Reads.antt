@@ -1,5 +1,5 @@
 -- Images that are lent to an actor, and what it reads of them.
-use Rattle.std.specs.Prelude.{◌≡◌, ◌⊎◌, ℕ, ◌+◌, ◌-◌, ◌<◌, List, [], ◌∷◌, ◌++◌, length, true, Option, Some, None, option_and_then, slice_get, slice_set}
+use Rattle.std.specs.Prelude.{◌≡◌, ◌⊎◌, ℕ, ◌+◌, ◌-◌, ◌<◌, ◌==◌, List, [], ◌∷◌, ◌++◌, length, position, Bool, true, Option, Some, None, option_and_then, slice_get, slice_set}
 use Rattle.table_watch.specs.Watching.{handle_got}
 use Rattle.tbl_registry.specs.Lending.{pins_image, pinned_image, name_by}
 use Rattle.tbl_registry.specs.declared.pin.Pin.{Pin}
@@ -8,6 +8,7 @@ use Rattle.tbl_core.specs.Service.{CoreView, IsOfPin}
 use Rattle.tbl_crew.specs.declared.held.ReadPlan.{ReadPlan}
 use Rattle.tbl_crew.specs.declared.held.Turn.{Turn}
 use Rattle.tbl_crew.specs.declared.held.Turn.TheVariants.{Played, Pinned, PinMemory, Ended, Done}
+use Rattle.tbl_kinds.specs.Numbers.{piece}
 use Rattle.tbl_kinds.specs.declared.entry.Entry.{Entry}
 use Rattle.tbl_kinds.specs.declared.request.Request.{Request}
 use Rattle.tbl_kinds.specs.declared.request.Request.TheVariants as ask
@@ -27,6 +28,25 @@ plan_of (request ∷ requests) = plan_by request
 abbrev pub IsNextSlice : Pin → List Request → List ℕ → Type 0
 IsNextSlice pin [] slice = ⊥
 IsNextSlice pin (request ∷ requests) slice = IsSliceOf pin request slice
+
+-- ---- what is taken of an image before a Read
+
+abbrev pub is_of : ℕ → Pin → Bool
+is_of handle pin = pin.handle == handle
+
+-- the first of these images that was lent by a handle
+abbrev pub lent_by : List Pin → ℕ → Option Pin
+lent_by pins handle = option_and_then (slice_get pins) (position (is_of handle) pins)
+
+-- the planned Read has no image here, or doesn't lie inside it
+abbrev pub IsBeyond : ReadPlan → Option Pin → Type 0
+IsBeyond read None = Unit {0}
+IsBeyond read (Some pin) = length pin.bytes < read.offset + read.len
+
+-- these are the bytes of a planned Read, of the image that was lent by its handle
+pub record IsTakenOf (pins : List Pin) (read : ReadPlan) (pin : Pin) (slice : List ℕ) : Type 0 where
+  pub lent : lent_by pins read.handle ≡ Some pin
+  pub slice_is : slice ≡ piece read.offset read.len pin.bytes
 
 -- ---- the last entry
 

@@ -1,6 +1,7 @@
 -- One turn of an actor.
 use Rattle.std.specs.Prelude.{◌≡◌, ◌⊎◌, ℕ, [], ◌∷◌, Some, None, Ok, Err}
 use Rattle.tbl_outside.specs.declared.bank.Bank.{Ghosts}
+use Rattle.tbl_core.specs.Lent.{LastGives}
 use Rattle.tbl_core.specs.Service.{CoreView, AddsOne}
 use Rattle.tbl_core.specs.declared.service.StepFault.{StepFault}
 use Rattle.tbl_core.specs.declared.service.StepFault.TheVariants.{Memory, BootFault, BootStopped}
@@ -8,6 +9,7 @@ use Rattle.tbl_crew.specs.CrewView.{CrewView}
 use Rattle.tbl_session.specs.Actors.{actor_of}
 use Rattle.tbl_crew.specs.Reads.{Lends}
 use Rattle.tbl_crew.specs.Scripts.{script_of, with_script}
+use Rattle.tbl_kinds.specs.Buffers.{Buffer}
 use Rattle.tbl_kinds.specs.declared.request.Request.{Request}
 use Rattle.tbl_crew.specs.declared.held.Turn.{Turn}
 use Rattle.tbl_crew.specs.declared.held.Turn.TheVariants.{Played, Pinned, PinMemory, Ended, Done}
@@ -46,6 +48,14 @@ pub record PlaysNext {B C : Type 0} (g : Ghosts B) (old new : CrewView B C) (act
   pub goes_on : new.fault ≡ None
   pub adds : AddsOne g old.core new.core (actor_of actor) request (Ok tt)
   pub lends : Lends new.core turn
+
+-- the turn's Read was answered with this very buffer, if it was given bytes; a turn that has ended plays none
+abbrev pub ReadsLent : {B C : Type 0} → CoreView B C → CoreView B C → Buffer → Turn → Type 0
+ReadsLent old new slice Played = LastGives old.state old.entries new.entries slice
+ReadsLent old new slice (Pinned pin) = LastGives old.state old.entries new.entries slice
+ReadsLent old new slice PinMemory = LastGives old.state old.entries new.entries slice
+ReadsLent old new slice Ended = Unit {0}
+ReadsLent old new slice Done = Unit {0}
 
 -- all of its script was played before
 pub record HasDone {B C : Type 0} (old new : CrewView B C) (actor : ℕ) : Type 0 where

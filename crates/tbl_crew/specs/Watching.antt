@@ -13,7 +13,7 @@ use Rattle.tbl_session.specs.Openings.{Opening}
 use Rattle.tbl_session.specs.Served.{IsServed}
 use Rattle.tbl_history.specs.Trouble.{IsCaused}
 use Rattle.table_watch.specs.Looks.{looked}
-use Rattle.table_watch.specs.Watching.{watcher, handle_watched, watched_by}
+use Rattle.table_watch.specs.Watching.{watcher, handle_watched, AreLooksOf}
 use Rattle.table_watch.specs.declared.watch.Look.{Look}
 use Rattle.tbl_core.specs.Service.{CoreView}
 use Rattle.tbl_core.specs.declared.service.StepFault.{StepFault}
@@ -31,8 +31,8 @@ use Rattle.tbl_crew.specs.declared.watching.WatchEnd.TheVariants.{Step, Memory}
 
 -- these are the looks of the history; where a step answered a fault, of the entries before it, which are all but the last, or all
 abbrev pub AreLooks : {B C : Type 0} → Ghosts B → Opening B C → Option StepFault → List Look → List Entry → Type 0
-AreLooks g o None looks entries = g.tells → looks ≡ watched_by o.state entries
-AreLooks g o (Some cause) looks entries = (before : List Entry) × (rest : List Entry) × (entries ≡ before ++ rest) × (length rest ≤ 1) × (g.tells → looks ≡ watched_by o.state before)
+AreLooks g o None looks entries = AreLooksOf g.tells o.state entries looks
+AreLooks g o (Some cause) looks entries = (before : List Entry) × (rest : List Entry) × (entries ≡ before ++ rest) × (length rest ≤ 1) × AreLooksOf g.tells o.state before looks
 
 -- These are the looks of the history before a call by which the watcher got an address. It's the watcher's last one, so no look is
 -- missing but that of this call.
@@ -44,7 +44,7 @@ pub record LacksLook {B C : Type 0} (g : Ghosts B) (o : Opening B C) (looks : Li
   pub parts : entries ≡ before ++ call ∷ after
   pub got : handle_watched call ≡ Some handle
   pub last : All (λ (e : Entry). is_by watcher e.actor ≡ false) after
-  pub seen : g.tells → looks ≡ watched_by o.state before
+  pub seen : AreLooksOf g.tells o.state before looks
 
 -- One history was served. Each actor but the watcher has played its whole script, and the watcher the beginning of its script, to the
 -- call whose look is missing. The history has no more entries than a session may have, and the service goes on.

@@ -11,7 +11,8 @@ ghost use Rattle.tbl_crew.specs.Leading.{LeadsFrom, LeadsOn};
 ghost use Rattle.tbl_crew.specs.Scripts.{script_of, request_count, AllFit};
 ghost use Rattle.tbl_crew.specs.Reads.{plan_of, IsNextSlice, last_got, PinsLast, Lends};
 ghost use Rattle.table_watch.specs.Watching.{handle_got};
-ghost use Rattle.tbl_crew.specs.Turns.{Turns};
+ghost use Rattle.tbl_crew.specs.Turns.{Turns, ReadsLent};
+ghost use Rattle.tbl_core.specs.Lent.{StillPins};
 ghost use Rattle.tbl_core.specs.Service.{IsOfPin};
 ghost use Rattle.tbl_model.specs.Whole.{is_done};
 ghost use Rattle.tbl_registry.specs.declared.pin.Pin.{Pin};
@@ -156,13 +157,15 @@ impl<B: Bank, C: Validator> Crew<B, C> {
     }
 
     /// Plays the actor's next request like `turn`, which is a Read by the handle of a lent image, with the bytes that were taken
-    /// of it before. Where the handle still pins by the call that the image was lent for, they are the answer.
+    /// of it before. If the handle still pins by the call that the image was lent for, the reply is this very buffer.
     pub fn turn_read(&mut self, actor: u8, pin: &Pin, slice: Bytes) -> Turn
         requires actor { actor < actor_count }
         requires pin { IsOfPin pin.now self.old.core }
         requires slice { IsNextSlice pin.now (script_of self.old.left actor) slice.list }
         ensures turns { Turns B.Bank self.old self.new actor result }
         ensures leads { LeadsOn B.Bank C.verdict self.old self.new }
+        // Over any bank: what was handed in is what is answered, or the Read is refused.
+        ensures lent { StillPins pin.now self.old.core.gets → ReadsLent self.old.core self.new.core slice result }
         ensures pins { (other : Pin) → IsOfPin other self.old.core → IsOfPin other self.new.core }
     {
         read_fields(
@@ -275,6 +278,7 @@ fn read_fields<B: Bank, C: Validator>(
     ensures goes_on { MayGoOn (record { core = core.new; fault = fault.new; left = left.new }) }
     ensures turns { Turns B.Bank (record { core = core.old; fault = fault.old; left = left.old }) (record { core = core.new; fault = fault.new; left = left.new }) actor result }
     ensures leads { LeadsOn B.Bank C.verdict (record { core = core.old; fault = fault.old; left = left.old }) (record { core = core.new; fault = fault.new; left = left.new }) }
+    ensures lent { StillPins pin.now core.old.gets → ReadsLent core.old core.new slice result }
     ensures pins { (other : Pin) → IsOfPin other core.old → IsOfPin other core.new }
 {
     if fault.is_some() {

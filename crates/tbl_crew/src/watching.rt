@@ -311,7 +311,7 @@ fn watch_all<B: Bank + Send, C: Validator + Send, G: Gate + Sync, R: Threads + W
     }
 }
 
-/// Plays each actor's script in a thread of its own like `crew`. Application 16 is the watcher: at each of its calls that gets the
+/// Plays the actors' scripts beside each other like `crew`. Application 16 is the watcher: at each of its calls that gets the
 /// address of a table (`CFE_TBL_GetAddress`), its thread looks at the image that was lent, without the lock. Where memory runs out for
 /// a look, the watcher plays no further request, and the other actors play their scripts to the end: this look alone is missing.
 pub fn crew_watched<B: Bank + Send, C: Validator + Send, G: Gate + Sync, R: Threads + Wait + Sync>(

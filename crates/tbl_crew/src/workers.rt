@@ -1,7 +1,9 @@
 //! A thread for each actor.
 
-ghost use Rattle.std.specs.Prelude.{◌≡◌, ◌≢◌, ℕ, ◌+◌, ◌-◌, ◌/◌, ◌<◌, ◌≤◌, List, [], length, replicate, slice_index, Contains, IfSome, Some, None, false};
+ghost use Rattle.std.specs.Prelude.{◌≡◌, ◌≢◌, ℕ, ◌+◌, ◌-◌, ◌/◌, ◌<◌, ◌≤◌, List, [], length, replicate, take, drop, slice_index, position, IfOk, IfSome, IfNone, Some, None, false};
+ghost use Rattle.std.specs.List.{list_all};
 ghost use Rattle.std.specs.Thread.{IsSync, IsSend};
+ghost use Rattle.tbl_kinds.specs.Names.{is_zero};
 ghost use Rattle.tbl_kinds.specs.Records.{record_limit};
 ghost use Rattle.tbl_kinds.specs.declared.request.Request.{Request};
 ghost use Rattle.tbl_session.specs.Actors.{actor_count};
@@ -9,10 +11,9 @@ ghost use Rattle.tbl_session.specs.Openings.{Opening};
 ghost use Rattle.tbl_history.specs.Serving.{Serves};
 ghost use Rattle.tbl_crew.specs.Histories.{OneHistory};
 ghost use Rattle.tbl_crew.specs.Leading.{LeadsFrom, LeadsOn};
-ghost use Rattle.tbl_kinds.specs.Numbers.{piece};
-ghost use Rattle.tbl_crew.specs.Moves.{HasEnded, HaveEnded, HaveLeft, HaveTurned, AreKnown};
+ghost use Rattle.tbl_crew.specs.Moves.{HasEnded, HaveEnded, HaveLeft, HaveTurned, HaveReadLent, AreKnown};
 ghost use Rattle.tbl_crew.specs.CrewView.{CrewView};
-ghost use Rattle.tbl_crew.specs.Reads.{Keeps};
+ghost use Rattle.tbl_crew.specs.Reads.{Keeps, is_of, lent_by, IsBeyond, IsTakenOf};
 ghost use Rattle.tbl_crew.specs.Watching.{HasWatched};
 ghost use Rattle.table_watch.specs.Watching.{watcher};
 ghost use Rattle.table_watch.specs.declared.watch.Look.{Look};
@@ -27,7 +28,7 @@ use std::snapshot::Snapshot;
 use std::sync::Wait;
 use std::thread::{Threads, join};
 use tbl_core::{Core, StepFault};
-use tbl_kinds::Bytes;
+use tbl_kinds::{Bytes, Memory};
 use tbl_outside::{Bank, Gate, Validator};
 use tbl_registry::Pin;
 use turn_lock::{Place, TurnLock};
@@ -57,6 +58,13 @@ fn plain_turn<B: Bank, C: Validator, R: Wait>(
     (turn, next)
 }
 
+/// What was taken of a lent image for a Read, before its turn.
+#[derive(Drop)]
+struct Taken<'a> {
+    pin: &'a Pin,
+    slice: Bytes,
+}
+
 /// A turn by which a Read is played whose bytes were taken of a lent image, and the bytes that the actor reads after that.
 fn read_turn<B: Bank, C: Validator, R: Wait>(
     rt: &R,
@@ -65,22 +73,22 @@ fn read_turn<B: Bank, C: Validator, R: Wait>(
     actor: u8,
     pins: &[Pin],
     plan: ReadPlan,
-    pin: &Pin,
-    slice: Bytes,
+    taken: Taken<'_>,
 ) -> (Turn, Option<ReadPlan>)
     requires actor { actor < actor_count }
     requires own { place.old.table_id ≡ lock.now.table.shared.table_id }
     requires seat { IsSeat place.old.me actor 1 }
     requires known { AreKnown pins.now (Some plan) actor place.old.me.0.seen }
-    requires pin { Contains pins.now pin.now }
-    requires handle { plan.handle ≡ pin.now.handle }
-    requires slice { slice.list ≡ piece plan.offset plan.len pin.now.bytes }
+    requires taken { IsTakenOf pins.now plan taken.pin.now taken.slice.list }
     ensures own { place.new.table_id ≡ place.old.table_id }
     ensures seat { IsSeat place.new.me actor 1 }
     ensures known { AreKnown pins.now result.1 actor place.new.me.0.seen }
     ensures turned { HaveTurned B.Bank C.verdict actor result.0 place.old.me.0.seen place.new.me.0.seen }
+    // As long as the pin stands, the reply is the buffer that was taken before this turn.
+    ensures lent { HaveReadLent B.Bank C.verdict actor (record { pin = taken.entry.pin.now; slice = taken.entry.slice; turn = result.0 }) place.old.me.0.seen place.new.me.0.seen }
 {
     let _ = plan;
+    let Taken { pin, slice } = taken;
     let mut crew = lock.take(rt, place);
     let before = Snapshot::of(&crew);
     let turn = crew.turn_read(actor, pin, slice);
@@ -91,21 +99,35 @@ fn read_turn<B: Bank, C: Validator, R: Wait>(
 
 /// Where the pin of this handle is.
 fn place_of(pins: &[Pin], handle: u16) -> Option<usize>
-    ensures { IfSome result (λ n. n < length pins.now) }
+    ensures first { result ≡ position (is_of handle) pins.now }
+    ensures within { IfSome result (λ n. n < length pins.now) }
 {
     pins.iter().position(|pin| pin.handle() == handle)
 }
 
 /// The pin of this handle.
 fn pin_of(pins: &[Pin], handle: u16) -> Option<&Pin>
-    ensures contained { IfSome result (λ pin. Contains pins.now pin.now) }
-    ensures handle { IfSome result (λ pin. handle ≡ pin.now.handle) }
+    ensures found { IfSome result (λ pin. lent_by pins.now handle ≡ Some pin.now) }
+    ensures none { IfNone result (lent_by pins.now handle ≡ None) }
 {
-    let pin = &pins[place_of(pins, handle)?];
-    if pin.handle() == handle {
-        Some(pin)
-    } else {
-        None
+    match place_of(pins, handle) {
+        Some(n) => Some(&pins[n]),
+        None => None,
+    }
+}
+
+/// The bytes that an actor's next request reads, taken of the image that was lent by its handle: what a worker does before its turn.
+/// None if no image was lent by this handle, or if they don't lie inside it. An Err means that memory ran out.
+fn take_ahead(alloc: Global, pins: &[Pin], read: ReadPlan) -> Result<Option<Taken<'_>>, Memory>
+    ensures taken { IfOk result (λ ahead. IfSome ahead (λ taken. IsTakenOf pins.now read taken.pin.now taken.slice.list)) }
+    ensures none { IfOk result (λ ahead. IfNone ahead (IsBeyond read (lent_by pins.now read.handle))) }
+{
+    let Some(pin) = pin_of(pins, read.handle) else {
+        return Ok(None);
+    };
+    match slice_of(alloc, pin, read.offset, read.len)? {
+        Some(slice) => Ok(Some(Taken { pin, slice })),
+        None => Ok(None),
     }
 }
 
@@ -144,11 +166,9 @@ pub(crate) fn one_turn<B: Bank, C: Validator, G: Gate, R: Wait>(
     ensures turned { HaveTurned B.Bank C.verdict actor result.0 place.old.me.0.seen place.new.me.0.seen }
 {
     if let Some(read) = plan {
-        if let Some(pin) = pin_of(pins, read.handle) {
+        if let Ok(Some(taken)) = take_ahead(alloc, pins, read) {
             gate.reading(actor);
-            if let Some(slice) = slice_of(alloc, pin, read.offset, read.len) {
-                return read_turn(rt, lock, place, actor, pins, read, pin, slice);
-            }
+            return read_turn(rt, lock, place, actor, pins, read, taken);
         }
     }
     plain_turn(rt, lock, place, actor, pins)
@@ -220,8 +240,18 @@ fn halve<B: Bank, C: Validator>(
     (place, other)
 }
 
-/// Plays the scripts of so many actors, from one on, with a thread for each. Where a thread can't be started the caller plays
-/// what it was for, after its own.
+/// Whether none of so many actors, from one on, asks anything.
+fn ask_nothing(counts: &[u32; ACTOR_COUNT], from: u8, count: u8) -> bool
+    requires { from + count ≤ actor_count }
+    ensures { result ≡ list_all is_zero (take count (drop from counts.now)) }
+{
+    let (_, others) = counts.split_at(usize::from(from));
+    let (these, _) = others.split_at(usize::from(count));
+    these.iter().all(|asked| *asked == 0)
+}
+
+/// Plays the scripts of so many actors, from one on, with a thread for each that asks anything, but for one, which the caller plays.
+/// Where a thread can't be started the caller plays what it was for, after its own.
 #[cycle(halves)]
 #[tactic(auto, using(crate::proofs::MoveLemmas::one_left, crate::proofs::MoveLemmas::ended_both))]
 pub(crate) fn play_range<
@@ -251,21 +281,21 @@ pub(crate) fn play_range<
         return place;
     }
     if count == 1 {
-        return play_script(
-            rt,
-            alloc,
-            lock,
-            gate,
-            counts[usize::from(from)],
-            place,
-            from,
-        );
+        let script = counts[usize::from(from)];
+        return play_script(rt, alloc, lock, gate, script, place, from);
     }
     // The actors are halved, and not taken one by one: so each thread starts at most five others, and waits for them.
     let low = count / 2;
     let high = count - low;
     let middle = from + low;
     let (place, other) = halve(lock, counts, place, from, count);
+    if ask_nothing(counts, from, low) || ask_nothing(counts, middle, high) {
+        // One of the halves takes no time, so the other one needs no thread beside it.
+        let mut place = play_range(rt, alloc, lock, gate, counts, place, from, low);
+        let other = play_range(rt, alloc, lock, gate, counts, other, middle, high);
+        lock.join(&mut place, other);
+        return place;
+    }
     let upper = move || -> Place<Crew<B, C>>
         requires { IsSync R.row × IsSync G.row × IsSend B.row × IsSend C.row × (middle + high ≤ actor_count) × (other.table_id ≡ lock.now.table.shared.table_id) × IsSeat other.me middle high
             × HaveLeft (slice_index counts.now) middle other.me.0.seen }
@@ -367,8 +397,9 @@ fn play_all<B: Bank + Send, C: Validator + Send, G: Gate + Sync, R: Threads + Wa
     }
 }
 
-/// Plays each actor's script in a thread of its own; where there is no memory for the lock, the caller plays them. The entries stand
-/// in the order of the turns. Where a step answers a fault, no further request is played.
+/// Plays the actors' scripts beside each other, with a thread for each but one, which the caller plays; where there is no memory for the
+/// lock, the caller plays them all. The entries stand in the order of the turns. Where a step answers a fault, no further request is
+/// played.
 pub fn crew<B: Bank + Send, C: Validator + Send, G: Gate + Sync, R: Threads + Wait + Sync>(
     rt: &R,
     alloc: Global,

@@ -4,7 +4,7 @@ use Rattle.tbl_crew.specs.CrewView.{CrewView}
 use Rattle.tbl_crew.specs.Turns.{Takes}
 use Rattle.tbl_crew.proofs.TurnLemmas.{may_fit, goes_on_with, goes_on_broken, was_none, goes_live, leads_on, leads_broken}
 use Rattle.tbl_core.proofs.Lending.{pin_stays}
-use Rattle.tbl_crew.proofs.LendingLemmas.{pins_last, plays_next, pins_broken}
+use Rattle.tbl_crew.proofs.LendingLemmas.{pins_last, plays_next, pins_broken, reads_lent}
 use Rattle.tbl_history.proofs.Laws.{Laws}
 use Rattle.tbl_crew.proofs.held.read_fields.Goals as goal
 
@@ -47,6 +47,9 @@ returns-in-Ok-clause-turns g c =
     let takes : Takes old new c.args.actor c.in-Some.request = record { next = c.in-Some.ensures.0; others = c.in-Some.ensures.1 } in
     let went = was_none c.args.fault.now (sym c.is_some.ensures ∙ c.if-is_some.false) in
     plays_next b old new c.args.actor c.played.result c.in-Some.request takes went went (rw (← c.actor_of.ensures) c.in-Ok.ensures.adds) c.played.ensures
+
+pub returns-in-Ok-clause-lent : goal.returns-in-Ok-clause-lent
+returns-in-Ok-clause-lent g c still = reads_lent c.args.core.now c.step_read.new.self c.args.slice c.played.result (c.in-Ok.ensures.lent still)
 
 pub returns-in-Ok-clause-pins : goal.returns-in-Ok-clause-pins
 returns-in-Ok-clause-pins g c = λ pin is. pin_stays c.args.core.now c.step_read.new.self c.in-Ok.ensures.adds.entry c.in-Ok.ensures.adds.added c.in-Ok.ensures.pins pin is

@@ -1,9 +1,8 @@
 use Rattle.std.proofs.Common.{ap, refl, Some, ◌∙◌}
-use Rattle.std.proofs.lemmas.List.Elements.{All-contains}
 use Rattle.tbl_registry.specs.declared.pin.Pin.{Pin}
 use Rattle.tbl_core.specs.Service.{IsOfPin}
 use Rattle.tbl_crew.proofs.RestLemmas.{moved_by}
-use Rattle.tbl_crew.proofs.WorkerLemmas.{known_taken, known_back, turned_back, next_slice}
+use Rattle.tbl_crew.proofs.WorkerLemmas.{known_taken, known_back, turned_back, lent_back, lent_has, lent_handle, next_slice}
 use Rattle.tbl_crew.proofs.workers.read_turn.Goals as goal
 
 pub put_back-requires-clause-moves : goal.put_back-requires-clause-moves
@@ -31,12 +30,21 @@ returns-clause-turned g c =
     (moved_by b c.take-crew.result t.new.self c.args.actor g.C.Validator.verdict t.result t.ensures.turns t.ensures.leads t.ensures.pins)
     c.put_back.ensures.idle t.result t.ensures.turns
 
+pub returns-clause-lent : goal.returns-clause-lent
+returns-clause-lent g c =
+    let b = g.B.Bank in
+    let t = c.turn_read-turn in
+    lent_back b g.C.Validator.verdict c.args.place.now.me c.take-crew.new.seat.me c.args.actor c.args.pins.now (Some c.args.plan) c.take-crew.result c.requires.seat c.requires.known c.take-crew.ensures.knows c.take-crew.ensures.holds
+    t.new.self c.put_back.new.seat.me
+    (moved_by b c.take-crew.result t.new.self c.args.actor g.C.Validator.verdict t.result t.ensures.turns t.ensures.leads t.ensures.pins)
+    c.put_back.ensures.idle (record { pin = c.args.taken.pin.now; slice = c.args.taken.slice; turn = t.result }) t.ensures.lent
+
 pub turn_read-turn-requires-clause-pin : goal.turn_read-turn-requires-clause-pin
 turn_read-turn-requires-clause-pin g c =
     let k = known_taken g.B.Bank g.C.Validator.verdict c.args.place.now.me c.take-crew.new.seat.me c.args.actor c.args.pins.now (Some c.args.plan) c.take-crew.result c.requires.seat c.requires.known c.take-crew.ensures.knows c.take-crew.ensures.holds in
-    All-contains (λ (p : Pin). IsOfPin p c.take-crew.result.core) c.args.pins.now c.args.pin.now k.each c.requires.pin
+    lent_has (λ (p : Pin). IsOfPin p c.take-crew.result.core) c.args.pins.now c.args.plan.handle c.args.taken.pin.now k.each c.requires.taken.lent
 
 pub turn_read-turn-requires-clause-slice : goal.turn_read-turn-requires-clause-slice
 turn_read-turn-requires-clause-slice g c =
     let k = known_taken g.B.Bank g.C.Validator.verdict c.args.place.now.me c.take-crew.new.seat.me c.args.actor c.args.pins.now (Some c.args.plan) c.take-crew.result c.requires.seat c.requires.known c.take-crew.ensures.knows c.take-crew.ensures.holds in
-    next_slice c.args.pin.now c.args.plan _ c.args.slice.list (k.next c.args.plan refl) c.requires.handle c.requires.slice
+    next_slice c.args.taken.pin.now c.args.plan _ c.args.taken.slice.list (k.next c.args.plan refl) (lent_handle c.args.pins.now c.args.plan.handle c.args.taken.pin.now c.requires.taken.lent) c.requires.taken.slice_is
