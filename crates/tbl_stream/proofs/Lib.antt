@@ -1,0 +1,11 @@
+pub mod Rounds
+pub mod GoingLemmas
+pub mod StepLemmas
+pub mod PlayingLemmas
+pub mod FeedingLemmas
+pub mod ReadingLemmas
+pub mod StatusLemmas
+pub mod TellingLemmas
+pub mod ServingLemmas
+pub mod FailureLemmas
+pub mod WordsLemmas

@@ -1,0 +1,37 @@
+-- A step whose boot was the last.
+use Rattle.std.proofs.Common.{◌≡◌, [], ◌∷◌, true, false, Err, refl, subst, Result}
+use Rattle.tbl_core.specs.Engine.{Steps}
+use Rattle.tbl_core.specs.Service.{EngineView, AddsOne, core_of}
+use Rattle.tbl_core.specs.declared.service.StepFault.{StepFault}
+use Rattle.tbl_core.specs.declared.service.StepFault.TheVariants.{BootFault, BootStopped}
+use Rattle.tbl_kinds.specs.declared.entry.Entry.{Entry}
+use Rattle.tbl_kinds.specs.declared.request.Actor.{Actor}
+use Rattle.tbl_kinds.specs.declared.request.Request.{Request}
+use Rattle.tbl_history.proofs.TroubleLemmas.{ends_in_fault, ends_in_stop}
+use Rattle.tbl_outside.specs.declared.bank.Bank.{Ghosts}
+use Rattle.tbl_outside.specs.declared.validator.Validator.{Ghosts as ValidatorGhosts}
+use Rattle.tbl_session.specs.Trouble.{EndsInBoot}
+
+-- a step over an empty past adds its entry
+adds : {B C : Type 0} (g : Ghosts B) (v : ValidatorGhosts C) (old new : EngineView B C) (asked : Actor × Request) (e : Entry) (result : Result Unit StepFault) → Steps g v old new asked e result
+    → AddsOne g (core_of [] old) (core_of (e ∷ []) new) asked.0 asked.1 result
+adds g v old new asked e result s = record {
+  entry = e;
+  actor_is = s.adds.actor_is;
+  request_is = s.adds.request_is;
+  added = refl;
+  ended = s.adds.ended;
+  ends = s.adds.ends;
+  trouble = s.adds.trouble;
+  cause = s.adds.cause;
+}
+
+pub failed_step : {B C : Type 0} (g : Ghosts B) (v : ValidatorGhosts C) (old new : EngineView B C) (asked : Actor × Request) (e : Entry) (fault : StepFault) → fault ≡ BootFault → Steps g v old new asked e (Err fault)
+    → EndsInBoot false (e ∷ [])
+failed_step g v old new asked e fault is s =
+    ends_in_fault g (core_of [] old) (core_of (e ∷ []) new) asked.0 asked.1 (subst (λ (f : StepFault). AddsOne g (core_of [] old) (core_of (e ∷ []) new) asked.0 asked.1 (Err f)) is (adds g v old new asked e (Err fault) s))
+
+pub stopped_step : {B C : Type 0} (g : Ghosts B) (v : ValidatorGhosts C) (old new : EngineView B C) (asked : Actor × Request) (e : Entry) (fault : StepFault) → fault ≡ BootStopped → Steps g v old new asked e (Err fault)
+    → EndsInBoot true (e ∷ [])
+stopped_step g v old new asked e fault is s =
+    ends_in_stop g (core_of [] old) (core_of (e ∷ []) new) asked.0 asked.1 (subst (λ (f : StepFault). AddsOne g (core_of [] old) (core_of (e ∷ []) new) asked.0 asked.1 (Err f)) is (adds g v old new asked e (Err fault) s))

@@ -1,0 +1,66 @@
+-- What was played of a stream, over whatever the engine had played before. The entries are a list that nobody keeps.
+use Rattle.std.specs.Prelude.{◌≡◌, ℕ, ◌+◌, ◌%◌, ◌^◌, List, ◌++◌, length, Option}
+use Rattle.std.specs.List.{AllByRecursion}
+use Rattle.std.proofs.Common.{ℤ}
+use Rattle.tbl_kinds.specs.Records.{IsRecord, joined}
+use Rattle.tbl_kinds.specs.Transcript.{pairs_of}
+use Rattle.tbl_kinds.specs.declared.entry.Entry.{Entry}
+use Rattle.tbl_kinds.specs.declared.request.Actor.{Actor}
+use Rattle.tbl_kinds.specs.declared.request.Request.{Request}
+use Rattle.tbl_core.specs.Log.{IsSmall}
+use Rattle.tbl_core.specs.Service.{EngineView, IsAfter, core_of}
+use Rattle.tbl_history.specs.Serving.{Continues}
+use Rattle.tbl_outside.specs.declared.bank.Bank.{Ghosts}
+use Rattle.tbl_outside.specs.declared.stream.Sink.{Ghosts as SinkGhosts}
+use Rattle.tbl_stream.specs.Places.{place_of}
+use Rattle.tbl_stream.specs.Standing.{TellsWritten, TellsCause, TellsBoot}
+use Rattle.tbl_stream.specs.declared.standing.Standing.{Standing}
+
+-- the engine, where the next entry stands in the transcript, and how many bytes the records have that were played
+pub record Played (B C : Type 0) : Type 0 where
+  pub engine : EngineView B C
+  pub place : ℕ
+  pub offset : ℕ
+
+-- and the bytes after those records that were fed
+pub record Streaming (B C : Type 0) : Type 0 where
+  pub played : Played B C
+  pub rest : List ℕ
+  pub standing : Standing
+
+-- what was played, what the sink had taken by then, where it tells it, and how often it had failed
+pub record Moment (B C : Type 0) : Type 0 where
+  pub played : Played B C
+  pub taken : Option (List ℕ)
+  pub unwritten : ℕ
+
+abbrev pub moment : {B C K : Type 0} → SinkGhosts K → Played B C → K → Moment B C
+moment k played sink = record { played = played; taken = k.taken sink; unwritten = k.faults sink }
+
+-- The engine went on by these entries: whatever it had played before, and whatever it stood for with that, it has played these after it,
+-- and stands for that with them. Its history stays legal, its verdicts are the functions', a reset at any moment leaves the blocks of a
+-- place of it, and the counts of the bank rose by what it tells.
+pub record Goes {B C : Type 0} (g : Ghosts B) (verdict : C → List ℕ → ℤ) (old new : EngineView B C) (entries : List Entry) : Type 0 where
+  pub after : (past : List Entry) → IsAfter past old → IsAfter (past ++ entries) new
+  pub continues : (past : List Entry) → Continues g verdict (core_of past old) (core_of (past ++ entries) new)
+
+-- From one moment to a later one these entries were played, each of a record, and told as a standing says; the numbers of the transcript
+-- went on by them.
+pub record Plays {B C : Type 0} (g : Ghosts B) (verdict : C → List ℕ → ℤ) (standing : Standing) (old new : Moment B C) (entries : List Entry) : Type 0 where
+  pub goes : Goes g verdict old.played.engine new.played.engine entries
+  pub each : AllByRecursion IsRecord (pairs_of entries)
+  pub place : place_of new.played.place ≡ place_of (old.played.place + length entries)
+  pub offset : new.played.offset % 2 ^ 32 ≡ (old.played.offset + length (joined (pairs_of entries))) % 2 ^ 32
+  pub written : TellsWritten standing old.played.place entries old.taken new.taken
+  pub cause : TellsCause standing old.unwritten new.unwritten
+  pub boot : TellsBoot standing new.played.engine.state.ended entries
+
+-- so it was of the records before these bytes that are left
+abbrev pub PlaysOf : {B C : Type 0} → Ghosts B → (C → List ℕ → ℤ) → Standing → Moment B C → Moment B C → List ℕ → List ℕ → Type 0
+PlaysOf g verdict standing old new bytes left = (entries : List Entry) × Plays g verdict standing old new entries × (bytes ≡ joined (pairs_of entries) ++ left)
+
+-- the entry is of this request, with a reply that fits the transcript
+pub record IsEntryOf (actor : Actor) (request : Request) (e : Entry) : Type 0 where
+  pub actor_is : e.actor ≡ actor
+  pub request_is : e.request ≡ request
+  pub small : IsSmall e

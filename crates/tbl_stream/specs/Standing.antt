@@ -1,0 +1,138 @@
+-- What is known of a stream by how it stands.
+use Rattle.std.specs.Prelude.{◌≡◌, ◌⊎◌, ◌≤◌, ℕ, ◌+◌, List, [], ◌∷◌, ◌++◌, length, take, Option, Some, None, Bool, true, false}
+use Rattle.std.specs.Io.KnownBytes.{append_known}
+use Rattle.tbl_kinds.specs.Heads.{IsShort, IsBad}
+use Rattle.tbl_kinds.specs.Records.{Pair, IsRecord, spelling}
+use Rattle.tbl_kinds.specs.Transcript.{entry_bytes}
+use Rattle.tbl_kinds.specs.declared.entry.Entry.{Entry}
+use Rattle.tbl_outside.specs.Counts.{Rose}
+use Rattle.tbl_outside.specs.Streams.{TakesFront}
+use Rattle.tbl_core.specs.Service.{EngineView, engine_limit, image_limit}
+use Rattle.tbl_session.specs.Trouble.{EndsInBoot}
+use Rattle.tbl_stream.specs.Places.{place_of, told_from}
+use Rattle.tbl_stream.specs.declared.standing.Standing.{Standing}
+use Rattle.tbl_stream.specs.declared.standing.Standing.TheVariants.{Open, Bad, Full, BootFault, BootStopped, SinkFailed, Memory, Unwritten}
+
+-- nothing, or the beginning of a record
+abbrev pub IsFront : List ℕ → Type 0
+IsFront rest = (rest ≡ []) ⊎ IsShort rest
+
+-- what stands after the records that were played
+abbrev pub Leaves : Standing → List ℕ → Type 0
+Leaves Open behind = IsFront behind
+Leaves Bad behind = IsBad behind
+Leaves Full behind = Unit {0}
+Leaves BootFault behind = Unit {0}
+Leaves BootStopped behind = Unit {0}
+Leaves SinkFailed behind = Unit {0}
+Leaves Memory behind = Unit {0}
+Leaves Unwritten behind = Unit {0}
+
+-- the sink took the spellings of these entries, the first of which stands at this place
+abbrev pub IsWritten : ℕ → List Entry → Option (List ℕ) → Option (List ℕ) → Type 0
+IsWritten place entries before taken = taken ≡ append_known before (told_from place entries)
+
+-- or those of all but the last, and a front of that one's
+pub record IsCutShort (place : ℕ) (entries : List Entry) (before taken : Option (List ℕ)) : Type 0 where
+  pub front : List Entry
+  pub last : Entry
+  pub parts : entries ≡ front ++ last ∷ []
+  pub count : ℕ
+  pub grown : taken ≡ append_known before (told_from place front ++ take count (entry_bytes (place_of (place + length front)) last))
+
+-- what of the entries was written, each before the next record was looked for
+abbrev pub TellsWritten : Standing → ℕ → List Entry → Option (List ℕ) → Option (List ℕ) → Type 0
+TellsWritten Open place entries before taken = IsWritten place entries before taken
+TellsWritten Bad place entries before taken = IsWritten place entries before taken
+TellsWritten Full place entries before taken = IsWritten place entries before taken
+TellsWritten BootFault place entries before taken = IsWritten place entries before taken
+TellsWritten BootStopped place entries before taken = IsWritten place entries before taken
+TellsWritten Memory place entries before taken = IsWritten place entries before taken
+TellsWritten SinkFailed place entries before taken = IsCutShort place entries before taken
+TellsWritten Unwritten place entries before taken = IsCutShort place entries before taken
+
+-- only the sink's failure has a cause outside, and no write failed without it
+abbrev pub TellsCause : Standing → ℕ → ℕ → Type 0
+TellsCause SinkFailed before after = Rose before after
+TellsCause _ before after = after ≡ before
+
+-- a boot that ended the service is told. Else it goes on, unless the last entry wasn't written
+abbrev pub TellsBoot : Standing → Bool → List Entry → Type 0
+TellsBoot Open ended entries = ended ≡ false
+TellsBoot Bad ended entries = ended ≡ false
+TellsBoot Full ended entries = ended ≡ false
+TellsBoot Memory ended entries = ended ≡ false
+TellsBoot BootFault ended entries = EndsInBoot false entries
+TellsBoot BootStopped ended entries = EndsInBoot true entries
+TellsBoot SinkFailed ended entries = Unit {0}
+TellsBoot Unwritten ended entries = Unit {0}
+
+-- the engine has no room only where a table may have had as many images as can be counted, and so many requests were played at least
+abbrev pub TellsFull : Standing → ℕ → Type 0
+TellsFull Full played = image_limit ≤ played
+TellsFull _ played = Unit {0}
+
+-- it has played so many requests, or a table may have had so many images
+abbrev pub HasMetLimit : {B C : Type 0} → EngineView B C → Type 0
+HasMetLimit engine = (engine_limit ≤ engine.played) ⊎ (image_limit ≤ engine.images)
+
+-- ---- one record
+
+-- the record stands in front of the bytes, and has so many of them
+pub record IsItem (pair : Pair) (used : ℕ) (bytes : List ℕ) : Type 0 where
+  pub is_record : IsRecord pair
+  pub spelled : take used bytes ≡ spelling pair
+  pub len : used ≡ length (spelling pair)
+
+-- nothing was played, and the standing tells of nothing else
+abbrev pub IsQuiet : Standing → Type 0
+IsQuiet Open = Unit {0}
+IsQuiet Bad = Unit {0}
+IsQuiet Full = Unit {0}
+IsQuiet Memory = Unit {0}
+IsQuiet _ = ⊥
+
+-- how a stream stands after a record that was played: None where a further one may follow
+abbrev pub standing_after : Option Standing → Standing
+standing_after None = Open
+standing_after (Some standing) = standing
+
+-- what a step leaves to be told, once its entry is written: nothing, or a boot
+abbrev pub IsEnding : Option Standing → Type 0
+IsEnding None = Unit {0}
+IsEnding (Some BootFault) = Unit {0}
+IsEnding (Some BootStopped) = Unit {0}
+IsEnding (Some _) = ⊥
+
+-- an entry that wasn't written whole is told before that
+abbrev pub first_of : Option Standing → Option Standing → Option Standing
+first_of None ending = ending
+first_of (Some stop) ending = Some stop
+
+-- a stream ends with a record that was played by such a stop, or by a boot
+abbrev pub IsStop : Option Standing → Type 0
+IsStop None = Unit {0}
+IsStop (Some BootFault) = Unit {0}
+IsStop (Some BootStopped) = Unit {0}
+IsStop (Some SinkFailed) = Unit {0}
+IsStop (Some Unwritten) = Unit {0}
+IsStop (Some _) = ⊥
+
+-- a record wasn't played: the engine has no room, or memory ran out
+abbrev pub IsRefusal : Standing → Type 0
+IsRefusal Full = Unit {0}
+IsRefusal Memory = Unit {0}
+IsRefusal _ = ⊥
+
+-- why a write didn't go well, and what it left: the sink failed within the piece, or memory ran out before
+abbrev pub TellsStop : Standing → Option (List ℕ) → Option (List ℕ) → List ℕ → Type 0
+TellsStop SinkFailed before after piece = TakesFront before after piece
+TellsStop Unwritten before after piece = after ≡ before
+TellsStop _ before after piece = ⊥
+
+-- a stop is the sink's failure, or no memory for a spelling; where it isn't the first, no write failed
+abbrev pub TellsWhy : Option Standing → ℕ → ℕ → Type 0
+TellsWhy None before after = after ≡ before
+TellsWhy (Some SinkFailed) before after = Rose before after
+TellsWhy (Some Unwritten) before after = after ≡ before
+TellsWhy (Some _) before after = ⊥

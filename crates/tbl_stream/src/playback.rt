@@ -1,0 +1,203 @@
+//! Plays whole records at the front of bytes, and writes each entry before the next record is looked for.
+
+ghost use Rattle.std.specs.Prelude.{◌≡◌, ◌≢◌, ⊤, ◌+◌, ◌%◌, ◌^◌, ◌<◌, ◌≤◌, [], ◌∷◌, length, drop, false, IfOk, IfErr, OnOk, OnErr, MatchOption};
+ghost use Rattle.std.specs.Io.KnownBytes.{append_known};
+ghost use Rattle.tbl_kinds.specs.Records.{IsRecord, spelling};
+ghost use Rattle.tbl_kinds.specs.Transcript.{pair_of};
+ghost use Rattle.tbl_kinds.specs.declared.entry.Entry.{Entry as TheEntry};
+ghost use Rattle.tbl_outside.specs.Counts.{Rose};
+ghost use Rattle.tbl_outside.specs.Streams.{TakesFront};
+ghost use Rattle.tbl_stream.specs.Places.{place_of};
+ghost use Rattle.tbl_stream.specs.Finishing.{end_at};
+ghost use Rattle.tbl_stream.specs.Playing.{Plays, PlaysOf, moment};
+ghost use Rattle.tbl_stream.specs.declared.standing.Standing.TheVariants.{Full};
+ghost use Rattle.tbl_stream.specs.Standing.{Leaves, IsItem, IsQuiet, IsRefusal, IsStop, TellsFull, standing_after};
+
+use crate::standing::Standing;
+use crate::stepping::{answer, first_stop};
+use crate::writing::write;
+use session_records::{Next, next_record};
+use std::alloc::Global;
+use std::marker::Model;
+use tbl_core::Engine;
+use tbl_kinds::{Actor, Memory, Request};
+use tbl_outside::{Bank, Failed, Sink, Validator};
+use transcript::end_record;
+
+/// How many places there are: the one after FFFFFFFE is 0 again, since FFFFFFFF begins the end record.
+const PLACE_COUNT: u64 = 4_294_967_295;
+
+/// How many bytes of room the spelling of an entry has from the beginning. Longer ones take more where they come.
+const SHORT_SPELLING: usize = 256;
+
+/// The place after this one.
+fn next_place(place: u32) -> u32
+    ensures { result ≡ place_of (place + 1) }
+{
+    ((u64::from(place) + 1) % PLACE_COUNT) as u32
+}
+
+/// The offset after so many bytes more.
+fn next_offset(offset: u32, used: usize) -> u32
+    requires { used ≤ 32836 }
+    ensures { result ≡ (offset + used) % 2 ^ 32 }
+{
+    ((u64::from(offset) + used as u64) % (1 << 32)) as u32
+}
+
+/// The record at the front of bytes, whose request is put in its place: its actor, and how many bytes it has. An Err tells how the stream
+/// stands where no record is whole, or memory ran out for its request.
+fn next_item(alloc: Global, bytes: &[u8], request: &mut Request) -> Result<(Actor, usize), Standing>
+    ensures item { IfOk result (λ found. IsItem (record { actor = found.0; request = request.new }) found.1 bytes.now) }
+    ensures quiet { IfErr result IsQuiet }
+    ensures leaves { IfErr result (λ standing. Leaves standing bytes.now) }
+    ensures room { IfErr result (λ standing. standing ≢ Full) }
+{
+    match next_record(alloc, bytes, request) {
+        Err(Memory) => Err(Standing::Memory),
+        Ok(Next::End) => Err(Standing::Open),
+        Ok(Next::Short) => Err(Standing::Open),
+        Ok(Next::Bad) => Err(Standing::Bad),
+        Ok(Next::Item { actor, used }) => Ok((actor, used)),
+    }
+}
+
+/// The engine, and the numbers and the room that the transcript needs.
+#[derive(Drop)]
+pub(crate) struct Playback<B: Bank, C: Validator> {
+    alloc: Global,
+    engine: Engine<B, C>,
+    /// Where the next entry stands in the transcript.
+    place: u32,
+    /// The number of bytes of the records that were played, in four bytes.
+    offset: u32,
+    /// Room for the spelling of one entry.
+    out: Vec<u8>,
+}
+
+impl<B: Bank, C: Validator> Model for Playback<B, C> {
+    ghost use Rattle.tbl_stream.specs.Playing.{Played};
+
+    ghost Value = { Played B C };
+
+    ghost use Rattle.std.specs.Prelude.{◌<◌, ◌^◌};
+    ghost use Rattle.tbl_stream.specs.Places.{place_count};
+
+    ghost view = { λ p. record { engine = p.engine; place = p.place; offset = p.offset } };
+
+    ghost invariant = { λ p. p.place < place_count × p.offset < 2 ^ 32 };
+}
+
+impl<B: Bank, C: Validator> Playback<B, C> {
+    /// A stream in which nothing was played yet; the engine again where memory ran out.
+    pub(crate) fn make(alloc: Global, engine: Engine<B, C>) -> Result<Playback<B, C>, Engine<B, C>>
+        ensures engine { IfOk result (λ p. p.engine ≡ engine) }
+        ensures place { IfOk result (λ p. p.place ≡ place_of engine.played) }
+        ensures offset { IfOk result (λ p. p.offset ≡ 0) }
+        ensures err { IfErr result (λ back. back ≡ engine) }
+    {
+        let Ok(out) = Vec::with_capacity(alloc, SHORT_SPELLING) else {
+            return Err(engine);
+        };
+        let place = (engine.played() % PLACE_COUNT) as u32;
+        Ok(Playback {
+            alloc,
+            engine,
+            place,
+            offset: 0,
+            out,
+        })
+    }
+
+    /// The engine as it is.
+    pub(crate) fn end(self) -> Engine<B, C>
+        ensures { result ≡ self.engine }
+    {
+        self.engine
+    }
+
+    /// Plays a record. `Ok(None)` where its entry was written and a further one may follow, `Ok(Some(..))` where it was played
+    /// and the stream is over.
+    fn play_record<K: Sink>(
+        &mut self,
+        actor: Actor,
+        request: Request,
+        used: usize,
+        sink: &mut K,
+    ) -> Result<Option<Standing>, Standing>
+        requires is_record { IsRecord (record { actor = actor; request = request }) }
+        requires used { used ≡ length (spelling (record { actor = actor; request = request })) }
+        requires live { self.old.engine.state.ended ≡ false }
+        ensures played { IfOk result (λ stop. (e : TheEntry) × (pair_of e ≡ record { actor = actor; request = request })
+            × Plays B.Bank C.verdict (standing_after stop) (moment K.Sink self.old sink.old) (moment K.Sink self.new sink.new) (e ∷ [])) }
+        ensures stop { IfOk result IsStop }
+        ensures full { IfErr result (λ standing. TellsFull standing self.new.engine.played) }
+        ensures refused { IfErr result (λ standing. IsRefusal standing × Plays B.Bank C.verdict standing (moment K.Sink self.old sink.old) (moment K.Sink self.new sink.new) []) }
+        ensures count { K.faults sink.old ≤ K.faults sink.new }
+    {
+        let (entry, ending) = answer(&mut self.engine, actor, request)?;
+        let stop = write(&mut self.out, self.place, &entry, sink);
+        self.place = next_place(self.place);
+        self.offset = next_offset(self.offset, used);
+        Ok(first_stop(stop, ending))
+    }
+
+    /// Plays the record at a place where one is whole, and answers None once its entry was written; else what stands in
+    /// its way.
+    fn play_next<K: Sink>(&mut self, bytes: &[u8], at: &mut usize, sink: &mut K) -> Option<Standing>
+        requires live { self.old.engine.state.ended ≡ false }
+        requires within { at.old ≤ length bytes.now }
+        ensures within { at.new ≤ length bytes.now }
+        ensures further { MatchOption result (at.old < at.new) (λ _. at.old ≤ at.new) }
+        ensures leaves { MatchOption result ⊤ (λ standing. Leaves standing (drop at.new bytes.now)) }
+        ensures full { MatchOption result ⊤ (λ standing. TellsFull standing self.new.engine.played) }
+        ensures plays { PlaysOf B.Bank C.verdict (standing_after result) (moment K.Sink self.old sink.old) (moment K.Sink self.new sink.new) (drop at.old bytes.now) (drop at.new bytes.now) }
+        ensures count { K.faults sink.old ≤ K.faults sink.new }
+    {
+        let mut request = Request::Exit;
+        match next_item(self.alloc, &bytes[*at..], &mut request) {
+            Err(standing) => Some(standing),
+            Ok((actor, used)) => match self.play_record(actor, request, used, sink) {
+                Err(standing) => Some(standing),
+                Ok(stop) => {
+                    *at += used;
+                    stop
+                }
+            },
+        }
+    }
+
+    /// Plays each record that is whole, from a place on.
+    pub(crate) fn play_whole<K: Sink>(
+        &mut self,
+        bytes: &[u8],
+        at: &mut usize,
+        sink: &mut K,
+    ) -> Standing
+        requires live { self.old.engine.state.ended ≡ false }
+        requires within { at.old ≤ length bytes.now }
+        ensures within { at.new ≤ length bytes.now }
+        ensures further { at.old ≤ at.new }
+        ensures leaves { Leaves result (drop at.new bytes.now) }
+        ensures full { TellsFull result self.new.engine.played }
+        ensures plays { PlaysOf B.Bank C.verdict result (moment K.Sink self.old sink.old) (moment K.Sink self.new sink.new) (drop at.old bytes.now) (drop at.new bytes.now) }
+        ensures count { K.faults sink.old ≤ K.faults sink.new }
+    {
+        'records: loop {
+            if let Some(standing) = self.play_next(bytes, at, sink) {
+                return standing;
+            }
+        }
+    }
+
+    /// Writes the end record.
+    pub(crate) fn tell_end<K: Sink>(&self, status: u8, sink: &mut K) -> Result<(), Failed>
+        ensures ok { OnOk result (K.taken sink.new ≡ append_known (K.taken sink.old) (end_at status self.now)) }
+        ensures err { OnErr result (TakesFront (K.taken sink.old) (K.taken sink.new) (end_at status self.now)) }
+        ensures still { OnOk result (K.faults sink.new ≡ K.faults sink.old) }
+        ensures cause { OnErr result (Rose (K.faults sink.old) (K.faults sink.new)) }
+        ensures count { K.faults sink.old ≤ K.faults sink.new }
+    {
+        sink.write(&end_record(status, self.place, self.offset))
+    }
+}

@@ -1,0 +1,99 @@
+//! A service from its start to the end of its input.
+
+ghost use Rattle.std.specs.Prelude.{◌≡◌, ◌≢◌, ℕ, ◌≤◌, ◌<◌, ◌^◌, [], false, All};
+ghost use Rattle.tbl_kinds.specs.Admitted.{Admitted};
+ghost use Rattle.tbl_kinds.specs.Places.{bank_size};
+ghost use Rattle.tbl_core.specs.Service.{IsAfter, core_of};
+ghost use Rattle.tbl_outside.specs.declared.validator.KitEntry.{KitEntry as Entry};
+ghost use Rattle.tbl_session.specs.Openings.{Opening};
+ghost use Rattle.tbl_session.specs.Session.{opening_of, ran};
+ghost use Rattle.tbl_history.specs.Serving.{Serves};
+ghost use Rattle.tbl_stream.specs.Serving.{Lives, TellsFailures};
+ghost use Rattle.tbl_stream.specs.Words.{Asks};
+ghost use Rattle.tbl_stream.specs.declared.standing.Standing.TheVariants.{Open};
+
+use crate::finishing::finish_unbegun;
+use crate::opening::begin;
+use crate::reading::read_all;
+use crate::stream::Stream;
+use crate::words::admitted_by;
+use std::alloc::Global;
+use tbl_kinds::{Admit, Bytes};
+use tbl_outside::{Back, Bank, KitEntry, Sink, Source, Validator};
+
+/// The words aren't those that the program knows.
+const USAGE: u8 = 2;
+
+/// Plays a stream from its start.
+fn play<B: Bank, C: Validator, S: Source, K: Sink>(
+    stream: &mut Stream<B, C>,
+    source: &mut S,
+    sink: &mut K,
+) -> u8
+    requires is_open { stream.old.standing ≡ Open }
+    requires rest { stream.old.rest ≡ [] }
+    requires place { stream.old.played.place ≡ 0 }
+    requires offset { stream.old.played.offset ≡ 0 }
+    requires live { stream.old.played.engine.state.ended ≡ false }
+    requires after { IsAfter [] stream.old.played.engine }
+    ensures lives { (o : Opening B C) → Serves B.Bank C.verdict o (core_of [] stream.old.played.engine)
+        → Lives B.Bank C.verdict o (ran S.Source K.Sink (source.old, sink.old) (source.new, sink.new) (result, stream.new.played.engine.state.store.bank)) }
+    ensures failures { TellsFailures (ran S.Source K.Sink (source.old, sink.old) (source.new, sink.new) (result, stream.new.played.engine.state.store.bank)) }
+    ensures not_usage { result ≢ 2 }
+{
+    let read_failed = read_all(stream, source, sink);
+    stream.finish(read_failed, sink)
+}
+
+/// Boots over the bank, and reads, plays and writes.
+fn serve_all<S: Source, K: Sink, B: Bank, C: Validator>(
+    alloc: Global,
+    source: &mut S,
+    sink: &mut K,
+    bank: B,
+    kit: Vec<KitEntry<C>>,
+    admit: Admit,
+) -> (u8, B)
+    requires room { bank_size ≤ B.size bank }
+    requires asked { All (λ (e : Entry C). C.asked e.check < 2 ^ 62) kit.items }
+    ensures not_usage { result.0 ≢ 2 }
+    ensures lives { Lives B.Bank C.verdict (opening_of B.Bank bank kit.items admit) (ran S.Source K.Sink (source.old, sink.old) (source.new, sink.new) result) }
+    ensures failures { TellsFailures (ran S.Source K.Sink (source.old, sink.old) (source.new, sink.new) result) }
+    ensures room { bank_size ≤ B.size result.1 }
+{
+    match begin(alloc, bank, kit, admit) {
+        Err(Back { cause, bank }) => (finish_unbegun(cause, sink), bank),
+        Ok(mut stream) => {
+            let status = play(&mut stream, source, sink);
+            (status, stream.end().end())
+        }
+    }
+}
+
+/// Serves what comes in: boots over the bank, plays each record of the source, and writes its entry to the sink at once. It ends with
+/// the input, and keeps nothing of what it has told. With no word table files come from anywhere; with `admit` and two lists they come
+/// from those spacecraft and processors alone. The status is that of a session that is played, but for 6, which isn't there, and 13: a
+/// table has had 4,294,967,293 images, so that nothing but a reset would have room, or 2^61 - 1 requests were played.
+pub fn serve<S: Source, K: Sink, B: Bank, C: Validator>(
+    alloc: Global,
+    words: &[Bytes],
+    source: &mut S,
+    sink: &mut K,
+    bank: B,
+    kit: Vec<KitEntry<C>>,
+) -> (u8, B)
+    requires room { bank_size ≤ B.size bank }
+    requires asked { All (λ (e : Entry C). C.asked e.check < 2 ^ 62) kit.items }
+    ensures usage { result.0 ≡ 2 → (admit : Admitted) → ¬ Asks words.now admit }
+    ensures unknown { ((admit : Admitted) → ¬ Asks words.now admit) → result.0 ≡ 2 }
+    ensures untouched { ((admit : Admitted) → ¬ Asks words.now admit) → (source.new ≡ source.old) × (sink.new ≡ sink.old) × (result.1 ≡ bank) }
+    ensures lives { (admit : Admitted) → Asks words.now admit
+        → Lives B.Bank C.verdict (opening_of B.Bank bank kit.items admit) (ran S.Source K.Sink (source.old, sink.old) (source.new, sink.new) result) }
+    ensures failures { (admit : Admitted) → Asks words.now admit → TellsFailures (ran S.Source K.Sink (source.old, sink.old) (source.new, sink.new) result) }
+    ensures room { bank_size ≤ B.size result.1 }
+{
+    match admitted_by(words) {
+        Some(admit) => serve_all(alloc, source, sink, bank, kit, admit),
+        None => (USAGE, bank),
+    }
+}

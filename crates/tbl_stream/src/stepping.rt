@@ -1,0 +1,92 @@
+//! Plays one request of a stream.
+
+ghost use Rattle.std.specs.Prelude.{◌≡◌, ◌≤◌, ◌∷◌, [], true, false, IfOk, IfErr, OnOk, OnErr};
+ghost use Rattle.tbl_kinds.specs.Requests.{Fits};
+ghost use Rattle.tbl_core.specs.Answers.{IsBegun};
+ghost use Rattle.tbl_core.specs.Service.{HasRoom};
+ghost use Rattle.tbl_stream.specs.Playing.{Goes, IsEntryOf};
+ghost use Rattle.tbl_stream.specs.Standing.{IsEnding, IsRefusal, TellsBoot, TellsFull, HasMetLimit, standing_after, first_of};
+
+use crate::standing::Standing;
+use tbl_core::{Engine, StepFault};
+use tbl_kinds::{Actor, Entry, Memory, Request};
+use tbl_outside::{Bank, Validator};
+
+/// Plays the request of an entry. `Ok(None)` where a further one may follow, `Ok(Some(..))` where a boot in it failed or was stopped.
+#[inline(always)]
+pub(crate) fn step<B: Bank, C: Validator>(
+    engine: &mut Engine<B, C>,
+    entry: &mut Entry,
+) -> Result<Option<Standing>, Memory>
+    requires begun { IsBegun entry.old }
+    requires fits { Fits entry.old.actor entry.old.request }
+    requires live { engine.old.state.ended ≡ false }
+    requires room { HasRoom engine.old entry.old.request }
+    ensures entry { OnOk result (IsEntryOf entry.old.actor entry.old.request entry.new) }
+    ensures goes { OnOk result (Goes B.Bank C.verdict engine.old engine.new (entry.new ∷ [])) }
+    ensures ending { IfOk result IsEnding }
+    ensures boot { IfOk result (λ stop. TellsBoot (standing_after stop) engine.new.state.ended (entry.new ∷ [])) }
+    ensures err { OnErr result (engine.new ≡ engine.old) }
+{
+    match engine.play(entry) {
+        Err(StepFault::Memory) => Err(Memory),
+        Err(StepFault::BootFault) => Ok(Some(Standing::BootFault)),
+        Err(StepFault::BootStopped) => Ok(Some(Standing::BootStopped)),
+        Ok(()) => Ok(None),
+    }
+}
+
+/// Whether the engine plays this request. How many images its tables have had is counted anew where the bound on that is too great.
+fn make_room<B: Bank, C: Validator>(engine: &mut Engine<B, C>, request: &Request) -> bool
+    ensures room { result ≡ true → HasRoom engine.new request.now }
+    ensures full { result ≡ false → HasMetLimit engine.new }
+    ensures goes { Goes B.Bank C.verdict engine.old engine.new [] }
+    ensures ended { engine.new.state.ended ≡ engine.old.state.ended }
+{
+    if engine.limit_met(request).is_none() {
+        return true;
+    }
+    engine.recount();
+    engine.limit_met(request).is_none()
+}
+
+/// Plays a request. The entry that it became, and what it leaves to be told once that is written; or how the stream stands where it wasn't
+/// played.
+pub(crate) fn answer<B: Bank, C: Validator>(
+    engine: &mut Engine<B, C>,
+    actor: Actor,
+    request: Request,
+) -> Result<(Entry, Option<Standing>), Standing>
+    requires fits { Fits actor request }
+    requires live { engine.old.state.ended ≡ false }
+    ensures entry { IfOk result (λ done. IsEntryOf actor request done.0) }
+    ensures goes { IfOk result (λ done. Goes B.Bank C.verdict engine.old engine.new (done.0 ∷ [])) }
+    ensures ending { IfOk result (λ done. IsEnding done.1) }
+    ensures boot { IfOk result (λ done. TellsBoot (standing_after done.1) engine.new.state.ended (done.0 ∷ [])) }
+    ensures refusal { IfErr result IsRefusal }
+    ensures full { IfErr result (λ standing. TellsFull standing engine.new.played) }
+    ensures err { OnErr result (Goes B.Bank C.verdict engine.old engine.new []) }
+    ensures err_ended { OnErr result (engine.new.state.ended ≡ engine.old.state.ended) }
+{
+    let has_room = make_room(engine, &request);
+    let Ok(mut entry) = engine.begin(actor, request) else {
+        return Err(Standing::Memory);
+    };
+    if !has_room {
+        return Err(Standing::Full);
+    }
+    match step(engine, &mut entry) {
+        Ok(ending) => Ok((entry, ending)),
+        Err(Memory) => Err(Standing::Memory),
+    }
+}
+
+/// What a record leaves to be told: that its entry wasn't written whole, or else what its step left.
+pub(crate) fn first_stop(stop: Option<Standing>, ending: Option<Standing>) -> Option<Standing>
+    ensures { result ≡ first_of stop ending }
+{
+    match stop {
+        Some(_) => stop,
+        None => ending,
+    }
+}
