@@ -28,6 +28,10 @@ pub rose_later : (first next last : ℕ) → first ≤ next → Rose next last �
 rose_later first next last le (inl rose) = inl (omega (arith, le, rose))
 rose_later first next last le (inr top) = inr top
 
+-- a reading that broke off with another status than 3 didn't fail
+pub not_failed : (fault : InputFault) → status_of fault ≢ 3 → fault ≢ Failed
+not_failed fault other failed = other (ap status_of failed)
+
 -- ---- the end of a reading
 
 -- where the reading broke off

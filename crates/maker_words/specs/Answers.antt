@@ -1,5 +1,5 @@
 -- What `make` and `describe` answer, by the input that was read.
-use Rattle.std.specs.Prelude.{◌≡◌, ◌⊎◌, ℕ, ◌+◌, ◌≤◌, List, [], ◌++◌, length, codes, Option, Some, None}
+use Rattle.std.specs.Prelude.{◌≡◌, ◌≢◌, ◌⊎◌, ℕ, ◌+◌, ◌≤◌, List, [], ◌++◌, length, codes, Option, Some, None}
 use Rattle.std.specs.Fmt.{decimal}
 use Rattle.std.specs.Io.KnownBytes.{append_known, prepend_known, IsAtEnd}
 use Rattle.tbl_outside.specs.Counts.{Rose}
@@ -98,6 +98,13 @@ DescribesOnly shape status source source_then sink sink_then =
     → (d : Description) × IsDescription d × (shape_of d ≡ shape)
     × (file : List ℕ) × GaveAll source source_then file × (describe_fault shape file ≡ None) × (contents_of d ≡ table_file_in file)
     × (sink_then.bytes ≡ append_known sink.bytes (text_of d))
+
+-- ---- what failed
+
+-- a read that failed is told by 3, and a write that failed by 4
+pub record TellsFailures (status : ℕ) (source source_then sink sink_then : Told) : Type 0 where
+  pub reads : (status ≢ 3) → source_then.faults ≡ source.faults
+  pub writes : (status ≢ 4) → sink_then.faults ≡ sink.faults
 
 -- ---- what is never given up early
 

@@ -1,7 +1,8 @@
 //! The word `describe`.
 
-ghost use Rattle.std.specs.Prelude.{◌≡◌, ◌⊎◌};
-ghost use Rattle.maker_words.specs.Answers.{Answers, ComesOfFile, DescribesOnly, DescribesThrough, Tells, sink_told, source_told};
+ghost use Rattle.std.specs.Prelude.{◌≡◌, ◌≢◌, ◌⊎◌};
+ghost use Rattle.tbl_outside.specs.Streams.{ReadsToEnd};
+ghost use Rattle.maker_words.specs.Answers.{Answers, ComesOfFile, DescribesOnly, DescribesThrough, Tells, TellsFailures, sink_told, source_told};
 
 use crate::inputs::read_input;
 use crate::writing::{DONE, NO_FILE, NO_MEMORY, OTHER_LENGTH, status_of, write_with};
@@ -11,7 +12,8 @@ use tbl_outside::{Sink, Source};
 
 /// Writes what comes of a file, and answers the status.
 fn describe_bytes<K: Sink>(alloc: Global, shape: &Shape, file: &[u8], sink: &mut K) -> u8
-    ensures { Tells (ComesOfFile shape.now file.now) result (sink_told K.Sink sink.old) (sink_told K.Sink sink.new) }
+    ensures tells { Tells (ComesOfFile shape.now file.now) result (sink_told K.Sink sink.old) (sink_told K.Sink sink.new) }
+    ensures calm { (result ≢ 4) → K.faults sink.new ≡ K.faults sink.old }
 {
     match describe_file(alloc, shape, file) {
         Ok(text) => write_with(DONE, text.bytes(), sink),
@@ -36,6 +38,10 @@ pub fn describe_input<S: Source, K: Sink>(
     // 0 comes only of a file that the shape describes, and then the sink took the text of the one description of this shape that tells
     // what the file tells.
     ensures described { DescribesOnly shape.now result (source_told S.Source source.old) (source_told S.Source source.new) (sink_told K.Sink sink.old) (sink_told K.Sink sink.new) }
+    // A read that failed is told by 3, and a write that failed by 4.
+    ensures failures { TellsFailures result (source_told S.Source source.old) (source_told S.Source source.new) (sink_told K.Sink sink.old) (sink_told K.Sink sink.new) }
+    // Nothing is read after the end of the input, nor after a read that failed.
+    ensures once { ReadsToEnd (S.how_far source.old) (S.how_far source.new) }
     // It comes always of such a file, unless something outside failed or memory ran out.
     ensures complete { DescribesThrough shape.now result (source_told S.Source source.old) (source_told S.Source source.new) (sink_told K.Sink sink.old) (sink_told K.Sink sink.new) }
 {

@@ -1,8 +1,9 @@
 //! Reads an input to its end, as far as it may go.
 
-ghost use Rattle.std.specs.Prelude.{◌≡◌, ◌≢◌, ℕ, ◌+◌, ◌<◌, ◌≤◌, List, length, IfErr};
+ghost use Rattle.std.specs.Prelude.{◌≡◌, ◌≢◌, ℕ, ◌+◌, ◌<◌, ◌≤◌, List, Ok, true, length, OnOk, IfErr};
 ghost use Rattle.std.specs.Io.KnownBytes.{prepend_known, IsAtEnd};
 ghost use Rattle.tbl_outside.specs.Counts.{Rose};
+ghost use Rattle.tbl_outside.specs.Streams.{ReadsOn, ReadsToEnd};
 ghost use Rattle.maker_words.specs.Inputs.{most_input, KeepsPiece, ReadsPiece, ReadsInput};
 ghost use Rattle.maker_words.specs.declared.inputs.InputFault.TheVariants.{Failed as ReadFailed};
 
@@ -63,7 +64,11 @@ fn read_piece<S: Source>(
     requires more { length input.old.list ≤ most_input }
     ensures reads { (read : List ℕ) × (S.left source.old ≡ prepend_known read (S.left source.new)) × ReadsPiece result input.old.list input.new.list read (IsAtEnd (S.left source.new)) }
     ensures failed { IfErr result (λ fault. fault ≡ ReadFailed → Rose (S.faults source.old) (S.faults source.new)) }
+    ensures still { OnOk result (S.faults source.new ≡ S.faults source.old) }
+    ensures other { IfErr result (λ fault. (fault ≢ ReadFailed) → S.faults source.new ≡ S.faults source.old) }
     ensures count { S.faults source.old ≤ S.faults source.new }
+    ensures goes_on { result ≡ Ok true → ReadsOn (S.how_far source.old) (S.how_far source.new) }
+    ensures once { ReadsToEnd (S.how_far source.old) (S.how_far source.new) }
 {
     match source.read(piece) {
         Err(Failed) => Err(InputFault::Failed),
@@ -89,6 +94,9 @@ fn room_after(len: usize) -> usize
 pub(crate) fn read_input<S: Source>(alloc: Global, source: &mut S) -> Result<Bytes, InputFault>
     ensures reads { (read : List ℕ) × (S.left source.old ≡ prepend_known read (S.left source.new)) × ReadsInput result read (IsAtEnd (S.left source.new)) }
     ensures failed { IfErr result (λ fault. fault ≡ ReadFailed → Rose (S.faults source.old) (S.faults source.new)) }
+    ensures still { OnOk result (S.faults source.new ≡ S.faults source.old) }
+    ensures other { IfErr result (λ fault. (fault ≢ ReadFailed) → S.faults source.new ≡ S.faults source.old) }
+    ensures once { ReadsToEnd (S.how_far source.old) (S.how_far source.new) }
 {
     let mut input = Bytes::make(alloc, 0)?;
     let mut piece = [0u8; PIECE_LENGTH];

@@ -1,7 +1,8 @@
 //! The word `make`.
 
-ghost use Rattle.std.specs.Prelude.{◌≡◌, IfOk};
-ghost use Rattle.maker_words.specs.Answers.{Answers, ComesOfText, MakesOnly, MakesThrough, Tells, TellsLine, bad_line, sink_told, source_told};
+ghost use Rattle.std.specs.Prelude.{◌≡◌, ◌≢◌, IfOk};
+ghost use Rattle.tbl_outside.specs.Streams.{ReadsToEnd};
+ghost use Rattle.maker_words.specs.Answers.{Answers, ComesOfText, MakesOnly, MakesThrough, Tells, TellsFailures, TellsLine, bad_line, sink_told, source_told};
 
 use crate::inputs::read_input;
 use crate::writing::{BAD_LINE, DONE, NO_MEMORY, status_of, write_with};
@@ -24,7 +25,8 @@ fn bad_line(alloc: Global, number: u32) -> Result<Bytes, Memory>
 
 /// Writes the number of a bad line, and answers the status.
 fn tell_bad_line<K: Sink>(alloc: Global, number: u32, sink: &mut K) -> u8
-    ensures { TellsLine number result (sink_told K.Sink sink.old) (sink_told K.Sink sink.new) }
+    ensures tells { TellsLine number result (sink_told K.Sink sink.old) (sink_told K.Sink sink.new) }
+    ensures calm { (result ≢ 4) → K.faults sink.new ≡ K.faults sink.old }
 {
     match bad_line(alloc, number) {
         Ok(line) => write_with(BAD_LINE, line.bytes(), sink),
@@ -34,7 +36,8 @@ fn tell_bad_line<K: Sink>(alloc: Global, number: u32, sink: &mut K) -> u8
 
 /// Writes what comes of a text, and answers the status.
 fn make_text<K: Sink>(alloc: Global, text: &[u8], sink: &mut K) -> u8
-    ensures { Tells (ComesOfText text.now) result (sink_told K.Sink sink.old) (sink_told K.Sink sink.new) }
+    ensures tells { Tells (ComesOfText text.now) result (sink_told K.Sink sink.old) (sink_told K.Sink sink.new) }
+    ensures calm { (result ≢ 4) → K.faults sink.new ≡ K.faults sink.old }
 {
     match make_file(alloc, text) {
         Ok(file) => write_with(DONE, file.bytes(), sink),
@@ -51,6 +54,10 @@ pub fn make_input<S: Source, K: Sink>(alloc: Global, source: &mut S, sink: &mut 
     ensures answers { Answers ComesOfText result (source_told S.Source source.old) (source_told S.Source source.new) (sink_told K.Sink sink.old) (sink_told K.Sink sink.new) }
     // 0 comes only of a description, and then the sink took its file.
     ensures made { MakesOnly result (source_told S.Source source.old) (source_told S.Source source.new) (sink_told K.Sink sink.old) (sink_told K.Sink sink.new) }
+    // A read that failed is told by 3, and a write that failed by 4.
+    ensures failures { TellsFailures result (source_told S.Source source.old) (source_told S.Source source.new) (sink_told K.Sink sink.old) (sink_told K.Sink sink.new) }
+    // Nothing is read after the end of the input, nor after a read that failed.
+    ensures once { ReadsToEnd (S.how_far source.old) (S.how_far source.new) }
     // It comes always of a description, unless something outside failed or memory ran out.
     ensures complete { MakesThrough result (source_told S.Source source.old) (source_told S.Source source.new) (sink_told K.Sink sink.old) (sink_told K.Sink sink.new) }
 {

@@ -1,4 +1,4 @@
-use Rattle.std.proofs.Common.{◌++◌, sym, subst}
+use Rattle.std.proofs.Common.{◌++◌, ◌∙◌, sym, subst}
 use Rattle.std.proofs.lemmas.List.{length-append}
 use Rattle.tbl_outside.proofs.Streams.{read_more}
 use Rattle.maker_words.specs.Inputs.{BreaksOff}
@@ -15,3 +15,9 @@ returns-in-Err-clause-reads g c =
 
 pub returns-in-Err-clause-failed : goal.returns-in-Err-clause-failed
 returns-in-Err-clause-failed g c failed = rose_later _ _ _ c.reads.invariant.count (c.in-Err.ensures.failed failed)
+
+pub returns-in-Err-clause-other : goal.returns-in-Err-clause-other
+returns-in-Err-clause-other g c other = c.in-Err.ensures.other other ∙ c.reads.invariant.still
+
+pub returns-in-Err-clause-once : goal.returns-in-Err-clause-once
+returns-in-Err-clause-once g c going = c.in-Err.ensures.once (c.reads.invariant.once going)
