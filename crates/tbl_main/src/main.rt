@@ -1,21 +1,19 @@
 //! The program: it does what its words say, between standard input, standard output and the store file.
 #![tactic(auto)]
 
-mod words;
-
-ghost use Rattle.std.specs.Prelude.{◌≤◌, IfSome};
+ghost use Rattle.std.specs.Prelude.{◌≤◌};
 ghost use Rattle.tbl_kinds.specs.Places.{bank_size};
 
+use command_line::{WordsFault, command_line, open_store};
 use shipped_kit::shipped_entries;
 use std::alloc::Global;
 use std::process::ExitCode;
 use std::sync::Wait;
 use std::thread::Threads;
-use tbl_adapters::{StandardInput, StandardOutput, StoreFile};
+use tbl_adapters::{StandardInput, StandardOutput};
 use tbl_kinds::{Bytes, Memory};
 use tbl_outside::{Bank, Gate, Sink, Source};
 use tbl_top::run;
-use words::{CommandLine, WordsFault, command_line};
 
 /// What `--help` answers.
 const HELP: &str = "tbl: the cFE table service, played from a session
@@ -79,9 +77,6 @@ fn tell(text: &str, sink: &mut StandardOutput) -> u8 {
     }
 }
 
-/// How many bytes the Critical Data Store has.
-const BANK_SIZE: u32 = 262_144;
-
 /// The gate of the program, which returns at once.
 struct OpenGate;
 
@@ -109,26 +104,6 @@ fn play<R: Threads + Wait + Sync, S: Source, K: Sink, B: Bank + Send>(
     Ok(status)
 }
 
-/// The name of the store file where none is given: it is in the working folder.
-const STORE_NAME: &str = "cds.store";
-
-/// Opens the store file. Where that fails, standard error says why.
-fn open_store(rt: &HostRuntime, line: &CommandLine) -> Option<StoreFile>
-    ensures { IfSome result (λ store. bank_size ≤ store.size) }
-{
-    let name = match &line.store {
-        Some(name) => name.as_str(),
-        None => STORE_NAME,
-    };
-    match StoreFile::open(rt, name, BANK_SIZE, line.syncing) {
-        Ok(store) => Some(store),
-        Err(fault) => {
-            let _ = eprintln!(rt; "tbl: {name} {fault}");
-            None
-        }
-    }
-}
-
 fn main(rt: HostRuntime) -> ExitCode {
     let line = match command_line(&rt) {
         Ok(line) => line,
@@ -139,7 +114,7 @@ fn main(rt: HostRuntime) -> ExitCode {
     if let Some(text) = text_for(&line.words) {
         return ExitCode::from(tell(text, &mut sink));
     }
-    let Some(bank) = open_store(&rt, &line) else {
+    let Some(bank) = open_store(&rt, "tbl", &line) else {
         return ExitCode::from(7);
     };
     let mut source = StandardInput::of(rt.stdin());

@@ -1,4 +1,4 @@
-// The words of the command line.
+//! The words of the command line.
 use std::alloc::Global;
 use std::env;
 use std::io::ErrorKind;
@@ -8,7 +8,7 @@ use tbl_kinds::{Bytes, Memory};
 
 /// Why the words can't be told.
 #[derive(Clone, Copy, PartialEq, Eq)]
-pub(crate) enum WordsFault {
+pub enum WordsFault {
     /// Memory ran out.
     Memory,
     /// They can't be read, or one of them isn't UTF-8.
@@ -25,12 +25,13 @@ impl From<Memory> for WordsFault {
 
 /// What the command line says: where the store is and how it is written, and the words after that.
 #[derive(Drop)]
-pub(crate) struct CommandLine {
+pub struct CommandLine {
     /// The name of the store file; None where none was given.
-    pub(crate) store: Option<String>,
-    pub(crate) syncing: Syncing,
+    pub store: Option<String>,
+    /// How the store file is written.
+    pub syncing: Syncing,
     /// The first word that is no option, and all words after it, each as its bytes.
-    pub(crate) words: Vec<Bytes>,
+    pub words: Vec<Bytes>,
 }
 
 /// Puts a word last.
@@ -42,7 +43,7 @@ fn push_word(alloc: Global, words: &mut Vec<Bytes>, word: &str) -> Result<(), Wo
 }
 
 /// The command line after the program's name: `--store FILE` and `--durable`, in any order, and then words.
-pub(crate) fn command_line<R: Env + AllocGlobal>(rt: &R) -> Result<CommandLine, WordsFault> {
+pub fn command_line<R: Env + AllocGlobal>(rt: &R) -> Result<CommandLine, WordsFault> {
     let given = match env::args(rt) {
         Ok(given) => given,
         Err(error) if error.kind() == ErrorKind::OutOfMemory => return Err(WordsFault::Memory),
