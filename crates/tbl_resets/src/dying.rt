@@ -7,7 +7,7 @@ ghost use Rattle.tbl_core.specs.Service.{AskedBelow};
 ghost use Rattle.shipped_kit.specs.Verdicts.{asked_of};
 
 use crate::plan::Plan;
-use crate::play::{Fault, Left, MOST_ENTRIES, Room, left_in, shipped, step_all};
+use crate::play::{Fault, Left, MOST_ENTRIES, Room, Scenario, left_in, shipped, step_all};
 use crate::recovery::come_back;
 use crate::tables::{Back, Table};
 use crate::tries::Runs;
@@ -145,17 +145,22 @@ fn bank_of(
     Ok(MemBank::make(alloc, bytes, breaks, &bad, writes, written)?)
 }
 
-/// Two banks that nothing was written to, with what goes wrong with them.
-fn troubled(alloc: Global, trouble: Trouble, room: Room) -> Result<Apart, Fault>
+/// Two banks that hold what a session begins with, the second with a mark after it, and what goes wrong with them.
+fn troubled(scenario: &Scenario<'_>, trouble: Trouble) -> Result<Apart, Fault>
     ensures room { IfOk result (λ apart. bank_size ≤ length apart.first.bytes) }
     ensures larger { IfOk result (λ apart. length apart.first.bytes < length apart.second.bytes) }
 {
-    let zeros = vec![in alloc; 0; BANK_SIZE as usize + 1]?;
+    let (alloc, room) = (scenario.alloc, scenario.room);
+    if scenario.store.len() != BANK_SIZE as usize {
+        return Err(Fault::Full);
+    }
+    let mut marked = Vec::from_slice(alloc, scenario.store)?;
+    marked.push(0)?;
     let first = breaks(alloc, trouble.of_first())?;
     let second = breaks(alloc, trouble.of_second())?;
     Ok(Apart {
-        first: bank_of(alloc, &zeros[1..], &first, trouble.first_unread(), room)?,
-        second: bank_of(alloc, &zeros, &second, trouble.second_unread(), room)?,
+        first: bank_of(alloc, scenario.store, &first, trouble.first_unread(), room)?,
+        second: bank_of(alloc, &marked, &second, trouble.second_unread(), room)?,
     })
 }
 
@@ -267,10 +272,11 @@ pub(crate) struct Death {
 
 /// Plays the session while this goes wrong.
 pub(crate) fn suffer(plan: &Plan<'_>, trouble: Trouble) -> Result<Death, Fault> {
-    let alloc = plan.alloc;
-    let apart = troubled(alloc, trouble, plan.room)?;
-    let (apart, played) = played_apart(alloc, apart, trouble.alone(), plan.records)?;
-    let left = healed(alloc, &apart, played, plan.room)?;
+    let scenario = plan.scenario;
+    let alloc = scenario.alloc;
+    let apart = troubled(scenario, trouble)?;
+    let (apart, played) = played_apart(alloc, apart, trouble.alone(), scenario.records)?;
+    let left = healed(alloc, &apart, played, scenario.room)?;
     let behind = played.saturating_add(1);
     let mut runs = Runs::make(alloc);
     come_back(

@@ -1,6 +1,6 @@
 // The session without a reset: the writes of its bank, its critical tables, and their images.
-use crate::play::{Fault, Room, Service, behind, close};
-use crate::recovery::read_image;
+use crate::play::{Fault, Room, Scenario, Service, behind, close};
+use crate::recovery::{image_in, read_image};
 use crate::tables::{Change, Image, Registration, Table};
 use bitflags::Flags;
 use check_word::check16;
@@ -14,13 +14,11 @@ use tbl_kinds::{
 /// What is known of a session before a reset is tried.
 #[derive(Drop)]
 pub(crate) struct Plan<'a> {
-    pub(crate) alloc: Global,
-    pub(crate) records: &'a [u8],
+    pub(crate) scenario: &'a Scenario<'a>,
     /// Inside long writes each number of bytes is tried that this one divides.
     pub(crate) every: u32,
     /// Whether the session is played over two banks, the first of which dies, in the place of resets.
     pub(crate) is_mirrored: bool,
-    pub(crate) room: Room,
     pub(crate) writes: &'a [Span],
     pub(crate) history: &'a [Entry],
     pub(crate) tables: &'a [Table],
@@ -29,9 +27,8 @@ pub(crate) struct Plan<'a> {
 /// What is known of a session up to a request of it.
 #[derive(Drop)]
 struct Finder<'a> {
-    alloc: Global,
-    records: &'a [u8],
-    room: Room,
+    scenario: &'a Scenario<'a>,
+    history: &'a [Entry],
     /// The names under which applications run.
     running: BTreeMap<u8, Name20>,
     /// The table that each handle was given for, by its place among the tables.
@@ -92,26 +89,43 @@ fn image_of(core: &mut Service, actor: Actor, handle: u16, size: u32) -> Result<
 
 /// The image that a handle's table has after the request at a place.
 fn image_behind(
-    alloc: Global,
-    records: &[u8],
-    room: Room,
+    scenario: &Scenario<'_>,
     place: usize,
     actor: Actor,
     handle: u16,
     size: u32,
 ) -> Result<Bytes, Fault> {
-    let mut core = behind(alloc, records, place.saturating_add(1), room)?;
+    let mut core = behind(scenario, place.saturating_add(1))?;
     let image = image_of(&mut core, actor, handle, size);
     close(core);
     image
 }
 
+/// The name of the table whose block a command deletes.
+fn deleted_name(packet: &[u8]) -> Option<Name40> {
+    let field = packet.get(8..48)?;
+    Some(Name40::of(field))
+}
+
+/// Whether a request takes the block of the table of this name away. The one command that calls the store deletes a block.
+fn takes_block(entry: &Entry, name: &[u8]) -> bool {
+    match &entry.request {
+        Request::Reset {
+            kind: ResetKind::PowerOn,
+        } => true,
+        Request::Command { bytes } if entry.given.outcome() == Outcome::Done => {
+            deleted_name(bytes.bytes()).is_some_and(|deleted| deleted.bytes() == name)
+        }
+        _ => false,
+    }
+}
+
 impl<'a> Finder<'a> {
-    fn make(alloc: Global, records: &'a [u8], room: Room) -> Finder<'a> {
+    fn make(scenario: &'a Scenario<'a>, history: &'a [Entry]) -> Finder<'a> {
+        let alloc = scenario.alloc;
         Finder {
-            alloc,
-            records,
-            room,
+            scenario,
+            history,
             running: BTreeMap::new(alloc),
             handles: BTreeMap::new(alloc),
             tables: Vec::new(alloc),
@@ -136,20 +150,27 @@ impl<'a> Finder<'a> {
         }
     }
 
-    /// The block of each table is gone.
-    fn empty_all(&mut self, place: usize) -> Result<(), AllocError> {
+    /// Takes note of the tables whose blocks a request takes away.
+    fn see_taken(&mut self, place: usize, entry: &Entry) -> Result<(), AllocError> {
         for table in &mut self.tables {
-            table.add(place, Change::Emptied)?;
+            if takes_block(entry, table.name.as_bytes()) {
+                table.add(place, Change::Emptied)?;
+            }
         }
         Ok(())
     }
 
-    /// The block of the table of this name is gone.
-    fn empty(&mut self, place: usize, name: &[u8]) -> Result<(), AllocError> {
-        match self.place_of(name) {
-            Some(table) => self.add(table, place, Change::Emptied),
-            None => Ok(()),
+    /// A table of this name that is registered at a place. The store may have had its block before, and earlier requests may have
+    /// taken that away.
+    fn new_table(&self, place: usize, name: &str) -> Result<Table, AllocError> {
+        let alloc = self.scenario.alloc;
+        let mut table = Table::make(alloc, name.to_string(alloc)?);
+        for (earlier, entry) in self.history.iter().take(place).enumerate() {
+            if takes_block(entry, name.as_bytes()) {
+                table.add(earlier, Change::Emptied)?;
+            }
         }
+        Ok(table)
     }
 
     /// An application runs under this name.
@@ -171,13 +192,13 @@ impl<'a> Finder<'a> {
         Ok(())
     }
 
-    /// The place of a table of this name, which is added where none is known.
-    fn known(&mut self, name: &str) -> Result<usize, AllocError> {
+    /// The place of the table of this name, which is added if none is known.
+    fn known(&mut self, place: usize, name: &str) -> Result<usize, AllocError> {
         if let Some(table) = self.place_of(name.as_bytes()) {
             return Ok(table);
         }
-        let name = name.to_string(self.alloc)?;
-        self.tables.push(Table::make(self.alloc, name))?;
+        let table = self.new_table(place, name)?;
+        self.tables.push(table)?;
         Ok(self.tables.len().saturating_sub(1))
     }
 
@@ -189,7 +210,7 @@ impl<'a> Finder<'a> {
         registration: Registration,
         status: Status,
     ) -> Result<(), AllocError> {
-        let table = self.known(name)?;
+        let table = self.known(place, name)?;
         if status == Status::SUCCESS {
             self.add(table, place, Change::Emptied)?;
         }
@@ -216,7 +237,7 @@ impl<'a> Finder<'a> {
             return Ok(());
         };
         let app = app.copy();
-        let full = full_name(self.alloc, &app, name)?;
+        let full = full_name(self.scenario.alloc, &app, name)?;
         self.see_named(place, entry, &app, &full)
     }
 
@@ -236,20 +257,10 @@ impl<'a> Finder<'a> {
         let Some((number, size)) = self.next_image(table, place) else {
             return Ok(());
         };
-        let (alloc, records, room) = (self.alloc, self.records, self.room);
-        let bytes = image_behind(alloc, records, room, place, actor, handle, size)?;
+        let bytes = image_behind(self.scenario, place, actor, handle, size)?;
         let crc = check16(bytes.bytes());
         self.add(table, place, Change::Copied(Image { number, crc, bytes }))?;
         Ok(())
-    }
-
-    /// A command called the store: it deleted the block of the table that it names.
-    fn see_command(&mut self, place: usize, packet: &[u8]) -> Result<(), AllocError> {
-        let Some(field) = packet.get(8..48) else {
-            return Ok(());
-        };
-        let name = Name40::of(field);
-        self.empty(place, name.bytes())
     }
 
     /// A request called the store, and each of its calls was done.
@@ -259,7 +270,6 @@ impl<'a> Finder<'a> {
             | Request::LoadFile { handle, .. }
             | Request::Update { handle }
             | Request::Manage { handle } => self.see_copy(place, entry.actor, *handle),
-            Request::Command { bytes } => Ok(self.see_command(place, bytes.bytes())?),
             _ => Ok(()),
         }
     }
@@ -274,32 +284,47 @@ impl<'a> Finder<'a> {
             Request::Share { name } if entry.reply.status == Status::SUCCESS => {
                 self.give(entry.reply.detail, name.bytes())
             }
-            Request::Reset {
-                kind: ResetKind::PowerOn,
-            } => Ok(self.empty_all(place)?),
+            Request::Reset { .. } | Request::Command { .. } => Ok(self.see_taken(place, entry)?),
             _ if entry.given.outcome() == Outcome::Done => self.see_call(place, entry),
             _ => Ok(()),
         }
     }
 
     /// Takes note of all entries of the session.
-    fn see_all(&mut self, entries: &[Entry]) -> Result<(), Fault> {
-        for (place, entry) in entries.iter().enumerate() {
+    fn see_all(&mut self) -> Result<(), Fault> {
+        for (place, entry) in self.history.iter().enumerate() {
             self.see(place, entry)?;
+        }
+        Ok(())
+    }
+
+    /// Looks which image of each table the store has as the session begins.
+    fn look_at_store(&mut self) -> Result<(), Fault> {
+        for table in &mut self.tables {
+            table.stored = stored_image(self.scenario, table)?;
         }
         Ok(())
     }
 }
 
+/// The image of a table that the store has as the session begins.
+fn stored_image(scenario: &Scenario<'_>, table: &Table) -> Result<Option<Image>, Fault> {
+    let Some(wanted) = table.registration(0) else {
+        return Ok(None);
+    };
+    let found = image_in(scenario.alloc, scenario.store, wanted)?;
+    Ok(found.map(|bytes| Image {
+        number: 0,
+        crc: check16(bytes.bytes()),
+        bytes,
+    }))
+}
+
 /// The critical tables of a session that was played.
-pub(crate) fn tables_of(
-    alloc: Global,
-    records: &[u8],
-    room: Room,
-    history: &[Entry],
-) -> Result<Vec<Table>, Fault> {
-    let mut finder = Finder::make(alloc, records, room);
-    finder.see_all(history)?;
+pub(crate) fn tables_of(scenario: &Scenario<'_>, history: &[Entry]) -> Result<Vec<Table>, Fault> {
+    let mut finder = Finder::make(scenario, history);
+    finder.see_all()?;
+    finder.look_at_store()?;
     Ok(finder.tables)
 }
 
@@ -322,31 +347,30 @@ fn spans_of(alloc: Global, bank: &MemBank) -> Result<Option<Vec<Span>>, Fault> {
 }
 
 /// The ranges of all writes of a session; none where its bank had no room for its record of them.
-fn writes_in(
-    alloc: Global,
-    records: &[u8],
-    count: usize,
-    room: Room,
-) -> Result<Option<Vec<Span>>, Fault> {
-    let bank = behind(alloc, records, count, room)?.end();
-    spans_of(alloc, &bank)
+fn writes_in(scenario: &Scenario<'_>, count: usize) -> Result<Option<Vec<Span>>, Fault> {
+    let bank = behind(scenario, count)?.end();
+    spans_of(scenario.alloc, &bank)
 }
 
-/// A room in which a bank keeps a record of all writes of a session, and the ranges of these.
-pub(crate) fn writes_of(
+/// A session with room in which a bank keeps a record of all its writes, and the ranges of these.
+pub(crate) fn writes_of<'a>(
     alloc: Global,
-    records: &[u8],
+    store: &'a [u8],
+    records: &'a [u8],
     count: usize,
-) -> Result<(Room, Vec<Span>), Fault> {
+) -> Result<(Scenario<'a>, Vec<Span>), Fault> {
     let mut room = FIRST_ROOM;
     for _ in 0..DOUBLINGS {
-        if let Some(writes) = writes_in(alloc, records, count, room)? {
-            return Ok((room, writes));
-        }
-        room = Room {
-            writes: room.writes.saturating_mul(2),
-            bytes: room.bytes.saturating_mul(2),
+        let scenario = Scenario {
+            alloc,
+            store,
+            records,
+            room,
         };
+        if let Some(writes) = writes_in(&scenario, count)? {
+            return Ok((scenario, writes));
+        }
+        room = room.doubled();
     }
     Err(Fault::Memory)
 }

@@ -14,10 +14,7 @@ use tbl_outside::{Back, Bank, Failed};
 use validation::Kit;
 
 /// How many bytes a bank has.
-const BANK_SIZE: usize = 262_144;
-
-/// A bank that nothing was written to.
-static ZEROS: [u8; BANK_SIZE] = [0; BANK_SIZE];
+pub(crate) const BANK_SIZE: usize = 262_144;
 
 /// The most entries of a history.
 pub(crate) const MOST_ENTRIES: usize = 32_768;
@@ -65,6 +62,26 @@ impl<T: Drop> From<AllocFailed<T>> for Fault {
 pub(crate) struct Room {
     pub(crate) writes: u32,
     pub(crate) bytes: u32,
+}
+
+impl Room {
+    /// Twice as much.
+    pub(crate) fn doubled(self) -> Room {
+        Room {
+            writes: self.writes.saturating_mul(2),
+            bytes: self.bytes.saturating_mul(2),
+        }
+    }
+}
+
+/// A session that is played again and again, each time over a bank of the same bytes.
+#[derive(Drop)]
+pub(crate) struct Scenario<'a> {
+    pub(crate) alloc: Global,
+    /// The bytes that a bank begins with.
+    pub(crate) store: &'a [u8],
+    pub(crate) records: &'a [u8],
+    pub(crate) room: Room,
 }
 
 /// The validation functions of the shipped program.
@@ -126,9 +143,10 @@ fn start_over(alloc: Global, bank: MemBank, kit: Kit<Shipped>) -> Result<Started
 }
 
 /// Starts the service over a bank of these bytes, whose writes break off where the list says so.
-fn start(alloc: Global, image: &[u8], breaks: &[Break], room: Room) -> Result<Started, Fault>
-    requires { length image.now ≡ bank_size }
-{
+fn start(alloc: Global, image: &[u8], breaks: &[Break], room: Room) -> Result<Started, Fault> {
+    if image.len() != BANK_SIZE {
+        return Err(Fault::Full);
+    }
     let kit = shipped(alloc)?;
     let bank = bank_of(alloc, image, breaks, room)?;
     start_over(alloc, bank, kit)
@@ -202,14 +220,9 @@ pub(crate) fn close(core: Service) {
     let _bank = core.end();
 }
 
-/// The service after so many records more.
-fn played_on(
-    alloc: Global,
-    mut core: Service,
-    records: &[u8],
-    most: usize,
-) -> Result<Service, Fault> {
-    match step_all(alloc, &mut core, records, most) {
+/// The service after so many records of a session.
+fn played_on(scenario: &Scenario<'_>, mut core: Service, most: usize) -> Result<Service, Fault> {
+    match step_all(scenario.alloc, &mut core, scenario.records, most) {
         Ok(()) => Ok(core),
         Err(fault) => {
             close(core);
@@ -218,15 +231,10 @@ fn played_on(
     }
 }
 
-/// The service after the first so many records of a session, over a bank that nothing was written to.
-pub(crate) fn behind(
-    alloc: Global,
-    records: &[u8],
-    most: usize,
-    room: Room,
-) -> Result<Service, Fault> {
-    match start(alloc, &ZEROS, &[], room)? {
-        Started::Runs(core) => played_on(alloc, core, records, most),
+/// The service after the first so many records of a session.
+pub(crate) fn behind(scenario: &Scenario<'_>, most: usize) -> Result<Service, Fault> {
+    match start(scenario.alloc, scenario.store, &[], scenario.room)? {
+        Started::Runs(core) => played_on(scenario, core, most),
         Started::Stopped(_) => Err(Fault::Full),
     }
 }
@@ -241,24 +249,18 @@ fn stop_in(write: u32, after: u32) -> Break {
 }
 
 /// Plays a session up to the request in which the processor is reset.
-fn played_to_stop(alloc: Global, core: Service, records: &[u8]) -> Result<Left, Fault> {
-    let core = played_on(alloc, core, records, MOST_ENTRIES)?;
+fn played_to_stop(scenario: &Scenario<'_>, core: Service) -> Result<Left, Fault> {
+    let core = played_on(scenario, core, MOST_ENTRIES)?;
     let played = core.history().len();
-    left_in(alloc, &core.end(), played)
+    left_in(scenario.alloc, &core.end(), played)
 }
 
 /// Plays a session up to a write, in which the processor is reset after so many bytes. The boot after the reset is stopped
 /// before its first write, so that the bank has what the reset left.
-pub(crate) fn with_stop(
-    alloc: Global,
-    records: &[u8],
-    write: u32,
-    after: u32,
-    room: Room,
-) -> Result<Left, Fault> {
+pub(crate) fn with_stop(scenario: &Scenario<'_>, write: u32, after: u32) -> Result<Left, Fault> {
     let breaks = [stop_in(write, after), stop_in(write.saturating_add(1), 0)];
-    match start(alloc, &ZEROS, &breaks, room)? {
-        Started::Runs(core) => played_to_stop(alloc, core, records),
+    match start(scenario.alloc, scenario.store, &breaks, scenario.room)? {
+        Started::Runs(core) => played_to_stop(scenario, core),
         Started::Stopped(left) => Ok(left),
     }
 }
@@ -271,9 +273,6 @@ const FEW_WRITES: Room = Room {
 
 /// The service that starts anew over what a reset left.
 pub(crate) fn anew(alloc: Global, image: &[u8]) -> Result<Service, Fault> {
-    if image.len() != BANK_SIZE {
-        return Err(Fault::Full);
-    }
     match start(alloc, image, &[], FEW_WRITES)? {
         Started::Runs(core) => Ok(core),
         Started::Stopped(_) => Err(Fault::Full),

@@ -4,6 +4,7 @@ use crate::play::{Fault, Service, anew, ask, close};
 use crate::tables::{Back, Registration, Table};
 use crate::tries::Runs;
 use check_word::check16;
+use std::alloc::Global;
 use tbl_kinds::{Actor, Bytes, Request, Status};
 
 /// Makes a request, and gives its status.
@@ -91,6 +92,29 @@ fn register(core: &mut Service, wanted: &Registration) -> Result<(Status, u32), 
     Ok((reply.status, reply.detail))
 }
 
+/// Lets the application of a table run, registers the table, and gives the image that came back.
+fn first_image(core: &mut Service, wanted: &Registration) -> Result<Option<Bytes>, Fault> {
+    start_app(core, &[], wanted, 0)?;
+    let (status, detail) = register(core, wanted)?;
+    if status == Status::INFO_RECOVERED_TBL {
+        read_image(core, wanted.actor, handle_of(detail)?, wanted.size)
+    } else {
+        Ok(None)
+    }
+}
+
+/// The image that comes back in a table which is the first to be registered over these bytes.
+pub(crate) fn image_in(
+    alloc: Global,
+    store: &[u8],
+    wanted: &Registration,
+) -> Result<Option<Bytes>, Fault> {
+    let mut core = anew(alloc, store)?;
+    let image = first_image(&mut core, wanted);
+    close(core);
+    image
+}
+
 /// The handle of a number.
 fn handle_of(detail: u32) -> Result<u16, Fault> {
     match u16::try_from(detail) {
@@ -154,7 +178,7 @@ pub(crate) fn come_back(
     after: u32,
     runs: &mut Runs,
 ) -> Result<(), Fault> {
-    let mut core = anew(plan.alloc, image)?;
+    let mut core = anew(plan.scenario.alloc, image)?;
     let told = come_back_in(&mut core, plan.tables, played, after, runs);
     close(core);
     told

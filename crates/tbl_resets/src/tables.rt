@@ -17,7 +17,7 @@ pub(crate) struct Registration {
 /// An image that was copied into a table's block.
 #[derive(Drop)]
 pub(crate) struct Image {
-    /// 1 for the first one of the table.
+    /// 1 for the first one that the session copies, and 0 for the one that was in the store before.
     pub(crate) number: u32,
     pub(crate) crc: u16,
     pub(crate) bytes: Bytes,
@@ -44,6 +44,8 @@ pub(crate) struct Event {
 pub(crate) struct Table {
     pub(crate) name: String,
     pub(crate) events: Vec<Event>,
+    /// The image that the store had as the session began.
+    pub(crate) stored: Option<Image>,
 }
 
 /// What came back in a table, registered anew after a reset.
@@ -66,6 +68,7 @@ impl Table {
         Table {
             name,
             events: Vec::new(alloc),
+            stored: None,
         }
     }
 
@@ -115,7 +118,7 @@ impl Table {
         }
     }
 
-    /// The last image whose copy was completed before the last of so many requests, where its block still had it then.
+    /// The last image whose copy was completed before the last of so many requests, if its block still had it then.
     pub(crate) fn completed(&self, played: usize) -> Option<&Image> {
         for event in self.events.iter().rev() {
             if event.place.saturating_add(1) < played {
@@ -126,7 +129,7 @@ impl Table {
                 }
             }
         }
-        None
+        self.stored.as_ref()
     }
 
     /// The image that the last of so many requests copies.

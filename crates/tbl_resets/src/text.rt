@@ -273,6 +273,10 @@ fn tell_event(text: &mut String, event: &Event) -> Result<(), AllocError> {
 fn tell_table(text: &mut String, table: &Table) -> Result<(), AllocError> {
     let name = table.name.as_str();
     writeln!(text, "{name}")?;
+    if let Some(image) = &table.stored {
+        let crc = image.crc;
+        writeln!(text, "  the store file has image 0 (crc 0x{crc:04X})")?;
+    }
     for event in &table.events {
         tell_event(text, event)?;
     }

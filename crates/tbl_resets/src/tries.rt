@@ -147,11 +147,11 @@ pub(crate) struct Sweep {
 impl Sweep {
     /// After no byte, before anything was asked.
     pub(crate) fn begin(plan: &Plan<'_>, write: Write) -> Result<Sweep, Fault> {
-        let before = with_stop(plan.alloc, plan.records, write.number, 0, plan.room)?;
+        let before = with_stop(plan.scenario, write.number, 0)?;
         Ok(Sweep {
             image: before.image,
             played: before.played,
-            runs: Runs::make(plan.alloc),
+            runs: Runs::make(plan.scenario.alloc),
             is_changed: true,
         })
     }
@@ -232,7 +232,7 @@ pub(crate) fn try_write<R: Eprint>(
     counts: &mut Counts,
 ) -> Result<(), Fault> {
     let Write { number, span } = write;
-    let behind = with_stop(plan.alloc, plan.records, number, span.length, plan.room)?;
+    let behind = with_stop(plan.scenario, number, span.length)?;
     try_bytes(rt, plan, write, behind.image.as_slice(), sweep, counts)
 }
 

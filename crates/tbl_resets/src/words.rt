@@ -1,8 +1,23 @@
 // The words of the command line.
-use std::alloc::AllocError;
+use std::alloc::{AllocError, Global};
 use std::env;
 use std::io::ErrorKind;
 use std::rt::Env;
+
+/// What the command line says.
+#[derive(Drop)]
+pub(crate) struct CommandLine {
+    /// The name of the store file that preserved memory begins with a copy of; none if it begins empty.
+    pub(crate) store: Option<String>,
+    pub(crate) words: Words,
+}
+
+impl CommandLine {
+    /// Words that name no store file.
+    fn plain(words: Words) -> CommandLine {
+        CommandLine { store: None, words }
+    }
+}
 
 /// What is asked for.
 #[derive(Clone, Copy)]
@@ -26,27 +41,41 @@ fn try_every(word: &str) -> Words {
     }
 }
 
-/// What words ask for, of which the first one is the program's name.
+/// What words ask for that name no store file.
 fn read_words(words: &[String]) -> Words {
     match words {
-        [] | [_] => Words::Try { every: 1 },
-        [_, word] if word.as_str() == "--help" => Words::Help,
-        [_, word] if word.as_str() == "--mirror" => Words::Mirror,
-        [_, word, number] if word.as_str() == "--every" => try_every(number.as_str()),
+        [] => Words::Try { every: 1 },
+        [word] if word.as_str() == "--help" => Words::Help,
+        [word] if word.as_str() == "--mirror" => Words::Mirror,
+        [word, number] if word.as_str() == "--every" => try_every(number.as_str()),
         _ => Words::Unknown,
     }
 }
 
-/// What the words of the command line ask for.
-pub(crate) fn given_words<R: Env + AllocGlobal>(rt: &R) -> Words {
+/// What the words after the program's name say: `--store FILE` comes first.
+fn read_line(alloc: Global, words: &[String]) -> Result<CommandLine, AllocError> {
+    match words {
+        [option, name, others @ ..] if option.as_str() == "--store" => Ok(CommandLine {
+            store: Some(name.as_str().to_string(alloc)?),
+            words: read_words(others),
+        }),
+        _ => Ok(CommandLine::plain(read_words(words))),
+    }
+}
+
+/// What the command line says.
+pub(crate) fn command_line<R: Env + AllocGlobal>(rt: &R) -> CommandLine {
     let given = match env::args(rt) {
         Ok(given) => given,
-        Err(error) if error.kind() == ErrorKind::OutOfMemory => return Words::Memory,
-        Err(_) => return Words::Unknown,
+        Err(error) if error.kind() == ErrorKind::OutOfMemory => {
+            return CommandLine::plain(Words::Memory);
+        }
+        Err(_) => return CommandLine::plain(Words::Unknown),
     };
-    let words: Result<Vec<String>, AllocError> = given.collect(rt.alloc());
-    match words {
-        Ok(words) => read_words(&words),
-        Err(_) => Words::Memory,
-    }
+    let words: Result<Vec<String>, AllocError> = given.skip(1).collect(rt.alloc());
+    let line = match words {
+        Ok(words) => read_line(rt.alloc(), &words),
+        Err(error) => Err(error),
+    };
+    line.unwrap_or(CommandLine::plain(Words::Memory))
 }
