@@ -42,8 +42,8 @@ fn job_of(row: &Row) -> Result<Job, CaseFault> {
 #[tactic(auto, using(tbl_live::proofs::SeatLemmas::fits_actor, tbl_live::proofs::SeatLemmas::still_app))]
 pub(crate) fn call<R: Wait>(
     rt: &R,
-    service: &Service<CalmBank, FirstByte>,
-    seat: &mut Seat<CalmBank, FirstByte>,
+    service: &Service<CalmBank, FirstByte, Core<CalmBank, FirstByte>>,
+    seat: &mut Seat<CalmBank, FirstByte, Core<CalmBank, FirstByte>>,
     request: Request,
     told: &mut Told,
     out: &mut Bytes,
@@ -70,8 +70,8 @@ pub(crate) fn call<R: Wait>(
 fn call_all<R: Wait>(
     rt: &R,
     alloc: Global,
-    service: &Service<CalmBank, FirstByte>,
-    seat: &mut Seat<CalmBank, FirstByte>,
+    service: &Service<CalmBank, FirstByte, Core<CalmBank, FirstByte>>,
+    seat: &mut Seat<CalmBank, FirstByte, Core<CalmBank, FirstByte>>,
     count: u32,
     told: &mut Told,
 )
@@ -106,8 +106,8 @@ fn rooms(alloc: Global, callers: u32, count: u32) -> Result<Vec<Mutex<Told>>, Me
 fn do_job<R: Wait>(
     rt: &R,
     alloc: Global,
-    service: &Service<CalmBank, FirstByte>,
-    seat: &mut Seat<CalmBank, FirstByte>,
+    service: &Service<CalmBank, FirstByte, Core<CalmBank, FirstByte>>,
+    seat: &mut Seat<CalmBank, FirstByte, Core<CalmBank, FirstByte>>,
     place: usize,
     job: (Job, u32),
     told: &mut Told,
@@ -129,8 +129,8 @@ fn do_job<R: Wait>(
 fn call_each<R: Threads + Wait + Sync>(
     rt: &R,
     alloc: Global,
-    service: &Service<CalmBank, FirstByte>,
-    apps: &mut [Seat<CalmBank, FirstByte>],
+    service: &Service<CalmBank, FirstByte, Core<CalmBank, FirstByte>>,
+    apps: &mut [Seat<CalmBank, FirstByte, Core<CalmBank, FirstByte>>],
     job: (Job, u32),
     rooms: &Vec<Mutex<Told>>,
 )
@@ -141,7 +141,7 @@ fn call_each<R: Threads + Wait + Sync>(
         rt,
         apps,
         THREADS,
-        &|place: usize, seat: &mut Seat<CalmBank, FirstByte>|
+        &|place: usize, seat: &mut Seat<CalmBank, FirstByte, Core<CalmBank, FirstByte>>|
             requires { IsAppOf service.now.of seat.now }
             ensures { IsSame seat.entry.now seat.exit.now }
         {
@@ -156,8 +156,8 @@ fn call_each<R: Threads + Wait + Sync>(
 fn call_beside<R: Threads + Wait + Sync>(
     rt: &R,
     alloc: Global,
-    service: &Service<CalmBank, FirstByte>,
-    seats: &mut Seats<CalmBank, FirstByte>,
+    service: &Service<CalmBank, FirstByte, Core<CalmBank, FirstByte>>,
+    seats: &mut Seats<CalmBank, FirstByte, Core<CalmBank, FirstByte>>,
     job: (Job, u32),
     rooms: &Vec<Mutex<Told>>,
 )

@@ -10,16 +10,17 @@ use crate::services::new_core;
 use shipped_kit::FirstByte;
 use std::alloc::Global;
 use std::sync::Wait;
+use tbl_core::Core;
 use tbl_fakes::CalmBank;
 use tbl_kinds::{Bytes, Request};
-use tbl_live::{REPLY_LIMIT, Receipt, Seat, Seats, Service};
+use tbl_live::{REPLY_LIMIT, Receipt, Seat, Seats, Service, ServiceCore};
 use test_tables::{CaseFault, Row, same_text};
 
 /// Makes a call, and tells its receipt.
-fn call<R: Wait>(
+pub(crate) fn call<R: Wait, K: ServiceCore<CalmBank, FirstByte>>(
     rt: &R,
-    service: &Service<CalmBank, FirstByte>,
-    seat: &mut Seat<CalmBank, FirstByte>,
+    service: &Service<CalmBank, FirstByte, K>,
+    seat: &mut Seat<CalmBank, FirstByte, K>,
     request: Request,
     out: &mut Bytes,
 ) -> Result<Receipt, CaseFault>
@@ -41,8 +42,8 @@ fn call<R: Wait>(
 fn call_both<R: Wait>(
     rt: &R,
     alloc: Global,
-    service: &Service<CalmBank, FirstByte>,
-    seat: &mut Seat<CalmBank, FirstByte>,
+    service: &Service<CalmBank, FirstByte, Core<CalmBank, FirstByte>>,
+    seat: &mut Seat<CalmBank, FirstByte, Core<CalmBank, FirstByte>>,
 ) -> Result<[Receipt; 2], CaseFault>
     requires ground { IsOfActor service.now.of 0 seat.old }
     ensures same { IsSame seat.old seat.new }
@@ -59,8 +60,8 @@ fn call_both<R: Wait>(
 fn call_by_ground<R: Wait>(
     rt: &R,
     alloc: Global,
-    service: &Service<CalmBank, FirstByte>,
-    seats: &mut Seats<CalmBank, FirstByte>,
+    service: &Service<CalmBank, FirstByte, Core<CalmBank, FirstByte>>,
+    seats: &mut Seats<CalmBank, FirstByte, Core<CalmBank, FirstByte>>,
 ) -> Result<[Receipt; 2], CaseFault>
     requires seats { AreSeats service.now.of (seats.old.ground ∷ seats.old.apps.items) }
     ensures seats { AreSeats service.now.of (seats.new.ground ∷ seats.new.apps.items) }

@@ -4,6 +4,7 @@
 mod agreeing;
 mod callers;
 mod first_calls;
+mod lasting;
 mod pinned;
 mod reads;
 mod requests;

@@ -9,6 +9,7 @@ use crate::requests::{FILL, LARGE, get_by, load_large, register_large, start_as}
 use shipped_kit::FirstByte;
 use std::alloc::Global;
 use std::sync::Wait;
+use tbl_core::Core;
 use tbl_fakes::CalmBank;
 use tbl_kinds::Bytes;
 use tbl_live::{REPLY_LIMIT, Seat, Service};
@@ -19,8 +20,8 @@ use tbl_registry::Pin;
 fn get_large<R: Wait>(
     rt: &R,
     alloc: Global,
-    service: &Service<CalmBank, FirstByte>,
-    seat: &mut Seat<CalmBank, FirstByte>,
+    service: &Service<CalmBank, FirstByte, Core<CalmBank, FirstByte>>,
+    seat: &mut Seat<CalmBank, FirstByte, Core<CalmBank, FirstByte>>,
     number: u8,
     told: &mut Told,
     out: &mut Bytes,
@@ -44,8 +45,8 @@ fn get_large<R: Wait>(
 #[tactic(auto, using(tbl_live::proofs::SeatLemmas::fits_actor, tbl_live::proofs::SeatLemmas::still_app))]
 fn read_once<R: Wait>(
     rt: &R,
-    service: &Service<CalmBank, FirstByte>,
-    seat: &mut Seat<CalmBank, FirstByte>,
+    service: &Service<CalmBank, FirstByte, Core<CalmBank, FirstByte>>,
+    seat: &mut Seat<CalmBank, FirstByte, Core<CalmBank, FirstByte>>,
     pin: &Pin,
     told: &mut Told,
     out: &mut Bytes,
@@ -73,8 +74,8 @@ fn read_once<R: Wait>(
 pub(crate) fn read_pinned<R: Wait>(
     rt: &R,
     alloc: Global,
-    service: &Service<CalmBank, FirstByte>,
-    seat: &mut Seat<CalmBank, FirstByte>,
+    service: &Service<CalmBank, FirstByte, Core<CalmBank, FirstByte>>,
+    seat: &mut Seat<CalmBank, FirstByte, Core<CalmBank, FirstByte>>,
     number: u8,
     count: u32,
     told: &mut Told,

@@ -10,6 +10,7 @@ use crate::services::new_core;
 use shipped_kit::FirstByte;
 use std::alloc::Global;
 use std::sync::Wait;
+use tbl_core::Core;
 use tbl_fakes::CalmBank;
 use tbl_kinds::Bytes;
 use tbl_live::{REPLY_LIMIT, Seat, Seats, Service};
@@ -19,8 +20,8 @@ use test_tables::{CaseFault, Row};
 #[tactic(auto, using(tbl_live::proofs::SeatLemmas::same_then))]
 fn read_once<R: Wait>(
     rt: &R,
-    service: &Service<CalmBank, FirstByte>,
-    seat: &mut Seat<CalmBank, FirstByte>,
+    service: &Service<CalmBank, FirstByte, Core<CalmBank, FirstByte>>,
+    seat: &mut Seat<CalmBank, FirstByte, Core<CalmBank, FirstByte>>,
     told: &mut Told,
     out: &mut Bytes,
 ) -> bool
@@ -40,8 +41,8 @@ fn read_once<R: Wait>(
 fn read_all<R: Wait>(
     rt: &R,
     alloc: Global,
-    service: &Service<CalmBank, FirstByte>,
-    seat: &mut Seat<CalmBank, FirstByte>,
+    service: &Service<CalmBank, FirstByte, Core<CalmBank, FirstByte>>,
+    seat: &mut Seat<CalmBank, FirstByte, Core<CalmBank, FirstByte>>,
     times: u32,
     told: &mut Told,
 ) -> Result<u32, CaseFault>
@@ -65,8 +66,8 @@ fn read_all<R: Wait>(
 fn read_by_first<R: Wait>(
     rt: &R,
     alloc: Global,
-    service: &Service<CalmBank, FirstByte>,
-    seats: &mut Seats<CalmBank, FirstByte>,
+    service: &Service<CalmBank, FirstByte, Core<CalmBank, FirstByte>>,
+    seats: &mut Seats<CalmBank, FirstByte, Core<CalmBank, FirstByte>>,
     times: u32,
     told: &mut Told,
 ) -> Result<u32, CaseFault>

@@ -12,7 +12,7 @@ use test_tables::{BANK_SIZE, CaseFault};
 use validation::Kit;
 
 /// A bank of zeros.
-fn bank(alloc: Global) -> Result<CalmBank, Memory>
+pub(crate) fn new_bank(alloc: Global) -> Result<CalmBank, Memory>
     ensures { IfOk result (λ bank. length bank ≡ bank_size) }
 {
     CalmBank::of_zeros(alloc, BANK_SIZE as u32)
@@ -24,7 +24,7 @@ pub(crate) fn new_core(alloc: Global) -> Result<Core<CalmBank, FirstByte>, CaseF
     ensures live { IfOk result (λ core. core.state.ended ≡ false) }
 {
     let kit = Kit::make(alloc, Vec::new(alloc))?;
-    let bank = bank(alloc)?;
+    let bank = new_bank(alloc)?;
     match Core::start(alloc, bank, kit, Admit::all()) {
         Ok(core) => Ok(core),
         Err(_) => Err(CaseFault::Memory),

@@ -3,12 +3,12 @@
 ghost use Rattle.std.specs.Prelude.{◌≡◌, length, IfOk};
 ghost use Rattle.tbl_kinds.specs.Places.{bank_size};
 
-use crate::sessions::{Session, play};
+use crate::sessions::Session;
 use std::alloc::Global;
 use std::sync::Wait;
 use std::thread::Threads;
 use tbl_fakes::{Break, MemBank};
-use test_tables::{BANK_SIZE, CaseFault, Row, bank_over, kept, number_in, zeros};
+use test_tables::{CaseFault, Row, bank_over, number_in, zeros};
 
 /// A write that breaks off, after each number of bytes from one to another.
 #[derive(Clone, Copy)]
@@ -43,49 +43,13 @@ fn broken_bank(alloc: Global, place: Break) -> Result<MemBank, CaseFault>
     bank_over(alloc, zeros, &[place], &[])
 }
 
-/// A bank that keeps what another one held, and in which no write breaks off.
-fn next_bank(alloc: Global, bank: &MemBank) -> Result<MemBank, CaseFault>
-    ensures { IfOk result (λ b. length b.bytes ≡ bank_size) }
-{
-    let bytes = bank.bytes();
-    if bytes.len() != BANK_SIZE {
-        return Err(CaseFault::Unreadable);
-    }
-    let bytes = Vec::from_slice(alloc, bytes)?;
-    bank_over(alloc, bytes, &[], &[])
-}
-
-/// Plays the first session over a bank, compares how it ends, and gives its bank back.
-fn play_first<R: Threads + Wait + Sync>(
-    rt: &R,
-    row: &Row,
-    bank: MemBank,
-) -> Result<MemBank, CaseFault>
+/// Plays both sessions, the second over the bank that the first gave back, and compares how they end.
+fn play_both<R: Threads + Wait + Sync>(rt: &R, row: &Row, bank: MemBank) -> Result<(), CaseFault>
     requires { length bank.bytes ≡ bank_size }
 {
-    play(rt, row, row.text(1)?, 3, 6, bank)
-}
-
-/// Plays the second session in order over what a bank holds, and compares how it ends.
-fn play_second<R: Threads + Wait + Sync>(
-    rt: &R,
-    row: &Row,
-    bank: &MemBank,
-) -> Result<(), CaseFault> {
-    let bank = next_bank(row.alloc(), bank)?;
-    match play(rt, row, "play", 4, 8, bank) {
-        Ok(_bank) => Ok(()),
-        Err(fault) => Err(fault),
-    }
-}
-
-/// Plays both sessions in order, the second over the bank that the first gave back, and compares how they end.
-fn play_both(row: &Row, bank: MemBank) -> Result<(), CaseFault>
-    requires { length bank.bytes ≡ bank_size }
-{
-    let mut first = Session::make(row, "play", 3, 7)?;
+    let mut first = Session::make(row, row.text(1)?, 3, 7)?;
     let mut second = Session::make(row, "play", 4, 9)?;
-    let (status, next_status) = first.play_again(&mut second, row.alloc(), bank)?;
+    let (status, next_status) = first.play_again(rt, &mut second, row.alloc(), bank)?;
     first.compare(row, 6, status)?;
     second.compare(row, 8, next_status)
 }
@@ -93,11 +57,7 @@ fn play_both(row: &Row, bank: MemBank) -> Result<(), CaseFault>
 /// Plays both sessions with a break in one place.
 fn try_break<R: Threads + Wait + Sync>(rt: &R, row: &Row, place: Break) -> Result<(), CaseFault> {
     let bank = broken_bank(row.alloc(), place)?;
-    if row.text(1)? == "play" {
-        return play_both(row, bank);
-    }
-    let bank = play_first(rt, row, bank)?;
-    play_second(rt, row, &bank)
+    play_both(rt, row, bank)
 }
 
 /// Plays both with a break in each of the places of a word, and tells how many there are.

@@ -9,7 +9,7 @@ use std::alloc::Global;
 use std::sync::Wait;
 use std::thread::Threads;
 use tbl_fakes::{MemBank, MemSink, MemSource, OpenGate};
-use tbl_kinds::{Admit, Bytes, Memory};
+use tbl_kinds::{Bytes, Memory};
 use tbl_outside::Gate;
 use tbl_top::{BetweenCalls, run, run_again};
 use test_tables::{CaseFault, Row, bank_in, count_of, kept};
@@ -95,8 +95,9 @@ impl Session {
     }
 
     /// Plays it over a bank, and another one over what a reset between two calls of the bank left of it. Both statuses.
-    pub(crate) fn play_again(
+    pub(crate) fn play_again<R: Threads + Wait + Sync>(
         &mut self,
+        rt: &R,
         next: &mut Session,
         alloc: Global,
         bank: MemBank,
@@ -106,17 +107,19 @@ impl Session {
         let kit = shipped_entries(alloc)?;
         let next_kit = shipped_entries(alloc)?;
         let (status, (next_status, _bank)) = run_again(
+            rt,
             alloc,
+            &self.words,
             &mut self.source,
             &mut self.sink,
             bank,
             kit,
-            Admit::all(),
             &mut BetweenCalls,
+            &next.words,
             &mut next.source,
             &mut next.sink,
             next_kit,
-            Admit::all(),
+            &OpenGate,
         );
         Ok((status, next_status))
     }
