@@ -1,2 +1,3 @@
-pub mod Beginnings
-pub mod Sessions
+pub mod Loosely
+pub mod Values
+pub mod Stepping

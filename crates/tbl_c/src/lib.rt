@@ -1,50 +1,93 @@
-//! The service for C: whoever links it may rely on it that what a run tells is a session as the program plays it, over the bytes,
-//! the records and the verdicts that were handed in.
+//! The service for C: whoever links it may rely on it that each call plays one record, that what it tells is the entry of one legal
+//! history that begins as the handle was opened, and that nothing of a history is kept.
 #![tactic(auto)]
 
-mod playing;
-mod running;
+mod handle;
+mod loose;
+mod service;
+mod status;
+mod told;
 
-ghost use Rattle.std.specs.Prelude.{◌≡◌, ◌≢◌, ◌↔◌, ◌<◌, length};
+ghost use Rattle.std.specs.Prelude.{◌≡◌, ◌≢◌, ◌↔◌, ◌⊎◌, None, Some, Option, length, drop};
 ghost use Rattle.tbl_kinds.specs.Places.{bank_size};
-ghost use Rattle.tbl_c.specs.Runs.{Answers};
+ghost use Rattle.tbl_c.specs.Serving.{Begins, OnHeld, Serving, Stepped};
+ghost use Rattle.tbl_c.specs.Told.{over_front};
 
-use handed_kit::Given;
-pub use playing::play;
-pub use running::Told;
-use running::run;
+use crate::service::{BANK_SIZE, Service};
+use crate::status::{BAD_BANK, CLOSED, NO_MEMORY, PLAYED};
+use handed_kit::Answering;
+pub use handle::Handle;
 use std::alloc::Global;
 use tbl_fakes::CalmBank;
-use tbl_kinds::Memory;
-use tbl_outside::Bank;
+use tbl_outside::{Bank, Validator};
+pub use told::Told;
 
-/// Memory ran out.
-const NO_MEMORY: u8 = 1;
-
-/// Plays a session from its beginning, over preserved memory of 262,144 bytes, and tells what of its transcript comes after its first
-/// `from` bytes. The status is that of a run (0, 1, 4 to 6), 16 where a verdict is missing, or 17 where the bank has another size.
+/// Opens a handle over a copy of preserved memory of 262,144 bytes: boots over it, with files of all spacecraft and processors
+/// admitted. One that is open is closed first, and it is closed where that fails. The status is 0, 1 or 17.
 #[unsafe(no_mangle)]
-pub extern "C" fn tbl_run(
+pub extern "C" fn tbl_open(alloc: Global, handle: &mut Handle, bank: &[u8]) -> u8
+    ensures ok { result ≡ 0 → (new : Serving) × (handle.new.service ≡ Some new) × Begins ⟦<CalmBank as Bank>⟧ bank.now new }
+    ensures err { result ≢ 0 → handle.new.service ≡ None }
+    ensures bad_bank { (result ≡ 17) ↔ (length bank.now ≢ bank_size) }
+{
+    let _old = handle.replace(alloc, None);
+    if bank.len() != BANK_SIZE {
+        return BAD_BANK;
+    }
+    match Service::open(alloc, bank) {
+        Err(status) => status,
+        Ok(service) => match Box::new(alloc, service) {
+            Err(_) => NO_MEMORY,
+            Ok(service) => {
+                let _none = handle.replace(alloc, Some(service));
+                PLAYED
+            }
+        },
+    }
+}
+
+/// Plays the request of one record, with the verdicts that validation functions give on the images it asks them about, in order. Where
+/// one is missing nothing is played, and C is told which function it is of (`number`) and the image (`length`, and its bytes in `out`).
+/// Else C is told the entry: `out` has the beginning of its bytes and `length` says how many it has.
+#[unsafe(no_mangle)]
+pub extern "C" fn tbl_step(
     alloc: Global,
-    bank: &mut [u8],
-    records: &[u8],
-    given: &[Given],
-    images: &[u8],
-    from: usize,
+    handle: &mut Handle,
+    input: &[u8],
+    verdicts: &[i32],
     out: &mut [u8],
     told: &mut Told,
 ) -> u8
-    // Unless memory ran out, C is told of a session that was played over what it handed in, or which verdict is missing for one.
-    ensures answers { result ≢ 1 → result ≢ 16 → result ≢ 17 → Answers ⟦<CalmBank as Bank>⟧
-        (record { bank = bank.old; records = records.now; verdicts = given.now; images = images.now }) from out.old
-        (record { status = result; bank = bank.new; length_told = told.new.length; bytes = out.new }) }
-    ensures bad_bank { (result ≡ 17) ↔ (length bank.old ≢ bank_size) }
-
-    // Preserved memory is changed by a session that was played to the end of its records alone.
-    ensures kept { result ≢ 0 → bank.new ≡ bank.old }
+    // The service begins where `tbl_open` left it, and each step goes on from where the one before left it. So by `legal` of `Steps` the
+    // entries that C was told are one legal history.
+    ensures { OnHeld handle.old.service handle.new.service result (λ old new. Stepped ⟦<CalmBank as Bank>⟧ ⟦<Answering as Validator>⟧ old new input.now
+        verdicts.now (record { status = result; told = told.new.length; number = told.new.number; out = out.old; out_then = out.new })) }
 {
-    match run(alloc, bank, records, given, images, from, out, told) {
-        Ok(status) => status,
-        Err(Memory) => NO_MEMORY,
-    }
+    let Some(mut service) = handle.replace(alloc, None) else {
+        return CLOSED;
+    };
+    let status = service.step(input, verdicts, out, told);
+    let _none = handle.replace(alloc, Some(service));
+    status
+}
+
+/// Tells preserved memory from a place on, as much of it as there is room for.
+#[unsafe(no_mangle)]
+pub extern "C" fn tbl_bank(alloc: Global, handle: &mut Handle, from: usize, out: &mut [u8]) -> u8
+    ensures { OnHeld handle.old.service handle.new.service result (λ old new. (new ≡ old) × (out.new ≡ over_front (drop from old.state.store.bank) out.old)) }
+{
+    let Some(service) = handle.replace(alloc, None) else {
+        return CLOSED;
+    };
+    service.bank(from, out);
+    let _none = handle.replace(alloc, Some(service));
+    PLAYED
+}
+
+/// Closes a handle, and frees all that it holds. One that is closed stays so.
+#[unsafe(no_mangle)]
+pub extern "C" fn tbl_close(alloc: Global, handle: &mut Handle)
+    ensures { handle.new.service ≡ None }
+{
+    let _service = handle.replace(alloc, None);
 }

@@ -1,0 +1,172 @@
+-- What a handle holds, and what one step of it does.
+use Rattle.std.specs.Prelude.{◌≡◌, ◌≢◌, ◌⊎◌, true, false, ℕ, ℤ, ◌%◌, ◌==◌, ◌&&◌, ◌≤◌, List, [], ◌∷◌, length, take, map, if◌then◌else◌, Option, Some, None, Result, Ok, Err, slice_get}
+use Rattle.std.specs.List.{AllByRecursion}
+use Rattle.std.specs.Option.{ForSome}
+use Rattle.std.specs.Str.{bytes_eq}
+use Rattle.tbl_kinds.specs.Admitted.{all_admitted}
+use Rattle.tbl_kinds.specs.Heads.{IsShort, IsBad}
+use Rattle.tbl_kinds.specs.Records.{Pair, IsRecord, spelling}
+use Rattle.tbl_kinds.specs.Transcript.{entry_bytes}
+use Rattle.tbl_kinds.specs.declared.entry.Entry.{Entry}
+use Rattle.tbl_kinds.specs.declared.request.Actor.{Actor}
+use Rattle.tbl_kinds.specs.declared.request.Request.{Request}
+use Rattle.tbl_model.specs.State.{State, first_state}
+use Rattle.tbl_model.specs.Telemetry.{Question}
+use Rattle.cds_layout.specs.Images.{store_of}
+use Rattle.tbl_outside.specs.declared.bank.Bank.{Ghosts}
+use Rattle.tbl_outside.specs.declared.validator.KitEntry.{KitEntry}
+use Rattle.tbl_outside.specs.declared.validator.Validator.{Ghosts as ValidatorGhosts}
+use Rattle.validation.specs.Kits.{entry_at, owners}
+use Rattle.handed_kit.specs.Answering.{Spoken, answer_of}
+use Rattle.handed_kit.specs.Kit.{mute_below}
+use Rattle.tbl_core.specs.Asking.{Asks, StandsOn, MeetsLimit, may_ask}
+use Rattle.tbl_core.specs.Engine.{Steps}
+use Rattle.tbl_core.specs.Service.{EngineView, Stands, IsAfter}
+use Rattle.tbl_c.specs.Told.{over_front}
+use Rattle.tbl_core.specs.declared.service.StepFault.{StepFault}
+use Rattle.tbl_core.specs.declared.service.StepFault.TheVariants.{BootFault, BootStopped}
+
+-- the engine, over preserved memory as a list of bytes
+abbrev pub Serving : Type 0
+Serving = EngineView (List ℕ) Spoken
+
+-- ---- verdicts
+
+-- the verdict that counts for the second question: the first one's where both are one question
+abbrev pub second_of : Question → Question → ℤ → ℤ → ℤ
+second_of q r v w = if (q.number == r.number) && bytes_eq q.image r.image then v else w
+
+-- these verdicts were handed in for these questions, and so each was answered
+abbrev pub Said : List Question → List ℤ → List (Option ℤ) → Type 0
+Said [] verdicts answers = AllByRecursion (λ (a : Option ℤ). a ≡ None) answers
+Said (q ∷ []) (v ∷ vs) (a ∷ answers) = (a ≡ Some v) × AllByRecursion (λ (b : Option ℤ). b ≡ None) answers
+Said (q ∷ r ∷ []) (v ∷ w ∷ vs) (a ∷ b ∷ answers) = (a ≡ Some v) × (b ≡ Some (second_of q r v w)) × AllByRecursion (λ (c : Option ℤ). c ≡ None) answers
+Said _ _ _ = ⊥
+
+-- so the functions answer them, as far as they stand in the kit
+abbrev pub WillSay : List Question → List ℤ → List (Option (KitEntry Spoken)) → Type 0
+WillSay [] verdicts kit = Unit {0}
+WillSay (q ∷ []) (v ∷ vs) kit = ForSome (entry_at kit q.number) (λ e. answer_of e.check q.image ≡ v)
+WillSay (q ∷ r ∷ []) (v ∷ w ∷ vs) kit = ForSome (entry_at kit q.number) (λ e. answer_of e.check q.image ≡ v) × ForSome (entry_at kit r.number) (λ e. answer_of e.check r.image ≡ second_of q r v w)
+WillSay _ _ _ = ⊥
+
+-- ---- a step
+
+-- the entry, as the transcript tells it: FFFFFFFF is no entry's place, and after FFFFFFFE comes 0
+abbrev pub told_as : Serving → Entry → List ℕ
+told_as old e = entry_bytes (old.played % 4294967295) e
+
+-- what C is told of a call: the status, a length, a number, and bytes, where others stood before
+pub record Outcome : Type 0 where
+  pub status : ℕ
+  pub told : ℕ
+  pub number : ℕ
+  pub out : List ℕ
+  pub out_then : List ℕ
+
+-- these bytes are told, over what stood there, and how many they are
+pub record IsTold (bytes : List ℕ) (o : Outcome) : Type 0 where
+  pub length_is : o.told ≡ length bytes
+  pub bytes_are : o.out_then ≡ over_front bytes o.out
+
+-- how a step ended that has this status
+abbrev pub end_of : ℕ → Result Unit StepFault
+end_of status = if status == 7 then Err BootFault else (if status == 8 then Err BootStopped else Ok tt)
+
+-- it was played, and a boot in it may have been the last
+abbrev pub IsPlayed : ℕ → Type 0
+IsPlayed status = (status ≡ 0) ⊎ (status ≡ 7) ⊎ (status ≡ 8)
+
+-- what is told of an entry by the status; with 20 memory ran out for its spelling
+abbrev pub TellsEntry : Result Unit StepFault → List ℕ → Outcome → Type 0
+TellsEntry end bytes o = (IsPlayed o.status × (end ≡ end_of o.status) × IsTold bytes o) ⊎ (o.status ≡ 20)
+
+-- a request was played, and this is told of its entry
+pub record Played (g : Ghosts (List ℕ)) (v : ValidatorGhosts Spoken) (old new : Serving) (asked : Actor × Request) (o : Outcome) : Type 0 where
+  pub entry : Entry
+  pub end : Result Unit StepFault
+  pub steps : Steps g v old new asked entry end
+  pub tells : TellsEntry end (told_as old entry) o
+
+-- The questions of the request were answered with the verdicts that were handed in, and it was played. Before that nothing was changed
+-- but that functions which answer so stand in the kit.
+pub record Plays (g : Ghosts (List ℕ)) (v : ValidatorGhosts Spoken) (old new : Serving) (pair : Pair) (verdicts : List ℤ) (o : Outcome) : Type 0 where
+  pub questions : List Question
+  pub asks : Asks g old pair.actor pair.request questions
+  pub enough : length questions ≤ length verdicts
+  pub handed : Serving
+  pub on : StandsOn g old handed
+  pub played : Played g v handed new (pair.actor, pair.request) o
+  pub said : may_ask pair.request ≡ true → g.tells → (opening : State) (past : List Entry) → Stands g opening past old → Said questions verdicts played.entry.given.verdicts
+
+-- a verdict is missing for this question of the request, and it is told
+pub record Lacks (g : Ghosts (List ℕ)) (old new : Serving) (pair : Pair) (verdicts : List ℤ) (o : Outcome) : Type 0 where
+  pub questions : List Question
+  pub asks : Asks g old pair.actor pair.request questions
+  pub question : Question
+  pub which : slice_get questions (length verdicts) ≡ Some question
+  pub number_is : o.number ≡ question.number
+  pub tells : IsTold question.image o
+  pub on : StandsOn g old new
+
+-- nothing was played and nothing is told, and the service stands for what it stood for
+pub record IsUnchanged (g : Ghosts (List ℕ)) (old new : Serving) (o : Outcome) : Type 0 where
+  pub on : StandsOn g old new
+  pub untold : o.out_then ≡ o.out
+
+-- why a request isn't played: out of memory, or the engine has met a limit
+abbrev pub IsRefused : Serving → ℕ → Type 0
+IsRefused new status = (status ≡ 1) ⊎ ((status ≡ 13) × MeetsLimit new)
+
+-- a request was played, a verdict was missing, or it was refused
+abbrev pub Answered : Ghosts (List ℕ) → ValidatorGhosts Spoken → Serving → Serving → Pair → List ℤ → Outcome → Type 0
+Answered g v old new pair verdicts o =
+    Plays g v old new pair verdicts o
+    ⊎ ((o.status ≡ 16) × Lacks g old new pair verdicts o)
+    ⊎ (IsRefused new o.status × IsUnchanged g old new o)
+
+-- these bytes are the spelling of this record
+pub record IsWhole (pair : Pair) (input : List ℕ) : Type 0 where
+  pub is_record : IsRecord pair
+  pub spelled : input ≡ spelling pair
+
+-- bytes stand after this record
+pub record IsLonger (pair : Pair) (input : List ℕ) : Type 0 where
+  pub is_record : IsRecord pair
+  pub front : take (length (spelling pair)) input ≡ spelling pair
+  pub more : length (spelling pair) ≢ length input
+
+-- they are none, a part of one, or more than one
+abbrev pub IsNotOne : List ℕ → Type 0
+IsNotOne input = (input ≡ []) ⊎ IsShort input ⊎ IsBad input ⊎ ((pair : Pair) × IsLonger pair input)
+
+-- why a record isn't read: out of memory, it isn't one, or a boot failed or was stopped before
+abbrev pub IsUnread : Serving → List ℕ → ℕ → Type 0
+IsUnread old input status = (status ≡ 1) ⊎ ((status ≡ 5) × IsNotOne input) ⊎ ((status ≡ 19) × (old.state.ended ≢ false))
+
+-- the same by the bytes of the record
+abbrev pub Stepped : Ghosts (List ℕ) → ValidatorGhosts Spoken → Serving → Serving → List ℕ → List ℤ → Outcome → Type 0
+Stepped g v old new input verdicts o = ((pair : Pair) × IsWhole pair input × Answered g v old new pair verdicts o) ⊎ (IsUnread old input o.status × IsUnchanged g old new o)
+
+-- the handle held this, and holds that
+pub record Between (before after : Option Serving) (Is : Serving → Serving → Type 0) : Type 0 where
+  pub old : Serving
+  pub new : Serving
+  pub held : before ≡ Some old
+  pub holds : after ≡ Some new
+  pub is : Is old new
+
+-- a closed handle stays closed, and is told by 18
+abbrev pub OnHeld : Option Serving → Option Serving → ℕ → (Serving → Serving → Type 0) → Type 0
+OnHeld before after status Is = ((status ≡ 18) × (before ≡ None) × (after ≡ None)) ⊎ Between before after Is
+
+-- ---- the beginning
+
+-- why nothing is opened: out of memory, or a boot failed or was stopped
+abbrev pub IsUnopened : ℕ → Type 0
+IsUnopened status = (status ≡ 1) ⊎ (status ≡ 7) ⊎ (status ≡ 8)
+
+-- nothing was played, over the blocks that these bytes show, with 240 functions for which nothing was handed in
+pub record Begins (g : Ghosts (List ℕ)) (bank : List ℕ) (new : Serving) : Type 0 where
+  pub stands : Stands g (first_state (store_of bank) (owners (map (λ (e : KitEntry Spoken). Some e) (mute_below 240))) all_admitted) [] new
+  pub after : IsAfter [] new
