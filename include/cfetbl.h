@@ -225,8 +225,8 @@ struct CFETBL_Answer {
 
 struct CFETBL_Answer CFETBL_LastAnswer(void);
 
-/* The next event of calls and commands that wasn't given yet, in their order, or false. docs/FORMATS.md has the numbers of events; the
- * row is the table's in the registry, 0xFFFF for none. */
+/* The next event of calls and commands that wasn't given yet, in their order, or false. At most 131,072 wait: of more the oldest go.
+ * docs/FORMATS.md has the numbers of events; the row is the table's in the registry, 0xFFFF for none. */
 struct CFETBL_Event {
     uint16_t number;
     uint32_t status;
@@ -239,7 +239,7 @@ bool CFETBL_NextEvent(struct CFETBL_Event *event);
 /* The same for notices that CFE_TBL_NotifyByMessage asked for: the message id, the function code and the parameter. */
 bool CFETBL_NextNotice(uint32_t *message, uint16_t *function, uint32_t *parameter);
 
-/* How many requests were played: those of the calls, and further ones that the library makes for them. A session has at most 32,768. */
+/* How many requests were played, modulo 2^32: those of the calls, and further ones that the library makes for them. */
 uint32_t CFETBL_Requests(void);
 
 #ifdef __cplusplus

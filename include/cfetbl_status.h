@@ -77,7 +77,7 @@ enum CFETBL_Status {
     CFETBL_ERR_BAD_PROCESSOR_ID = 88
 };
 
-/* Nothing was played: no service, out of memory, or the session is full. No request has this status. */
+/* Nothing was played: no service, out of memory, or a table has had 4,294,967,293 images. No request has this status. */
 #define CFETBL_NOT_PLAYED 0xFFFFFFFFu
 
 #endif

@@ -1,14 +1,20 @@
 /* SPDX-License-Identifier: Apache-2.0 */
-/* tbl.h: the table service for C, a request at a time.
+/* tbl.h: the table service for C, a request at a time. But for tbl_is_proved and tbl_validator_app these are the functions of the proved crate
+ * tbl_c as it exports them, with no C between: docs/PROVED.md says what is proved of them.
  *
- * A session is a list of records, as docs/FORMATS.md lays them out. tbl_step plays one, and gives the entry that the transcript has
- * for it. Each session is a thing of its own: two threads may each have one, and a session is used by one thread at a time.
+ * A handle holds a service. tbl_open boots one over preserved memory; tbl_step plays one record, as docs/FORMATS.md lays it out, and tells
+ * the entry that a transcript has for it; tbl_close frees all. A service takes as much memory after a million records as after ten, and
+ * has no last one.
  *
- * The library calls no function of the application. Where a validation function has to judge an image, tbl_step answers
- * TBL_VERDICT_MISSING and plays nothing; tbl_question tells which function and which image; tbl_judge hands the verdict in, and
- * then the same tbl_step is called again.
+ * No function of the application is called. If a validation function has to judge an image, tbl_step plays nothing, and tells which
+ * function and which image. The caller asks it, and calls tbl_step again with the verdict.
  *
- * Each step has the proved function `tbl_run` of the crate tbl_c play all records so far: docs/PROVED.md says what is proved of it. */
+ * What the caller owes, since no contract can ask it of C:
+ * - a handle begins as zeros, is written by these functions alone, and isn't copied;
+ * - one call at a time is made with a handle, and one thread's call comes after another's (by a lock, or the other thread's end);
+ * - no address is NULL, also of no bytes, and what a call writes is no other argument of it;
+ * - a handle is closed before its memory goes.
+ * A handle that is closed may be stepped, which gives TBL_CLOSED, closed once more, which does nothing, and opened again. */
 #ifndef TBL_H
 #define TBL_H
 
@@ -33,57 +39,56 @@ extern "C" {
 /* How many numbers validation functions have, from 0 on. */
 #define TBL_VALIDATORS 240u
 
-/* How a call ended. But for TBL_OK nothing was changed. */
+/* How many images one record has judged at most. */
+#define TBL_QUESTIONS 2u
+
+/* How a call ended. But for TBL_OK and TBL_UNTOLD, TBL_BOOT_FAULT and TBL_BOOT_STOPPED of tbl_step, nothing was changed. */
 enum tbl_status {
     TBL_OK = 0,
     TBL_NO_MEMORY = 1,        /* out of memory */
     TBL_BAD_RECORD = 5,       /* the bytes are no record, a part of one, or more than one */
-    TBL_FULL = 6,             /* 32,768 records were played */
-    TBL_VERDICT_MISSING = 16, /* a validation function has to judge an image first: see tbl_question */
+    TBL_BOOT_FAULT = 7,       /* preserved memory failed in a boot */
+    TBL_BOOT_STOPPED = 8,     /* a reset came into a boot */
+    TBL_FULL = 13,            /* a table has had 4,294,967,293 images */
+    TBL_VERDICT_MISSING = 16, /* a validation function has to judge an image first */
     TBL_BAD_BANK = 17,        /* preserved memory has another size than TBL_BANK_SIZE */
-    TBL_NO_ROOM = 18,         /* the entry is longer than the room for it; its length was written */
-    TBL_BAD_NUMBER = 19,      /* no validation function has this number */
-    TBL_NO_QUESTION = 20      /* no question is open */
+    TBL_CLOSED = 18,          /* the handle is closed */
+    TBL_ENDED = 19,           /* a boot failed or was stopped before: nothing is played any more */
+    TBL_UNTOLD = 20           /* the record was played, and memory ran out for its entry */
 };
 
-typedef struct tbl_session tbl_session;
+struct tbl_handle {
+    void *at;
+};
 
-/* Whether the function that plays is the proved one, and no build without proofs. */
-int tbl_is_proved(void);
-
-/* Which image a validation function has to judge. It stays until the next call with the session. */
-struct tbl_question {
-    uint8_t number;
-    const uint8_t *image;
+/* What tbl_step tells beside bytes: how many bytes the entry has, and 0; with TBL_VERDICT_MISSING how many the image has, and the number of
+ * the validation function that has to judge it. */
+struct tbl_told {
     size_t length;
+    uint32_t number;
 };
+
+/* Opens a handle over a copy of these bytes of preserved memory, of which there are TBL_BANK_SIZE, and boots as after a reset of the
+ * processor. A handle that is open is closed first. TBL_OK, TBL_NO_MEMORY, TBL_BOOT_FAULT, TBL_BOOT_STOPPED, TBL_BAD_BANK. */
+uint8_t tbl_open(struct tbl_handle *handle, const uint8_t *bank, size_t size);
+
+/* Plays one record with the verdicts of validation functions on the images that it has judged, in the order in which it has them judged. It
+ * copies as much of the entry as there is room for. With TBL_VERDICT_MISSING it copies of the first image without a verdict, and nothing
+ * was played. */
+uint8_t tbl_step(struct tbl_handle *handle, const uint8_t *record, size_t length, const int32_t *verdicts, size_t count, uint8_t *entry,
+                 size_t room, struct tbl_told *told);
+
+/* Copies preserved memory as it is now, from a place on, as much of it as there is room for. TBL_OK, TBL_CLOSED. */
+uint8_t tbl_bank(struct tbl_handle *handle, size_t from, uint8_t *bytes, size_t room);
+
+/* Closes a handle, and frees all that it holds. */
+void tbl_close(struct tbl_handle *handle);
+
+/* Whether these functions are the proved ones, and no build without proofs. */
+int tbl_is_proved(void);
 
 /* Which application, from 1 to 16, has the validation function of this number, below TBL_VALIDATORS. */
 uint8_t tbl_validator_app(uint8_t number);
-
-/* A session over a copy of these bytes of preserved memory, or over zeros where bank is NULL. It boots at each tbl_step anew, as after a
- * reset of the processor. TBL_BAD_BANK, TBL_NO_MEMORY. */
-int tbl_open(const uint8_t *bank, size_t size, tbl_session **session);
-
-/* Plays one record, and copies its entry. `written` gets the entry's number of bytes, also with TBL_NO_ROOM. TBL_NO_MEMORY,
- * TBL_BAD_RECORD, TBL_FULL, TBL_VERDICT_MISSING, TBL_NO_ROOM. */
-int tbl_step(tbl_session *session, const uint8_t *record, size_t length, uint8_t *entry, size_t room, size_t *written);
-
-/* The question that the last tbl_step had, if it ended with TBL_VERDICT_MISSING. TBL_NO_QUESTION. */
-int tbl_question(const tbl_session *session, struct tbl_question *question);
-
-/* Hands in what the validation function of this number answers on this image. The first verdict on an image stays. TBL_BAD_NUMBER,
- * TBL_NO_MEMORY. */
-int tbl_judge(tbl_session *session, uint8_t number, const uint8_t *image, size_t length, int32_t verdict);
-
-/* How many entries there are: how many records were played. */
-uint32_t tbl_entries(const tbl_session *session);
-
-/* Preserved memory as it is after them: TBL_BANK_SIZE bytes, which stay until the next call with the session. */
-const uint8_t *tbl_bank(const tbl_session *session);
-
-/* Ends a session, and gives back its memory. NULL is no session, and nothing is done. */
-void tbl_close(tbl_session *session);
 
 #ifdef __cplusplus
 }

@@ -1,5 +1,5 @@
 /* SPDX-License-Identifier: Apache-2.0 */
-/* cfetbl_service.h: what the files of the library share. Only service.c knows how records are played; the calls by cFE's names, the
+/* cfetbl_service.h: what the files of the library share. Only service.c and playing.c know how records are played; the calls by cFE's names, the
  * memory of tables and what tests ask for are made of these requests. Nothing here depends on the headers of a cFE. */
 #ifndef CFETBL_SERVICE_H
 #define CFETBL_SERVICE_H
@@ -16,7 +16,8 @@ extern "C" {
 
 enum { CFETBL_APPS = 16, CFETBL_HANDLES = 256, CFETBL_SLOTS = 128, CFETBL_FUNCTIONS = 240, CFETBL_ROWS = 128 };
 
-/* Widths of names in records, and the most bytes of an image, of a file, and of a record. */
+/* Widths of names in records, and the most bytes of an image, of a file, of a record, and of its entry: that of a housekeeping request
+ * with the dumps of 128 tables. */
 enum {
     CFETBL_APP_NAME = 20,
     CFETBL_SHORT_NAME = 16,
@@ -26,6 +27,7 @@ enum {
     CFETBL_FILE_LIMIT = 32768,
     CFETBL_PACKET_LIMIT = 32832,
     CFETBL_RECORD_LIMIT = 4 + 32832,
+    CFETBL_ENTRY_LIMIT = 2162688,
     CFETBL_BANK_SIZE = 262144
 };
 
@@ -94,7 +96,7 @@ enum cfetbl_call {
     CFETBL_CALLS
 };
 
-/* ---- the service: service.c */
+/* ---- the service: service.c, and playing.c for how a record is played */
 
 struct cfetbl_service;
 
@@ -124,6 +126,9 @@ void cfetbl_leave(void);
 /* The same without a message. */
 struct cfetbl_service *cfetbl_enter_if_on(void);
 
+/* Takes the lock again after cfetbl_leave, for the service that the caller is at work with. */
+void cfetbl_return(void);
+
 /* The same for a call by cFE's name, which begins so: what was written in place comes into the service, and the last answer goes. NULL
  * also if the test forces a code, which then is in *code; else *code stays. */
 struct cfetbl_service *cfetbl_enter_call(enum cfetbl_call call, int32_t *code);
@@ -149,7 +154,16 @@ void cfetbl_put_number(struct cfetbl_record *to, uint32_t number, int bytes);
 
 /* A name field: the name and zeros. What is too long is cut. */
 void cfetbl_put_name(struct cfetbl_record *to, const char *name, size_t width);
-uint32_t cfetbl_number_at(const uint8_t *at, int bytes);
+static inline uint32_t cfetbl_number_at(const uint8_t *at, int bytes)
+{
+    uint32_t number = 0;
+    int place;
+
+    for (place = 0; place < bytes; place++) {
+        number = number << 8 | at[place];
+    }
+    return number;
+}
 
 /* Plays a record, and gives the status of its request, or CFETBL_NOT_PLAYED with a message. What cfetbl_ask plays is the last answer,
  * and its packets come to the test; cfetbl_play is for what the library asks for itself. */
@@ -227,10 +241,13 @@ struct cfetbl_handle {
 /* What is known of a handle; NULL if it isn't this application's. */
 struct cfetbl_handle *cfetbl_known(struct cfetbl_service *service, uint16_t number);
 
-/* Keeps a handle that a registration gave, or a sharing. False, with a message, means out of memory. */
-bool cfetbl_keep_registered(struct cfetbl_service *service, uint16_t number, const char *name, size_t size, uint16_t options,
+/* Has memory for what is known of a table, before it is registered. False, with a message, means out of memory. */
+bool cfetbl_reserve_table(struct cfetbl_service *service);
+
+/* Keeps a handle that a registration gave, in the memory that was reserved, or a sharing. */
+void cfetbl_keep_registered(struct cfetbl_service *service, uint16_t number, const char *name, size_t size, uint16_t options,
                             bool is_recovered);
-bool cfetbl_keep_shared(struct cfetbl_service *service, uint16_t number, const char *name);
+void cfetbl_keep_shared(struct cfetbl_service *service, uint16_t number, const char *name);
 void cfetbl_forget_handle(struct cfetbl_service *service, uint16_t number);
 
 /* Forgets the handles of an application, or with 0 of all of them. */
@@ -308,7 +325,7 @@ bool cfetbl_damage(uint8_t *bank, const char *name);
 
 /* ---- the parts of a service */
 
-struct tbl_session;
+struct tbl_handle;
 
 /* A code that a test forces. */
 struct cfetbl_forced {
@@ -320,7 +337,7 @@ struct cfetbl_forced {
 enum { CFETBL_FORCED = 64, CFETBL_DAMAGES = 16 };
 
 struct cfetbl_service {
-    struct tbl_session *session;
+    struct tbl_handle *handle;
     uint64_t serial; /* another one for each service */
     int app;         /* the application that makes the calls */
     int judging;     /* how many validation functions are at work, each inside the one before */
@@ -333,20 +350,22 @@ struct cfetbl_service {
     struct cfetbl_packets packets;
     struct cfetbl_files files;
     struct cfetbl_forced forced[CFETBL_FORCED];
+    bool is_forcing; /* the test has forced a code */
     char damages[CFETBL_DAMAGES][CFETBL_FULL_NAME + 1]; /* blocks that are damaged from the next reset on */
     uint8_t *bank; /* preserved memory with them */
     uint32_t seconds;
     uint32_t subseconds;
-    uint32_t requests; /* that were played before the session was opened again */
+    uint32_t requests; /* how many were played */
     uint8_t *record;
-    uint8_t *entry;
-    size_t room;
-    struct cfetbl_reply answer; /* the last one of a call, in memory of its own */
-    uint8_t *answered;
+    uint8_t *rooms[2];             /* for entries */
+    uint8_t *entry;                /* the last one, in one of them */
+    struct cfetbl_reply answer;    /* the last one of a call */
+    const uint8_t *answered;       /* the room that it stands in, which keeps it until it is forgotten; NULL if there is none */
+    struct cfetbl_table *spare;    /* for the table that is registered next */
     struct cfetbl_service *next;
 };
 
-/* Opens the session again over preserved memory with the damages, with the applications, the files and the time as they are. False, with
+/* Opens the service again over preserved memory with the damages, with the applications, the files and the time as they are. False, with
  * a message, means out of memory. */
 bool cfetbl_reopen(struct cfetbl_service *service);
 

@@ -93,11 +93,11 @@ static CFE_Status_t call_handle(enum cfetbl_call call, int kind, CFE_TBL_Handle_
 /* ---- registrations */
 
 /* Keeps the handle of a registration that succeeded, and what is known of its table. */
-static bool keep_table(struct cfetbl_service *service, const char *name, size_t size, uint16_t options, uint32_t status)
+static void keep_table(struct cfetbl_service *service, const char *name, size_t size, uint16_t options, uint32_t status)
 {
     uint16_t known = status == CFETBL_WARN_NOT_CRITICAL ? (uint16_t)(options & ~CFE_TBL_OPT_CRITICAL_MSK) : options;
 
-    return cfetbl_keep_registered(service, (uint16_t)cfetbl_reply(service).detail, name, size, known, status == CFETBL_INFO_RECOVERED_TBL);
+    cfetbl_keep_registered(service, (uint16_t)cfetbl_reply(service).detail, name, size, known, status == CFETBL_INFO_RECOVERED_TBL);
 }
 
 /* Registers a table. One with an address of its user's is a dump-only one to the service. */
@@ -107,7 +107,7 @@ static uint32_t register_table(struct cfetbl_service *service, uint16_t *handle,
     uint32_t number = cfetbl_number_of(service, cfetbl_app(service), function), status;
     struct cfetbl_record record;
 
-    if (number == CFETBL_FUNCTIONS) {
+    if (number == CFETBL_FUNCTIONS || !cfetbl_reserve_table(service)) {
         return CFETBL_NOT_PLAYED;
     }
     record = cfetbl_begin(service, CFETBL_KIND_REGISTER, cfetbl_app(service));
@@ -118,9 +118,8 @@ static uint32_t register_table(struct cfetbl_service *service, uint16_t *handle,
     status = cfetbl_ask(service, record);
     if (status == CFETBL_SUCCESS || status == CFETBL_INFO_RECOVERED_TBL || status == CFETBL_WARN_NOT_CRITICAL) {
         *handle = (uint16_t)cfetbl_reply(service).detail;
-        return keep_table(service, name, size, options, status) ? status : CFETBL_NOT_PLAYED;
-    }
-    if (status == CFETBL_WARN_DUPLICATE) {
+        keep_table(service, name, size, options, status);
+    } else if (status == CFETBL_WARN_DUPLICATE) {
         *handle = (uint16_t)cfetbl_reply(service).detail;
     }
     return status;
@@ -173,7 +172,7 @@ CFE_Status_t CFETBL_TBL_Share(CFE_TBL_Handle_t *TblHandlePtr, const char *TblNam
     status = cfetbl_ask_name(service, CFETBL_KIND_SHARE, TblName);
     if (status == CFETBL_SUCCESS) {
         *TblHandlePtr = (CFE_TBL_Handle_t)cfetbl_reply(service).detail;
-        (void)cfetbl_keep_shared(service, (uint16_t)*TblHandlePtr, TblName);
+        cfetbl_keep_shared(service, (uint16_t)*TblHandlePtr, TblName);
     }
     return left(status);
 }

@@ -234,7 +234,7 @@ static bool keep_damage(struct cfetbl_service *service, const char *name)
 {
     int place = 0;
 
-    memcpy(service->bank, cfetbl_bank(service), CFETBL_BANK_SIZE);
+    (void)cfetbl_bank(service);
     if (!cfetbl_damage(service->bank, name)) {
         cfetbl_say("CFETBL_DamageBlock: the Critical Data Store has no block %s", name);
         return false;

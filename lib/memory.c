@@ -112,15 +112,23 @@ static void put_full_name(char *to, const char *app, const char *name)
     memcpy(to + length + 1, name, rest + 1);
 }
 
-bool cfetbl_keep_registered(struct cfetbl_service *service, uint16_t number, const char *name, size_t size, uint16_t options,
+bool cfetbl_reserve_table(struct cfetbl_service *service)
+{
+    if (service->spare == NULL) {
+        service->spare = calloc(1, sizeof *service->spare);
+    }
+    if (service->spare == NULL) {
+        cfetbl_say("out of memory for a table");
+    }
+    return service->spare != NULL;
+}
+
+void cfetbl_keep_registered(struct cfetbl_service *service, uint16_t number, const char *name, size_t size, uint16_t options,
                             bool is_recovered)
 {
-    struct cfetbl_table *table = calloc(1, sizeof *table);
+    struct cfetbl_table *table = service->spare;
 
-    if (table == NULL) {
-        cfetbl_say("out of memory for a table");
-        return false;
-    }
+    service->spare = NULL;
     put_full_name(table->name, service->apps[cfetbl_app(service)], name);
     table->size = size;
     table->owner = cfetbl_app(service);
@@ -133,17 +141,15 @@ bool cfetbl_keep_registered(struct cfetbl_service *service, uint16_t number, con
     table->next = service->tables;
     service->tables = table;
     keep(service, number, table);
-    return true;
 }
 
-bool cfetbl_keep_shared(struct cfetbl_service *service, uint16_t number, const char *name)
+void cfetbl_keep_shared(struct cfetbl_service *service, uint16_t number, const char *name)
 {
     struct cfetbl_table *table = find_table(service, name);
 
     if (table != NULL) {
         keep(service, number, table);
     }
-    return table != NULL;
 }
 
 void cfetbl_forget_handle(struct cfetbl_service *service, uint16_t number)
@@ -291,6 +297,9 @@ static size_t changed(const struct cfetbl_table *table, size_t *from)
     size_t end = table->size;
 
     *from = 0;
+    if (memcmp(image->at, image->played, end) == 0) {
+        return 0;
+    }
     while (*from < end && image->at[*from] == image->played[*from]) {
         *from += 1;
     }

@@ -1,6 +1,6 @@
 /* SPDX-License-Identifier: Apache-2.0 */
-/* service.c: services and their sessions: which one a thread calls, how a record is played, and how validation functions are asked. It
- * alone calls tbl.h. */
+/* service.c: services: which one a thread calls, the records that requests are made of, and the handle that a service is opened over. It and
+ * playing.c alone call tbl.h. */
 #include "cfetbl_service.h"
 #include "tbl.h"
 
@@ -15,12 +15,6 @@
 #else
 #define THREAD_LOCAL __thread
 #endif
-
-/* How many validation functions may be at work, each called by a request of the one before. */
-enum { JUDGING_LIMIT = 16 };
-
-/* How often one request may ask validation functions. One that changes the image each time would have no end. */
-enum { ASKING_LIMIT = 1000 };
 
 static const char *const call_names[CFETBL_CALLS] = {
     "CFE_TBL_Register",       "CFE_TBL_Share",        "CFE_TBL_Unregister",     "CFE_TBL_Load",          "CFE_TBL_Update",
@@ -122,13 +116,18 @@ void cfetbl_leave(void)
     pthread_mutex_unlock(&lock);
 }
 
+void cfetbl_return(void)
+{
+    pthread_mutex_lock(&lock);
+}
+
 /* Whether the test forces a code for this call, which counts. */
 static bool is_forced(struct cfetbl_service *service, enum cfetbl_call call, int32_t *code)
 {
     bool is_now = false;
     int place;
 
-    for (place = 0; place < CFETBL_FORCED; place++) {
+    for (place = 0; place < CFETBL_FORCED && service->is_forcing; place++) {
         struct cfetbl_forced *forced = &service->forced[place];
 
         if (forced->left > 0 && forced->call == call) {
@@ -144,7 +143,6 @@ static bool is_forced(struct cfetbl_service *service, enum cfetbl_call call, int
 
 void cfetbl_forget_answer(struct cfetbl_service *service)
 {
-    free(service->answered);
     service->answered = NULL;
     memset(&service->answer, 0, sizeof service->answer);
     service->answer.status = CFETBL_NOT_PLAYED;
@@ -221,17 +219,6 @@ void cfetbl_put_name(struct cfetbl_record *to, const char *name, size_t width)
     to->length += width - length;
 }
 
-uint32_t cfetbl_number_at(const uint8_t *at, int bytes)
-{
-    uint32_t number = 0;
-    int place;
-
-    for (place = 0; place < bytes; place++) {
-        number = number << 8 | at[place];
-    }
-    return number;
-}
-
 struct cfetbl_record cfetbl_begin(struct cfetbl_service *service, int kind, int actor)
 {
     struct cfetbl_record to = {NULL, 0};
@@ -244,155 +231,6 @@ struct cfetbl_record cfetbl_begin(struct cfetbl_service *service, int kind, int 
 }
 
 /* ---- requests */
-
-/* What the validation function of a number answers on an image, which it gets as a copy of its own. Other calls may come meanwhile, of
- * the function too. */
-static int verdict_on(struct cfetbl_service *service, const struct tbl_question *question, int32_t *verdict)
-{
-    cfetbl_function function = service->functions[question->number];
-    uint8_t *image;
-
-    if (service->is_waiving || function == NULL) {
-        *verdict = service->is_waiving ? 0 : -1;
-        return TBL_OK;
-    }
-    if (service->judging == JUDGING_LIMIT) {
-        cfetbl_say("%d validation functions are at work, each inside the one before, and no further one is called", JUDGING_LIMIT);
-        *verdict = -1;
-        return TBL_OK;
-    }
-    image = malloc(question->length);
-    if (image == NULL) {
-        return TBL_NO_MEMORY;
-    }
-    memcpy(image, question->image, question->length);
-    service->judging += 1;
-    cfetbl_leave();
-    *verdict = function(image);
-    pthread_mutex_lock(&lock);
-    service->judging -= 1;
-    free(image);
-    return TBL_OK;
-}
-
-/* Has the image that is asked about judged, and hands the verdict in. The record that is being played and the question are kept
- * meanwhile, since the function may make calls itself. */
-static int judge(struct cfetbl_service *service, const struct cfetbl_record *record)
-{
-    struct tbl_question question;
-    int32_t verdict = 0;
-    uint8_t *kept;
-    int status = tbl_question(service->session, &question);
-
-    if (status != TBL_OK) {
-        return status;
-    }
-    kept = malloc(record->length + question.length);
-    if (kept == NULL) {
-        return TBL_NO_MEMORY;
-    }
-    memcpy(kept, record->at, record->length);
-    memcpy(kept + record->length, question.image, question.length);
-    question.image = kept + record->length;
-    status = verdict_on(service, &question, &verdict);
-    memcpy(record->at, kept, record->length);
-    if (status == TBL_OK) {
-        status = tbl_judge(service->session, question.number, question.image, question.length, verdict);
-    }
-    free(kept);
-    return status;
-}
-
-/* Has room for an entry of so many bytes. */
-static int grow_entry(struct cfetbl_service *service, size_t room)
-{
-    uint8_t *at = realloc(service->entry, room);
-
-    if (at == NULL) {
-        return TBL_NO_MEMORY;
-    }
-    service->entry = at;
-    service->room = room;
-    return TBL_OK;
-}
-
-/* Says why a record wasn't played. */
-static void say_why(int status)
-{
-    switch (status) {
-    case TBL_FULL:
-        cfetbl_say("a session has at most 32,768 requests, and this one had them: open another one over CFETBL_Bank()");
-        break;
-    case TBL_NO_MEMORY:
-        cfetbl_say("out of memory");
-        break;
-    case TBL_VERDICT_MISSING:
-        cfetbl_say("a request asked validation functions %d times, each about another image", ASKING_LIMIT);
-        break;
-    default:
-        cfetbl_say("a request couldn't be played (%d of tbl.h)", status);
-    }
-}
-
-uint32_t cfetbl_play(struct cfetbl_service *service, struct cfetbl_record record)
-{
-    size_t written = 0;
-    int status, asked = 0;
-
-    cfetbl_put_number(&(struct cfetbl_record){record.at, 2}, (uint32_t)(record.length - 4), 2);
-    for (;;) {
-        int more = TBL_OK;
-
-        status = tbl_step(service->session, record.at, record.length, service->entry, service->room, &written);
-        if (status == TBL_VERDICT_MISSING && asked < ASKING_LIMIT) {
-            asked += 1;
-            more = judge(service, &record);
-        } else if (status == TBL_NO_ROOM) {
-            more = grow_entry(service, written);
-        } else {
-            break;
-        }
-        if (more != TBL_OK) {
-            status = more;
-            break;
-        }
-    }
-    if (status != TBL_OK) {
-        say_why(status);
-        return CFETBL_NOT_PLAYED;
-    }
-    return cfetbl_number_at(service->entry + 5, 4);
-}
-
-struct cfetbl_reply cfetbl_reply(const struct cfetbl_service *service)
-{
-    const uint8_t *at = service->entry;
-    struct cfetbl_reply reply;
-
-    reply.status = cfetbl_number_at(at + 5, 4);
-    reply.detail = cfetbl_number_at(at + 9, 4);
-    reply.length = cfetbl_number_at(at + 13, 4);
-    reply.bytes = at + 17;
-    reply.packets_length = cfetbl_number_at(at + 17 + reply.length, 4);
-    reply.packets = at + 21 + reply.length;
-    return reply;
-}
-
-/* Keeps the reply as the last answer, in memory of its own. */
-static void keep_answer(struct cfetbl_service *service)
-{
-    struct cfetbl_reply reply = cfetbl_reply(service);
-
-    cfetbl_forget_answer(service);
-    service->answered = malloc(reply.length + reply.packets_length + 1);
-    if (service->answered == NULL) {
-        cfetbl_say("out of memory for the last answer");
-        return;
-    }
-    service->answer = reply;
-    service->answer.bytes = memcpy(service->answered, reply.bytes, reply.length);
-    service->answer.packets = memcpy(service->answered + reply.length, reply.packets, reply.packets_length);
-}
 
 uint32_t cfetbl_ask(struct cfetbl_service *service, struct cfetbl_record record)
 {
@@ -407,7 +245,8 @@ uint32_t cfetbl_ask(struct cfetbl_service *service, struct cfetbl_record record)
             cfetbl_count_image(service, (uint16_t)cfetbl_number_at(record.at + 4, 2), &reply);
         }
         cfetbl_take_packets(&service->packets, reply.packets, reply.packets_length);
-        keep_answer(service);
+        service->answer = reply;
+        service->answered = service->entry;
     }
     return status;
 }
@@ -491,6 +330,7 @@ bool cfetbl_force(struct cfetbl_service *service, const char *call, unsigned nth
         service->forced[place].call = (enum cfetbl_call)name;
         service->forced[place].left = nth;
         service->forced[place].code = code;
+        service->is_forcing = true;
         return true;
     }
     return false;
@@ -502,17 +342,14 @@ const uint8_t *cfetbl_bank(struct cfetbl_service *service)
 {
     int place;
 
-    if (service->damages[0][0] == 0) {
-        return tbl_bank(service->session);
-    }
-    memcpy(service->bank, tbl_bank(service->session), TBL_BANK_SIZE);
+    (void)tbl_bank(service->handle, 0, service->bank, TBL_BANK_SIZE);
     for (place = 0; place < CFETBL_DAMAGES && service->damages[place][0] != 0; place++) {
         (void)cfetbl_damage(service->bank, service->damages[place]);
     }
     return service->bank;
 }
 
-/* Lets the applications run in a session that was opened again, and puts the files there. */
+/* Lets the applications run in a service that was opened again, and puts the files there. */
 static bool carry_over(struct cfetbl_service *service)
 {
     struct cfetbl_record record;
@@ -543,22 +380,42 @@ static bool carry_over(struct cfetbl_service *service)
     return true;
 }
 
+/* Closes a handle and frees it. NULL is none. */
+static void close_handle(struct tbl_handle *handle)
+{
+    if (handle != NULL) {
+        tbl_close(handle);
+        free(handle);
+    }
+}
+
+/* A handle over these bytes of preserved memory; NULL if memory ran out. It stays where it is, since a handle isn't copied. */
+static struct tbl_handle *handle_over(const uint8_t *bank)
+{
+    struct tbl_handle *handle = calloc(1, sizeof *handle);
+
+    if (handle != NULL && tbl_open(handle, bank, TBL_BANK_SIZE) != TBL_OK) {
+        close_handle(handle);
+        return NULL;
+    }
+    return handle;
+}
+
 bool cfetbl_reopen(struct cfetbl_service *service)
 {
-    tbl_session *before = service->session, *opened = NULL;
+    struct tbl_handle *before = service->handle, *opened = handle_over(cfetbl_bank(service));
 
-    if (tbl_open(cfetbl_bank(service), TBL_BANK_SIZE, &opened) != TBL_OK) {
-        cfetbl_say("out of memory for a session over damaged memory");
+    if (opened == NULL) {
+        cfetbl_say("out of memory for a service over damaged memory");
         return false;
     }
-    service->session = opened;
+    service->handle = opened;
     if (!carry_over(service)) {
-        service->session = before;
-        tbl_close(opened);
+        service->handle = before;
+        close_handle(opened);
         return false;
     }
-    service->requests += tbl_entries(before);
-    tbl_close(before);
+    close_handle(before);
     memset(service->damages, 0, sizeof service->damages);
     return true;
 }
@@ -570,11 +427,12 @@ static void free_service(struct cfetbl_service *service)
     cfetbl_forget_handles(service, 0);
     cfetbl_free_packets(&service->packets);
     cfetbl_free_files(&service->files);
-    tbl_close(service->session);
+    close_handle(service->handle);
     free(service->bank);
     free(service->record);
-    free(service->entry);
-    free(service->answered);
+    free(service->rooms[0]);
+    free(service->rooms[1]);
+    free(service->spare);
     free(service);
 }
 
@@ -588,9 +446,13 @@ static struct cfetbl_service *service_over(const void *bank)
     service->app = 1;
     service->answer.status = CFETBL_NOT_PLAYED;
     service->record = malloc(CFETBL_RECORD_LIMIT);
-    service->bank = malloc(CFETBL_BANK_SIZE);
-    if (service->record == NULL || service->bank == NULL || grow_entry(service, 1024) != TBL_OK ||
-        tbl_open(bank, TBL_BANK_SIZE, &service->session) != TBL_OK) {
+    service->rooms[0] = malloc(CFETBL_ENTRY_LIMIT);
+    service->rooms[1] = malloc(CFETBL_ENTRY_LIMIT);
+    service->bank = calloc(1, CFETBL_BANK_SIZE);
+    if (service->record != NULL && service->rooms[0] != NULL && service->rooms[1] != NULL && service->bank != NULL) {
+        service->handle = handle_over(bank != NULL ? bank : service->bank);
+    }
+    if (service->handle == NULL) {
         free_service(service);
         return NULL;
     }
@@ -652,7 +514,7 @@ bool cfetbl_join(uint64_t serial)
 
 uint32_t cfetbl_requests(const struct cfetbl_service *service)
 {
-    return service->requests + tbl_entries(service->session);
+    return service->requests;
 }
 
 bool cfetbl_is_proved(void)

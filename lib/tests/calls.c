@@ -120,7 +120,7 @@ static void test_loads(void)
     EXPECT(CFE_TBL_Load(handle, (CFE_TBL_SrcEnum_t)7, &one) == CFE_TBL_ERR_ILLEGAL_SRC_TYPE);
     EXPECT(CFE_TBL_Load(handle, CFE_TBL_SRC_ADDRESS, &bad) == -17 && calls == 1);
     EXPECT(CFE_TBL_Load(handle, CFE_TBL_SRC_ADDRESS, &one) == CFE_SUCCESS && calls == 2);
-    EXPECT(CFE_TBL_Load(handle, CFE_TBL_SRC_ADDRESS, &one) == CFE_SUCCESS && calls == 2); /* its verdict is known */
+    EXPECT(CFE_TBL_Load(handle, CFE_TBL_SRC_ADDRESS, &one) == CFE_SUCCESS && calls == 3); /* the same image again */
     EXPECT(CFE_TBL_Load(handle, CFE_TBL_SRC_FILE, "/none") == CFE_TBL_ERR_ACCESS);
     EXPECT(CFETBL_PutFile("/bad", "x", 1));
     EXPECT(CFE_TBL_Load(handle, CFE_TBL_SRC_FILE, "/bad") == CFE_TBL_ERR_NO_STD_HEADER);
@@ -128,7 +128,7 @@ static void test_loads(void)
     EXPECT(CFE_TBL_Load(handle, CFE_TBL_SRC_FILE, "/other") == CFE_TBL_ERR_FILE_FOR_WRONG_TABLE);
     EXPECT(CFETBL_PutTableFile("/two", "A.T", 0, &two, 8));
     EXPECT(CFETBL_SetTime(5, 0x8000));
-    EXPECT(CFE_TBL_Load(handle, CFE_TBL_SRC_FILE, "/two") == CFE_SUCCESS && calls == 3);
+    EXPECT(CFE_TBL_Load(handle, CFE_TBL_SRC_FILE, "/two") == CFE_SUCCESS && calls == 4);
     EXPECT(CFE_TBL_GetInfo(&info, "A.NONE") == CFE_TBL_ERR_INVALID_NAME);
     EXPECT(CFE_TBL_GetInfo(&info, "A.T") == CFE_SUCCESS);
     EXPECT(info.Size == 8 && info.TableLoadedOnce && !info.DumpOnly && !info.DoubleBuffered && !info.Critical);

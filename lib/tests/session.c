@@ -25,17 +25,9 @@ static int32_t last_xor(const uint8_t *image, size_t length)
     return length == 0 || image[length - 1] == sum ? 0 : -7;
 }
 
-static int judge(tbl_session *session)
+static int32_t judge(uint32_t number, const uint8_t *image, size_t length)
 {
-    struct tbl_question question;
-    int status = tbl_question(session, &question);
-    int32_t verdict;
-
-    if (status != TBL_OK) {
-        return status;
-    }
-    verdict = question.number % 2 == 0 ? first_byte(question.image, question.length) : last_xor(question.image, question.length);
-    return tbl_judge(session, question.number, question.image, question.length, verdict);
+    return number % 2 == 0 ? first_byte(image, length) : last_xor(image, length);
 }
 
 /* All of standard input. */
@@ -61,28 +53,25 @@ static uint8_t *read_all(size_t *length)
     return bytes;
 }
 
-/* Plays one record, however often it takes: with too little room at first, so that each entry is refused once for that. */
-static int step(tbl_session *session, const uint8_t *record, size_t length, uint8_t **entry, size_t *written)
+/* Room for the longest entry. */
+enum { ROOM = 2162688 };
+
+/* Plays one record, with all verdicts that it needs, and writes its entry. */
+static int step(struct tbl_handle *handle, const uint8_t *record, size_t length, uint8_t *entry)
 {
-    size_t room = 20;
+    int32_t verdicts[TBL_QUESTIONS];
+    struct tbl_told told;
+    size_t count = 0;
     int status;
 
-    for (;;) {
-        uint8_t *at = realloc(*entry, room);
-
-        if (at == NULL) {
-            return TBL_NO_MEMORY;
-        }
-        *entry = at;
-        status = tbl_step(session, record, length, *entry, room, written);
-        if (status == TBL_VERDICT_MISSING && judge(session) == TBL_OK) {
-            continue;
-        }
-        if (status != TBL_NO_ROOM) {
-            return status;
-        }
-        room = *written;
+    while ((status = tbl_step(handle, record, length, verdicts, count, entry, ROOM, &told)) == TBL_VERDICT_MISSING && count < TBL_QUESTIONS) {
+        verdicts[count] = judge(told.number, entry, told.length);
+        count += 1;
     }
+    if (status == TBL_OK) {
+        fwrite(entry, 1, told.length, stdout);
+    }
+    return status;
 }
 
 /* How many bytes the record at the front has, or those that are left of it. */
@@ -93,20 +82,17 @@ static size_t record_length(const uint8_t *bytes, size_t left)
     return length < left ? length : left;
 }
 
-static int play(tbl_session *session, const uint8_t *bytes, size_t length)
+static int play(struct tbl_handle *handle, const uint8_t *bytes, size_t length)
 {
-    uint8_t *entry = NULL;
-    size_t at = 0, written;
-    int status = TBL_OK;
+    uint8_t *entry = malloc(ROOM);
+    size_t at = 0;
+    int status = entry == NULL ? TBL_NO_MEMORY : TBL_OK;
 
     while (status == TBL_OK && at < length) {
         size_t used = record_length(bytes + at, length - at);
 
-        status = step(session, bytes + at, used, &entry, &written);
-        if (status == TBL_OK) {
-            fwrite(entry, 1, written, stdout);
-            at += used;
-        }
+        status = step(handle, bytes + at, used, entry);
+        at += used;
     }
     free(entry);
     return status;
@@ -114,15 +100,16 @@ static int play(tbl_session *session, const uint8_t *bytes, size_t length)
 
 int main(void)
 {
+    static const uint8_t bank[TBL_BANK_SIZE];
+    struct tbl_handle handle = {NULL};
     size_t length;
     uint8_t *bytes = read_all(&length);
-    tbl_session *session;
-    int status = TBL_NO_MEMORY;
+    int status = bytes == NULL ? TBL_NO_MEMORY : tbl_open(&handle, bank, sizeof bank);
 
-    if (bytes != NULL && (status = tbl_open(NULL, 0, &session)) == TBL_OK) {
-        status = play(session, bytes, length);
-        tbl_close(session);
+    if (status == TBL_OK) {
+        status = play(&handle, bytes, length);
     }
+    tbl_close(&handle);
     free(bytes);
     return status;
 }

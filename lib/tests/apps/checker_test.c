@@ -62,7 +62,7 @@ static void TestDump(void)
     EXPECT(CHECKER_Look(0) == CHECKER_FIRST);
     EXPECT(CFETBL_DumpCmd("CHECKER.Results", true, "/ram/results.tbl") == CFETBL_SUCCESS && CHECKER_Housekeeping() == CFE_SUCCESS);
     EXPECT(CFETBL_HousekeepingCmd() == CFETBL_SUCCESS);
-    File = CFETBL_GetFile("/ram/results.tbl", &Size);
+    File = (const uint8 *)CFETBL_GetFile("/ram/results.tbl", &Size);
     EXPECT(File != NULL && Size == 116 + CHECKER_TABLES * sizeof(CHECKER_Result_t));
     EXPECT(((const CHECKER_Result_t *)(const void *)(File + 116))->IsKnown == 1);
     CFETBL_Close();
