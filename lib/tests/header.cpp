@@ -1,6 +1,7 @@
 // header.cpp: the headers, and some calls of each kind, from C++17.
 #include "cfetbl.h"
 #include "expect.h"
+#include "tbl.h"
 
 #include <array>
 #include <vector>
@@ -13,11 +14,13 @@ static int32 not_zero(void *image)
 int main()
 {
     const std::array<uint8, 8> one{1, 2, 3, 4, 5, 6, 7, 8}, bad{};
+    std::array<uint8_t, 8> bytes{};
     CFE_TBL_Handle_t table = CFE_TBL_BAD_TABLE_HANDLE;
     CFE_ES_CDSHandle_t block = CFE_ES_CDS_BAD_HANDLE;
     CFE_TBL_Info_t info;
     std::vector<void **> addresses;
     CFETBL_Event event{};
+    tbl_handle handle{};
     void *address = nullptr;
 
     EXPECT(CFETBL_Open(nullptr) && CFETBL_StartApp(1, "A"));
@@ -35,5 +38,7 @@ int main()
     EXPECT(CFETBL_NoopCmd() == CFETBL_SUCCESS && CFETBL_LastAnswer().packets_length == 24);
     EXPECT(CFETBL_NextEvent(&event) && event.number == 3);
     CFETBL_Close();
+    EXPECT(tbl_bank(&handle, 0, bytes.data(), bytes.size()) == TBL_CLOSED);
+    tbl_close(&handle);
     return expected();
 }
