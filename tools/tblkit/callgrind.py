@@ -14,12 +14,12 @@ CALLS = re.compile(r"calls=(\d+) ")
 COST = re.compile(r"[\d*+-]\S* (\d+)")
 
 
-def instructions(said):
+def instructions(said) -> int:
     """How many instructions the run took."""
     return int(TOTAL.search(said)[1])
 
 
-def read(said):
+def read(said) -> tuple[Counter[str], Counter[tuple[str, str]]]:
     """How many instructions each function took itself, and how often each called each other one, by their names."""
     own, calls, names = Counter(), Counter(), {}
     caller = callee = ""

@@ -4,15 +4,20 @@ numbers have the byte order of the processor. Which field has what stands in the
 import functools
 import struct
 from dataclasses import dataclass
+from typing import Any
 
-from . import names, packets, show
+from . import cfe_events, names, packets, tables
 
 TELEMETRY_HEADER = 16
 SPARE = TELEMETRY_HEADER - packets.TELEMETRY_HEADER
 APPLICATION, SPACECRAFT, PROCESSOR = b"CFE_TBL", 66, 1
-INFORMATION, ERROR = 2, 3
 ZEROS, WORDS, BIT, SUBSECONDS = "zeros", "=", "state: ", "subseconds"
 LITTLE, BIG = "little", "big"
+# How numbers are packed, by their bytes.
+NUMBERS = {1: "B", 2: "H", 4: "I"}
+MESSAGE = names.field("cfe event", "Message").width
+# CFE_PLATFORM_TBL_DEFAULT_REG_DUMP_FILE, by cFE's default.
+REGISTRY_FILE = b"/ram/cfe_tbl_reg.log"
 
 
 @dataclass(frozen=True)
@@ -22,31 +27,88 @@ class Source:
     said: str
 
 
-def owner_of(kind):
+def owner_of(kind) -> str:
     """The name of cFE's layout of a kind of packet."""
     return f"cfe {kind}"
 
 
 @functools.cache
-def sources(kind):
+def sources(kind) -> tuple[Source, ...]:
     """The fields of cFE's layout of a kind of packet; none where it has no such layout."""
     said = {field: source for owner, field, source in names.rows_of("cfe") if owner == owner_of(kind)}
     return tuple(Source(it, said[it.name]) for it in names.fields(owner_of(kind)))
 
 
-def telemetry(packet, view, order=LITTLE):
-    """A packet that the service sends to the ground, in cFE's layout. One that has none there stays as it is."""
-    found = sources(packet.kind)
-    if not found:
-        return packet.content
-    content = packet.content[packets.TELEMETRY_HEADER:]
-    values = _event_values(packet, view) if packet.kind == "event" else {}
-    payload = b"".join(_bytes_of(it, packet.kind, content, values, order) for it in found)
-    length = struct.pack(">H", TELEMETRY_HEADER + len(payload) - 7)
-    return packet.content[:4] + length + packet.content[packets.PRIMARY:packets.TELEMETRY_HEADER] + bytes(SPARE) + payload
+class Sender:
+    """Sends what a service answers in cFE's layouts: its packets have counts of their own, which begin with 1 as those of the Software
+    Bus do, and events are cFE's. Those of type DEBUG are left out, as cFE does until they are enabled, unless they are asked for."""
+
+    def __init__(self, order=LITTLE, numbers=None, is_debug=False) -> None:
+        self._order, self._is_debug = order, is_debug
+        self._events, self._counts = cfe_events.Events(numbers), {}
+
+    def packets(self, answer) -> list[bytes]:
+        """The packets of an answer that go to the ground."""
+        events, found = iter(self._events.of(answer)), []
+        if answer.request == "Reset" or answer.status == tables.STOPPED:
+            self._counts = {}
+        for packet in answer.packets:
+            event = next(events) if packet.kind == "event" else None
+            if sources(packet.kind) and (packet.kind != "event" or self._is_sent(event)):
+                found.append(self._packet(packet, event))
+        return found
+
+    def know(self, name) -> None:
+        """A file of this name is there already, where a dump may write it."""
+        self._events.files.put(name, b"")
+
+    def _is_sent(self, event) -> bool:
+        return event is not None and (self._is_debug or event.kind != cfe_events.DEBUG)
+
+    def _packet(self, packet, event) -> bytes:
+        count = self._counts[packet.kind] = self._counts.get(packet.kind, 0) + 1 & packets.MOST_COUNT
+        return telemetry(packet, self._order, count, self._values(packet, event))
+
+    def _values(self, packet, event) -> dict[str, Any]:
+        """What cFE's packet has that isn't a field of the one here. The text of an event ends in a zero byte."""
+        if packet.kind == "housekeeping":
+            return {"NumValRequests": packet.field("VALIDATE commands accepted").value - self._events.assumed & 0xFF}
+        if event is None:
+            return {}
+        return {"PacketID.AppName": APPLICATION, "PacketID.EventID": event.number, "PacketID.EventType": event_types()[event.kind],
+                "PacketID.SpacecraftID": SPACECRAFT, "PacketID.ProcessorID": PROCESSOR, "Message": event.text[:MESSAGE - 1]}
 
 
-def _bytes_of(source, kind, content, values, order):
+@functools.cache
+def event_types() -> dict[str, int]:
+    """The numbers of the types of events."""
+    return {word: number for number, word in names.words("event type").items()}
+
+
+def telemetry(packet, order, count, values) -> bytes:
+    """A packet that the service sends to the ground, in cFE's layout, with a sequence count."""
+    packing = _packing(packet.kind, order)
+    if packing:
+        payload = packing.pack(*values.values())
+    else:
+        content = packet.content[packets.TELEMETRY_HEADER:]
+        payload = b"".join(_bytes_of(it, packet.kind, content, values, order) for it in sources(packet.kind))
+    head = packet.content[:2] + struct.pack(">HH", packets.UNSEGMENTED | count, TELEMETRY_HEADER + len(payload) - packets.LENGTH_LESS)
+    return head + packet.content[packets.PRIMARY:packets.TELEMETRY_HEADER] + bytes(SPARE) + payload
+
+
+@functools.cache
+def _packing(kind, order) -> struct.Struct | None:
+    """How a layout is packed at once whose fields are all in words, as an event's is; None for any other. Its values stand in the order
+    of the fields."""
+    if not all(it.said == ZEROS or it.said.startswith(WORDS) for it in sources(kind)):
+        return None
+    codes = [f"{it.field.width}x" if it.said == ZEROS else f"{it.field.width}s" if it.field.form == "name" else NUMBERS[it.field.width]
+             for it in sources(kind)]
+    return struct.Struct(("<" if order == LITTLE else ">") + "".join(codes))
+
+
+def _bytes_of(source, kind, content, values, order) -> bytes:
     """The bytes of a field."""
     field, said = source.field, source.said
     if said == ZEROS:
@@ -70,23 +132,29 @@ def _bytes_of(source, kind, content, values, order):
     return value.to_bytes(field.width, order)
 
 
-def _event_values(packet, view):
-    """What cFE's event packet has that isn't a field of the one here. Its text ends in a zero byte."""
-    status = packet.field("status").value
-    width = names.field(owner_of("event"), "Message").width
-    words = f"event {packet.body[0].words}: {show.listed(show.named_rows(packet.body[1:], view))}"
-    return {"PacketID.AppName": APPLICATION, "PacketID.EventType": ERROR if status else INFORMATION,
-            "PacketID.SpacecraftID": SPACECRAFT, "PacketID.ProcessorID": PROCESSOR, "Message": words.encode("ascii")[:width - 1]}
-
-
-def command(packet, order=LITTLE):
-    """A command as the service takes it, of one whose numbers have another byte order. Its checksum stays the same: it is the
-    exclusive or of the same bytes."""
-    if order == BIG or len(packet) < packets.COMMAND_HEADER:
-        return packet
-    known = names.named("command").get(packet[6] & 0x7F) if packets.number(packet[:2]) == packets.COMMAND_ID else None
-    for field in names.fields(known.name) if known else ():
+def command(packet, order=LITTLE) -> bytes:
+    """A command as the service takes it, of one in cFE's layout: its numbers have another byte order, and a DUMP_REGISTRY without a
+    name writes the file of the platform's default. A checksum stays right where it was."""
+    known = _known(packet)
+    for field in names.fields(known) if order == LITTLE and known else ():
         begin = packets.COMMAND_HEADER + field.place
         if field.form != "name" and begin + field.width <= len(packet):
             packet = packet[:begin] + packet[begin:begin + field.width][::-1] + packet[begin + field.width:]
-    return packet
+    return _with_default(packet) if known == "DUMP_REGISTRY" else packet
+
+
+def _known(packet) -> str | None:
+    """The name of the command that a packet is by its message id and its code; None for all others."""
+    if len(packet) < packets.COMMAND_HEADER or packets.number(packet[:2]) != packets.COMMAND_ID:
+        return None
+    known = names.named("command").get(packet[6] & 0x7F)
+    return known.name if known else None
+
+
+def _with_default(packet) -> bytes:
+    """A DUMP_REGISTRY with the default name, if it has none."""
+    content = packet[packets.COMMAND_HEADER:]
+    if content.strip(b"\0") or len(content) != names.size_of("DUMP_REGISTRY"):
+        return packet
+    checksum = packet[7] ^ packets.exclusive_or(REGISTRY_FILE)
+    return packet[:7] + bytes([checksum]) + REGISTRY_FILE.ljust(len(content), b"\0")

@@ -6,7 +6,7 @@ from .words import TextError
 ANY = '"?"'
 
 
-def candidates(front, states, files, folder="."):
+def candidates(front, states, files, folder=".") -> list[str]:
     """The words that may follow the front of a line: keywords, and where a name or a handle is expected those that are known."""
     line = f"{front} {ANY}" if front.strip() else ANY
     at = len(line) - len(ANY)

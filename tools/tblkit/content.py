@@ -1,12 +1,12 @@
 """What a file is, by its first bytes: a session as text or as records, a transcript, or another file that people have here."""
 import enum
 
-from . import files, names, records
+from . import files, layouts, names, records, store, transcript
 
 # How many bytes tell what a file is.
 FRONT = 4096
 TEXT_BYTES = frozenset(range(0x20, 0x7F)) | frozenset(range(0x80, 0x100)) | frozenset(b"\t\n\f\r")
-STORE_LETTERS = b"CDS"
+FILE_HEADER = layouts.shape("file header")
 CAPTURES = tuple(bytes.fromhex(it) for it in ("A1B2C3D4", "D4C3B2A1", "A1B23C4D", "4D3CB2A1", "0A0D0D0A"))
 UTF_16 = (b"\xff\xfe", b"\xfe\xff")
 
@@ -23,7 +23,7 @@ class Kind(enum.Enum):
     WIDE_TEXT = "text in UTF-16", "it can be read once it is stored in UTF-8"
     OTHER = "neither text nor records", "it begins with {1}"
 
-    def said_of(self, name, front):
+    def said_of(self, name, front) -> str:
         """That a file of this name with these first bytes is of the kind, and what reads it."""
         what, reads = self.value
         if name == "-":
@@ -31,11 +31,11 @@ class Kind(enum.Enum):
         return f"{name} is {what}: " + reads.format(name, front[:8].hex(" ").upper())
 
 
-def kind_of(front):
+def kind_of(front) -> Kind:
     """The kind of a file with these first bytes. An empty one is a session without records."""
     if not front or _begins_record(front):
         return Kind.RECORDS
-    if front[:4] == bytes(4) and front[4:5] <= b"\x10" or front[:4] == b"\xff" * 4:
+    if front[:4] == bytes(4) and front[4:5] <= b"\x10" or front.startswith(transcript.END):
         return Kind.TRANSCRIPT
     if front.startswith(CAPTURES):
         return Kind.CAPTURE
@@ -43,12 +43,12 @@ def kind_of(front):
         return Kind.WIDE_TEXT
     if TEXT_BYTES.issuperset(front):
         return Kind.TEXT
-    if front.startswith(STORE_LETTERS):
+    if store.is_live(front):
         return Kind.STORE
     return _file_kind(front)
 
 
-def _begins_record(front):
+def _begins_record(front) -> bool:
     """Whether records begin so. No text that is a session does: its first four bytes are the head of no record."""
     head = front[:records.HEAD]
     if len(head) < records.HEAD:
@@ -56,14 +56,14 @@ def _begins_record(front):
     return not records.head_fault(head)
 
 
-def _file_kind(front):
+def _file_kind(front) -> Kind:
     """The kind of a file that begins with cFE's file header."""
-    content, subtype = (int.from_bytes(front[at:at + 4], "big") for at in (0, 4))
+    content, subtype, *_ = FILE_HEADER.unpack_from(front.ljust(FILE_HEADER.size, b"\0"))
     if content != files.CONTENT:
         return Kind.OTHER
     return {files.TABLE_SUBTYPE: Kind.TABLE_FILE, files.REGISTRY_SUBTYPE: Kind.REGISTRY_FILE}.get(subtype, Kind.OTHER)
 
 
-def front_of(source):
+def front_of(source) -> bytes:
     """The first bytes of a file that is open for reading, which stay to be read."""
     return source.peek(FRONT)[:FRONT]

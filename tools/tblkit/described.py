@@ -1,11 +1,16 @@
-"""Descriptions of table files: text that gives the exact file, and the text that a file gives back by a shape."""
+"""Descriptions of table files: text that gives the exact file, and the text that a file gives back by a shape.
+
+What `cfetbl make` and `cfetbl describe` write is the program's (`proved`). Here stands why an input has no answer. The rows of
+test_maker have the files and texts of `make` and `describe` here, which share nothing with the program.
+"""
 import re
+from collections.abc import Iterator
 from dataclasses import dataclass
 
-from . import files
+from . import files, layouts
 from .numbers import counted
 
-LIMIT = 16384
+LIMIT = layouts.number("bytes of a table")
 MOST_HEX = 64
 NAME = re.compile(rb"[\x21-\x2D\x2F-\x7E]{1,20}\.[\x21-\x7E]{1,16}")
 NUMBER = re.compile(rb"0|[1-9][0-9]*")
@@ -19,11 +24,11 @@ TYPES = "u8, u16, u32, i8, i16, i32 or hex"
 class WrongLine(Exception):
     """The first line that is none of a description: its number, its bytes, what was expected and at which byte."""
 
-    def __init__(self, number, line, expected, at=0):
+    def __init__(self, number, line, expected, at=0) -> None:
         super().__init__(expected)
         self.number, self.line, self.expected, self.at = number, line, expected, at
 
-    def said_of(self, name):
+    def said_of(self, name) -> str:
         """The message, with a caret under the place."""
         line = self.line.decode("ascii", "replace")
         return f"{name}:{self.number}:{self.at + 1}: expected {self.expected}\n  {line}\n  {' ' * self.at}^"
@@ -40,24 +45,24 @@ class Form:
     size: int
     name: str
 
-    def text_of(self, raw):
+    def text_of(self, raw) -> str:
         """The value of the field that has these bytes."""
         if not self.sign:
             return raw.hex().upper()
         return str(int.from_bytes(raw, "big", signed=self.sign == "i"))
 
-    def line_of(self, raw):
+    def line_of(self, raw) -> str:
         kind = f"{self.sign}{8 * self.size}" if self.sign else "hex"
         return f"{kind} {self.name} {self.text_of(raw)}\n"
 
 
-def _split(text):
+def _split(text) -> tuple[list[bytes], bytes]:
     """The lines that a newline ends, and what stands after the last of them."""
     *lines, rest = text.split(b"\n")
     return lines, rest
 
 
-def _value(line, at, kind, text):
+def _value(line, at, kind, text) -> bytes:
     """The bytes of a value of a type, whose text stands at a byte of the line."""
     number, source = line
     if kind == b"hex":
@@ -72,7 +77,7 @@ def _value(line, at, kind, text):
     return int(text).to_bytes(bits // 8, "big", signed=sign == b"i")
 
 
-def _field(line, room):
+def _field(line, room) -> bytes:
     number, source = line
     kind, space, rest = source.partition(b" ")
     if not TYPE.fullmatch(kind) and kind != b"hex":
@@ -91,11 +96,11 @@ def _field(line, room):
     return raw
 
 
-def make(text):
+def make(text) -> bytes:
     """The table file of a description."""
     lines, rest = _split(text)
 
-    def line(number):
+    def line(number) -> bytes:
         if number > len(lines):
             raise WrongLine(number, rest, "a newline at the line's end" if rest else
                             ("`table NAME`", "`offset N`", "a field: TYPE NAME VALUE")[min(number, 3) - 1], len(rest))
@@ -118,7 +123,18 @@ def make(text):
     return files.table_file(image, {"table": first[6:], "offset": offset})
 
 
-def read_shape(word):
+def wrong_line(text, number) -> WrongLine:
+    """What is wrong with the first line that is none of a description, of which the number is known."""
+    try:
+        make(text)
+    except WrongLine as wrong:
+        if wrong.number == number:
+            return wrong
+    line = text.split(b"\n")[number - 1:number]
+    return WrongLine(number, line[0] if line else b"", "a line of a description")
+
+
+def read_shape(word) -> list[Form]:
     """The forms that a shape writes, as `u16:limit,i16:gain`."""
     forms = []
     for piece in word.split(","):
@@ -139,11 +155,20 @@ def read_shape(word):
     return forms
 
 
-def size_of(forms):
+def wrong_shape(word) -> WrongShape:
+    """What is wrong with a word that is no shape."""
+    try:
+        read_shape(word)
+    except WrongShape as wrong:
+        return wrong
+    return WrongShape("it is none")
+
+
+def size_of(forms) -> int:
     return sum(form.size for form in forms)
 
 
-def values(forms, image):
+def values(forms, image) -> Iterator[tuple[Form, bytes]]:
     """The fields of an image, each with its bytes."""
     at = 0
     for form in forms:
@@ -154,12 +179,12 @@ def values(forms, image):
 class NotDescribed(Exception):
     """Why a file isn't described by a shape, and whether its number of bytes is the reason."""
 
-    def __init__(self, reason, is_length=False):
+    def __init__(self, reason, is_length=False) -> None:
         super().__init__(reason)
         self.is_length = is_length
 
 
-def describe(forms, content):
+def describe(forms, content) -> bytes:
     """The description of a table file by a shape."""
     found = files.read_table_file(content)
     if found is None or found[0]["content"] != files.CONTENT or found[0]["subtype"] != files.TABLE_SUBTYPE:
@@ -177,3 +202,13 @@ def describe(forms, content):
         raise NotDescribed(f"the shape has {counted(size_of(forms), 'byte')}, and the image {len(image)}", True)
     lines = "".join(form.line_of(raw) for form, raw in values(forms, image))
     return f"table {name.decode()}\noffset {offset}\n{lines}".encode()
+
+
+def not_described(shape, content, is_length) -> NotDescribed:
+    """Why a file isn't described by a shape, of which it is known whether its number of bytes is the reason."""
+    try:
+        describe(read_shape(shape), content)
+    except NotDescribed as why:
+        if why.is_length == is_length:
+            return why
+    return NotDescribed("the shape has another length" if is_length else "it is no table file", is_length)

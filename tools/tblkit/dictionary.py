@@ -1,14 +1,20 @@
 """The commands and packets of the service as a ground system is told of them: in the layout of this project, or in cFE's."""
-from dataclasses import dataclass
+from collections.abc import Iterator
+from dataclasses import dataclass, replace
+from typing import Any
 
-from . import cfe, names, packets, show
+from . import cfe, layouts, names, packets
 
 TELEMETRY = ("housekeeping", "event", "registry")
 NOTICE = "notice"
-VALIDATION_FINISHED = 3
+VALIDATION_FINISHED = layouts.number_of("event", "validation finished")
 SAYS = {"housekeeping": "the state of Table Services", "event": "an event of Table Services",
         "registry": "the registry record of a table", NOTICE: "a notice to the owner of a table"}
 BITS = {"flags": 2, "count": 14}
+# What fields of commands are for, where their names alone don't say it.
+FIELD_SAYS = {"select": "which image of the table", "table": "the full name of the table: its application's, a dot, its own",
+              "file": "the name of the file with its whole path"}
+HEADER, ASKS_HOUSEKEEPING = "command", "the state of Table Services is sent, and the files of filled dumps are written before"
 
 
 @dataclass(frozen=True)
@@ -41,41 +47,59 @@ class Layout:
     known_by: tuple
     base: "Layout | None" = None
 
-    def whole(self):
+    def whole(self) -> tuple[tuple[Item, ...], tuple[Any, ...]]:
         """All items, and all that it is known by."""
         items, known_by = self.base.whole() if self.base else ((), ())
         return (*items, *self.items), (*known_by, *self.known_by)
 
 
-def _item(field, prefix="", fixed=None, is_little=False, form=None):
+COMMANDS = frozenset(it.name for it in names.named("command").values())
+
+
+def _says(code) -> str:
+    """What a command does, by the words that the table of names has for cFE's name of it."""
+    return next(it.said for it in names.cfe_words() if it.kind == "command" and int(it.number) == code)
+
+
+def _item(field, prefix="", fixed=None, is_little=False, form=None) -> Item:
     form = form or field.form
     states = {} if form in ("signed", "row", "validator") else names.words(form)
-    return Item(prefix + show.key(field.name), BITS.get(field.form, 8 * field.width), form, field.name, states, fixed,
+    says = FIELD_SAYS.get(field.name, field.name) if field.owner in COMMANDS else field.name
+    return Item(prefix + names.key(field.name), BITS.get(field.form, 8 * field.width), form, says, states, fixed,
                 is_little and field.form not in ("name", "zeros") and field.width > 1)
 
 
 class Dictionary:
-    """All commands and packets, in the layout here or in cFE's with the numbers in payloads in a byte order."""
+    """All commands and packets, in the layout here or in cFE's with the numbers in payloads in a byte order. `numbers` has numbers of
+    cFE's events by their names that stand in the place of those of the table of names."""
 
-    def __init__(self, is_cfe=False, order=cfe.LITTLE):
-        self.is_cfe, self._is_little = is_cfe, is_cfe and order == cfe.LITTLE
+    def __init__(self, is_cfe=False, order=cfe.LITTLE, numbers=None) -> None:
+        self.is_cfe, self._is_little, self._numbers = is_cfe, is_cfe and order == cfe.LITTLE, numbers or {}
         self._ids = {it.name: number for number, it in names.named("message").items()}
 
-    def commands(self):
+    def commands(self) -> Iterator[Layout]:
         """The commands, and the request for housekeeping. The checksum is the one item that no definition can state."""
         for code, it in names.named("command").items():
-            yield self._command(it.name, packets.COMMAND_ID, code)
-        yield self._command(packets.HOUSEKEEPING, packets.HOUSEKEEPING_ID, 0)
+            yield self._command(it.name, packets.COMMAND_ID, code, _says(code))
+        yield self._command(packets.HOUSEKEEPING, packets.HOUSEKEEPING_ID, 0, ASKS_HOUSEKEEPING)
 
-    def _command(self, name, message, code):
+    @staticmethod
+    def command_header() -> Layout:
+        """What all commands begin with: the headers of CCSDS and of cFE. The sequence count and the checksum are the sender's."""
+        fixed = {"sequence flags": 3, "sequence count": 0, "checksum": 0}
+        fields = names.fields("primary header") + names.fields("command header")
+        items = [_item(it, fixed=fixed.get(it.name)) for it in fields]
+        return Layout(HEADER, "what each command begins with: the primary header of CCSDS, function code and checksum", tuple(items), ())
+
+    def _command(self, name, message, code, says) -> Layout:
         payload = [_item(it, is_little=self._is_little) for it in names.fields(name)]
-        length = sum(it.bits for it in payload) // 8 + packets.COMMAND_HEADER - 7
+        length = sum(it.bits for it in payload) // 8 + packets.COMMAND_HEADER - packets.LENGTH_LESS
         fixed = {"message id": message, "sequence flags": 3, "sequence count": 0, "length": length, "function code": code,
                  "checksum": 0}
         head = [_item(it, fixed=fixed[it.name]) for it in names.fields("primary header") + names.fields("command header")]
-        return Layout(name, f"the command {name}", (*head, *payload), (Known("message_id", message), Known("function_code", code)))
+        return Layout(name, says, (*head, *payload), (Known("message_id", message), Known("function_code", code)))
 
-    def telemetry(self):
+    def telemetry(self) -> Iterator[Layout]:
         """What the service sends. An event whose detail is a verdict has a layout of its own, and both begin as events do."""
         header = Layout("packet", "what each packet begins with", tuple(_item(it) for it in names.fields("primary header")), ())
         yield header
@@ -89,21 +113,28 @@ class Dictionary:
         yield self._notice(header)
 
     @staticmethod
-    def _notice(header):
+    def _notice(header) -> Layout:
         """What the service sends to the owner of a table, under a message id that the owner chose."""
         items = [_item(it) for it in names.fields("command header") + names.fields(NOTICE)]
-        length = packets.COMMAND_HEADER + names.size_of(NOTICE) - 7
+        length = packets.COMMAND_HEADER + names.size_of(NOTICE) - packets.LENGTH_LESS
         return Layout(NOTICE, SAYS[NOTICE], tuple(items), (Known("length", length),), header)
 
-    def _after_header(self, kind):
+    def _after_header(self, kind) -> tuple[Item, ...]:
         head = [_item(it) for it in names.fields("telemetry header")]
         if not self.is_cfe:
             return (*head, *(_item(it) for it in names.fields(kind)))
         spare = Item("spare", 8 * cfe.SPARE, "zeros", "spare bytes", {})
-        return (*head, spare, *(_item(it.field, is_little=self._is_little) for it in cfe.sources(kind)))
+        return (*head, spare, *(self._numbered(_item(it.field, is_little=self._is_little)) for it in cfe.sources(kind)))
+
+    def _numbered(self, item) -> Item:
+        """An item with the numbers of cFE's events that were given, if it has such as states."""
+        if item.form != names.CFE_EVENT:
+            return item
+        states = {self._numbers.get(name, number): name for number, name in item.states.items()}
+        return replace(item, states=dict(sorted(states.items())))
 
 
-def _events(event, detail):
+def _events(event, detail) -> Iterator[Layout]:
     """An event as far as all have it, and what follows there: a verdict, which has a sign, or another detail."""
     yield event
     verdict = Item("verdict", detail.bits, "signed", "verdict", {})

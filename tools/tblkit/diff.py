@@ -1,12 +1,14 @@
 """The first entry in which two transcripts differ, by field."""
 import itertools
+from collections.abc import Iterator
+from typing import Any
 
 from . import transcript
 from .answers import Answer, end_words
 from .show import listed
 
 
-def _fields(answer):
+def _fields(answer) -> dict[str, str]:
     """The fields of an answer in the order of its bytes, by name and in words."""
     if answer is None:
         return {}
@@ -26,7 +28,7 @@ def _fields(answer):
     return told
 
 
-def _beside(one, other):
+def _beside(one, other) -> Any:
     """A part of the other transcript, an entry as an answer to the same record."""
     if not isinstance(other, transcript.Entry):
         return other
@@ -34,7 +36,7 @@ def _beside(one, other):
     return Answer(other, one.record if is_same else None)
 
 
-def lines(answers, parts):
+def lines(answers, parts) -> Iterator[str] | Iterator[str | str]:
     """What to say of the first part in which two transcripts differ: no line where they are the same."""
     for one, other in itertools.zip_longest(answers, parts):
         if (one.entry if isinstance(one, Answer) else one) == other:
@@ -49,7 +51,7 @@ def lines(answers, parts):
         return
 
 
-def _first_byte(one, other):
+def _first_byte(one, other) -> Iterator[str]:
     """The first byte in which two answers differ whose fields read the same: in long data, or where nobody looks."""
     for name, left, right in (("reply bytes", one.entry.reply, other.entry.reply),
                               ("packets", one.entry.sent, other.entry.sent)):

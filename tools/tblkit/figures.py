@@ -1,5 +1,6 @@
 """Tables of figures, as documents have them, and how figures differ from those that a document keeps."""
 import re
+from collections.abc import Iterator
 
 # How much more than the figure that is kept passes, in parts of it. The system counts memory less well.
 SLACK = 0.02
@@ -7,21 +8,21 @@ MEMORY_SLACK = 0.05
 NUMBER = re.compile(r"[\d,]+")
 
 
-def line(cells):
+def line(cells) -> str:
     return f"| {' | '.join(cells)} |"
 
 
-def head(cells):
+def head(cells) -> str:
     """The first two lines of a table."""
     return f"{line(cells)}\n|{len(cells) * '---|'}"
 
 
-def beside(values, form):
+def beside(values, form) -> list[str]:
     """The cells of a figure: the program's, and where there is one the plain program's, with how many times as much the first is."""
     return [form.format(it) for it in values] + [f"{values[0] / it:.2f}" for it in values[1:]]
 
 
-def kept(lines, heads):
+def kept(lines, heads) -> dict[str, list[int]]:
     """The whole numbers of each row of the tables that begin with these heads, by what stands first in the row."""
     found, in_table = {}, False
     for said in lines:
@@ -32,11 +33,11 @@ def kept(lines, heads):
     return found
 
 
-def is_more(figure, other, slack=SLACK):
+def is_more(figure, other, slack=SLACK) -> bool:
     return figure > other * (1 + slack)
 
 
-def more_than_kept(of_document, name, values, slack=SLACK):
+def more_than_kept(of_document, name, values, slack=SLACK) -> Iterator[str]:
     """What is wrong with the figures of a row, by those that a document keeps."""
     if name not in of_document:
         yield "docs/PERFORMANCE.md has no figure"

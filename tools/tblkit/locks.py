@@ -11,11 +11,11 @@ class Holder:
     process: int
     command: str
 
-    def words(self):
+    def words(self) -> str:
         return f"process {self.process}" + (f" ({self.command})" if self.command else "")
 
 
-def holders(path):
+def holders(path) -> list[Holder]:
     """The processes that have the file at a path locked, by its device and inode. None of them is known where the system
     doesn't tell."""
     try:
@@ -30,7 +30,7 @@ def holders(path):
     return [Holder(it, _command_of(it)) for it in sorted(numbers) if it > 0]
 
 
-def _command_of(process):
+def _command_of(process) -> str:
     """The words of a process, the program's without its folder."""
     try:
         with open(f"/proc/{process}/cmdline", "rb") as file:
@@ -40,7 +40,7 @@ def _command_of(process):
     return " ".join(map(os.fsdecode, (os.path.basename(program), *words)))
 
 
-def in_use(path):
+def in_use(path) -> str:
     """That a file is in use, and by whom; empty where no lock on it is known."""
     found = holders(path)
     return f"{path} is in use by {', '.join(it.words() for it in found)}" if found else ""

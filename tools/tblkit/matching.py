@@ -8,21 +8,27 @@ alone: which application runs and has which handle and table, the packets with t
 import contextlib
 import io
 import tempfile
+from collections.abc import Iterator
+from typing import Any
 
-from . import names, packets, programs, records, show, states, transcript
+from . import layouts, names, packets, programs, records, show, states, transcript
 from .answers import BUFFERS, NO_BUFFER, Answer
 from .tables import POWER_ON, REGISTERED, STOPPED, SUCCESS
 
-BAD_APP, INVALID_HANDLE, NO_ACCESS, UNREGISTERED, INVALID_NAME, APP_RUNNING = 32, 33, 34, 35, 36, 79
-NO_SUCH_TABLE = 64
-BAD_PACKET, BAD_MESSAGE, BAD_CODE, BAD_LENGTH, BAD_NAME, BOOT_FAULT = 80, 81, 82, 83, 84, 85
-NOT_ADMITTED = (87, 88)
-NOT_CRITICAL, STORE_FAULT = 17, 76
-ACCEPTED, REFUSED, COPY_FAILED = 1, 2, 6
+BAD_APP, INVALID_HANDLE, NO_ACCESS, UNREGISTERED, INVALID_NAME, APP_RUNNING = layouts.statuses(
+    "BAD_APP", "INVALID_HANDLE", "NO_ACCESS", "UNREGISTERED", "INVALID_NAME", "APP_RUNNING")
+BAD_PACKET, BAD_MESSAGE, BAD_CODE, BAD_LENGTH, BAD_NAME, BOOT_FAULT = layouts.statuses(
+    "BAD_PACKET", "BAD_MESSAGE_ID", "BAD_CODE", "BAD_LENGTH", "BAD_NAME", "BOOT_FAULT")
+NO_SUCH_TABLE, NOT_CRITICAL, STORE_FAULT = layouts.statuses("NO_SUCH_TABLE", "NOT_CRITICAL", "CDS_FAULT")
+NOT_ADMITTED = layouts.statuses("BAD_SPACECRAFT_ID", "BAD_PROCESSOR_ID")
+ACCEPTED, REFUSED, COPY_FAILED = layouts.numbers_of("event", "command accepted", "command refused", "copy to the store failed")
 OWNERS = ("LoadImage", "LoadFile", "Update", "Validate", "Manage", "DumpToBuffer", "Edit", "Notify")
 OF_A_TABLE = ("DUMP", "VALIDATE", "ACTIVATE", "SEND_REGISTRY", "ABORT_LOAD")
 OF_THE_STORE = ("CdsRegister", "CdsCopy", "CdsRestore", "CdsDelete", "DELETE_CDS")
-BROKEN_OFF = (1, 3, 4, 7, 8)
+DONE, BAD_RECORD, FULL = layouts.numbers_of("run", "the work is done", "a record is bad, or the input ends inside one",
+                                            f"there are more than {records.MOST_RECORDS:,} records")
+BROKEN_OFF = layouts.numbers_of("run", "out of memory", "a read failed", "a write failed", "the store failed while it booted",
+                                "the store was stopped while it booted")
 
 
 class Another(Exception):
@@ -32,10 +38,10 @@ class Another(Exception):
 class Match:
     """Follows the answers of a transcript beside the records of a session."""
 
-    def __init__(self):
+    def __init__(self) -> None:
         self._states, self._counts, self._time, self._length = states.States(), {}, bytes(6), 0
 
-    def take(self, answer):
+    def take(self, answer) -> None:
         """Goes on to the next answer. One that its request can't have in this state is Another."""
         fits = answer.record is not None and answer.entry.number("place") == self._length
         try:
@@ -48,13 +54,13 @@ class Match:
         self._length += 1
         self._go_on(answer)
 
-    def _go_on(self, answer):
+    def _go_on(self, answer) -> None:
         if answer.request == "Time":
             self._time = answer.record.body
         elif answer.request == "Reset" or answer.status == STOPPED:
             self._counts = {}
 
-    def _fits(self, answer):
+    def _fits(self, answer) -> bool:
         expected = self._expected(answer)
         if expected is not None and answer.status not in expected:
             return False
@@ -62,7 +68,7 @@ class Match:
             return False
         return _has_reply(answer) and all(map(self._follows, answer.packets))
 
-    def _expected(self, answer):
+    def _expected(self, answer) -> Any:
         """The statuses of which one has to come, or None where more than is followed here decides."""
         name = answer.record.request.name
         if name == "Command":
@@ -79,13 +85,13 @@ class Match:
         handle = any(it.name == "handle" for it in names.fields(name))
         return self._of_handle(answer) if handle else _all_but(BAD_APP, INVALID_HANDLE, NO_ACCESS, UNREGISTERED)
 
-    def _of_start(self, answer, is_running):
+    def _of_start(self, answer, is_running) -> tuple[int, ...]:
         name = names.name_in(answer.record.body)
         if is_running:
             return (APP_RUNNING,)
         return (SUCCESS,) if names.is_name(name) and b"." not in name else (INVALID_NAME,)
 
-    def _of_handle(self, answer):
+    def _of_handle(self, answer) -> tuple[int, ...]:
         """The answers by the handle that a request names: given or not, whose it is, and whether its table is there."""
         view, name = self._states.view, answer.record.request.name
         handle = answer.handle()
@@ -100,7 +106,7 @@ class Match:
             return (NO_ACCESS,)
         return _all_but(BAD_APP, INVALID_HANDLE, NO_ACCESS, UNREGISTERED)
 
-    def _of_command(self, answer):
+    def _of_command(self, answer) -> Any:
         status, _ = command_fault(answer.record.body)
         if status:
             return (status,)
@@ -111,10 +117,10 @@ class Match:
             return _all_but(NO_SUCH_TABLE) if is_there else (NO_SUCH_TABLE,)
         return None
 
-    def _table(self, answer):
+    def _table(self, answer) -> str | None:
         return next((names.quoted(names.name_in(raw)) for field, raw in answer.fields() if field.name == "table"), None)
 
-    def _is_reply(self, answer):
+    def _is_reply(self, answer) -> bool:
         """Whether the first packet tells that the command was accepted, or why it was refused, with its table's row."""
         kinds = [it.kind for it in answer.packets]
         if answer.request == packets.HOUSEKEEPING and answer.status == SUCCESS:
@@ -130,7 +136,7 @@ class Match:
         table = self._table(answer) if answer.request in OF_A_TABLE else None
         return is_accepted and (table is None or self._states.view.rows.get(row) == table)
 
-    def _follows(self, packet):
+    def _follows(self, packet) -> bool:
         """Whether a packet has the time, and the count of its kind. A notice has neither."""
         if packet.kind == "notice":
             return True
@@ -138,18 +144,18 @@ class Match:
             return False
         count = self._counts.get(packet.kind, 0)
         self._counts[packet.kind] = count + 1
-        return packet.field("sequence count").value == count % (packets.MOST_COUNT + 1) and packet.content[6:12] == self._time
+        return packet.count == count % (packets.MOST_COUNT + 1) and packet.content[6:12] == self._time
 
 
-def _all_but(*statuses):
+def _all_but(*statuses) -> Any:
     return [it for it in names.named("status") if it not in statuses]
 
 
-def command_fault(packet):
+def command_fault(packet) -> tuple[int, int]:
     """The status and the detail with which a command of a wrong form is refused; two zeros where its form is right."""
     if not packets.is_whole(packet):
         is_short = len(packet) < packets.COMMAND_HEADER
-        return BAD_PACKET, 1 if is_short else 2 if packets.number(packet[4:6]) + 7 != len(packet) else 3
+        return BAD_PACKET, 1 if is_short else 2 if packets.number(packet[4:6]) + packets.LENGTH_LESS != len(packet) else 3
     message, code = packets.number(packet[:2]), packet[6] & 0x7F
     if message not in (packets.COMMAND_ID, packets.HOUSEKEEPING_ID):
         return BAD_MESSAGE, message
@@ -165,7 +171,7 @@ def command_fault(packet):
     return 0, 0
 
 
-def _has_reply(answer):
+def _has_reply(answer) -> bool:
     """Whether the reply has as many bytes as it may have."""
     length, name = len(answer.entry.reply), answer.request
     if answer.status == NO_BUFFER:
@@ -181,7 +187,7 @@ def _has_reply(answer):
     return bool(length) == (name == "CdsRestore") or name in ("DUMP", "DUMP_REGISTRY", packets.HOUSEKEEPING)
 
 
-def look(answers, index):
+def look(answers, index) -> None:
     """Holds the parts of a transcript, each entry beside its record, against the session that an index has taken. A transcript of
     another session is Another."""
     matching, entries = Match(), [it for it in answers if isinstance(it, Answer)]
@@ -193,14 +199,14 @@ def look(answers, index):
     _replay(entries)
 
 
-def _look_at_end(end, index, length):
+def _look_at_end(end, index, length) -> None:
     left = index.piece_at(end.place)
     fits = end.entries == length and end.place == index.bytes_taken
-    if end.status == 0:
+    if end.status == DONE:
         fits = fits and left is None
-    elif end.status == 5:
+    elif end.status == BAD_RECORD:
         fits = fits and left is not None and bool(left.fault)
-    elif end.status == 6:
+    elif end.status == FULL:
         fits = fits and length == records.MOST_RECORDS and left is not None
     else:
         fits = fits and end.status in BROKEN_OFF
@@ -208,7 +214,7 @@ def _look_at_end(end, index, length):
         raise Another
 
 
-def _replay(entries):
+def _replay(entries) -> None:
     """Plays the records in their order of turns, where there is a program, and compares the answers with those of the transcript."""
     session = b"".join(it.record.content for it in entries)
     is_cleared = False
@@ -221,14 +227,14 @@ def _replay(entries):
             is_cleared = is_cleared or answer.request == "Reset" and answer.record.body[0] == POWER_ON
 
 
-def _played(session, folder):
+def _played(session, folder) -> Iterator[transcript.Entry | transcript.Broken | transcript.End]:
     with tempfile.TemporaryFile() as source, tempfile.TemporaryFile() as output:
         source.write(session)
         programs.play(source, output, folder=folder)
         yield from transcript.parts(output)
 
 
-def _is_explained(answer, is_cleared):
+def _is_explained(answer, is_cleared) -> bool:
     """Whether another content of preserved memory, a fault of it, or lists of what is admitted explain another answer."""
     if answer.status in NOT_ADMITTED:
         return True

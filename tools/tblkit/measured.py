@@ -13,7 +13,7 @@ import subprocess
 import tempfile
 import termios
 import time
-from typing import NamedTuple
+from typing import Any, IO, NamedTuple
 
 from . import callgrind
 from .programs import TOP
@@ -28,7 +28,7 @@ WHOLE = 0.9
 PAUSE = 0.001
 
 
-def run(words, source=None, folder=None):
+def run(words, source=None, folder=None) -> bytes:
     """Runs a program that has to succeed, in a folder, and gives what it writes."""
     done = subprocess.run(words, stdin=source, stdout=subprocess.PIPE, stderr=subprocess.PIPE, cwd=folder, check=False)
     if done.returncode:
@@ -37,7 +37,7 @@ def run(words, source=None, folder=None):
     return done.stdout
 
 
-def file_of(session):
+def file_of(session) -> IO[bytes]:
     """A file from which the session can be read."""
     source = tempfile.TemporaryFile()
     source.write(session)
@@ -45,13 +45,13 @@ def file_of(session):
     return source
 
 
-def without_debug_information(program, copy):
+def without_debug_information(program, copy) -> str:
     """A copy of the program that every valgrind reads."""
     run(["strip", "--strip-debug", "-o", copy, program])
     return copy
 
 
-def plain_program(folder):
+def plain_program(folder) -> str | None:
     """The plain Rust program, built in the folder; none where rustc isn't there."""
     if not shutil.which("rustc"):
         return None
@@ -64,7 +64,7 @@ def plain_program(folder):
 # ---- instructions
 
 
-def counted(program, session):
+def counted(program, session) -> tuple[str, tuple[bytes, bytes]]:
     """What callgrind says of the program that plays the session, and what that writes and leaves in its store file."""
     with tempfile.TemporaryDirectory() as folder, file_of(session) as source:
         counts = os.path.join(folder, "counts")
@@ -77,19 +77,19 @@ def counted(program, session):
 
 
 @functools.lru_cache
-def _before(program, opening):
+def _before(program, opening) -> int:
     """How many instructions the program takes for what comes before a work."""
     return callgrind.instructions(counted(program, opening)[0])
 
 
-def instructions(program, work):
+def instructions(program, work) -> tuple[int, Any]:
     """How many instructions the program takes for a request of the work's rounds, and what it writes and leaves in its store file."""
     said, written = counted(program, work.session(work.rounds))
     took = callgrind.instructions(said) - _before(program, work.session(0))
     return round(took / work.requests(work.rounds)), written
 
 
-def functions(program, work):
+def functions(program, work) -> dict[str, float]:
     """How many instructions each function takes itself for a request of the work's rounds."""
     before, after = (callgrind.read(counted(program, work.session(it))[0])[0] for it in (0, work.rounds))
     return {function: count / work.requests(work.rounds) for function, count in (after - before).items()}
@@ -106,7 +106,7 @@ class Run(NamedTuple):
     memory: int
 
 
-def timed(way, source):
+def timed(way, source) -> Run:
     """What a program takes by its words for the session in a file, over a new store file."""
     source.seek(0)
     with tempfile.TemporaryDirectory() as folder, tempfile.TemporaryFile() as said:
@@ -121,7 +121,7 @@ def timed(way, source):
         return Run(took, 1_000 * (used.ru_utime + used.ru_stime), 1_024 * used.ru_maxrss)
 
 
-def least(runs):
+def least(runs) -> Run:
     """The least times of those runs that did the whole work, and the most memory. Of a crew an application may have to do without
     its handle, so that its requests are refused: the history is smaller then."""
     most = max(run.memory for run in runs)
@@ -129,12 +129,12 @@ def least(runs):
     return Run(min(run.took for run in whole), min(run.processor for run in whole), most)
 
 
-def least_times(ways, *sessions):
+def least_times(ways, *sessions) -> list[list[float]]:
     """How long each way takes for each session, the least of a few runs in turns: a list for each session."""
     return [[run.took for run in of_session] for of_session in least_runs(ways, *sessions)]
 
 
-def least_runs(ways, *sessions):
+def least_runs(ways, *sessions) -> list[list[Run]]:
     """What each way takes for each session, the least of a few runs in turns: a list for each session."""
     sources = [file_of(it) for it in sessions]
     try:
@@ -145,7 +145,7 @@ def least_runs(ways, *sessions):
     return [[least(of_one) for of_one in zip(*of_session)] for of_session in zip(*runs)]
 
 
-def output_of(way, session):
+def output_of(way, session) -> bytes:
     """What a program writes by its words for a session."""
     with tempfile.TemporaryDirectory() as folder, file_of(session) as source:
         return run(way, source, folder)
@@ -154,24 +154,24 @@ def output_of(way, session):
 # ---- memory
 
 
-def _failure(started):
+def _failure(started) -> OSError:
     return OSError(f"{' '.join(started.args)} ended with status {started.wait()}")
 
 
-def _pause(started):
+def _pause(started) -> None:
     """Waits for a process that isn't to end yet."""
     if started.poll() is not None:
         raise _failure(started)
     time.sleep(PAUSE)
 
 
-def _is_waiting(pid):
+def _is_waiting(pid) -> bool:
     """Whether the process waits for something that comes from outside."""
     with open(f"/proc/{pid}/stat", encoding="ascii", errors="replace") as stat:
         return stat.read().rpartition(")")[2].split()[0] == "S"
 
 
-def _peak(started):
+def _peak(started) -> int:
     """How many bytes a process has had at most by the time that it waits."""
     while not _is_waiting(started.pid):
         _pause(started)
@@ -180,17 +180,17 @@ def _peak(started):
     return 1_024 * int(row.split()[1])
 
 
-def _finish(started):
+def _finish(started) -> None:
     if started.wait():
         raise _failure(started)
 
 
-def _unread(pipe):
+def _unread(pipe) -> int:
     """How many bytes stand in a pipe."""
     return struct.unpack("i", fcntl.ioctl(pipe, termios.FIONREAD, bytes(4)))[0]
 
 
-def _write_all(started, content):
+def _write_all(started, content) -> None:
     """Writes the input of a process, and waits until it has read that."""
     left = memoryview(content)
     try:
@@ -202,7 +202,7 @@ def _write_all(started, content):
         _pause(started)
 
 
-def memory_of_play(program, session):
+def memory_of_play(program, session) -> int:
     """How many bytes the program has had at most when it has played the session. Its input ends only after that is known."""
     with tempfile.TemporaryDirectory() as folder:
         words = [program, "play"]
@@ -214,12 +214,12 @@ def memory_of_play(program, session):
         return peak
 
 
-def usual_memory(program, session):
+def usual_memory(program, session) -> float:
     """The same, the middle one of a few runs: the system counts a process's pages only so well."""
     return statistics.median(memory_of_play(program, session) for _ in range(WEIGHINGS))
 
 
-def _full_pipe():
+def _full_pipe() -> tuple[Any, Any, int]:
     """Both ends of a pipe that takes no further byte, and how many it has."""
     reader, writer = os.pipe()
     os.set_blocking(writer, False)
@@ -232,7 +232,7 @@ def _full_pipe():
     return os.fdopen(reader, "rb"), writer, filled
 
 
-def memory_of_line(words):
+def memory_of_line(words) -> tuple[int, str]:
     """How many bytes a program that writes one line has had at most when it writes that, and the line. It has to wait with it."""
     source, writer, filled = _full_pipe()
     with tempfile.TemporaryDirectory() as folder, source:

@@ -1,28 +1,37 @@
 """The table of names, ../names.tsv, and the layouts that it has: what each number and each field is called."""
 import functools
 import os
+import re
 from dataclasses import dataclass
+from typing import Any
 
 TABLE = os.path.join(os.path.dirname(os.path.dirname(os.path.realpath(__file__))), "names.tsv")
 NUMBER_FORMS = ("number", "signed", "hex", "two words", "row", "validator")
 PARTS_OF_BITS = {"flags": (14, 0x3), "count": (0, 0x3FFF), "function": (0, 0x7F)}
 CODED_FORMS = ("status", "event", "command")
+# The form whose words are the names of cFE's events.
+CFE_EVENT = "eid"
 # The sections whose numbers are explained.
 EXPLAINED = ("status", "event", "run")
 
 
-@dataclass(frozen=True)
+@dataclass(frozen=True, eq=False)
 class Field:
-    """A field of a body, header or packet: `width` is None for one that takes the rest."""
+    """A field of a body, header or packet: `width` is None for one that takes the rest. There is one of each, so it is told by which one
+    it is."""
     owner: str
     place: int
     width: int | None
     name: str
     form: str
 
-    def of(self, content):
+    @functools.cached_property
+    def _bounds(self) -> slice:
+        return slice(self.place, None if self.width is None else self.place + self.width)
+
+    def of(self, content) -> bytes:
         """The field's bytes in the bytes of what it is a part of."""
-        return content[self.place:None if self.width is None else self.place + self.width]
+        return content[self._bounds]
 
 
 @dataclass(frozen=True)
@@ -42,7 +51,7 @@ class Request(Named):
 
 
 @functools.cache
-def rows():
+def rows() -> list[list[str]]:
     """The rows of the table as lists of columns, without the mark `later`. It is read once: later there may be no descriptor left."""
     found = []
     with open(TABLE, encoding="ascii") as lines:
@@ -53,25 +62,36 @@ def rows():
     return found
 
 
-def rows_of(section):
+def rows_of(section) -> list[list[str]]:
     return [columns[1:] for columns in rows() if columns[0] == section]
 
 
 @functools.cache
-def named(section):
+def numbers() -> dict[str, str]:
+    """The numbers that programs share, as the table spells them, by what each is."""
+    return {what: spelled for what, spelled, _ in rows_of("constant")}
+
+
+def _with_numbers(text) -> str:
+    """A text with the numbers that it names."""
+    return re.sub(r"\{(.+?)\}", lambda found: f"{int(numbers()[found[1]], 0):,}", text)
+
+
+@functools.cache
+def named(section) -> dict[int, Named]:
     """The statuses, events, commands, messages or run statuses by number."""
-    found = (Named(int(number, 0), *more) for number, *more in rows_of(section))
+    found = (Named(int(number, 0), _with_numbers(name), *more) for number, name, *more in rows_of(section))
     return {it.number: it for it in found}
 
 
 @functools.cache
-def explained():
+def explained() -> dict[tuple[str, int], tuple[str, ...]]:
     """What each number of a section means, when it comes, and what to do."""
-    return {(section, int(number)): tuple(said) for section, number, *said in rows_of("explain")}
+    return {(section, int(number)): tuple(map(_with_numbers, said)) for section, number, *said in rows_of("explain")}
 
 
 @functools.cache
-def return_codes():
+def return_codes() -> dict[int, str]:
     """cFE's return codes that say the same as statuses do, by these."""
     return {int(number): code for number, code in rows_of("return")}
 
@@ -86,42 +106,45 @@ class Word:
     said: str
 
     @property
-    def section(self):
+    def section(self) -> str:
         """The section that has its number; empty if none has."""
         return {"also": "status", "option": "", "limit": "", "none": ""}.get(self.kind, self.kind)
 
-    def here(self):
+    def here(self) -> str:
         """What it is here, in words."""
         if not self.section:
             return self.number if self.kind != "none" else "none"
-        known = (requests() if self.section == "request" else named(self.section)).get(int(self.number, 0))
+        numbers_of: Any = requests() if self.section == "request" else named(self.section)
+        known = numbers_of.get(int(self.number, 0))
         return f"{self.section} {self.number} {known.name if known else 'which is none'}"
 
 
 @functools.cache
-def cfe_words():
+def cfe_words() -> tuple[Word, ...]:
     """cFE's words: the return codes, then all others."""
     codes = tuple(Word(code, "status", str(number), "a call returns it") for number, code in return_codes().items())
-    return codes + tuple(Word(*columns) for columns in rows_of("word"))
+    return codes + tuple(Word(name, kind, numbers()[number] if kind == "limit" else number, _with_numbers(said))
+                         for name, kind, number, said in rows_of("word"))
 
 
 @functools.cache
-def in_cfe(section, number):
+def in_cfe(section, number) -> tuple[str, ...]:
     """The names in cFE of what this number of a section is: return code, event ids, command code."""
     return tuple(it.name for it in cfe_words() if it.kind == section and int(it.number, 0) == number)
 
 
 @functools.cache
-def requests():
+def requests() -> dict[int, Request]:
     """The kinds of session records by number."""
     found = {}
-    for number, name, word, actor, *detail in rows_of("request"):
-        found[int(number, 0)] = Request(int(number, 0), name, *detail, word=word, is_ground=actor == "ground")
+    for number, name, word, actor, *more in rows_of("request"):
+        detail, form = (*more, "", "")[:2]
+        found[int(number, 0)] = Request(int(number, 0), name, detail, form, word, actor == "ground")
     return found
 
 
 @functools.cache
-def fields(owner):
+def fields(owner) -> tuple[Field, ...]:
     """The fields of a body, header or packet, in the order of their places."""
     found = []
     for part, place, width, name, form in rows_of("field"):
@@ -131,41 +154,50 @@ def fields(owner):
 
 
 @functools.cache
-def field(owner, name):
+def field(owner, name) -> Field:
     return next(it for it in fields(owner) if it.name == name)
 
 
 @functools.cache
-def words(form):
+def words(form) -> dict[int, str]:
     """The numbers of a coded form, with their words."""
     if form in CODED_FORMS:
         return {number: it.name for number, it in named(form).items()}
+    if form == CFE_EVENT:
+        return {int(number): name for number, name, *_ in rows_of(CFE_EVENT)}
     return {int(number, 0): word for part, number, word in rows_of("code") if part == form}
 
 
 @functools.cache
-def bits(form):
+def bits(form) -> dict[int, str]:
     """The bits of a form that is a set of bits, lowest first: the value of each, and its word."""
     return {1 << int(number): word for part, number, word in rows_of("bit") if part == form}
 
 
-def size_of(owner):
+@functools.cache
+def key(name) -> str:
+    """A name as programs have it: `commands_accepted`. Wireshark's fields have the same."""
+    return re.sub(r"[^a-z0-9]+", "_", name.lower().replace("'", ""))
+
+
+def size_of(owner) -> int:
     """How many bytes the fields of a layout of fixed size take, from the place of the first."""
     parts = fields(owner)
     return parts[-1].place + parts[-1].width - parts[0].place
 
 
-def name_in(content):
+def name_in(content) -> bytes:
     """What a name field reads as: its bytes before the first zero byte, or all of them."""
     return content.split(b"\0", 1)[0]
 
 
-def is_name(content):
+def is_name(content) -> bool:
     """Whether bytes are a name."""
     return bool(content) and all(0x21 <= byte <= 0x7E for byte in content)
 
 
-def quoted(name):
+@functools.lru_cache(1 << 12)
+def quoted(name) -> str:
     """A name as a word: bare where it has none but printing ASCII, else in quotes with escapes."""
     plain = bool(name) and all(0x21 <= byte <= 0x7E for byte in name) and not set(name) & set(b'"\\')
     if plain and not name.startswith(b"#"):
@@ -173,13 +205,13 @@ def quoted(name):
     return f'"{escaped(name)}"'
 
 
-def escaped(name):
+def escaped(name) -> str:
     """A name in printing ASCII: a backslash before quotes and backslashes, \\xNN for a byte that is no such character."""
     return "".join("\\" + chr(byte) if byte in b'"\\' else chr(byte) if 0x20 <= byte <= 0x7E else f"\\x{byte:02X}"
                    for byte in name)
 
 
-def value(form, content):
+def value(form, content) -> int:
     """The number in a field's bytes."""
     number = int.from_bytes(content, "big", signed=form == "signed")
     if form in PARTS_OF_BITS:
@@ -188,15 +220,17 @@ def value(form, content):
     return number
 
 
-def is_blank(form, content):
+def is_blank(form, content) -> bool:
     """Whether a field has nothing to tell: all zeros, or for a row or a validator all ones, which stand for none."""
     if form in PARTS_OF_BITS:
         return value(form, content) == 0
     return content == (b"\xff" if form in ("row", "validator") else b"\0") * len(content)
 
 
-def shown(form, content):
+def shown(form, content) -> str:
     """A field's bytes in words, by its form."""
+    if form in ("number", "signed"):
+        return str(value(form, content))
     if form == "name":
         return quoted(name_in(content)) + (" (and bytes after it)" if content.partition(b"\0")[2].strip(b"\0") else "")
     if form in ("data", "zeros"):
@@ -214,7 +248,7 @@ def shown(form, content):
     return f"{number} {known}" if known else str(number)
 
 
-def _bits_shown(form, number):
+def _bits_shown(form, number) -> str:
     """The words of the bits that are set, and what no bit has a word for."""
     found = [word for bit, word in bits(form).items() if number & bit]
     unknown = number & ~sum(bits(form))

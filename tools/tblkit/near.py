@@ -1,13 +1,11 @@
-"""Which known words a word that isn't known may stand for. `python3 near.py WORD KNOWN..` writes what is said of them, for the
-front command."""
+"""Which known words a word that isn't known may stand for."""
 import difflib
-import sys
 
 LEAST_ALIKE = 0.66
 MOST = 3
 
 
-def near(word, known):
+def near(word, known) -> list[str]:
     """Those of the known words that a word is like, the nearest first. Capitals and small letters are the same."""
     by_letters = {}
     for it in known:
@@ -15,11 +13,7 @@ def near(word, known):
     return [by_letters[it] for it in difflib.get_close_matches(word.lower(), by_letters, MOST, LEAST_ALIKE)]
 
 
-def meant(word, known):
+def meant(word, known) -> str:
     """What a message goes on with after a word that isn't known: those that may have been meant, or nothing."""
     found = near(word, known)
     return f"; did you mean {' or '.join(found)}?" if found else ""
-
-
-if __name__ == "__main__":
-    print(meant(sys.argv[1], sys.argv[2:]), end="")

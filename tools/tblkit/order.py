@@ -6,21 +6,23 @@ tells of all tables, or was answered that something is full or that the store fa
 their turns, as the requests of one actor do.
 """
 import heapq
+from collections.abc import Iterator
+from typing import Any
 
-from . import names, packets
+from . import layouts, names, packets
 from .answers import Answer
 
 # What meets all: resets and requests that tell of all tables, and answers that depend on all that was done before.
 MEETS_ALL = {"Reset", packets.HOUSEKEEPING, "RESET_COUNTERS", "DUMP_REGISTRY"}
-MEETS_ALL_BY_STATUS = {10, 42, 43, 57, 69, 71, 75, 76, 85}
-NO_SUCH_TABLE = 64
+MEETS_ALL_BY_STATUS = set(layouts.statuses("STOPPED", "REGISTRY_FULL", "HANDLES_FULL", "NO_BUFFER_AVAIL", "VALIDATIONS_FULL", "DRAWER_FULL",
+                                           "CDS_NO_ROOM", "CDS_FAULT", "BOOT_FAULT"))
+NO_SUCH_TABLE, NO_BLOCK = layouts.statuses("NO_SUCH_TABLE", "CDS_NOT_FOUND")
 HANDLES = {"Register", "Share", "Unregister", "Exit"}
 BLOCKS = {"CdsRegister", "CdsDelete", "DELETE_CDS"}
-NO_BLOCK = 73
 TIME = "Time"
 
 
-def in_session_order(answers):
+def in_session_order(answers) -> Iterator[Any]:
     """The parts of a transcript in the order to be shown."""
     segment = _Segment()
     for part in answers:
@@ -33,14 +35,14 @@ def in_session_order(answers):
     yield from segment.ordered()
 
 
-def _meets_all(answer):
+def _meets_all(answer) -> bool:
     return (answer.record is None or not answer.view.is_known or answer.request in MEETS_ALL
             or answer.status in MEETS_ALL_BY_STATUS or answer.request == "LOAD" and answer.status == NO_SUCH_TABLE)
 
 
-def subjects(answer):
+def subjects(answer) -> set[Any]:
     """What a request is about, as far as another actor's may be about it too."""
-    found = {("handles",)} if answer.request in HANDLES else set()
+    found: set[Any] = {("handles",)} if answer.request in HANDLES else set()
     if answer.request in BLOCKS or answer.status == NO_BLOCK:
         found.add(("blocks",))
     for field, raw in answer.fields():
@@ -51,21 +53,29 @@ def subjects(answer):
     return found | tables_of(answer) | _blocks_of(answer)
 
 
-def tables_of(answer):
+def tables_of(answer) -> set[Any]:
     """The tables of a request by its handle, of an application that ends, and of those that packets tell of."""
     own = [it for it in answer.view.handles.values() if it.actor == answer.actor] if answer.request == "Exit" else []
-    found = {("table", it.table) for it in own}
+    found: set[Any] = {("table", it.table) for it in own}
     if any(it.name == "handle" for it, _ in answer.fields()):
         handle = answer.handle()
         is_own = handle is not None and handle.actor == answer.actor and handle.table is not None
         found.add(("table", handle.table) if is_own else ("handles",))
     if answer.request == "Register":
         found.add(("table", answer.view.full_name(answer.actor, names.field("Register", "short name").of(answer.record.body))))
-    rows = [it.field("row") for it in answer.packets if it.kind == "event"]
-    return found | {("table", answer.view.rows[it.value]) for it in rows if it.value in answer.view.rows}
+    rows = [it.told.row for it in answer.packets if it.told]
+    return found | {("table", answer.view.rows[it]) for it in rows if it in answer.view.rows}
 
 
-def _blocks_of(answer):
+def tables_named(answer) -> set[str]:
+    """The tables that a request is about, by name: those of its fields, its handle and its packets."""
+    if not answer.view.rows and answer.request != "Register":
+        return set()
+    found = {subject for kind, *of in tables_of(answer) if kind == "table" for subject in of}
+    return found | {names.quoted(names.name_in(raw)) for field, raw in answer.fields() if field.name == "table"}
+
+
+def _blocks_of(answer) -> set[Any]:
     """The block that a registration made or found."""
     if answer.request == "CdsRegister":
         return {("slot", answer.entry.number("detail"))}
@@ -78,12 +88,12 @@ def _blocks_of(answer):
 class _Segment:
     """Answers between two that meet all: which of them each holds up, and how many hold it up."""
 
-    def __init__(self):
+    def __init__(self) -> None:
         self._answers, self._holds, self._waits = [], [], []
         # The last answer about each subject, and those that have sent packets since the time was set.
         self._last, self._timed = {}, []
 
-    def add(self, answer):
+    def add(self, answer) -> None:
         index = len(self._answers)
         keys = subjects(answer) | {("actor", answer.actor)}
         before = {self._last[it] for it in keys if it in self._last}
@@ -101,7 +111,7 @@ class _Segment:
         for it in before:
             self._holds[it].append(index)
 
-    def ordered(self):
+    def ordered(self) -> Iterator[Any]:
         """The answers, each after those that hold it up, and else by the places of their records."""
         ready = [(it.record.at, index) for index, it in enumerate(self._answers) if not self._waits[index]]
         heapq.heapify(ready)

@@ -16,17 +16,17 @@ PARTS = {
 REST = "other"
 
 
-def is_front(front, symbol):
+def is_front(front, symbol) -> bool:
     """Whether a symbol is this front, or goes on after it with a further name."""
     return symbol.startswith(front) and symbol[len(front):len(front) + 1] in ("", ":", ".", "_")
 
 
-def part_of(symbol):
+def part_of(symbol) -> str:
     fits = [(len(front), part) for part, fronts in PARTS.items() for front in fronts if is_front(front, symbol)]
     return max(fits)[1] if fits else REST
 
 
-def by_parts(own):
+def by_parts(own) -> dict[str, int]:
     """How many instructions each part takes, by those that each function takes itself."""
     found = dict.fromkeys((*PARTS, REST), 0)
     for symbol, count in own.items():

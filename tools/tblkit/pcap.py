@@ -17,7 +17,7 @@ IP_HEADER, UDP_HEADER = 20, 8
 MOST_CONTENT = 0xFFFF - IP_HEADER - UDP_HEADER
 
 
-def _checksum(header):
+def _checksum(header) -> int:
     """The checksum of an IPv4 header (RFC 791)."""
     total = sum(struct.unpack(f">{len(header) // 2}H", header))
     while total >> 16:
@@ -25,7 +25,7 @@ def _checksum(header):
     return total ^ 0xFFFF
 
 
-def datagram(content, sender, receiver, port):
+def datagram(content, sender, receiver, port) -> bytes:
     """An IPv4 packet with a UDP datagram without checksum."""
     length = IP_HEADER + UDP_HEADER + len(content)
     header = struct.pack(">BBHHHBBH4s4s", 0x45, 0, length, 0, 0, 64, 17, 0, sender, receiver)
@@ -33,17 +33,17 @@ def datagram(content, sender, receiver, port):
     return header + struct.pack(">HHHH", port, port, UDP_HEADER + len(content), 0) + content
 
 
-def _padded(content):
+def _padded(content) -> bytes:
     return content + bytes(-len(content) % 4)
 
 
-def block(kind, body):
+def block(kind, body) -> bytes:
     """A block of the format: its kind, its length before and after the body, and the body."""
     length = struct.pack(">I", len(body) + 12)
     return struct.pack(">I", kind) + length + body + length
 
 
-def comment_option(words):
+def comment_option(words) -> bytes:
     """A comment on a packet, with the mark that ends the options; nothing where there are no words."""
     text = words.encode("ascii")
     return struct.pack(">HH", COMMENT, len(text)) + _padded(text) + bytes(4) if text else b""
@@ -53,20 +53,28 @@ class Capture:
     """A capture that is written. Its times are the service's, as its telemetry tells them. Of what is no packet and too
     long for a datagram it has the front."""
 
-    def __init__(self, file):
+    def __init__(self, file) -> None:
         self._file, self._microseconds = file, 0
         file.write(block(SECTION, struct.pack(">IHHq", 0x1A2B3C4D, 1, 0, -1)))
         file.write(block(INTERFACE, struct.pack(">HHI", RAW_IP, 0, 65535)))
 
-    def _write(self, content, sender, receiver, port, words=""):
+    def _write(self, content, sender, receiver, port, words="") -> None:
         frame = datagram(content[:MOST_CONTENT], sender, receiver, port)
         head = struct.pack(">IQII", 0, self._microseconds, len(frame), len(frame))
         self._file.write(block(PACKET, head + _padded(frame) + comment_option(words)))
 
-    def add(self, answer):
+    def add_command(self, content) -> None:
+        """A datagram to the service."""
+        self._write(content, GROUND, SERVICE, COMMAND_PORT)
+
+    def add_telemetry(self, content) -> None:
+        """A datagram that the service sent."""
+        self._write(content, SERVICE, GROUND, TELEMETRY_PORT)
+
+    def add(self, answer) -> None:
         """A command as it was sent, then the packets that it made the service send."""
         if answer.record is not None and answer.record.request.name == "Command":
-            self._write(answer.record.body, GROUND, SERVICE, COMMAND_PORT)
+            self.add_command(answer.record.body)
         for packet in answer.packets:
             seconds, subseconds, row = (packet.field(it) for it in ("seconds", "subseconds", "row"))
             if seconds:

@@ -1,4 +1,6 @@
 """How far a piece of work is, told on standard error while nothing else is written."""
+from __future__ import annotations
+
 import contextlib
 import shutil
 import sys
@@ -11,7 +13,7 @@ from .streams import clear_line
 SECONDS = 4.5
 
 
-def span(seconds):
+def span(seconds) -> str:
     """A number of seconds for people."""
     minutes, rest = divmod(round(seconds), 60)
     return f"{minutes} min {rest} s" if minutes else f"{rest} s"
@@ -22,7 +24,7 @@ class Ticker:
     terminal each line takes the place of the one before. With `is_beside` other output counts only if a terminal has it, so that
     lines come also while it goes elsewhere."""
 
-    def __init__(self, tell, is_beside=False):
+    def __init__(self, tell, is_beside=False) -> None:
         self.tell = tell
         self.is_terminal = sys.stderr is not None and sys.stderr.isatty()
         self.is_quieted = not is_beside or sys.stdout.isatty()
@@ -32,17 +34,17 @@ class Ticker:
         self.done = threading.Event()
         self.thread = threading.Thread(target=self._tick, daemon=True)
 
-    def __enter__(self):
+    def __enter__(self) -> Ticker:
         self.thread.start()
         return self
 
-    def __exit__(self, *_):
+    def __exit__(self, *_) -> None:
         self.done.set()
         self.thread.join()
         with self.lock:
             self._clear()
 
-    def write(self, output):
+    def write(self, output) -> None:
         """Writes other output of the work, as bytes."""
         with self.lock:
             self._clear()
@@ -51,12 +53,12 @@ class Ticker:
             if self.is_quieted:
                 self.last = time.monotonic()
 
-    def _clear(self):
+    def _clear(self) -> None:
         if self.is_shown:
             clear_line()
             self.is_shown = False
 
-    def _tick(self):
+    def _tick(self) -> None:
         while not self.done.wait(0.5):
             now = time.monotonic()
             with self.lock:
@@ -66,7 +68,7 @@ class Ticker:
                 with contextlib.suppress(OSError):
                     self._tell(self.tell(now - self.begun))
 
-    def _tell(self, line):
+    def _tell(self, line) -> None:
         self._clear()
         if self.is_terminal:
             print(line[:shutil.get_terminal_size().columns - 1], end="", file=sys.stderr, flush=True)

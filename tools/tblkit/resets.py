@@ -1,21 +1,23 @@
 """What a reset in each write to preserved memory leaves: the table of `cfetbl resets`, read again and made into a page."""
 import re
+from collections.abc import Iterator
 from dataclasses import dataclass, field
 
-from .pages import element, legend, page, picture, text, titled
+from .pages import element, fitting, legend, page, swatch, table, text
 
 HEADING = "write  bytes  in request"
 WRITE = re.compile(r"(\d+) +(\d+) +(boot at the start|\d+ (?:app \d+|ground) \w+) +(\S.*?)(?: +(?=\d+(?:-\d+)? +\S+: )|$)")
 BACK = re.compile(r" *(\d+)(?:-(\d+))? +(\S+): (.*)")
-# What comes back, by words that its line has: the color, and what the legend says.
-OUTCOMES = (("A MIX", "#d62728", "a mix of two images"),
-            ("whose copy broke off", "#f28e2b", "the image whose copy broke off"),
-            ("recovered", "#59a14f", "the last image that was copied"), ("", "#d8d8d8", "none"))
-WIDTH, BAR, LEAST = 560, 16, 3
+# What comes back, by words that its line has: the kind of its bar, and what the legend says.
+OUTCOMES = (("A MIX", "crossed mix", "a mix of two images"),
+            ("whose copy broke off", "stripes broken", "the image whose copy broke off"),
+            ("recovered", "last", "the last image that was copied"), ("", "empty none", "none"))
+HEADS = ("write", "bytes", "in request", "what is written", "table", "a reset after so many bytes, from 0 to all", "what comes back")
 STYLE = """\
-table { border-collapse: collapse; }
-td, th { padding: 2px 10px 2px 0; text-align: left; vertical-align: middle; white-space: nowrap; }
-tr { border-top: 1px solid #e4e4e4; } svg text { pointer-events: none; }
+.mix { --color: var(--refused); } .broken { --color: var(--open); } .last { --color: var(--validated); }
+.resets { width: 100%; } .resets th:nth-child(6) { width: 34%; } .resets th:nth-child(7) { width: 26%; }
+.bytes { display: flex; min-width: 160px; margin-top: 2px; }
+.bytes .bar { flex: 1 1 0; min-width: 4px; height: 17px; margin-right: 1px; }
 """
 
 
@@ -42,7 +44,7 @@ class NoTable(Exception):
     """The lines aren't those of `cfetbl resets`."""
 
 
-def read(lines):
+def read(lines) -> tuple[list[str], list[Write], list[str]]:
     """The lines before the table, its writes, and the lines after it."""
     lines = [it.rstrip("\n") for it in lines]
     start = next((at for at, line in enumerate(lines) if line.startswith(HEADING)), None)
@@ -52,7 +54,7 @@ def read(lines):
     return lines[:start], _writes(lines[start + 1:end]), lines[end:]
 
 
-def _writes(rows):
+def _writes(rows) -> list[Write]:
     found = []
     for row in rows:
         begun = WRITE.match(row)
@@ -68,45 +70,38 @@ def _writes(rows):
     return found
 
 
-def _color(words):
-    return next(color for said, color, _ in OUTCOMES if said in words)
+def _kind(words) -> str:
+    return next(kind for said, kind, _ in OUTCOMES if said in words)
 
 
-def _bar(write, table):
-    """The bytes of a write from left to right, in the colors of what the table comes back with."""
-    backs = [it for it in write.backs if it.table == table]
-    left = WIDTH - LEAST * len(backs)
-    at, parts = 0.0, []
-    for it in backs:
-        count = it.last - it.first + 1
-        width = LEAST + left * count / (write.size + 1)
-        after = f"{it.first} to {it.last}" if it.first != it.last else str(it.first)
-        parts.append(titled("rect", f"after {after} of {write.size} bytes: {it.words}", x=round(at, 2), y=0,
-                            width=round(width - 0.5, 2), height=BAR, fill=_color(it.words), data_write=write.number,
-                            data_table=table, data_from=it.first, data_to=it.last, data_back=it.words))
-        if width > 7 * len(after):
-            parts.append(element("text", after, x=round(at + 3, 2), y=12))
-        at += width
-    return picture(WIDTH, BAR, "".join(parts))
+def _after(back) -> str:
+    return f"{back.first} to {back.last}" if back.first != back.last else str(back.first)
 
 
-def _rows(writes):
+def _bar(write, backs) -> str:
+    """The bytes of a write from left to right, by what the table comes back with."""
+    parts = [element("span", fitting(_after(it)), class_=f"bar {_kind(it.words)}", style=f"flex-grow: {it.last - it.first + 1}",
+                     title=f"after {_after(it)} of {write.size} bytes: {it.words}", data_write=write.number, data_table=it.table,
+                     data_from=it.first, data_to=it.last, data_back=it.words) for it in backs]
+    return element("div", "".join(parts), class_="bytes") if parts else ""
+
+
+def _rows(writes) -> Iterator[tuple[str, ...]]:
+    """The rows of the page: for each write one for each table, the first of which tells of the write."""
     for write in writes:
         tables = list(dict.fromkeys(it.table for it in write.backs)) or [""]
-        for place, table in enumerate(tables):
+        for place, name in enumerate(tables):
             own = (str(write.number), str(write.size), write.request, write.what) if place == 0 else ("",) * 4
-            cells = [element("td", text(it)) for it in (*own, table)]
-            said = list(dict.fromkeys(it.words for it in write.backs if it.table == table))
-            yield element("tr", "".join(cells) + element("td", _bar(write, table)) + element("td", text("; ".join(said))))
+            backs = [it for it in write.backs if it.table == name]
+            said = [element("div", text(f"{_after(it)}: {it.words}")) for it in backs]
+            yield (*map(text, (*own, name)), _bar(write, backs), "".join(said))
 
 
-def html(name, lines):
+def html(name, lines) -> str:
     """The page of a table."""
     before, writes, after = read(lines)
-    heads = "".join(element("th", it) for it in ("write", "bytes", "in request", "what is written", "table",
-                                                 "a reset after so many bytes, from 0 to all", "what comes back"))
-    table = element("table", "\n".join([element("tr", heads), *_rows(writes)])) if writes else ""
-    kinds = legend([(color, words) for _, color, words in OUTCOMES])
-    body = [element("h1", text(f"Resets in {name}")), kinds, element("pre", text("\n".join(before))), table,
+    listed = table(HEADS, _rows(writes), class_="cards resets") if writes else ""
+    kinds = legend([(swatch(kind), words) for _, kind, words in OUTCOMES])
+    body = [element("h1", text(f"Resets in {name}")), element("pre", text("\n".join(before))), kinds, listed,
             element("pre", text("\n".join(after)))]
     return page(f"Resets in {name}", "\n".join(body), STYLE)

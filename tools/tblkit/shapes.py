@@ -1,4 +1,8 @@
 """Images by field: which fields the shapes of tables give to bytes that stand at an offset of an image."""
+import argparse
+from collections.abc import Iterator
+from typing import Any
+
 from . import described, files, names, programs, records
 from .fields import definitions, loads
 from .fields.wrong import NoReader, Wrong
@@ -13,10 +17,10 @@ MOST_FIELDS = 24
 class _Forms:
     """A shape that is written out, as u16:limit,i16:gain."""
 
-    def __init__(self, word):
+    def __init__(self, word) -> None:
         self._forms = described.read_shape(word)
 
-    def told(self, offset, content, _is_all):
+    def told(self, offset, content, _is_all) -> list[str]:
         told, at = [], 0
         for form in self._forms:
             begin, end = at - offset, at - offset + form.size
@@ -31,10 +35,10 @@ class _Forms:
 class _Object:
     """The shape of the table that an object file defines."""
 
-    def __init__(self, path):
+    def __init__(self, path) -> None:
         self._definition = definitions.read(path)
 
-    def told(self, offset, content, is_all):
+    def told(self, offset, content, is_all) -> list[str]:
         layout, part = self._definition.layout, loads.Part(offset, content[:max(0, self._definition.layout.size - offset)])
         whole = [it for it in layout.fields if part.has(it)]
         told = [f"{it.name} {part.text_of(it)}" for it in (whole if is_all else whole[:MOST_FIELDS])]
@@ -48,26 +52,26 @@ class _Object:
 class Shapes:
     """The shapes of tables by their full names, as `--shape NAME=SHAPE` gives them, and `--shape-of NAME=OBJ`."""
 
-    def __init__(self, words=(), objects=()):
+    def __init__(self, words=(), objects=()) -> None:
         self._shapes = dict(_named(it, "CS_APP.Limits=u16:limit,i16:gain", _Forms) for it in words)
         self._shapes |= dict(_named(it, "CS_APP.Limits=limits.o", _Object) for it in objects)
 
-    def __bool__(self):
+    def __bool__(self) -> bool:
         return bool(self._shapes)
 
     @property
-    def names(self):
+    def names(self) -> list[str]:
         """The full names of the tables."""
         return list(self._shapes)
 
-    def lines(self, answer, is_all=False):
+    def lines(self, answer, is_all=False) -> Iterator[str]:
         """A line for each image, or part of one, that a request brought or that its reply has: the table and its fields."""
         for table, offset, content in _parts(answer):
             if table in self._shapes:
                 yield f"{table}: {', '.join(self._shapes[table].told(offset, content, is_all)) or 'no whole field'}"
 
 
-def _named(word, example, shape):
+def _named(word, example, shape) -> tuple[str, Any]:
     """A table's name with its shape."""
     name, sign, rest = word.partition("=")
     if not sign:
@@ -75,13 +79,13 @@ def _named(word, example, shape):
     return name, shape(rest)
 
 
-def add_options(parser):
+def add_options(parser) -> None:
     """The options that give shapes."""
     for option in ("--shape", "--shape-of"):
         parser.add_argument(option, action="append", default=[])
 
 
-def of_options(tool, parser, chosen):
+def of_options(tool, parser: argparse.ArgumentParser, chosen) -> Shapes:
     """The shapes that options gave."""
     try:
         return Shapes(chosen.shape, chosen.shape_of)
@@ -93,7 +97,7 @@ def of_options(tool, parser, chosen):
         fail(tool, str(none), programs.NO_PROGRAM)
 
 
-def tables_of(session):
+def tables_of(session) -> set[str]:
     """The full names of the tables that a session registers or has in its files, whatever their answers are."""
     applications, found = {}, set()
     session.seek(0)
@@ -114,14 +118,14 @@ def tables_of(session):
     return found
 
 
-def _images(content):
+def _images(content) -> Iterator[tuple[str, int, bytes]]:
     """The image of a table file, if these bytes are one, with its table's full name and its offset."""
     read = files.read_table_file(content)
     if read and read[0]["content"] == files.CONTENT and read[0]["subtype"] == files.TABLE_SUBTYPE:
         yield names.quoted(read[0]["table"]), read[0]["offset"], read[1]
 
 
-def _parts(answer):
+def _parts(answer) -> Iterator[tuple[str, int, bytes]]:
     """The bytes of images in an answer, each with its table's full name and the offset of the first."""
     record = answer.record
     if record is None:

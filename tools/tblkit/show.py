@@ -1,17 +1,33 @@
 """Answers as lines for people, and as objects for programs."""
 import functools
-import re
-from dataclasses import replace
+import typing
+from collections.abc import Iterator
+from typing import Any
 
-from . import names, transcript
+from . import names, packets, records, transcript
 from .answers import Answer, end_words
 from .tables import NONE_KNOWN, Tables
 
 INDENT = "      "
-HEADER_SHOWN = ("sequence count", "seconds", "subseconds")
+# An answer that has no more bytes than this is short; the place of an entry has so many.
+FEW, PLACE = 512, names.field("entry", "place").width
+# The event that tells that a command was refused.
+REFUSED = 2
 
 
-def answers(parts, index, is_named=True):
+class Line(typing.NamedTuple):
+    """A line of an answer: what it is (request, reply, image, event, refusal or another packet), its words, and of a request the place
+    before them and the answer after them."""
+    kind: str
+    words: str
+    place: str = ""
+    answer: str = ""
+
+    def plain(self) -> str:
+        return f"{self.place} {self.words} -> {self.answer}" if self.kind == "request" else INDENT + self.words
+
+
+def answers(parts, index, is_named=True) -> Iterator[Any]:
     """The parts of a transcript, each entry as an answer beside its record: the next one of its actor. Where they are to be
     named, each has the tables and handles that were there before it."""
     tables = Tables()
@@ -25,88 +41,121 @@ def answers(parts, index, is_named=True):
             yield part
 
 
-def listed(fields, is_all=False):
+def listed(fields, is_all=False) -> str:
     """Fields as words: those that have something to tell, or all."""
     return ", ".join(f"{it.name} {it.words}" for it in fields if is_all or not it.is_blank)
 
 
-def lines(answer, is_all=False, shapes=None):
+def lines(answer, is_all=False, shapes=None) -> Iterator[str]:
+    """The lines of an answer as they stand in a file."""
+    return (it.plain() for it in parts_of(answer, is_all, shapes))
+
+
+def parts_of(answer, is_all=False, shapes=None) -> Iterator[Line]:
     """The lines of an answer: the request with its status, then what it replied, the images of tables whose shapes are known
     by field, and each packet that it sent."""
-    detail, replies = answer.detail(), answer.reply()
-    told = [answer.status_words()] + ([f"{detail.name} {detail.words}"] if detail else [])
-    told += [answer.table(), answer.sizes_words(), answer.handles_words()]
+    line, told, replies = _front(answer, is_all)
+    yield Line("request", line, str(answer.entry.number("place")), told)
+    yield from replies
+    if shapes:
+        yield from (Line("image", it) for it in shapes.lines(answer, is_all))
+    for packet in answer.packets:
+        kind = "refusal" if packet.told and packet.told.number == REFUSED else packet.kind
+        if is_all:
+            yield from (Line(kind, it) for it in _block(packet.kind, packet.header + named_rows(packet, answer.view), True))
+        else:
+            yield Line(kind, _packet_words(packet, answer.view.rows))
+
+
+def _front(answer, is_all) -> tuple[str, str, list[Line]]:
+    """The request, its answer, and the lines of what it replied. What is short and told by itself is kept, since it comes again."""
+    entry, record = answer.entry, answer.record
+    # (what a Manage did is told by its packets too)
+    is_kept = record and not is_all and answer.request != "Manage" and len(record.content) + len(entry.reply) <= FEW
+    return _kept_front(answer.view, record.content, entry.head[PLACE:], entry.reply) if is_kept else _read_front(answer, is_all)
+
+
+@functools.lru_cache(packets.KEPT)
+def _kept_front(view, content, head, reply) -> tuple[str, str, list[Line]]:
+    return _read_front(Answer(transcript.Entry(bytes(PLACE) + head, reply, b""), records.Piece(0, content), False, view), False)
+
+
+def _read_front(answer, is_all) -> tuple[str, str, list[Line]]:
+    replies = answer.reply()
+    told = [answer.status_words(), answer.detail_words(), answer.table(), answer.sizes_words(), answer.handles_words()]
     if len(replies) == 1 and len(replies[0][1]) == 1 and not is_all:
         told.append(listed(replies[0][1]))
         replies = []
-    yield f"{answer.entry.number('place')} {answer.line(is_all)} -> {', '.join(it for it in told if it)}"
-    for kind, fields in replies:
-        yield from _block(kind, fields, is_all)
-    yield from (INDENT + line for line in (shapes.lines(answer, is_all) if shapes else ()))
-    for packet in answer.packets:
-        yield from _packet_lines(packet, answer.view, is_all)
+    lines_of = [Line("reply", it) for kind, fields in replies for it in _block(kind, fields, is_all)]
+    return answer.line(is_all), ", ".join(it for it in told if it), lines_of
 
 
-def named_rows(fields, view):
-    """Fields in which a row stands beside its table, where one is known."""
-    return tuple(replace(it, words=view.row_words(it.words, it.value)) if it.name == "row" else it for it in fields)
+def named_rows(packet, view) -> tuple[Any, ...]:
+    """The fields of a packet's body, in an event the row beside its table, where one is known."""
+    if packet.kind != "event":
+        return packet.body
+    return tuple(it._replace(words=view.row_words(it.words, it.value)) if it.name == "row" else it for it in packet.body)
 
 
-def _packet_lines(packet, view, is_all):
-    kind, body = packet.kind, packet.body
-    if kind == "event":
-        body = named_rows(body, view)
-    if is_all:
-        return _block(kind, packet.header + body, True)
-    if kind == "event":
-        kind, body = f"event {body[0].words}", body[1:]
-    return _block(kind, body + tuple(_header_shown(packet)), False)
-
-
-def _header_shown(packet):
-    """What is told of the headers of a packet: its id and code where its kind doesn't tell them, its count and its time."""
-    own = ("message id", "function code") if packet.kind == "notice" else ()
-    return [it for it in packet.header if it.name in own + HEADER_SHOWN and (it.name in own or not it.is_blank)]
-
-
-def _block(kind, fields, is_all):
-    if is_all:
-        yield INDENT + kind
-        yield from (f"{INDENT}  {it.name}: {it.words}" for it in fields)
+def _packet_words(packet, rows) -> str:
+    if packet.told:
+        kind, told = _event_words(packet.content[packets.TELEMETRY_HEADER:], rows.get(packet.told.row))
     else:
-        yield f"{INDENT}{kind}: {listed(fields) or 'all 0'}"
+        kind, told = packet.kind, listed(packet.body)
+    return f"{kind}: {', '.join(it for it in (told, _header_words(packet)) if it) or 'all 0'}"
 
 
-def end_lines(part, index):
+@functools.lru_cache(packets.KEPT)
+def _event_words(content, table) -> tuple[str, str]:
+    """What an event is, and its fields in words, its row beside the table where that is known."""
+    fields = [it._replace(words=f"{it.words} {table}") if it.name == "row" and table else it for it in packets.body_of("event", content)]
+    return f"event {fields[0].words}", listed(fields[1:])
+
+
+def _header_words(packet) -> str:
+    """What is told of the headers of a packet: its id and code where its kind doesn't tell them, its count and its time."""
+    if packet.kind == "unknown":
+        return ""
+    own = [it for it in packet.header if it.name in ("message id", "function code")] if packet.kind == "notice" else []
+    seconds, subseconds = packet.time if packet.kind != "notice" else (0, 0)
+    numbers = (("sequence count", packet.count), ("seconds", seconds), ("subseconds", subseconds))
+    return ", ".join([f"{it.name} {it.words}" for it in own] + [f"{name} {value}" for name, value in numbers if value])
+
+
+def _block(kind, fields, is_all) -> Iterator[str]:
+    if is_all:
+        yield kind
+        yield from (f"  {it.name}: {it.words}" for it in fields)
+    else:
+        yield f"{kind}: {listed(fields) or 'all 0'}"
+
+
+def end_lines(part, index) -> str:
     """The line of what ends a transcript."""
     if isinstance(part, transcript.End):
         return f"end: {end_words(part, index)}"
     return f"broken: {part.reason}" + (f": {part.content.hex().upper()}" if part.content else "")
 
 
-@functools.cache
-def key(name):
-    """A name as programs have it: `commands_accepted`. Wireshark's fields have the same."""
-    return re.sub(r"[^a-z0-9]+", "_", name.lower().replace("'", ""))
-
-
-def _values(fields):
+def _values(fields) -> dict[str, Any]:
     found = {}
     for it in fields:
         if it.is_detail:
-            found |= {"detail": it.value, "detail_name": key(it.name)}
+            found |= {"detail": it.value, "detail_name": names.key(it.name)}
         else:
-            found[key(it.name)] = it.value
+            found[names.key(it.name)] = it.value
     return found
 
 
-def _table_of(packet, view):
+_body_values = functools.lru_cache(packets.KEPT)(_values)
+
+
+def _table_of(packet, view) -> dict[str, str]:
     """The table of the row that an event tells, where it is known."""
-    row = packet.field("row")
-    return {"table": view.rows[row.value]} if row and row.value in view.rows else {}
+    return {"table": view.rows[packet.told.row]} if packet.told and packet.told.row in view.rows else {}
 
 
-def as_object(part, index):
+def as_object(part, index) -> dict[str, Any]:
     """A part of a transcript for JSON: its fields by name with their numbers, bytes in hexadecimal."""
     if isinstance(part, transcript.End):
         return {"end": True, "status": part.status, "entries": part.entries, "place": part.place,
@@ -125,5 +174,5 @@ def as_object(part, index):
         told["table"] = part.handle().table
     if part.sizes():
         told["image_bytes"], _, told["bytes_needed"] = part.sizes()
-    told["packets"] = [{"kind": it.kind} | _values(it.header) | _values(it.body) | _table_of(it, part.view) for it in part.packets]
+    told["packets"] = [{"kind": it.kind} | it.header_values() | _body_values(it.body) | _table_of(it, part.view) for it in part.packets]
     return told

@@ -1,4 +1,4 @@
-"""Sessions as text, a line a request, and back. cfetbl-text tells the forms of the lines."""
+"""Sessions as text, a line a request, and back. `cfetbl text --help` tells the forms of the lines."""
 import functools
 import os
 import textwrap
@@ -9,6 +9,7 @@ from .words import TextError, Words
 
 LONGEST_LINE = 1 << 20
 LONGEST_SHOWN = 100
+FEW = 256
 MOST_WRONG = 10
 BYTE_ORDER_MARK = b"\xef\xbb\xbf"
 LABELS = {"size": "size", "offset": "at", "length": "length", "message id": "message", "function code": "code",
@@ -21,7 +22,7 @@ FILES = {"table": words.read_table_file, "made": Words.made_file, "built": by_fi
 NAME_AT = 3
 
 
-def record_of(line, folder="."):
+def record_of(line, folder=".") -> bytes:
     """The bytes that a line stands for: none where it is empty or a comment."""
     left = Words(line, folder)
     if left.is_done():
@@ -39,28 +40,28 @@ def record_of(line, folder="."):
 
 
 @functools.cache
-def _requests(is_ground):
+def _requests(is_ground) -> dict[str, names.Request]:
     """The requests of the ground or of applications, by their words."""
     return {it.word: it for it in names.requests().values() if it.is_ground == is_ground}
 
 
 @functools.cache
-def _commands():
+def _commands() -> tuple[str, ...]:
     return tuple(it.name for it in names.named("command").values()) + (packets.HOUSEKEEPING,)
 
 
-def _application_record(left):
+def _application_record(left) -> bytes:
     actor = left.number("the number of an application", max(records.APPLICATIONS), min(records.APPLICATIONS))
     known = _requests(False)
     request = known[left.take_word(known, "a request of an application")]
     return records.spelling(request, actor, _body(left, request))
 
 
-def _body(left, request):
+def _body(left, request) -> bytes:
     return b"".join(_field_bytes(left, it, request) for it in names.fields(request.name))
 
 
-def _packet(left):
+def _packet(left) -> bytes:
     """The packet of a ground line: a command of its own form, or any bytes."""
     name = left.take_word((*_commands(), "packet"), "a command, or packet")
     if name == "packet":
@@ -70,7 +71,7 @@ def _packet(left):
     return packets.command(name, payload, count)
 
 
-def _field_bytes(left, field, request=None):
+def _field_bytes(left, field, request=None) -> bytes:
     """The bytes of a field, from the words that are next."""
     if field.form == "data":
         if field.owner == "File":
@@ -92,7 +93,7 @@ def _field_bytes(left, field, request=None):
     return value.to_bytes(field.width, "big")
 
 
-def _coded(left, field):
+def _coded(left, field) -> int:
     """A number that has words. The kind of a reset is always a word: no other number makes a record."""
     known = {word: number for number, word in names.words(field.form).items()}
     if field.form != "reset" and not left.is_next(*known):
@@ -100,7 +101,7 @@ def _coded(left, field):
     return known[left.take_word(known, " or ".join(known))]
 
 
-def _read_options(left):
+def _read_options(left) -> int:
     if left.take_if("options"):
         return left.number("the options", 0xFFFF)
     known = {word: bit for bit, word in names.bits("options").items()}
@@ -110,28 +111,38 @@ def _read_options(left):
     return value
 
 
-def _write_options(value):
+def _write_options(value) -> str:
     known = names.bits("options")
     if value & ~sum(known):
         return f"options 0x{value:04X}"
     return " ".join(word for bit, word in known.items() if value & bit)
 
 
-def _read_validator(left):
+def _read_validator(left) -> int:
     return left.number("the number of a validator", 0xFF) if left.take_if("validator") else 0xFF
 
 
-def _write_validator(value):
+def _write_validator(value) -> str:
     return "" if value == 0xFF else f"validator {value}"
 
 
 OPTIONAL = {"options": (_read_options, _write_options), "validator": (_read_validator, _write_validator)}
 
 
-def line_of(piece):
+def line_of(piece) -> str:
     """The line of a piece of a session. It gives the same bytes again; a comment says why bytes are no record."""
     if piece.fault:
         return f"{RAW} {piece.content.hex().upper()}    # {piece.fault}"
+    return _kept_line(piece.content) if len(piece.content) <= FEW else _line_of(piece)
+
+
+@functools.lru_cache(packets.KEPT)
+def _kept_line(content) -> str:
+    """The line of a record of few bytes, which may come again and again."""
+    return _line_of(records.Piece(0, content))
+
+
+def _line_of(piece) -> str:
     request, body = piece.request, piece.body
     if request.name == "Command":
         return "ground " + _packet_words(body)
@@ -139,7 +150,7 @@ def line_of(piece):
     return " ".join(it for it in (front, *(_field_words(field, body) for field in names.fields(request.name))) if it)
 
 
-def _packet_words(packet):
+def _packet_words(packet) -> str:
     name = packets.command_name(packet)
     if name:
         count = packets.number(packet[2:4]) & packets.MOST_COUNT
@@ -150,13 +161,13 @@ def _packet_words(packet):
     return "packet " + (packet.hex().upper() or "empty")
 
 
-def _plain(field, content):
+def _plain(field, content) -> bytes:
     """A field as its words give it: after a name only zeros."""
     raw = field.of(content)
     return names.name_in(raw).ljust(field.width, b"\0") if field.form == "name" else raw
 
 
-def _field_words(field, body):
+def _field_words(field, body) -> str:
     """The words of a field; none for an option or validator that isn't there."""
     raw = field.of(body)
     value = packets.number(raw) if field.width else 0
@@ -177,11 +188,11 @@ def _field_words(field, body):
 class WrongLines(Exception):
     """The lines of a session that are none, each as the lines of its report."""
 
-    def __init__(self, reports):
+    def __init__(self, reports) -> None:
         super().__init__("\n".join(reports))
 
 
-def doubled_name(content, applications):
+def doubled_name(content, applications) -> str | None:
     """The full name of the table or block that a record registers, if its short name begins with an application's name too. By
     their numbers `applications` has the names of those that started."""
     request = names.requests().get(content[0]) if len(content) > records.HEAD else None
@@ -194,7 +205,7 @@ def doubled_name(content, applications):
     return names.quoted(own + b"." + short)
 
 
-def doubled_words(full_name):
+def doubled_words(full_name) -> str:
     """What is said of such a name."""
     return f"the application's name is put before this one, so the full name is {full_name}"
 
@@ -202,10 +213,10 @@ def doubled_words(full_name):
 class Doubled:
     """Looks for such names in a session as text, and says of each where it is."""
 
-    def __init__(self, say, name):
+    def __init__(self, say, name) -> None:
         self._say, self._name, self._applications = say, name, {}
 
-    def take(self, number, line, content):
+    def take(self, number, line, content) -> None:
         """Takes a line and its record."""
         if content[:1] == START and len(content) > records.HEAD:
             self._applications[content[1]] = names.name_in(content[records.HEAD:])
@@ -215,7 +226,7 @@ class Doubled:
             self._say(f"{self._name}:{number}:{at + 1}: {doubled_words(full_name)}")
 
 
-def to_records(lines, into, folder=".", name="<stdin>", say=None):
+def to_records(lines, into, folder=".", name="<stdin>", say=None) -> None:
     """Writes the records of the lines, which are bytes. Lines that are none end it with all of them, or with as many as are
     told at once. `say` says what may be meant otherwise."""
     doubled = Doubled(say or (lambda _: None), name)
@@ -239,7 +250,7 @@ def to_records(lines, into, folder=".", name="<stdin>", say=None):
         raise WrongLines(wrong)
 
 
-def report(place, line, error):
+def report(place, line, error) -> str:
     """What is said of a line that is none: where and why, then the line with a caret where it goes wrong, and the words that
     are allowed there."""
     said = [f"{place}:{(error.at or 0) + 1}: {error}"]
@@ -253,12 +264,12 @@ def report(place, line, error):
     return "\n".join(said)
 
 
-def to_text(session, into):
+def to_text(session, into) -> None:
     """Writes the lines of a session, each as bytes."""
     for piece in records.pieces(session):
         into.write(line_of(piece).encode("ascii") + b"\n")
 
 
-def folder_of(name):
+def folder_of(name) -> str:
     """The folder from which a session as text names files: its own, or that of the caller where it is no file."""
     return os.path.dirname(name) if name != "-" and os.path.dirname(name) else "."

@@ -1,7 +1,9 @@
 """A session as a time line: who asked for what at each place, and from where to where each table had which image, load, dump and
 address held. Places are the numbers of the entries; what stands from one on begins there, and ends at the place where it went.
 """
+import typing
 from dataclasses import dataclass, field
+from typing import Any
 
 from . import names, order, states
 from .states import pin_words
@@ -10,10 +12,11 @@ from .tables import STOPPED
 
 # From this status on a request is refused; a locked table is one too, and a command is refused by all but 0.
 FIRST_REFUSAL = 32
+# What a request of so few bytes is about is kept.
+FEW = 512
 
 
-@dataclass(frozen=True)
-class Span:
+class Span(typing.NamedTuple):
     """What a table had from one place to another: `kind` is registered, image, load, dump or pin, `words` says which, and
     `number` is that of an image, or of the handle of a pin."""
     first: int
@@ -24,10 +27,10 @@ class Span:
     phase: states.Load | states.Dump | None = None
 
 
-@dataclass(frozen=True)
-class Mark:
+class Mark(typing.NamedTuple):
     """A request at its place, with the status that it was answered with."""
     place: int
+    actor: int
     request: str
     status: int
     is_refused: bool
@@ -35,13 +38,14 @@ class Mark:
 
 @dataclass
 class Lane:
-    """A table with all that it had and was refused, or an actor with its requests."""
+    """A table with all that it had and was refused, and the places of the requests about it; or an actor with its requests."""
     name: str
     spans: list = field(default_factory=list)
     marks: list = field(default_factory=list)
+    about: list = field(default_factory=list)
 
 
-def is_refused(answer):
+def is_refused(answer) -> bool:
     """Whether a request is refused. A warning registers its table all the same, and a call may be told that nothing was to do."""
     if answer.record is not None and answer.record.request.name == "Command":
         return answer.status != 0
@@ -49,54 +53,75 @@ def is_refused(answer):
 
 
 class Timeline:
-    """The lanes of a session, by its answers in their order. `length` is how many there were."""
+    """The requests of a session and its lanes, by its answers in their order."""
 
-    def __init__(self):
-        self.actors, self.tables, self.resets, self.length = {}, {}, [], 0
+    def __init__(self) -> None:
+        self.actors, self.tables, self.resets, self.marks = {}, {}, [], []
         self._states, self._begun, self._names = states.States(), {}, {}
+        self._view, self._about = None, {}
 
     @property
-    def is_known(self):
+    def length(self) -> int:
+        """How many answers there were."""
+        return len(self.marks)
+
+    @property
+    def is_known(self) -> bool:
         """Whether all requests were of the session at hand, so that tables and handles are known."""
         return self._states.view.is_known
 
     @property
-    def standing(self):
+    def standing(self) -> dict[str, Any]:
         """The tables that are registered by now, by name."""
         return self._states.tables
 
-    def actor_words(self, actor):
+    def actor_words(self, actor) -> str:
         """Who an actor is: an application by its number, and by the last name under which it ran."""
         if actor not in APPLICATIONS:
             return "ground"
         name = self._names.get(actor)
         return f"app {actor} {names.quoted(name)}" if name else f"app {actor}"
 
-    def add(self, answer):
+    def add(self, answer) -> None:
         """Goes on to the next answer."""
         place, before = self.length, self.standing
         self._states.follow(answer)
-        self.length += 1
-        self._names |= self._states.view.applications
-        mark = Mark(place, answer.request or "", answer.status, is_refused(answer))
+        if answer.request == "Start":
+            self._names |= self._states.view.applications
+        mark = Mark(place, answer.actor, answer.request or "", answer.status, is_refused(answer))
+        self.marks.append(mark)
         _lane(self.actors, answer.actor).marks.append(mark)
         if answer.request == "Reset" or answer.status == STOPPED:
             self.resets.append(mark)
         self._change(before, self.standing, place)
-        if mark.is_refused:
-            for kind, subject in (it for it in order.subjects(answer) if len(it) == 2):
-                if kind == "table" and subject in self.standing:
-                    _lane(self.tables, subject).marks.append(mark)
+        for name in self._named(answer):
+            if name in self.standing or name in before:
+                lane = _lane(self.tables, name)
+                lane.about.append(place)
+                if mark.is_refused and name in self.standing:
+                    lane.marks.append(mark)
 
-    def end(self):
+    def _named(self, answer) -> set[str]:
+        """The tables that a request is about: the same ones for the same request, as long as tables and handles are the same."""
+        if answer.view is not self._view:
+            self._view, self._about = answer.view, {}
+        if answer.record is None or len(answer.record.content) > FEW:
+            return order.tables_named(answer)
+        key = (answer.actor, answer.record.content, *(it.told.row for it in answer.packets if it.told))
+        if key not in self._about:
+            self._about[key] = order.tables_named(answer)
+        return self._about[key]
+
+    def end(self) -> None:
         """Ends what still stands at the end of the session."""
         self._change(self.standing, {}, self.length)
 
-    def _change(self, before, after, place):
+    def _change(self, before, after, place) -> None:
         """Ends the spans of what a table has no more, and begins those of what it has now."""
-        for name in before | after:
-            if before.get(name) is after.get(name):
-                continue
+        if before is after:
+            return
+        changed = [name for name, it in after.items() if before.get(name) is not it] + [name for name in before if name not in after]
+        for name in changed:
             had, has = (_had_by(it.get(name)) for it in (before, after))
             begun = self._begun.setdefault(name, {})
             ended = [Span(begun.pop(it), place, *it) for it in had if it not in has]
@@ -104,11 +129,13 @@ class Timeline:
             begun |= dict.fromkeys((it for it in has if it not in had), place)
 
 
-def _lane(lanes, name):
-    return lanes.setdefault(name, Lane(name))
+def _lane(lanes, name) -> Lane:
+    if name not in lanes:
+        lanes[name] = Lane(name)
+    return lanes[name]
 
 
-def _had_by(table):
+def _had_by(table) -> list[tuple[Any, ...]]:
     """What a table has: the kind, words, number and phase of each span."""
     if table is None:
         return []

@@ -1,27 +1,33 @@
 """The transcript: an entry for each request that was played, and the end record."""
+import typing
+from collections.abc import Iterator
 from dataclasses import dataclass
 
-from . import names
+from . import layouts, names
 
-END = b"\xff\xff\xff\xff"
-END_SIZE = 13
-ENTRY_HEAD = 13
+END_OF = layouts.shape("end record")
+END = b"\xff" * names.field("end record", "place").width
+END_SIZE = END_OF.size
+ENTRY_HEAD = layouts.end_of("entry")
+# The numbers of an entry's head by their names.
+NUMBERS = {it.name: at for at, it in enumerate(names.fields("entry"))}
+HEAD = layouts.shape("entry")
+# Before the reply and before the packets stands how many bytes they have.
 LENGTH = 4
 MOST_REPLY = 1 << 26
 
 
-@dataclass(frozen=True)
-class Entry:
+class Entry(typing.NamedTuple):
     """The answer to one request. `head` has its place, actor, status and detail."""
     head: bytes
     reply: bytes
     sent: bytes
 
-    def raw(self, name):
+    def raw(self, name) -> bytes:
         return names.field("entry", name).of(self.head)
 
-    def number(self, name):
-        return int.from_bytes(self.raw(name), "big")
+    def number(self, name) -> int:
+        return HEAD.unpack(self.head)[NUMBERS[name]]
 
 
 @dataclass(frozen=True)
@@ -41,13 +47,13 @@ class Broken:
     is_empty: bool = False
 
 
-def parts(stream):
+def parts(stream) -> Iterator[Entry | Broken | End]:
     """The entries of a transcript, then its end record. `Broken` comes last where the bytes go another way."""
     is_empty = True
     while True:
         head = stream.read(ENTRY_HEAD)
-        if head[:4] == END and len(head) == END_SIZE:
-            yield End(head[4], int.from_bytes(head[5:9], "big"), int.from_bytes(head[9:], "big"))
+        if head.startswith(END) and len(head) == END_SIZE:
+            yield End(*END_OF.unpack(head)[1:])
             further = stream.read(ENTRY_HEAD)
             if further:
                 yield Broken("bytes stand after the end record", further)
@@ -65,7 +71,7 @@ class _Cut(Exception):
     pass
 
 
-def _counted(stream, head):
+def _counted(stream, head) -> bytes:
     """Bytes after their length."""
     if not head:
         raise _Cut("there is no end record")

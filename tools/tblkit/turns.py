@@ -1,18 +1,20 @@
 """The order in which the actors of a crew had their turns, out of its transcript."""
-from . import transcript
+from . import names, transcript
+
+ACTOR = names.field("entry", "actor")
 
 
 class Wrong(Exception):
     """A transcript isn't that of one order of turns."""
 
 
-def actors_of(output):
+def actors_of(output) -> list[int]:
     """The actor of each entry."""
     at, found = 0, []
-    while output[at:at + 4] != transcript.END:
+    while output[at:at + len(transcript.END)] != transcript.END:
         if at + transcript.ENTRY_HEAD > len(output):
             raise Wrong("the transcript is cut short")
-        found.append(output[at + 4])
+        found.append(output[at + ACTOR.place])
         at += transcript.ENTRY_HEAD
         for _ in ("reply", "packets"):
             at += transcript.LENGTH + int.from_bytes(output[at:at + transcript.LENGTH], "big")
@@ -21,7 +23,7 @@ def actors_of(output):
     return found
 
 
-def ordered(records, actors):
+def ordered(records, actors) -> list[bytes]:
     """The records in an order of turns, each actor's as they stand. All of them have to be played."""
     scripts = {}
     for record in records:

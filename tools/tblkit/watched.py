@@ -8,13 +8,15 @@ all calls that it can belong to, mostly one.
 import io
 import itertools
 import re
+from collections.abc import Iterator
 from dataclasses import dataclass
 
-from . import names, records, show, store, text, transcript
+from . import layouts, names, records, show, store, text, transcript
+from .tables import SUCCESS
 
-WATCHER = 16
+WATCHER = layouts.number("applications")
 # The statuses of a Get that got an address.
-GOT = (0, 1)
+GOT = layouts.statuses("SUCCESS", "UPDATED")
 LINE = re.compile(r"([0-9]+) [!-~]+ [0-9A-F]{4} (?:first|same|changed [0-9A-F]{4})")
 LAST = re.compile(r"watched ([0-9]+) changed ([0-9]+)")
 # The first and the last call that a line can belong to.
@@ -29,7 +31,7 @@ class Script:
     """The requests of application 16: their records, with their numbers in the session, and as bits which of them ask for an
     address. `others` is how many requests all other actors have."""
 
-    def __init__(self, session):
+    def __init__(self, session) -> None:
         self.records, self.others, self.gets = [], 0, 0
         for number, piece in enumerate(itertools.islice(records.pieces(session), records.MOST_RECORDS)):
             if piece.fault:
@@ -40,7 +42,7 @@ class Script:
             self.gets |= (piece.request.name == "Get") << len(self.records)
             self.records.append((number, piece))
 
-    def named(self, bits):
+    def named(self, bits) -> str:
         """The calls of these bits, for people."""
         first, last = (bits & -bits).bit_length() - 1, bits.bit_length() - 1
         number, piece = self.records[first]
@@ -49,7 +51,7 @@ class Script:
         return MANY.format(number, self.records[last][0])
 
 
-def _spread(bits, count, shifted):
+def _spread(bits, count, shifted) -> int:
     """The bits, and as many after each, `shifted` one way or the other."""
     done = 0
     while done < count:
@@ -59,7 +61,7 @@ def _spread(bits, count, shifted):
     return bits
 
 
-def candidates(script, places):
+def candidates(script, places) -> list[int]:
     """For each line the calls that it can belong to, as bits: one after the other, and no more of the other actors' requests in all
     than there are."""
     found = []
@@ -73,7 +75,7 @@ def candidates(script, places):
     return found
 
 
-def parsed(report):
+def parsed(report) -> tuple[list[str], list[int]]:
     """The lines of a report, and the place of each but the last."""
     lines = report.split("\n")
     if len(lines) < 2 or lines.pop() or not (last := LAST.fullmatch(lines[-1])):
@@ -95,20 +97,20 @@ class Look:
     word: int
 
 
-def looks(session, output):
+def looks(session, output) -> Iterator[Look]:
     """The looks at what application 16 got, by the transcript of a session in which all images are those of LoadImage."""
     images = {}
     for part in show.answers(transcript.parts(io.BytesIO(output)), records.Index(io.BytesIO(session))):
         if not isinstance(part, show.Answer):
             continue
-        if part.request == "LoadImage" and part.status == 0:
+        if part.request == "LoadImage" and part.status == SUCCESS:
             images[part.handle().table] = names.field("LoadImage", "image").of(part.record.body)
         if part.actor == WATCHER and part.request == "Get" and part.status in GOT:
             table = part.handle().table
             yield Look(part.entry.number("place"), table, store.check_word(images[table]))
 
 
-def report(seen):
+def report(seen) -> str:
     """The report of these looks."""
     words, told, changed = {}, [], 0
     for look in seen:
@@ -120,7 +122,7 @@ def report(seen):
     return "".join(told) + f"watched {len(told)} changed {changed}\n"
 
 
-def lines(session, report):
+def lines(session, report) -> Iterator[str]:
     """The lines of a report, each with its request below it."""
     told, places = parsed(report)
     script = Script(session)

@@ -10,18 +10,18 @@ from .programs import TOP
 STEP = "tbl_core::service::Core::step"
 
 
-def crate_of(symbol):
+def crate_of(symbol) -> str:
     """The crate of a function; empty where it isn't one of Rattle."""
     front, joint, _ = symbol.partition("::")
     return front if joint else ""
 
 
-def is_written(symbol):
+def is_written(symbol) -> bool:
     """Whether somebody wrote the function. What drops a value is named after its type, as `a::core++option++Option+Destruct::drop`."""
     return "+" not in symbol.split("::")[1]
 
 
-def file_of(symbol, top=TOP):
+def file_of(symbol, top=TOP) -> str:
     """The file in which a function of a crate of the repository stands, as a path from `top`; empty where there is none."""
     crate, *names = symbol.split("::<")[0].split("::")
     source = os.path.join("crates", crate, "src")
@@ -30,7 +30,7 @@ def file_of(symbol, top=TOP):
     return next((it for it in modules + roots if os.path.isfile(os.path.join(top, it))), "")
 
 
-def below(calls, root):
+def below(calls, root) -> set[str]:
     """The functions that are reached from those whose symbol begins with `root`, and these."""
     callees = {}
     for caller, callee in calls:
@@ -46,14 +46,14 @@ class Way:
     """The way of a request from the function `root` on, by how often each function calls each other one: the calls between
     functions that are written in `crates`, which are those of the repository."""
 
-    def __init__(self, calls, crates, root=STEP, top=TOP):
+    def __init__(self, calls, crates, root=STEP, top=TOP) -> None:
         reached = below(calls, root)
         self.pairs = {pair: count for pair, count in calls.items() if pair[0] in reached
                       and all(crate_of(it) in crates and is_written(it) for it in pair)}
         self.changing = {pair: count for pair, count in self.pairs.items() if crate_of(pair[0]) != crate_of(pair[1])}
         self.files = {file_of(callee, top) for _, callee in self.pairs} - {""}
 
-    def figures(self):
+    def figures(self) -> list[int]:
         """How many calls there are, in how many the crate changes, the same of different calls, and in how many files they are."""
         return [round(it) for it in (sum(self.pairs.values()), sum(self.changing.values()), len(self.pairs), len(self.changing),
                                      len(self.files))]

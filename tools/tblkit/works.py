@@ -4,6 +4,7 @@
 """
 import functools
 import os
+from collections.abc import Iterator
 from dataclasses import dataclass
 
 from . import records, text
@@ -17,7 +18,7 @@ PASS = os.path.join(TOP, "examples", "pass.txt")
 
 
 @functools.cache
-def record(line):
+def record(line) -> bytes:
     """The record of a line."""
     return text.record_of(line)
 
@@ -30,40 +31,40 @@ class Work:
     round: tuple
     rounds: int
 
-    def session(self, rounds):
+    def session(self, rounds) -> bytes:
         """The session with so many rounds."""
         return b"".join(map(record, self.opening)) + rounds * b"".join(map(record, self.round))
 
-    def requests(self, rounds):
+    def requests(self, rounds) -> int:
         """How many requests so many rounds have."""
         return rounds * len(self.round)
 
-    def most_rounds(self):
+    def most_rounds(self) -> int:
         """How many rounds a session can have."""
         return (records.MOST_RECORDS - len(self.opening)) // len(self.round)
 
 
-def registered(size, options=""):
+def registered(size, options="") -> tuple[str, str]:
     """The lines after which A has its table T, with handle 0."""
     return START, f"app 1 register T size {size} {options}"
 
 
-def loaded(size, options=""):
+def loaded(size, options="") -> tuple[str, ...]:
     """The same, and the table has had an image."""
     return *registered(size, options), f"app 1 load 0 fill 5A {size}"
 
 
-def many_tables():
+def many_tables() -> tuple[str, ...]:
     """A registers 128 tables."""
     return tuple(f"app 1 register T{it} size 4" for it in range(TABLES))
 
 
-def uplinked(size):
+def uplinked(size) -> tuple[str, ...]:
     """Files of so many bytes under 64 names."""
     return tuple(f"file /ram/{it} fill 00 {size}" for it in range(FILES))
 
 
-def with_file(size, options=""):
+def with_file(size, options="") -> tuple[str, ...]:
     """A has its table, and the file /ram/t has an image of it."""
     return *registered(size, options), f"file /ram/t table A.T at 0 fill 5A {size}"
 
@@ -76,7 +77,7 @@ DUMP = ("ground DUMP active A.T /ram/d",)
 GET_INFO = ("app 1 get-info A.T",)
 
 
-def ordinary_pass():
+def ordinary_pass() -> tuple[tuple[str, ...], tuple[str, ...]]:
     """The pass of examples/pass.txt without its resets: applications and tables come first, and all others are a round."""
     with open(PASS, encoding="utf-8") as lines:
         said = [line for line in map(str.strip, lines) if record(line) and not line.startswith("reset")]
@@ -85,7 +86,7 @@ def ordinary_pass():
     return tuple(said[:first]), tuple(line for line, is_again in zip(said[first:], is_first[first:]) if not is_again)
 
 
-def works():
+def works() -> Iterator[Work]:
     """All works, in the order of their table."""
     many, (pass_opening, pass_round) = many_tables(), ordinary_pass()
     yield Work("NOOP", (), ("ground NOOP",), 2_000)
@@ -127,14 +128,14 @@ class State:
     handles: int
 
     @property
-    def own(self):
+    def own(self) -> int:
         return self.tables - 1
 
     @property
-    def shared(self):
+    def shared(self) -> int:
         return self.handles - 1
 
-    def opening(self, is_pinned):
+    def opening(self, is_pinned) -> tuple[str, ...]:
         """The lines that make it. Where it is pinned, the last handle pins the image of A.T."""
         lines = [START, "app 2 start B", *(f"app 1 register T{it} size 4" for it in range(self.own)),
                  "app 1 register T size 64", *((self.handles - self.tables) * ["app 2 share A.T"]),
@@ -167,7 +168,7 @@ REQUESTS = {
 PINNED = ("LoadImage, refused",)
 
 
-def request_in(state, name):
+def request_in(state, name) -> Work:
     """The work that repeats a request in a state."""
     lines = tuple(line.format(own=state.own, shared=state.shared) for line in REQUESTS[name])
     return Work(name, state.opening(name in PINNED), lines, AFTER // len(lines))
@@ -183,23 +184,23 @@ TRIES = 10
 READS = 8_192
 
 
-def first_lines(actor, size):
+def first_lines(actor, size) -> list[str]:
     """An application of a crew starts and registers its table."""
     return [f"app {actor} start A{actor}", f"app {actor} register T size {size}"]
 
 
-def own_registry_records(actor, actors):
+def own_registry_records(actor, actors) -> list[str]:
     """An application asks again and again what the registry has of its own table."""
     return first_lines(actor, 16) + 32_000 // actors * [f"app {actor} get-info A{actor}.T"]
 
 
-def loads_by_all_handles(actor, actors):
+def loads_by_all_handles(actor, actors) -> list[str]:
     """An application loads images by each handle in turn, since the order of turns says which one is its own."""
     loads = [f"app {actor} load {handle} fill 5A 16384" for handle in range(actors)]
     return first_lines(actor, 16_384) + 3_072 // actors // actors * loads
 
 
-def with_own_handle(actor, actors, options):
+def with_own_handle(actor, actors, options) -> list[str]:
     """An application of a few starts, and gets a table by the handle of its number less one, in whatever order the turns come.
 
     A new table has the least handle that is free. So the application registers as many tables as there are applications, and
@@ -211,7 +212,7 @@ def with_own_handle(actor, actors, options):
     return [f"app {actor} start A{actor}"] + TRIES * (tables + others)
 
 
-def reads_by_own_handle(actor, actors):
+def reads_by_own_handle(actor, actors) -> list[str]:
     """An application gets the address of its own image, and reads the whole of it again and again."""
     own = actor - 1
     lines = with_own_handle(actor, actors, "size 16384") + [f"app {actor} load {own} fill 5A 16384", f"app {actor} get {own}"]
@@ -223,7 +224,7 @@ CREWS = {"registry records of 16 bytes": (own_registry_records, ACTORS), "loads 
          "reads of 16,384 bytes": (reads_by_own_handle, READERS)}
 
 
-def in_turn(make, actors):
+def in_turn(make, actors) -> list[bytes]:
     """The records of so many applications, one of each in turn."""
     scripts = [make(actor, actors) for actor in range(1, actors + 1)]
     return [record(line) for of_each in zip(*scripts) for line in of_each]

@@ -6,6 +6,7 @@ import json
 import os
 import resource
 import sys
+from collections.abc import Callable
 
 EVENT_TYPES = {1: "DEBUG", 2: "INFORMATION", 3: "ERROR", 4: "CRITICAL"}
 NO_EVENT = 0
@@ -13,14 +14,14 @@ NO_EVENT = 0
 ALIGNMENT = 64
 
 
-def output():
+def output() -> int:
     """Where the lines go. What the application prints itself isn't mixed with them."""
     kept = os.dup(1)
     os.dup2(2, 1)
     return kept
 
 
-def teller(into: int):
+def teller(into: int) -> Callable[..., None]:
     """Writes a line of JSON."""
     def tell(**what) -> None:
         os.write(into, json.dumps(what).encode() + b"\n")

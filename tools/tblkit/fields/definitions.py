@@ -5,6 +5,7 @@ from dataclasses import dataclass
 
 from .. import described, files
 from . import dwarf, objects
+from .kinds import ByteOrder
 from .layout import TEXT, Layout, Members
 from .wrong import Wrong
 
@@ -26,14 +27,14 @@ class Definition:
     image: bytes
 
     @property
-    def order(self) -> str:
+    def order(self) -> ByteOrder:
         return self.layout.order
 
 
 class Variables:
     """The variables of an object file, with their types."""
 
-    def __init__(self, of: objects.Object):
+    def __init__(self, of: objects.Object) -> None:
         self.object, self._entries = of, dwarf.Entries(of)
         self._types = dwarf.Types(self._entries)
 

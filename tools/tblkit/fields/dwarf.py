@@ -1,8 +1,10 @@
 """Debugging information (DWARF 2 to 5): its entries, and the types that they describe."""
 from collections.abc import Iterator
 from dataclasses import dataclass, field, replace
+from typing import Any
 
 from . import kinds, reader
+from .kinds import ByteOrder
 from .objects import Object
 from .wrong import Wrong
 
@@ -15,7 +17,7 @@ ENCODINGS = {2: kinds.BOOLEAN, 4: kinds.FLOAT, 5: kinds.SIGNED, 6: kinds.SIGNED,
 FLOAT_SIZES = (2, 4, 8)
 # Floats of 2 bytes that are none of IEEE 754.
 OTHER_FLOATS = ("__bf16", "__mfp8")
-ORDERS = {1: "big", 2: "little"}
+ORDERS: dict[int | None, ByteOrder] = {1: "big", 2: "little"}
 PLUS_CONSTANT = 0x23
 # Kinds of units of DWARF 5 (DW_UT) that don't have types and variables together.
 TYPE_UNITS, SPLIT_UNITS = (2, 6), (4, 5)
@@ -30,7 +32,7 @@ INT64 = 1 << 63
 class Entry:
     """An entry, with its children."""
     tag: str
-    unit: object
+    unit: Any
     attributes: dict
     children: list["Entry"] = field(default_factory=list)
 
@@ -52,7 +54,7 @@ class Entry:
 class Entries:
     """All entries of an object. They are read in the order of their bytes, so that no reference between them leads in a circle."""
 
-    def __init__(self, of: Object):
+    def __init__(self, of: Object) -> None:
         self._information, self._order, self._at, self.tops = of.debugging(), of.order, {}, []
         for unit in self._units():
             self._read(unit)
@@ -114,7 +116,7 @@ class Entries:
         return entry.name or (said.name if said else "")
 
 
-def _kinds_of_units(content: bytes, order: str) -> Iterator[int]:
+def _kinds_of_units(content: bytes, order: ByteOrder) -> Iterator[int]:
     """The kinds of the units of DWARF 5, by their headers."""
     at = 0
     while at + 16 <= len(content):
@@ -136,21 +138,21 @@ def _outside_functions(top: Entry) -> Iterator[Entry]:
 class Types:
     """Makes types of entries, each once."""
 
-    def __init__(self, entries: Entries):
+    def __init__(self, entries: Entries) -> None:
         self._entries, self._known, self._begun = entries, {}, set()
 
-    def of_variable(self, entry: Entry):
+    def of_variable(self, entry: Entry) -> Any:
         typed = entry if "DW_AT_type" in entry.attributes else self._entries.of(entry, "DW_AT_specification") or entry
         return self._type_of(typed)
 
-    def _type_of(self, entry: Entry):
+    def _type_of(self, entry: Entry) -> Any:
         """The type to which an entry refers."""
         found = self._entries.of(entry, "DW_AT_type")
         if found is None:
             raise Wrong(f"{entry.name or 'a type'}: it has no type in .debug_info")
         return self._made(found)
 
-    def _made(self, entry: Entry):
+    def _made(self, entry: Entry) -> Any:
         key = id(entry)
         if key not in self._known:
             if key in self._begun or len(self._begun) > MOST_DEPTH:
@@ -160,7 +162,7 @@ class Types:
             self._begun.discard(key)
         return self._known[key]
 
-    def _make(self, entry: Entry):
+    def _make(self, entry: Entry) -> Any:
         if entry.tag in QUALIFIERS:
             return self._type_of(entry)
         if entry.tag == "DW_TAG_typedef":
@@ -201,7 +203,7 @@ class Types:
         order = under.order if isinstance(under, kinds.Scalar) else None
         return kinds.Scalar(f"enum {entry.name}".strip(), size, kinds.ENUMERATED, names, is_signed, order)
 
-    def _array(self, entry: Entry):
+    def _array(self, entry: Entry) -> Any:
         element = self._type_of(entry)
         for count in reversed([self._count(it) for it in entry.children if it.tag == "DW_TAG_subrange_type"]):
             element = kinds.Array(f"{element.name}[]", element, count)

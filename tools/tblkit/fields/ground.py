@@ -3,10 +3,12 @@ import math
 import re
 from collections.abc import Iterator
 from dataclasses import dataclass
+from typing import Any
 
-from .. import dictionary, files, names, show, xtce as xtce_text
+from .. import dictionary, files, names, xtce as xtce_text
 from . import kinds, values
 from .definitions import Definition
+from .kinds import ByteOrder
 from .layout import BYTES, TEXT, Field, Padding
 
 HEADER = ("file header", "table file header")
@@ -18,7 +20,7 @@ FIXED = ("content", "subtype", "length", "reserved", "offset", "image bytes", "t
 class Keys:
     """Names of fields as words of letters, digits and _, each another one."""
 
-    def __init__(self):
+    def __init__(self) -> None:
         self._taken: set[str] = set()
 
     def of(self, name: str) -> str:
@@ -40,17 +42,22 @@ class Piece:
     name: str = ""
 
 
+def in_order(of: Definition) -> list[Any]:
+    """The fields of an image and its padding, by their places."""
+    return sorted((*of.layout.fields, *of.layout.padding), key=lambda it: it.place)
+
+
 def _pieces(of: Definition) -> Iterator[Piece]:
     """The pieces of an image, one after the other."""
     run: list[Field | Padding] = []
-    for it in sorted((*of.layout.fields, *of.layout.padding), key=lambda it: it.place):
+    for it in in_order(of):
         run.append(it)
         if (it.place + it.bits) % 8 == 0:
             yield from _run(run, of.order)
             run = []
 
 
-def _run(run: list[Field | Padding], order: str) -> Iterator[Piece]:
+def _run(run: list[Field | Padding], order: ByteOrder) -> Iterator[Piece]:
     """The pieces of a run that fills whole bytes. Where the low byte comes first, those in one byte stand in it from its low bit
     on, and one that is in several bytes and doesn't fill them is no run of bits."""
     if order == "big" or len(run) == 1 and run[0].place % 8 == 0:
@@ -86,7 +93,7 @@ def _states(field: Field) -> dict[int, str]:
 def _header_items() -> Iterator[dictionary.Item]:
     for owner in HEADER:
         for it in names.fields(owner):
-            yield dictionary.Item(show.key(it.name), 8 * it.width, it.form if it.form == "name" else "number", it.name, {})
+            yield dictionary.Item(names.key(it.name), 8 * it.width, it.form if it.form == "name" else "number", it.name, {})
 
 
 def xtce(of: Definition) -> str:
@@ -116,7 +123,8 @@ def _header_lines(of: Definition) -> Iterator[str]:
     keys = Keys()
     for owner in HEADER:
         for it in names.fields(owner):
-            front, value = f"  PARAMETER {keys.of(it.name).upper()} {8 * it.place} {8 * it.width}", stated[it.name]
+            value: Any = stated[it.name]
+            front = f"  PARAMETER {keys.of(it.name).upper()} {8 * it.place} {8 * it.width}"
             if it.form == "name":
                 yield f'{front} STRING "{_plain(value)}" "{it.name}"'
             else:
@@ -127,14 +135,14 @@ def _header_lines(of: Definition) -> Iterator[str]:
 
 def _image_lines(of: Definition) -> Iterator[str]:
     keys = Keys()
-    for it in sorted((*of.layout.fields, *of.layout.padding), key=lambda it: it.place):
+    for it in in_order(of):
         if isinstance(it, Field):
             yield from _parameter(it, keys.of(it.name).upper(), of)
         else:
             yield from _padding(it, keys, of.order)
 
 
-def _padding(it: Padding, keys: Keys, order: str) -> Iterator[str]:
+def _padding(it: Padding, keys: Keys, order: ByteOrder) -> Iterator[str]:
     """Bits of padding, a line a byte where they don't fill bytes."""
     if it.place % 8 == 0 and it.bits % 8 == 0:
         yield f'  PARAMETER {keys.of("padding").upper()} {it.place} {it.bits} BLOCK 0x{"00" * (it.bits // 8)} "padding"'
@@ -148,7 +156,7 @@ def _padding(it: Padding, keys: Keys, order: str) -> Iterator[str]:
         at += bits
 
 
-def _bit_offset(place: int, bits: int, order: str) -> int:
+def _bit_offset(place: int, bits: int, order: ByteOrder) -> int:
     """Where Table Manager looks for bits: at their high one, which in a bit field of a little-endian table is in the last byte."""
     if order == "big" or place % 8 == 0 and bits in WHOLE_NUMBERS:
         return place

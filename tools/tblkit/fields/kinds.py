@@ -1,8 +1,11 @@
 """Types of C as they lie in memory. Places and sizes of members are in bits, counted from the first byte on: in each byte from its
 low bit where the low byte of a number comes first, and else from its high bit."""
 from dataclasses import dataclass, field
+from typing import Any, Literal
 
 UNSIGNED, SIGNED, FLOAT, BOOLEAN, CHARACTER, ENUMERATED, RAW = "unsigned", "signed", "float", "boolean", "character", "enumerated", "raw"
+# The order of the bytes of a number.
+ByteOrder = Literal["little", "big"]
 
 
 @dataclass(frozen=True)
@@ -14,7 +17,7 @@ class Scalar:
     kind: str
     enumerators: dict[int, str] | None = field(default=None, hash=False)
     is_signed: bool = False
-    order: str | None = None
+    order: ByteOrder | None = None
 
 
 @dataclass(frozen=True)
@@ -27,7 +30,7 @@ class Pointer:
 class Array:
     """So many elements, one after the other. An array of arrays is one whose element is an array."""
     name: str
-    element: object
+    element: Any
     count: int
 
     @property
@@ -40,7 +43,7 @@ class Member:
     """A member of a structure or union; the name is empty where it has none. `bits` is the width of a bit field."""
     name: str
     place: int
-    type: object
+    type: Any
     bits: int | None = None
 
 

@@ -2,8 +2,10 @@
 import re
 from collections.abc import Iterator
 from dataclasses import dataclass, field
+from typing import Any
 
 from . import kinds
+from .kinds import ByteOrder
 from .wrong import Wrong
 
 TEXT, BYTES = "text", "bytes"
@@ -19,7 +21,7 @@ class Field:
     place: int
     bits: int
     kind: str
-    order: str
+    order: ByteOrder
     is_signed: bool = False
     enumerators: dict[int, str] | None = field(default=None, hash=False)
     is_bit_field: bool = False
@@ -66,7 +68,7 @@ class Padding:
 class Members:
     """Which member is chosen of each union, by the words of `--member PATH=NAME`. In a path, [*] is any element of an array."""
 
-    def __init__(self, words: tuple[str, ...] = ()):
+    def __init__(self, words: tuple[str, ...] = ()) -> None:
         self._chosen: list[tuple[re.Pattern, str, str]] = []
         self._taken: set[str] = set()
         for word in words:
@@ -96,7 +98,7 @@ class Members:
 class Layout:
     """The fields of a variable of some type, and its padding."""
 
-    def __init__(self, name: str, of_type, order: str, members: Members):
+    def __init__(self, name: str, of_type, order: ByteOrder, members: Members) -> None:
         self.size, self.order, self._members = of_type.size, order, members
         front = "" if isinstance(of_type, kinds.Structure) else name
         self.fields: tuple[Field, ...] = tuple(self._fields(front, of_type, 0))
@@ -159,7 +161,8 @@ class Layout:
 
     def _gaps(self) -> Iterator[Padding]:
         """What is between the fields, and after the last one."""
-        at, before = 0, None
+        at = 0
+        before: Any = None
         for it in sorted(self.fields, key=lambda it: it.place):
             if it.place < at:
                 # Some compilers don't say where a bit field is that is as wide as its type.

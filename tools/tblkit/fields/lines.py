@@ -1,4 +1,6 @@
 """Table files in a line of session text: `file NAME built OBJ`, and `file NAME set OBJ FIELD=VALUE ..`."""
+from typing import Any
+
 from ..words import TextError, Word, Words, read_header
 from . import definitions, loads, objects
 from .definitions import Definition
@@ -38,7 +40,7 @@ def _read(words: Words, name: str, members: tuple[str, ...]) -> Definition:
         raise Wrong(f"{name}: {wrong}") from None
 
 
-def _said(word: Word, make):
+def _said(word: Word, make) -> Any:
     """What `make` gives. Why it can't is said of the word."""
     try:
         return make()

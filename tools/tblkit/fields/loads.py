@@ -6,6 +6,7 @@ from dataclasses import dataclass
 from .. import files, names
 from . import values
 from .definitions import Definition
+from .kinds import ByteOrder
 from .layout import Field, Layout, Padding
 from .wrong import Wrong
 
@@ -103,13 +104,13 @@ def changed(of: Definition, base: Part, words: Iterable[str], is_whole: bool) ->
     return Changed(part, tuple((it.field, base.text_of(it.field)) for it in settings), others)
 
 
-def padding_in(padding: Padding, part: Part, order: str) -> bytes:
+def padding_in(padding: Padding, part: Part, order: ByteOrder) -> bytes:
     """The bits of a padding as bytes, as far as they are in a part: those of other fields are zeros."""
     begin, end = max(padding.place // 8, part.offset), min((padding.place + padding.bits + 7) // 8, part.end)
     return bytes(part.content[at - part.offset] & _mask(padding, at, order) for at in range(begin, end))
 
 
-def _mask(padding: Padding, at: int, order: str) -> int:
+def _mask(padding: Padding, at: int, order: ByteOrder) -> int:
     """The bits of a byte that a padding has."""
     first, last = max(padding.place - 8 * at, 0), min(padding.place + padding.bits - 8 * at, 8)
     bits = (1 << last - first) - 1
@@ -123,10 +124,10 @@ def dump(of: Definition, part: Part) -> Iterator[str]:
             yield f"{it.name} = {part.text_of(it)}"
         elif part.touches(it):
             yield f"# {it.name}: only a part of its {it.end - it.begin} bytes is there"
-    for it in of.layout.padding:
-        raw = padding_in(it, part, of.order)
+    for gap in of.layout.padding:
+        raw = padding_in(gap, part, of.order)
         if any(raw):
-            yield f"# {padding_words(it)} isn't zero: {raw.hex().upper()}"
+            yield f"# {padding_words(gap)} isn't zero: {raw.hex().upper()}"
 
 
 def padding_words(padding: Padding) -> str:

@@ -5,8 +5,10 @@ import io
 import zlib
 from collections.abc import Iterator
 from dataclasses import dataclass
+from typing import Any
 
 from . import reader, relocations
+from .kinds import ByteOrder
 from .wrong import NoReader, Wrong
 
 MOST_BYTES = 1 << 26
@@ -28,12 +30,12 @@ class Symbol:
 class Object:
     """An object file, or a linked one."""
 
-    def __init__(self, path: str, content: bytes):
+    def __init__(self, path: str, content: bytes) -> None:
         self.path, self._content = path, content
         if self._content[:4] != b"\x7fELF":
             raise Wrong("it is no object file: it doesn't begin as an ELF file does")
         self._elf = reader.library().elf.elffile.ELFFile(io.BytesIO(self._content))
-        self.order = "little" if self._elf.little_endian else "big"
+        self.order: ByteOrder = "little" if self._elf.little_endian else "big"
         self._machine = self._elf["e_machine"]
         self.is_linked = self._elf["e_type"] != "ET_REL"
         self._sections = self._all_sections()
@@ -45,7 +47,7 @@ class Object:
             raise Wrong("it is cut short: its section headers go beyond its end")
         return [self._elf.get_section(number) for number in range(count)]
 
-    def _section(self, number: int):
+    def _section(self, number: int) -> Any:
         if number >= len(self._sections):
             raise Wrong(f"it has no section {number}")
         return self._sections[number]
@@ -114,7 +116,7 @@ class Object:
             relocations.apply(content, self.order, place, change, self._value_of(one["r_info_sym"], table) + added)
         return bytes(content)
 
-    def debugging(self):
+    def debugging(self) -> Any:
         """The debugging information, as pyelftools reads it."""
         if ".debug_info" not in self._numbers:
             raise Wrong("it has no debugging information (.debug_info): compile it with -g")
@@ -175,7 +177,7 @@ def looked_at(content: bytes) -> bytes:
     return content
 
 
-def using(path: str, content: bytes, use):
+def using(path: str, content: bytes, use) -> Any:
     """What `use` makes of an object file. Whatever pyelftools comes to in a file that is damaged is said as that."""
     try:
         return use(Object(path, content))

@@ -4,6 +4,7 @@ import importlib
 import importlib.util
 import os
 import sys
+from typing import Any
 
 from .wrong import NoReader
 
@@ -14,7 +15,7 @@ MISSING = ("tables by field need pyelftools, which isn't here: `apt-get install 
 
 
 @functools.cache
-def library():
+def library() -> Any:
     """The module elftools, with what is used of it."""
     try:
         importlib.import_module("elftools")
@@ -25,7 +26,7 @@ def library():
     return sys.modules["elftools"]
 
 
-def _take_debians():
+def _take_debians() -> None:
     path = os.path.join(DEBIAN, "__init__.py")
     if not os.path.isfile(path):
         raise NoReader(MISSING)

@@ -2,6 +2,8 @@
 their numbers in an ELF header where it has no name."""
 from dataclasses import dataclass
 
+from .kinds import ByteOrder
+
 SET, ADD, SUBTRACT = "set", "add", "subtract"
 
 
@@ -60,7 +62,7 @@ def change_of(machine: str | int, number: int) -> Change | None:
     return Change(0) if number == 0 else _KNOWN.get(machine, {}).get(number)
 
 
-def apply(content: bytearray, order: str, place: int, change: Change, value: int) -> None:
+def apply(content: bytearray, order: ByteOrder, place: int, change: Change, value: int) -> None:
     """Changes the bytes at a place by the value of a symbol and its addend."""
     end = place + change.size
     before = int.from_bytes(content[place:end], order)

@@ -1,5 +1,6 @@
 """Definitions and changes as lines for people, and as JSON."""
 import json
+from typing import Any
 
 from ..store import check_word
 from . import kinds, loads
@@ -67,7 +68,7 @@ def _field_object(it: Field) -> dict:
     if it.is_bit_field:
         place = {"offset": it.begin, "bit": it.place % 8, "bits": it.bits}
     kind = "union" if it.is_union else it.kind
-    told = {"name": it.name, **place, "type": it.type_name, "kind": kind, "order": it.order}
+    told: dict[str, Any] = {"name": it.name, **place, "type": it.type_name, "kind": kind, "order": it.order}
     if kind in (kinds.SIGNED, kinds.UNSIGNED, kinds.ENUMERATED):
         told["signed"] = it.is_signed
     if it.enumerators is not None:
