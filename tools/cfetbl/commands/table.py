@@ -1,4 +1,3 @@
-#!/usr/bin/env python3
 """Tables by the fields of their C definition, from the object file that a cross compiler made of it.
 
     cfetbl table build OBJ [-o FILE] [--time SECONDS] [--spacecraft N] [--processor N]
@@ -43,89 +42,78 @@ pyelftools reads object files: `apt-get install python3-pyelftools`.
 Exit status: 0; 1 if the object, a file or a value is wrong, and then nothing is written, if diff finds a field that differs, or
 if the function rejects the image; 2 for wrong use, or if a file can't be read; 4 if a write fails; 125 without pyelftools.
 """
-import argparse
 import sys
 
-from tblkit import described, inputs
+from tblkit import described, inputs, options
 from tblkit.fields import convert, definitions, ground, judged, loads, shown
 from tblkit.fields.wrong import NoReader, Wrong
 from tblkit.programs import NO_PROGRAM
-from tblkit.streams import WRONG_USE, created, fail, opened, run, say
+from tblkit.streams import WRONG_USE, created, fail, opened, say
 
-TOOL = "cfetbl-fields"
+TOOL = "cfetbl table"
 MOST_FILE = 1 << 20
 HEADER = {"time": "seconds", "spacecraft": "spacecraft", "processor": "processor"}
 
 
-def number(text):
+def number(text) -> int:
     value = int(text, 0)
     if not 0 <= value < 1 << 32:
         raise ValueError
     return value
 
 
-def arguments(words):
-    parser = argparse.ArgumentParser(prog=TOOL, add_help=False, allow_abbrev=False)
-    parser.add_argument("-h", "--help", action="store_true")
-    word = parser.add_subparsers(dest="word")
+def add_arguments(parser) -> None:
+    actions = parser.add_subparsers(dest="action", parser_class=options.Parser)
     for name, more in (("build", ()), ("shape", ()), ("dump", ("file",)), ("diff", ("first", "second")), ("set", ()),
                        ("check", ("host", "library", "function", "file"))):
-        of_word = word.add_parser(name, prog=f"{TOOL} {name}", add_help=False, allow_abbrev=False)
-        of_word.add_argument("-h", "--help", action="store_true")
-        of_word.add_argument("object")
-        of_word.add_argument("--member", action="append", default=[])
+        action = actions.add_parser(name, text=parser.text)
+        action.add_argument("object")
+        action.add_argument("--member", action="append", default=[])
         for it in more:
-            of_word.add_argument(it)
-        OPTIONS.get(name, lambda _: None)(of_word)
-    if {"-h", "--help"} & set(words):
-        print(__doc__.strip())
-        sys.exit(0)
-    chosen = parser.parse_args(words)
-    if chosen.word is None:
-        parser.error("one of build, shape, dump, diff, set and check is missing")
-    return chosen
+            action.add_argument(it)
+        OPTIONS.get(name, lambda _: None)(action)
 
 
-def header_options(parser):
+def header_options(parser) -> None:
     for name in HEADER:
         parser.add_argument(f"--{name}", type=number)
 
 
-def output_option(parser):
+def output_option(parser) -> None:
     parser.add_argument("-o", dest="written", default="-")
 
 
-def build_options(parser):
+def build_options(parser) -> None:
     output_option(parser)
     header_options(parser)
 
 
-def set_options(parser):
+def set_options(parser) -> None:
     parser.add_argument("settings", nargs="+", metavar="FIELD=VALUE")
     parser.add_argument("--base")
     build_options(parser)
 
 
-def shape_options(parser):
+def shape_options(parser) -> None:
     output_option(parser)
     form = parser.add_mutually_exclusive_group()
     for name in ("json", "xtce", "openc3"):
         form.add_argument(f"--{name}", dest="form", action="store_const", const=name)
 
 
-def check_options(parser):
+def check_options(parser) -> None:
     parser.add_argument("--base")
 
 
 OPTIONS = {"build": build_options, "shape": shape_options, "dump": output_option, "set": set_options, "check": check_options}
 
 
-def header_of(chosen):
+def header_of(chosen) -> dict[str, int]:
     """The fields of the file header that options state."""
     return {field: value for name, field in HEADER.items() if (value := getattr(chosen, name)) is not None}
 
 
-def part_of(definition, name):
+def part_of(definition, name) -> loads.Part:
     """The part of the table that a file has."""
     with opened(name) as source:
         taken = source.read(MOST_FILE + 1)
@@ -134,7 +122,7 @@ def part_of(definition, name):
     return loads.part_of(definition, name, taken)
 
 
-def whole_of(definition, name):
+def whole_of(definition, name) -> loads.Part:
     part = part_of(definition, name)
     if len(part.content) != definition.layout.size:
         raise Wrong(f"{name}: it has {len(part.content)} of the {definition.layout.size} bytes of {definition.table}, "
@@ -142,7 +130,7 @@ def whole_of(definition, name):
     return part
 
 
-def write(chosen, taken, lines, *read):
+def write(chosen, taken, lines, *read) -> None:
     """Writes what was made, and says what it is. Files that are read aren't written over."""
     if chosen.written == "-":
         if sys.stdout.isatty():
@@ -158,11 +146,11 @@ def write(chosen, taken, lines, *read):
     print("\n".join(lines))
 
 
-def written_name(chosen):
+def written_name(chosen) -> str:
     return "standard output" if chosen.written == "-" else chosen.written
 
 
-def build(chosen, definition):
+def build(chosen, definition) -> int:
     taken = loads.table_file(definition, loads.whole(definition), header_of(chosen))
     lines = [f"{written_name(chosen)}: {shown.summary(definition)}"]
     if definition.layout.size > described.LIMIT:
@@ -171,13 +159,13 @@ def build(chosen, definition):
     return 0
 
 
-def shape(chosen, definition):
+def shape(chosen, definition) -> int:
     made = {None: shown.shape, "json": shown.as_json, "xtce": ground.xtce, "openc3": ground.openc3}[chosen.form](definition)
     write_text(chosen, made, chosen.object)
     return 0
 
 
-def write_text(chosen, text, *read):
+def write_text(chosen, text, *read) -> None:
     if chosen.written == "-":
         print(text)
         return
@@ -186,12 +174,12 @@ def write_text(chosen, text, *read):
         target.write(f"{text}\n".encode())
 
 
-def dump(chosen, definition):
+def dump(chosen, definition) -> int:
     write_text(chosen, "\n".join(loads.dump(definition, part_of(definition, chosen.file))), chosen.object, chosen.file)
     return 0
 
 
-def diff(chosen, definition):
+def diff(chosen, definition) -> int:
     found = loads.difference(definition, part_of(definition, chosen.first), part_of(definition, chosen.second))
     lines = [*(found.fields or ["no difference"]), *found.padding]
     if found.left_out:
@@ -200,7 +188,7 @@ def diff(chosen, definition):
     return 1 if found.fields else 0
 
 
-def change(chosen, definition):
+def change(chosen, definition) -> int:
     base = whole_of(definition, chosen.base) if chosen.base else loads.whole(definition)
     made = loads.changed(definition, base, chosen.settings, bool(chosen.base))
     taken = loads.table_file(definition, made.part, header_of(chosen))
@@ -210,7 +198,7 @@ def change(chosen, definition):
     return 0
 
 
-def check(chosen, definition):
+def check(chosen, definition) -> int:
     part = part_of(definition, chosen.file)
     if len(part.content) != definition.layout.size:
         base = whole_of(definition, chosen.base) if chosen.base else loads.whole(definition)
@@ -223,18 +211,15 @@ def check(chosen, definition):
     return 1 if verdict.code else 0
 
 
-WORDS = {"build": build, "shape": shape, "dump": dump, "diff": diff, "set": change, "check": check}
+ACTIONS = {"build": build, "shape": shape, "dump": dump, "diff": diff, "set": change, "check": check}
 
 
-def main(words):
-    chosen = arguments(words)
+def main(chosen, parser) -> int:
+    if chosen.action is None:
+        parser.error(f"one of {', '.join(ACTIONS)} is missing")
     try:
-        return WORDS[chosen.word](chosen, definitions.read(chosen.object, tuple(chosen.member)))
+        return ACTIONS[chosen.action](chosen, definitions.read(chosen.object, tuple(chosen.member)))
     except Wrong as wrong:
         fail(TOOL, str(wrong), 1)
     except NoReader as none:
         fail(TOOL, str(none), NO_PROGRAM)
-
-
-if __name__ == "__main__":
-    run(TOOL, main)

@@ -1,4 +1,3 @@
-#!/usr/bin/env python3
 """A session that is typed: each line is played at once, and its answer stands below it.
 
     cfetbl repl [--store FILE] [--shape NAME=SHAPE] [--shape-of NAME=OBJ]
@@ -29,12 +28,14 @@ import re
 import readline
 import signal
 import sys
+from collections.abc import Iterator
+from typing import Any
 
-from tblkit import completion, live, options, programs, records, shapes, show, stores, text
+from tblkit import completion, live, programs, shapes, stores, terminal, text
 from tblkit.near import meant
 from tblkit.numbers import counted
 from tblkit.programs import STORE
-from tblkit.streams import WRONG_USE, WriteFailed, created, fail, run, say
+from tblkit.streams import WRONG_USE, WriteFailed, created, fail, say
 from tblkit.words import TextError
 
 TOOL, PROMPT = "cfetbl repl", "> "
@@ -47,22 +48,22 @@ LINES = (":state", ":undo", ":reset", ":save", ":help", ":quit", "help", "quit")
 class Console:
     """The session so far: its lines, and the run that plays it."""
 
-    def __init__(self, closing, store, by_field):
+    def __init__(self, closing, store, by_field) -> None:
         self._folder, self._lines, self._files, self._shapes = live.Folder(closing, store), [], {}, by_field
-        self._run = live.Running(self._folder.fresh())
+        self._run, self._look = live.Running(self._folder.fresh()), terminal.look(is_in_columns=False)
         self.is_wrong = False
 
     @property
-    def is_over(self):
-        return self._run.end is not None or self._run.count >= records.MOST_RECORDS
+    def is_over(self) -> bool:
+        return self._run.end is not None
 
-    def look(self):
+    def look(self) -> bool:
         """Ends the session where its program has ended by itself. Answers whether it is over."""
         if not self.is_over and self._run.has_ended():
             self._run.finish()
         return self.is_over
 
-    def take(self, line, number):
+    def take(self, line, number) -> bool:
         """Plays a line, or does what one says that begins with a colon. False ends the session."""
         command = COMMANDS.fullmatch(line.strip())
         if command:
@@ -77,19 +78,17 @@ class Console:
             self._play(line.strip(), content)
         return True
 
-    def _play(self, line, content):
+    def _play(self, line, content) -> None:
         self._lines.append((line, content))
         full_name = text.doubled_name(content, self._run.states.view.applications)
         if full_name:
             say(f"{TOOL}: {text.doubled_words(full_name)}")
         for answer in self._run.ask(content):
             self._files |= dict.fromkeys(live.file_names(answer))
-            print("\n".join(show.lines(answer, shapes=self._shapes)))
-            if self._run.warning():
-                say(f"{TOOL}: {self._run.warning()}")
+            self._look.write(answer, shapes=self._shapes)
         sys.stdout.flush()
 
-    def _do(self, name, words):
+    def _do(self, name, words) -> bool:
         """A line that begins with a colon."""
         if name == "quit":
             return False
@@ -106,10 +105,10 @@ class Console:
         sys.stdout.flush()
         return True
 
-    def _state(self):
+    def _state(self) -> None:
         print("\n".join(self._run.states.lines()) or "no application runs")
 
-    def _undo(self):
+    def _undo(self) -> None:
         if not self._lines:
             say(f"{TOOL}: there is no request to undo")
             return
@@ -121,7 +120,7 @@ class Console:
                 pass
         print(f"undone: {gone}")
 
-    def _save(self, name):
+    def _save(self, name) -> None:
         if os.path.exists(name) and not _is_wanted(f"{name} is there already. Write over it? [y/N] "):
             self.is_wrong = True
             say(f"{TOOL}: {name} is there already, and stays as it is")
@@ -136,7 +135,7 @@ class Console:
             return
         print(f"{name} has {counted(len(self._lines), 'request')}")
 
-    def finish(self):
+    def finish(self) -> int:
         """Ends the run: its status, after the line of its end, or why there is none."""
         status = self._run.finish()
         if self._run.failure():
@@ -145,7 +144,7 @@ class Console:
             print(self._run.end_line())
         return status
 
-    def complete(self, begun, number):
+    def complete(self, begun, number) -> str | None:
         """The completion of a word that was begun, as readline asks for them by their numbers."""
         front = readline.get_line_buffer()[:readline.get_begidx()]
         found = completion.candidates(front.rstrip(), self._run.states, self._files)
@@ -154,11 +153,11 @@ class Console:
         return next((f"{it} " for at, it in enumerate(it for it in found if it.startswith(begun)) if at == number), None)
 
 
-def _help():
+def _help() -> None:
     print(__doc__.partition("Other lines are:\n\n")[2].partition("\n\n")[0].replace("    ", "", 1).replace("\n    ", "\n"))
 
 
-def _is_wanted(question):
+def _is_wanted(question) -> bool:
     """Whether a question is answered with yes at the terminal. Nobody is asked elsewhere."""
     if not sys.stdin.isatty():
         return False
@@ -170,7 +169,7 @@ def _is_wanted(question):
         return False
 
 
-def greet(store):
+def greet(store) -> None:
     """Says at a terminal what may be typed, and where the store is."""
     begins = stores.begins(TOOL, store, True) if store else "the store is a fresh one, and begins empty"
     if sys.stdin.isatty():
@@ -181,10 +180,10 @@ class ProgramEnded(Exception):
     """The program has ended by itself while a line was waited for."""
 
 
-def next_line(console, read):
+def next_line(console, read) -> Any:
     """The line that `read` waits for, none at the end of the input. An end of the program meanwhile is a ProgramEnded: it is
     looked for again and again, since a signal that comes just before the read wouldn't end it."""
-    def look(*_):
+    def look(*_) -> None:
         if console.look():
             raise ProgramEnded
 
@@ -196,7 +195,7 @@ def next_line(console, read):
         signal.setitimer(signal.ITIMER_REAL, 0)
 
 
-def typed(console):
+def typed(console) -> Iterator[str]:
     """The lines that are typed at a terminal, or come from elsewhere."""
     if not sys.stdin.isatty():
         while line := next_line(console, sys.stdin.buffer.readline):
@@ -216,20 +215,18 @@ def typed(console):
             return
 
 
-def arguments(words):
-    """The store file of which a copy is played over, or None for a fresh one, and the shapes of tables."""
-    parser = options.Parser(TOOL, __doc__)
+def add_arguments(parser) -> None:
     parser.add_argument("--store", metavar="FILE", default=STORE)
     parser.add_argument("--durable", action="store_true")
     shapes.add_options(parser)
-    chosen = parser.parse_args(words)
+
+
+def main(chosen, parser) -> int:
     if chosen.durable:
         parser.error("the session is played over a copy of the store file, so --durable has nothing to keep")
-    return None if chosen.store == stores.NONE else chosen.store, shapes.of_options(TOOL, parser, chosen)
-
-
-def main(words):
-    store, by_field = arguments(words)
+    # The store file of which a copy is played over, or None for a fresh one.
+    store = None if chosen.store == stores.NONE else chosen.store
+    by_field = shapes.of_options(TOOL, parser, chosen)
     greet(store)
     with contextlib.ExitStack() as closing:
         try:
@@ -242,7 +239,3 @@ def main(words):
                     break
         status = console.finish()
     return status or (WRONG_USE if console.is_wrong and not sys.stdin.isatty() else 0)
-
-
-if __name__ == "__main__":
-    run(TOOL, main)

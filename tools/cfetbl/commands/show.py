@@ -1,4 +1,3 @@
-#!/usr/bin/env python3
 """Transcripts to read.
 
     cfetbl show [OPTION..] SESSION TRANSCRIPT    each request of the session with its answer
@@ -11,7 +10,8 @@ order in which the actors had their turns.
 A line is a request, its status, and what its detail and its reply bytes tell. The packets that it sent stand below it,
 with the fields that aren't 0 (rows and validators: that aren't none). With a session at hand a row, which is cFE's registry
 index, stands beside the name of its table, and a refusal for the wrong handle tells which ones the application has. Long
-data is cut short. The last line is the end record. Fields have the names of tools/names.tsv.
+data is cut short. The last line is the end record. Fields have the names of tools/names.tsv. On a terminal place, request and
+answer stand in columns that fit its width, and what is longer goes on below.
 
     --all            all fields, those of the headers too, and all data
     --json           a JSON object a line, with all fields; numbers as numbers, bytes in hexadecimal
@@ -26,11 +26,11 @@ data is cut short. The last line is the end record. Fields have the names of too
     --diff OTHER     the first entry in which the transcript OTHER differs, by field: TRANSCRIPT | OTHER
     --pcap FILE      writes no lines, but the commands of the session and what the service sent as a capture, which
                      Wireshark opens; tools/cfetbl.lua tells it the fields
+    --color WHEN     colors for what was refused and for events: always, never or auto, which is on a terminal, if NO_COLOR isn't set
     --session-order  the lines of a transcript of `cfetbl crew` in the order of the session, but those that meet in the order
                      of their turns: that name the same table, file or block, give out handles, or meet all others, as a reset
                      and a request for housekeeping do. The number before a request is its place in the order of turns
     --check          looks at the words alone, and at whether the session has the tables of --shape, and writes nothing
-    --played         TRANSCRIPT comes from a program that says itself why it wrote none: an empty one has no lines
 
 Exit status: 0; 1 where the transcript breaks off or isn't one, or where OTHER differs; 2 for wrong use, or where a file
 can't be read or a line of the session is wrong; 4 where a write fails.
@@ -39,39 +39,39 @@ import contextlib
 import json
 import os
 
-from tblkit import diff, inputs, options, order, pcap, records, shapes, show, transcript
+from tblkit import diff, inputs, order, pcap, records, shapes, show, terminal, transcript
 from tblkit.near import meant
-from tblkit.streams import WRONG_USE, created, fail, opened, run
-
-TOOL = "cfetbl show"
-OPTIONS = ("--all", "--json", "--end", "--session-order", "--check", "--played")
+from tblkit.streams import WRONG_USE, created, fail, opened
 
 
-def arguments(words):
-    parser = options.Parser(TOOL, __doc__)
-    for option in OPTIONS:
+def add_options(parser) -> None:
+    """The options of how a transcript is shown."""
+    for option in ("--all", "--json", "--end", "--session-order"):
         parser.add_argument(option, action="store_true")
     for option in ("--diff", "--pcap"):
         parser.add_argument(option)
     shapes.add_options(parser)
+    terminal.add_option(parser)
+
+
+def add_arguments(parser) -> None:
+    add_options(parser)
+    parser.add_argument("--check", action="store_true")
     parser.add_argument("files", nargs="*")
-    chosen = parser.parse_args(words)
-    if len(chosen.files) > 2:
-        parser.error("at most a session and a transcript")
-    chosen.shapes = shapes.of_options(TOOL, parser, chosen)
-    if chosen.shapes and len(chosen.files) < 2 and not chosen.check:
-        parser.error("--shape needs the session before the transcript")
+
+
+def look(chosen, parser) -> None:
+    """Looks at what the options name, before anything is read or played."""
+    chosen.shapes = shapes.of_options(parser.prog, parser, chosen)
+    chosen.look = terminal.look(chosen.color)
     if chosen.pcap:
-        inputs.keep(TOOL, f"--pcap {chosen.pcap}", chosen.pcap, chosen.files)
-    return chosen
+        inputs.keep(parser.prog, f"--pcap {chosen.pcap}", chosen.pcap, chosen.files)
 
 
-def show_all(parts, index, chosen, capture):
+def show_all(parts, index, chosen, capture) -> transcript.Broken | None:
     """Writes each part as it is read, and answers what stands where no whole transcript was there."""
     broken = None
     for part in parts:
-        if chosen.played and isinstance(part, transcript.Broken) and part.is_empty:
-            return None
         broken = part if isinstance(part, transcript.Broken) else broken
         is_answer = isinstance(part, show.Answer)
         if capture and is_answer:
@@ -81,55 +81,59 @@ def show_all(parts, index, chosen, capture):
         if chosen.json:
             print(json.dumps(show.as_object(part, index)))
         elif is_answer:
-            print("\n".join(show.lines(part, chosen.all, chosen.shapes)))
+            chosen.look.write(part, chosen.all, chosen.shapes)
         else:
-            print(show.end_lines(part, index))
+            chosen.look.write_end(part, show.end_lines(part, index))
     return broken
 
 
-def check(chosen):
+def check(chosen, tool) -> int:
     """Looks at what the words name. A session that can be read once only is left for the play."""
     if chosen.diff is not None:
         opened(chosen.diff).close()
     if chosen.shapes and chosen.files and os.path.isfile(chosen.files[-1]):
         with contextlib.ExitStack() as closing:
-            want_tables(chosen, inputs.session_of(TOOL, chosen.files[-1], closing))
+            want_tables(chosen, tool, inputs.session_of(tool, chosen.files[-1], closing))
     return 0
 
 
-def want_tables(chosen, session):
+def want_tables(chosen, tool, session) -> None:
     """Ends where a shape is that of a table which the session neither registers nor has in a file."""
     known = shapes.tables_of(session)
     for name in chosen.shapes.names:
         if name not in known:
-            fail(TOOL, f"--shape: the session has no table {name}{meant(name, known)}", WRONG_USE)
+            fail(tool, f"--shape: the session has no table {name}{meant(name, known)}", WRONG_USE)
 
 
-def main(words):
-    chosen = arguments(words)
-    if chosen.check:
-        return check(chosen)
-    *session, name = chosen.files or ["-"]
-    with contextlib.ExitStack() as closing:
-        index = None
-        if session:
-            source = inputs.session_of(TOOL, session[0], closing)
-            if chosen.shapes:
-                want_tables(chosen, source)
-            index = records.Index(source)
-        parts = show.answers(inputs.parts_of(TOOL, name, closing), index, not chosen.diff)
-        if chosen.diff:
-            found = list(diff.lines(parts, inputs.parts_of(TOOL, chosen.diff, closing)))
-            print("\n".join(found or ["no difference"]))
-            return 1 if found else 0
-        if chosen.session_order and not (chosen.json or chosen.end or chosen.pcap):
-            parts = order.in_session_order(parts)
-        capture = pcap.Capture(closing.enter_context(created(chosen.pcap))) if chosen.pcap else None
+def show_parts(chosen, tool, source, parts, closing) -> int:
+    """Shows the parts of a transcript beside its session, if that is at hand, and answers the status."""
+    if source and chosen.shapes:
+        want_tables(chosen, tool, source)
+    index = records.Index(source) if source else None
+    parts = show.answers(parts, index, not chosen.diff)
+    if chosen.diff:
+        found = list(diff.lines(parts, inputs.parts_of(tool, chosen.diff, closing)))
+        print("\n".join(found or ["no difference"]))
+        return 1 if found else 0
+    if chosen.session_order and not (chosen.json or chosen.end or chosen.pcap):
+        parts = order.in_session_order(parts)
+    with contextlib.ExitStack() as writing:
+        capture = pcap.Capture(writing.enter_context(created(chosen.pcap))) if chosen.pcap else None
         broken = show_all(parts, index, chosen, capture)
     if broken and capture:
-        fail(TOOL, f"{broken.reason}; {chosen.pcap} has what came before", 1)
+        fail(tool, f"{broken.reason}; {chosen.pcap} has what came before", 1)
     return 1 if broken else 0
 
 
-if __name__ == "__main__":
-    run(TOOL, main)
+def main(chosen, parser) -> int:
+    if len(chosen.files) > 2:
+        parser.error("at most a session and a transcript")
+    look(chosen, parser)
+    if chosen.shapes and len(chosen.files) < 2 and not chosen.check:
+        parser.error("--shape needs the session before the transcript")
+    if chosen.check:
+        return check(chosen, parser.prog)
+    *session, name = chosen.files or ["-"]
+    with contextlib.ExitStack() as closing:
+        source = inputs.session_of(parser.prog, session[0], closing) if session else None
+        return show_parts(chosen, parser.prog, source, inputs.parts_of(parser.prog, name, closing), closing)

@@ -1,4 +1,3 @@
-#!/usr/bin/env python3
 """The Critical Data Store in a store file.
 
     cfetbl map [STORE]              lists its blocks by their slots, and what is free between them
@@ -16,23 +15,18 @@ Exit status: 0; 2 for wrong use, or where the file isn't a store file or can't b
 """
 import contextlib
 
-from tblkit import content, inputs, options, store, storemap, stores
-from tblkit.streams import WRONG_USE, fail, opened, output_to, run
+from tblkit import content, inputs, store, storemap, stores
+from tblkit.streams import WRONG_USE, fail, opened, output_to
 
 TOOL = "cfetbl map"
 
 
-def arguments(words):
-    parser = options.Parser(TOOL, __doc__)
+def add_arguments(parser) -> None:
     parser.add_argument("-o", dest="output")
     stores.add_file(parser)
-    chosen = stores.named(parser, parser.parse_args(words))
-    if chosen.output not in (None, "-"):
-        inputs.keep(TOOL, f"-o {chosen.output}", chosen.output, [chosen.file])
-    return chosen
 
 
-def bank_of(name):
+def bank_of(name) -> storemap.Map:
     """The bank in a file. One that another tool reads is told with that."""
     with opened(name) as source:
         front = content.front_of(source)
@@ -43,8 +37,10 @@ def bank_of(name):
     return storemap.Map(found)
 
 
-def main(words):
-    chosen = arguments(words)
+def main(chosen, parser) -> int:
+    stores.named(parser, chosen)
+    if chosen.output not in (None, "-"):
+        inputs.keep(TOOL, f"-o {chosen.output}", chosen.output, [chosen.file])
     found = bank_of(chosen.file)
     name = "standard input" if chosen.file == "-" else chosen.file
     if chosen.output is None:
@@ -53,7 +49,3 @@ def main(words):
     with contextlib.ExitStack() as closing:
         output_to(chosen.output, closing).write(storemap.html(name, found))
     return 0
-
-
-if __name__ == "__main__":
-    run(TOOL, main)

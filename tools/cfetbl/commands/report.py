@@ -1,4 +1,3 @@
-#!/usr/bin/env python3
 """A session as a page to look at.
 
     cfetbl report [OPTION..] SESSION               plays the session, and makes a page of it
@@ -9,11 +8,14 @@
     --shape NAME=SHAPE, --shape-of NAME=OBJ
                                    shows images of the table by field, as `cfetbl show` does
 
-The page is one file in HTML, written to FILE or to standard output, and needs no network. Its upper part is a time line, with a
-request at each place: who made it, and for each table from where to where it was registered, which image was active, how far
-its load or its dump had come, which handles held its address, and which requests about it were refused, with their status. A
-reset is a line through all. Below it stands each request with its answer and its packets, as `cfetbl play --show` has them. A
-click on one marks the other.
+The page is one file in HTML, written to FILE or to standard output, and needs no network, but a browser of 2023 or later. First it
+counts requests, refusals by status, images by table, and events. Then comes a time line, with a request at each place: who made
+it, and for each table from where to where it was registered, which image was active, how far its load or its dump had come,
+which handles held its address, and which requests about it were refused, with their status. A reset is a line through all. It can
+be zoomed, by buttons or by dragging over the strip above it, and shows all requests or those of a table, with a status, with an
+event, or with some words. Below it stands each of these with its answer and its packets, as `cfetbl play --show` has them. A click
+on one marks the other, and with the keyboard the arrow keys go from one to the next. Of a transcript that breaks off it has what
+is there.
 
 All of it is worked out from the session and its transcript. SESSION is text or records; - is standard input. The Critical Data
 Store is cds.store of the working folder, or the FILE of --store; none is a fresh one that is thrown away. --durable syncs it
@@ -24,23 +26,26 @@ wrong use, or where a file can't be read or a line of the session is wrong; 4 wh
 """
 import contextlib
 import os
+from typing import Any
 
-from tblkit import inputs, locks, matching, options, programs, records, report, shapes, show, stores, transcript
+from tblkit import inputs, locks, matching, programs, records, report, shapes, show, stores, transcript
 from tblkit.programs import STORE, STORE_FAILED
 from tblkit.progress import Ticker, span
-from tblkit.streams import fail, output_to, run, say
+from tblkit.streams import fail, output_to, say
 
 TOOL = "cfetbl report"
 
 
-def arguments(words):
-    parser = options.Parser(TOOL, __doc__)
+def add_arguments(parser) -> None:
     parser.add_argument("-o", dest="output", default="-")
     parser.add_argument("session", nargs="?")
     parser.add_argument("transcript", nargs="?")
     stores.add_written(parser)
     shapes.add_options(parser)
-    chosen = parser.parse_args(words)
+
+
+def look(chosen, parser) -> None:
+    """Looks at the words before anything is played."""
     if chosen.session is None:
         parser.error("a session is missing")
     if chosen.transcript and (chosen.store or chosen.durable):
@@ -48,10 +53,9 @@ def arguments(words):
     chosen.shapes = shapes.of_options(TOOL, parser, chosen)
     if chosen.output != "-":
         inputs.keep(TOOL, f"-o {chosen.output}", chosen.output, [it for it in (chosen.session, chosen.transcript) if it])
-    return chosen
 
 
-def look(answers, index):
+def compare(answers, index) -> None:
     """Ends if a transcript isn't that of the session."""
     try:
         matching.look(answers, index)
@@ -59,8 +63,8 @@ def look(answers, index):
         fail(TOOL, "the transcript is of another session", 1)
 
 
-def page_of(chosen, closing):
-    """The page of a session, the last part of its transcript, and the status of the run, which is 0 if it isn't played here."""
+def report_of(chosen, closing) -> tuple[report.Report, Any, int]:
+    """The report of a session, the last part of its transcript, and the status of the run, which is 0 if it isn't played here."""
     session = inputs.session_of(TOOL, chosen.session, closing, say)
     index, status = records.Index(session), 0
     progress = report.Progress(session, index)
@@ -71,30 +75,26 @@ def page_of(chosen, closing):
             parts = inputs.parts_of(TOOL, chosen.transcript, closing)
         answers = list(show.answers(parts, index))
         if chosen.transcript is not None:
-            look(answers, index)
+            compare(answers, index)
         made = report.Report(f"Session {os.path.basename(chosen.session)}", index, chosen.shapes)
         for progress.done, part in enumerate(answers, 1):
             made.add(part)
-        return made.page(), answers[-1], status
+        return made, answers[-1], status
 
 
-def main(words):
-    chosen = arguments(words)
+def main(chosen, parser) -> int:
+    look(chosen, parser)
     with contextlib.ExitStack() as closing:
-        page, last, status = page_of(chosen, closing)
+        made, last, status = report_of(chosen, closing)
         is_broken = isinstance(last, transcript.Broken)
         # If the store can't be opened nothing was played. The program has said why, but not whose process has it.
         if is_broken and status == STORE_FAILED:
             if owner := locks.in_use(chosen.store or STORE):
                 say(f"{TOOL}: {owner}")
             return status
-        output_to(chosen.output, closing).write(page)
+        output_to(chosen.output, closing).write(made.page())
     if status:
         fail(TOOL, programs.end_words(status, chosen.store or STORE), status)
     if is_broken:
-        fail(TOOL, last.reason, 1)
+        fail(TOOL, f"{last.reason}; the page has {made.had()}", 1)
     return 0
-
-
-if __name__ == "__main__":
-    run(TOOL, main)

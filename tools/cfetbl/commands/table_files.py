@@ -1,19 +1,19 @@
-#!/usr/bin/env python3
 """Table files and their descriptions: `cfetbl make`, `cfetbl describe` and `cfetbl file`, each of which is the first word."""
 import sys
 
-from tblkit import content, described, files, inputs, names, options, packets
+from tblkit import content, described, files, inputs, names, packets, proved
 from tblkit.numbers import counted
-from tblkit.streams import WRONG_USE, binary_output, created, fail, opened, run, say
+from tblkit.streams import WRONG_USE, binary_output, created, fail, opened, say
 
-MAKE = """The table file that a description makes.
+MAKE = """The table file that a description makes, as the program's word `make` writes it.
 
     cfetbl make DESCRIPTION [-o FILE]     writes it to FILE; without -o to standard output
 
 {description}
-Exit status: 0; 1 if the description is wrong; 2 for wrong use, or if a file can't be read; 4 if a write fails.
+Exit status: 0; 1 if the description is wrong; 2 for wrong use, or if a file can't be read; 4 if a write fails; 125 if there is no
+program.
 """
-DESCRIBE = """The description of a table file, field by field.
+DESCRIBE = """The description of a table file, field by field, as the program's word `describe` writes it.
 
     cfetbl describe SHAPE FILE [-o TEXT]     writes it to TEXT; without -o to standard output
 
@@ -21,7 +21,8 @@ DESCRIBE = """The description of a table file, field by field.
 A SHAPE has the types and the names, joined by commas, and for hex how many bytes there are: u16:limit,i16:gain,hex2:key. What
 `cfetbl describe` writes, `cfetbl make` makes the same image of again.
 
-Exit status: 0; 1 if the file isn't described by the shape; 2 for wrong use, or if a file can't be read; 4 if a write fails.
+Exit status: 0; 1 if the file isn't described by the shape; 2 for wrong use, or if a file can't be read; 4 if a write fails; 125 if
+there is no program.
 """
 FILE = """The headers of a table file or a registry file, and its bytes.
 
@@ -45,48 +46,43 @@ big-endian, negative ones in two's complement; the value of hex is 1 to 64 bytes
 # The words, each with its help and the names that it takes.
 WORDS = {"make": (MAKE, ("description",)), "describe": (DESCRIBE, ("shape", "file")), "file": (FILE, ("file",))}
 TOOL = f"cfetbl {sys.argv[1] if len(sys.argv) > 1 else 'make'}"
-MOST_INPUT = 1 << 20
 ROW = 16
 # What `-o` says, or doesn't, for standard output.
 TO_OUTPUT = (None, "-")
 
 
-def arguments(words):
-    parser = options.Parser("cfetbl-table", "\n".join(it.format(description=DESCRIPTION) for it, _ in WORDS.values()))
-    parser.add_argument("word", choices=WORDS)
-    word = parser.parse_args(words[:1]).word
-    text, wanted = WORDS[word]
-    parser = options.Parser(TOOL, text.format(description=DESCRIPTION))
-    for name in wanted:
+def help_of(word) -> str:
+    return WORDS[word][0].format(description=DESCRIPTION)
+
+
+def add_arguments(parser) -> None:
+    word = parser.prog.split()[-1]
+    for name in WORDS[word][1]:
         parser.add_argument(name, metavar=name.upper())
     if word != "file":
         parser.add_argument("-o", dest="written")
-    chosen = parser.parse_args(words[1:])
-    if word != "file" and chosen.written not in TO_OUTPUT:
-        inputs.keep(TOOL, f"-o {chosen.written}", chosen.written, [getattr(chosen, wanted[-1])])
-    return word, chosen
 
 
-def read(name):
+def read(name) -> bytes:
+    """The bytes of a file, and of one that is too long one more than it may have."""
     with opened(name) as source:
-        taken = source.read(MOST_INPUT + 1)
-    if len(taken) > MOST_INPUT:
-        fail(TOOL, f"{name} has more than {MOST_INPUT} bytes", 1)
-    return taken
+        return source.read(proved.MOST_INPUT + 1)
 
 
-def write(name, taken):
+def write(name, taken) -> None:
     """Writes to the file of `-o`."""
     with created(name) as target:
         target.write(taken)
 
 
-def make(name, written):
+def make(name, written) -> int:
     try:
-        made = described.make(read(name))
+        made = proved.make(read(name))
     except described.WrongLine as wrong:
         say(wrong.said_of(name))
         return 1
+    except proved.NoAnswer as none:
+        fail(TOOL, f"{name}: {none}", none.status)
     if written in TO_OUTPUT:
         binary_output(TOOL, "a table file").write(made)
     else:
@@ -94,29 +90,29 @@ def make(name, written):
     return 0
 
 
-def describe(shape, name, written):
+def describe(shape, name, written) -> int:
     try:
-        forms = described.read_shape(shape)
+        text = proved.describe(shape, read(name))
     except described.WrongShape as wrong:
         fail(TOOL, f"the shape {shape}: {wrong}", WRONG_USE)
-    try:
-        made = described.describe(forms, read(name))
     except described.NotDescribed as why:
         fail(TOOL, f"{name} isn't described: {why}", 1)
+    except proved.NoAnswer as none:
+        fail(TOOL, f"{name}: {none}", none.status)
     if written in TO_OUTPUT:
-        print(made.decode(), end="")
+        print(text.decode(), end="")
     else:
-        write(written, made)
+        write(written, text)
     return 0
 
 
-def fields_of(taken, layout, label):
+def fields_of(taken, layout, label) -> None:
     print(label)
     for field in layout:
         print(f"  {field.name}: {packets.shown_field(field, taken).words}")
 
 
-def rows(taken, at):
+def rows(taken, at) -> None:
     """Bytes in hexadecimal and as ASCII, each row after the place of its first byte."""
     for place in range(0, len(taken), ROW):
         row = taken[place:place + ROW]
@@ -124,8 +120,10 @@ def rows(taken, at):
         print(f"  {place + at:5}  {row.hex(' ').upper():{3 * ROW - 1}}  {letters}")
 
 
-def file(name):
+def file(name) -> int:
     taken = read(name)
+    if len(taken) > proved.MOST_INPUT:
+        fail(TOOL, f"{name} has more than {proved.MOST_INPUT:,} bytes", 1)
     if len(taken) < files.FILE_HEADER or int.from_bytes(taken[:4], "big") != files.CONTENT:
         fail(TOOL, f"no file with cFE's file header: {content.kind_of(taken[:content.FRONT]).said_of(name, taken[:8])}", 1)
     fields_of(taken, names.fields("file header"), "file header")
@@ -147,14 +145,12 @@ def file(name):
     return 0
 
 
-def main(words):
-    word, chosen = arguments(words)
+def main(chosen, parser) -> int:
+    word = parser.prog.split()[-1]
+    if word == "file":
+        return file(chosen.file)
+    if chosen.written not in TO_OUTPUT:
+        inputs.keep(TOOL, f"-o {chosen.written}", chosen.written, [getattr(chosen, WORDS[word][1][-1])])
     if word == "make":
         return make(chosen.description, chosen.written)
-    if word == "describe":
-        return describe(chosen.shape, chosen.file, chosen.written)
-    return file(chosen.file)
-
-
-if __name__ == "__main__":
-    run(TOOL, main)
+    return describe(chosen.shape, chosen.file, chosen.written)
