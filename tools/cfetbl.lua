@@ -2,16 +2,23 @@
 -- Names and places come from names.tsv, which has to stand beside this file. The primary header is that of CCSDS 133.0-B,
 -- the secondary headers are those of cFE's msg module.
 --
---     wireshark -X lua_script:tools/cfetbl.lua CAPTURE        with a capture of `cfetbl-show --pcap CAPTURE`
+--     wireshark -X lua_script:tools/cfetbl.lua CAPTURE        with a capture of `cfetbl show --pcap CAPTURE`
 --
--- It takes datagrams to UDP port 1234 as commands, and those to 1235 as what the service sends.
+-- It takes datagrams to UDP port 1234 as commands, and those to 1235 as what the service sends. Telemetry may be in the layouts of
+-- docs/FORMATS.md or in cFE's (`cfetbl serve --cfe-layout`): its length tells which, unless the preferences of the protocol say it.
+-- Numbers in cFE's layouts begin with their low byte, unless they say otherwise:
+--
+--     tshark -X lua_script:tools/cfetbl.lua -o cfetbl.layout:cfe -o cfetbl.big_endian:TRUE -r CAPTURE
 
 local COMMAND_PORT, TELEMETRY_PORT = 1234, 1235
-local IS_COMMAND, COMMAND_ID, HOUSEKEEPING_ID = 0x1000, 0x1804, 0x180C
-local PRIMARY_HEADER, COMMAND_HEADER, TELEMETRY_HEADER, LENGTH_BIAS = 6, 8, 12, 7
-local REFUSED = 2
+local CFE_HEADER = 16
+-- Which layouts telemetry has, as the preference says it.
+local BY_LENGTH, OWN, OF_CFE = 0, 1, 2
 
 local cfetbl = Proto("cfetbl", "cFE Table Services")
+local choices = { { 1, "guess", BY_LENGTH }, { 2, "formats", OWN }, { 3, "cfe", OF_CFE } }
+cfetbl.prefs.layout = Pref.enum("Layouts of packets", BY_LENGTH, "by their length, those of docs/FORMATS.md, or cFE's", choices, false)
+cfetbl.prefs.big_endian = Pref.bool("Big-endian numbers in cFE's layouts", false, "numbers in payloads begin with their high byte")
 
 -- The rows of names.tsv by section, each as the list of its columns.
 local function read_names()
@@ -31,6 +38,18 @@ end
 
 local names = read_names()
 
+-- The number that programs share and that is this.
+local function number(what)
+    for _, row in ipairs(names.constant) do
+        if row[1] == what then
+            return tonumber(row[2])
+        end
+    end
+    error("names.tsv has no constant " .. what)
+end
+
+local IS_COMMAND, LENGTH_BIAS = number("type bit of a command's message id"), number("bytes of a packet that its length field leaves out")
+
 -- The words of the numbers of a form, by number.
 local function words_of(form)
     local words = {}
@@ -46,7 +65,21 @@ local function words_of(form)
 end
 
 local statuses, events, commands, messages = words_of("status"), words_of("event"), words_of("command"), words_of("message")
+
+-- The number that has a word, of such words.
+local function number_of(words, wanted)
+    for number, word in pairs(words) do
+        if word == wanted then
+            return number
+        end
+    end
+    error("names.tsv has no " .. wanted)
+end
+
+local COMMAND_ID, HOUSEKEEPING_ID = number_of(messages, "command"), number_of(messages, "request for housekeeping")
+local REFUSED = number_of(events, "command refused")
 local images, packet_faults, name_fields = words_of("image"), words_of("packet fault"), words_of("name field")
+local cfe_events = words_of("eid")
 local NONE = { row = 0xFFFF, validator = 0xFF }
 
 local function key(text)
@@ -54,7 +87,7 @@ local function key(text)
 end
 
 local INTEGERS = { ProtoField.uint8, ProtoField.uint16, ProtoField.uint24, ProtoField.uint32 }
-local MASKS = { flags = 0xC000, count = 0x3FFF, ["function"] = 0x7F }
+local MASKS = { flags = number("sequence flags of a packet"), count = 0x3FFF, ["function"] = 0x7F }
 
 -- Wireshark's field for a field of a layout.
 local function proto_field(owner, name, width, form)
@@ -78,7 +111,7 @@ local function is_of_packets(owner)
             return true
         end
     end
-    return owner == "event" or owner == "housekeeping" or owner == "registry" or owner == "notice"
+    return owner:match("^cfe ") or owner == "event" or owner == "housekeeping" or owner == "registry" or owner == "notice"
         or owner == "primary header" or owner == "command header" or owner == "telemetry header"
 end
 
@@ -100,6 +133,14 @@ for _, row in ipairs(names.bit) do
     end
 end
 
+-- Where the last field of a layout ends: how many bytes the fields of a body have.
+local function size_of(owner)
+    local parts = layouts[owner]
+    return parts and parts[#parts].place + parts[#parts].width or 0
+end
+
+local PRIMARY_HEADER, COMMAND_HEADER, TELEMETRY_HEADER = size_of("primary header"), size_of("command header"), size_of("telemetry header")
+
 local payload_field = ProtoField.bytes("cfetbl.payload", "payload")
 all_fields[#all_fields + 1] = payload_field
 cfetbl.fields = all_fields
@@ -107,7 +148,7 @@ cfetbl.fields = all_fields
 local wrong = ProtoExpert.new("cfetbl.wrong", "no whole packet", expert.group.MALFORMED, expert.severity.WARN)
 cfetbl.experts = { wrong }
 
--- The table of a row, as the comment on a packet of `cfetbl-show --pcap` names it; nothing where no comment does.
+-- The table of a row, as the comment on a packet of `cfetbl show --pcap` names it; nothing where no comment does.
 local comment = Field.new("frame.comment")
 
 local function table_of(row)
@@ -130,14 +171,17 @@ local function range_of(part, buffer, from)
     return buffer(from + part.place, part.width)
 end
 
--- Adds the fields of a layout to a tree, and answers the items by the names of the fields.
-local function add_fields(tree, owner, buffer, from)
+-- Adds the fields of a layout to a tree, and answers the items by the names of the fields. `is_little` has the low byte of numbers
+-- come first.
+local function add_fields(tree, owner, buffer, from, is_little)
     local items = {}
     for _, part in ipairs(layouts[owner] or {}) do
         local range = range_of(part, buffer, from)
         local item
         if part.form == "name" then
             item = tree:add(part.field, range, name_in(range))
+        elseif is_little then
+            item = tree:add_le(part.field, range)
         else
             item = tree:add(part.field, range)
         end
@@ -152,12 +196,6 @@ local function add_fields(tree, owner, buffer, from)
         items[part.name] = item
     end
     return items
-end
-
--- How many bytes the fields of a layout have.
-local function size_of(owner)
-    local parts = layouts[owner]
-    return parts and parts[#parts].place + parts[#parts].width or 0
 end
 
 -- The words of a detail of four bytes by what it tells: the columns that names.tsv has for it.
@@ -204,10 +242,35 @@ local function event_info(buffer, items)
     return table.concat(words, " "):gsub("%s+", " "):gsub(" $", "")
 end
 
+-- What the Info column has of one of cFE's events: its name, or its number where that isn't known, and its text.
+local function cfe_event_info(buffer, is_little)
+    local parts = {}
+    for _, part in ipairs(layouts["cfe event"]) do
+        parts[part.name] = range_of(part, buffer, CFE_HEADER)
+    end
+    local id = parts["PacketID.EventID"]
+    local number = is_little and id:le_uint() or id:uint()
+    return (cfe_events[number] or "event " .. number) .. ": " .. name_in(parts.Message)
+end
+
+-- Telemetry in cFE's layouts. Answers what the packet is.
+local function add_cfe_telemetry(tree, buffer, kind)
+    local is_little = not cfetbl.prefs.big_endian
+    add_fields(tree, "telemetry header", buffer, 0)
+    add_fields(tree, "cfe " .. kind, buffer, CFE_HEADER, is_little)
+    return kind == "event" and cfe_event_info(buffer, is_little) or kind
+end
+
 -- Telemetry: housekeeping, event, registry record. Answers what the packet is, or nil where it is none of them.
 local function add_telemetry(tree, buffer, message)
     local kind = messages[message]
-    if not kind or not layouts[kind] or buffer:len() ~= TELEMETRY_HEADER + size_of(kind) then
+    if not kind or not layouts[kind] then
+        return nil
+    end
+    if cfetbl.prefs.layout ~= OWN and buffer:len() == CFE_HEADER + size_of("cfe " .. kind) then
+        return add_cfe_telemetry(tree, buffer, kind)
+    end
+    if cfetbl.prefs.layout == OF_CFE or buffer:len() ~= TELEMETRY_HEADER + size_of(kind) then
         return nil
     end
     add_fields(tree, "telemetry header", buffer, 0)
@@ -234,12 +297,26 @@ local function command_name(buffer, message)
     return name and buffer:len() == COMMAND_HEADER + size_of(name) and name or nil
 end
 
+-- Whether the numbers of a command begin with their low byte, as in cFE's layouts: where only that makes an image of its select field.
+local function is_low_first(name, buffer)
+    local select = layouts[name] and layouts[name][1]
+    if not select or select.form ~= "image" or cfetbl.prefs.layout == OWN then
+        return false
+    end
+    local range = range_of(select, buffer, COMMAND_HEADER)
+    if cfetbl.prefs.layout == OF_CFE then
+        return not cfetbl.prefs.big_endian
+    end
+    return not images[range:uint()] and images[range:le_uint()] ~= nil
+end
+
 -- What a command names, in the order of its fields.
-local function command_words(name, buffer)
+local function command_words(name, buffer, is_little)
     local words = ""
     for _, part in ipairs(layouts[name] or {}) do
         local range = range_of(part, buffer, COMMAND_HEADER)
-        words = words .. " " .. (part.form == "name" and name_in(range) or images[range:uint()] or range:uint())
+        local number = part.form ~= "name" and (is_little and range:le_uint() or range:uint())
+        words = words .. " " .. (part.form == "name" and name_in(range) or images[number] or number)
     end
     return words
 end
@@ -252,11 +329,13 @@ local function add_command(tree, buffer, message, is_sent)
         add_fields(tree, "notice", buffer, COMMAND_HEADER)
         return string.format("notice 0x%04X, parameter %d", message, buffer(COMMAND_HEADER, 4):uint())
     end
-    local name = not is_sent and is_right and command_name(buffer, message)
+    -- (cFE looks at no checksum)
+    local name = not is_sent and (is_right or cfetbl.prefs.layout == OF_CFE) and command_name(buffer, message)
     if name then
-        add_fields(tree, name, buffer, COMMAND_HEADER)
+        local is_little = is_low_first(name, buffer)
+        add_fields(tree, name, buffer, COMMAND_HEADER, is_little)
         items["function code"]:append_text(" (" .. name .. ")")
-        return name .. command_words(name, buffer)
+        return name .. command_words(name, buffer, is_little)
     end
     if buffer:len() > COMMAND_HEADER then
         tree:add(payload_field, buffer(COMMAND_HEADER))
