@@ -1,5 +1,5 @@
 /* SPDX-License-Identifier: Apache-2.0 */
-/* The return codes that record.c tells by name. tools/tests compares them with tools/names.tsv. */
+/* The return codes that record.c tells by name. tools/tests compares them with those of tools/names.tsv. */
 #ifdef CFE_SUCCESS
         CODE(CFE_SUCCESS),
 #endif
@@ -113,4 +113,37 @@
 #endif
 #ifdef CFE_ES_CDS_BLOCK_CRC_ERR
         CODE(CFE_ES_CDS_BLOCK_CRC_ERR),
+#endif
+#ifdef CFE_ES_BAD_ARGUMENT
+        CODE(CFE_ES_BAD_ARGUMENT),
+#endif
+#ifdef CFE_ES_CDS_ACCESS_ERROR
+        CODE(CFE_ES_CDS_ACCESS_ERROR),
+#endif
+#ifdef CFE_ES_CDS_INSUFFICIENT_MEMORY
+        CODE(CFE_ES_CDS_INSUFFICIENT_MEMORY),
+#endif
+#ifdef CFE_ES_CDS_INVALID_NAME
+        CODE(CFE_ES_CDS_INVALID_NAME),
+#endif
+#ifdef CFE_ES_CDS_INVALID_SIZE
+        CODE(CFE_ES_CDS_INVALID_SIZE),
+#endif
+#ifdef CFE_ES_ERR_RESOURCEID_NOT_VALID
+        CODE(CFE_ES_ERR_RESOURCEID_NOT_VALID),
+#endif
+#ifdef CFE_TBL_BAD_ARGUMENT
+        CODE(CFE_TBL_BAD_ARGUMENT),
+#endif
+#ifdef CFE_TBL_ERR_FILENAME_TOO_LONG
+        CODE(CFE_TBL_ERR_FILENAME_TOO_LONG),
+#endif
+#ifdef CFE_TBL_ERR_ILLEGAL_SRC_TYPE
+        CODE(CFE_TBL_ERR_ILLEGAL_SRC_TYPE),
+#endif
+#ifdef CFE_TBL_WARN_PARTIAL_LOAD
+        CODE(CFE_TBL_WARN_PARTIAL_LOAD),
+#endif
+#ifdef CFE_TBL_WARN_SHORT_FILE
+        CODE(CFE_TBL_WARN_SHORT_FILE),
 #endif

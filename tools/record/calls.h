@@ -1,0 +1,26 @@
+/* SPDX-License-Identifier: Apache-2.0 */
+/* The calls that record.c records, for RECORD. */
+RECORD(CFE_TBL_Register)
+RECORD(CFE_TBL_Share)
+RECORD(CFE_TBL_Unregister)
+RECORD(CFE_TBL_Load)
+RECORD(CFE_TBL_Update)
+RECORD(CFE_TBL_Validate)
+RECORD(CFE_TBL_Manage)
+RECORD(CFE_TBL_DumpToBuffer)
+RECORD(CFE_TBL_Modified)
+RECORD(CFE_TBL_GetAddress)
+RECORD(CFE_TBL_ReleaseAddress)
+RECORD(CFE_TBL_GetAddresses)
+RECORD(CFE_TBL_ReleaseAddresses)
+RECORD(CFE_TBL_GetStatus)
+RECORD(CFE_TBL_GetInfo)
+RECORD(CFE_TBL_NotifyByMessage)
+RECORD(CFE_ES_RegisterCDS)
+RECORD(CFE_ES_CopyToCDS)
+RECORD(CFE_ES_RestoreFromCDS)
+#ifndef RECORD_ALONE
+RECORD(CFE_ES_ExitApp)
+RECORD(CFE_ES_ResetCFE)
+RECORD(CFE_SB_TransmitMsg)
+#endif
