@@ -7,7 +7,7 @@ copy_clone() {
     mkdir -p "$copy/programs" "$copy"/crates/tbl_main/{specs,proofs} || exit 2
     cp -R .gitignore cfetbl CHANGELOG.md LICENSE Makefile README.md crates.txt docs examples include lib man tools "$copy" || exit 2
     cp -R crates/tbl_main/src "$copy/crates/tbl_main" || exit 2
-    for name in tbl_main tbl_resets; do
+    for name in tbl_main tbl_serve tbl_resets; do
         cp -- "${1:-crates/$name/out}/$name" "$copy/programs" || exit 2
     done
     cp -- "${1:-crates/tbl_c/out}/libtbl_c.a" "$copy/programs" || exit 2
