@@ -1,0 +1,114 @@
+"""`cfetbl test --quick`: compiles the programs without any proof and tries them, as many jobs at a time as there are processors."""
+import os
+import subprocess
+import threading
+import time
+from collections.abc import Callable
+from concurrent.futures import ThreadPoolExecutor
+from dataclasses import dataclass, field
+
+from crates import TOP
+from tblkit.progress import Ticker, span
+from tblkit.streams import say
+
+FRONT = f"{TOP}/cfetbl"
+# The words that find or build a program, and the checks of what doesn't need one.
+PROGRAMS = ("play", "serve", "resets")
+OF_SOURCES = (["tools/gate/claims", "--check"], ["tools/gate/measures"], ["tools/gate/believed", "--check"], ["tools/gate/check-labels"],
+              ["tools/gate/check-formats"], ["tools/gate/check-types"], ["tools/gate/check-numbers"])
+# The parts of tools/gate/check-cfetbl and of the tests of the tools that are tried at once.
+OF_THE_COMMAND = ("words lists sessions crews kinds tools ends terminals", "stores places made_files looks watches drills", "resets documents",
+                  "builds gate slow manual")
+RECORDED = "../shared/conformance/run"
+# The programs for tests whose rows take less than a minute without a proof.
+WITH_ROWS = ("test_maker", "test_codecs")
+
+
+@dataclass
+class Job:
+    """A piece of work: its name, and what does it and answers why it failed. It begins once the programs are there if it needs them."""
+    name: str
+    work: Callable[[], str]
+    needs_programs: bool = True
+    fault: str | None = None
+
+
+@dataclass
+class Jobs:
+    """All jobs, and when those that are at work began."""
+    all: list[Job]
+    begun: dict[str, float] = field(default_factory=dict)
+    lock: threading.Lock = field(default_factory=threading.Lock)
+
+    def do(self, job: Job) -> None:
+        with self.lock:
+            self.begun[job.name] = time.monotonic()
+        fault = job.work()
+        with self.lock:
+            del self.begun[job.name]
+            job.fault = fault
+        if fault:
+            say(f"test: {job.name}: {fault}")
+
+    def tell(self, seconds: float) -> str:
+        with self.lock:
+            done, now = sum(it.fault is not None for it in self.all), time.monotonic()
+            work = ", ".join(f"{name} {span(now - begun)}" for name, begun in self.begun.items())
+        return f"test: {done} of {len(self.all)} are done, without any proof; {span(seconds)} so far; at work: {work or 'nothing'}"
+
+
+def ran(words: list[str]) -> str:
+    """Runs a check, and answers why it failed, with its last lines."""
+    done = subprocess.run(words, cwd=TOP, stdin=subprocess.DEVNULL, stdout=subprocess.PIPE, stderr=subprocess.STDOUT, check=False,
+                          env=os.environ | {"CFETBL_UNPROVED": "quiet"})
+    last = done.stdout.decode(errors="replace").splitlines()[-20:]
+    return "\n".join([f"it ended with {done.returncode}", *last]) if done.returncode else ""
+
+
+def rows(crate: str) -> str:
+    """Has a program for tests read its rows, and answers what it writes otherwise than it should."""
+    folder = f"{TOP}/crates/{crate}"
+    with open(f"{folder}/stdin", "rb") as given, open(f"{folder}/stdout", "rb") as wanted:
+        done = subprocess.run(["rt", "try"], cwd=folder, stdin=given, capture_output=True, check=False)
+        if done.returncode:
+            return "\n".join([f"rt try ended with {done.returncode}", *done.stderr.decode(errors="replace").splitlines()[-20:]])
+        return "" if done.stdout == wanted.read() else f"it writes other than crates/{crate}/stdout"
+
+
+def program(word: str) -> str:
+    """The path of the program of a word, which is there."""
+    return subprocess.run([FRONT, "--program", word], capture_output=True, text=True, check=True).stdout.strip()
+
+
+def jobs() -> list[Job]:
+    """What is done, the longest first."""
+    found = [Job(f"the program of {word}", lambda word=word: ran([FRONT, "--program", word]), False) for word in PROGRAMS]
+    found += [Job(f"the tests of tools, part {at + 1}", lambda at=at: ran(["tools/gate/check-tools", "--part", f"{at + 1}/3"])) for at in range(3)]
+    found += [Job(f"check-cfetbl {part}", lambda part=part: ran(["tools/gate/check-cfetbl", *part.split()])) for part in OF_THE_COMMAND]
+    if os.path.exists(f"{TOP}/{RECORDED}"):
+        found.append(Job("recorded sessions", lambda: ran([RECORDED, "--program", program("play"), "--built", "r20"])))
+    found.append(Job("the examples", lambda: ran(["tools/gate/check-examples", program("play")])))
+    found += [Job(f"the rows of {crate}", lambda crate=crate: rows(crate), False) for crate in WITH_ROWS]
+    return found + [Job(" ".join(words), lambda words=words: ran(words), False) for words in OF_SOURCES]
+
+
+def main() -> int:
+    """Does all, and says what failed."""
+    begun, work = time.monotonic(), Jobs(jobs())
+    builds, others = work.all[:len(PROGRAMS)], work.all[len(PROGRAMS):]
+    with Ticker(work.tell), ThreadPoolExecutor(len(os.sched_getaffinity(0))) as pool:
+        waiting = [pool.submit(work.do, job) for job in builds]
+        waiting += [pool.submit(work.do, job) for job in others if not job.needs_programs]
+        for each in waiting[:len(PROGRAMS)]:
+            each.result()
+        if any(job.fault for job in builds):
+            pool.shutdown(cancel_futures=True)
+        else:
+            waiting = [pool.submit(work.do, job) for job in others if job.needs_programs]
+    failed = [job.name for job in work.all if job.fault]
+    end = "nothing was proved (`cfetbl test` proves and tests everything)"
+    if failed:
+        say(f"test: {len(failed)} of {len(work.all)} failed, after {span(time.monotonic() - begun)}: {', '.join(failed)}; {end}")
+        return 1
+    say(f"test: all passed, in {span(time.monotonic() - begun)}; {end}")
+    return 0
