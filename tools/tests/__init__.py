@@ -1,1 +1,1 @@
-"""Tests of cfetbl-text and cfetbl-show. Expected values were written from docs/, or recorded from other implementations."""
+"""Tests of the tools. Expected values were written from docs/, or recorded from other implementations."""

@@ -1,6 +1,7 @@
 """What a report's picture says, and whether that is what `--json` says of the same transcript."""
-from dataclasses import dataclass
-from html.parser import HTMLParser
+from dataclasses import dataclass, field
+
+from tblkit import report
 
 COMMANDS = ("NOOP", "RESET_COUNTERS", "HOUSEKEEPING", "LOAD", "DUMP", "VALIDATE", "ACTIVATE", "DUMP_REGISTRY", "SEND_REGISTRY",
             "DELETE_CDS", "ABORT_LOAD", "Command")
@@ -9,33 +10,45 @@ IMAGE_ACTIVE = 5
 
 @dataclass
 class Element:
-    """An element of a page: its name and its attributes, those of data- as numbers where they are such."""
+    """A mark of a picture, or a line below it: its name, its class, and what its attributes of data- say, as numbers where they are such."""
     name: str
+    kind: str
     said: dict
 
     def has(self, word):
-        return word in self.said.get("class", "").split()
+        return word in self.kind.split()
 
 
-class Page(HTMLParser):
-    """The elements of a page that are about an entry, those of its picture and those of its log."""
-
-    def __init__(self, text):
-        super().__init__()
-        self.picture, self.log, self._depth = [], [], 0
-        self.feed(text)
-
-    def handle_starttag(self, tag, attrs):
-        said = {key.removeprefix("data-"): int(value) if value and value.isdigit() else value for key, value in attrs}
-        self._depth += tag == "svg"
-        if "entry" in said:
-            (self.picture if self._depth else self.log).append(Element(tag, said))
-
-    def handle_endtag(self, tag):
-        self._depth -= tag == "svg"
+@dataclass
+class Page:
+    """The marks of a page's picture and the lines below it."""
+    picture: list = field(default_factory=list)
+    log: list = field(default_factory=list)
 
     def of_kind(self, kind):
         return [it.said for it in self.picture if it.said.get("kind") == kind]
+
+
+def packed_in(markup):
+    """The page that is drawn of what a page has packed."""
+    return drawn(report.unpacked(markup))
+
+
+def drawn(content):
+    """The page that is drawn of a session, as the script that draws it has it: each request alone, none left out."""
+    page, is_refused = Page(), set(content["refused"])
+    for place, actor in enumerate(content["actor"]):
+        kind = "refused" if place in is_refused else "accepted"
+        page.picture.append(Element("path" if place in is_refused else "circle", kind, {
+            "entry": place, "actor": content["actors"][actor]["number"], "status": content["status"][place]}))
+        page.log.append(Element("div", f"entry {kind}", {"entry": int(content["lines"][place].split()[0])}))
+    for table in content["tables"]:
+        for first, last, kind, words, number in table["spans"]:
+            own = {"image": {"image": number}, "pin": {"handle": number}, "load": {"phase": words}, "dump": {"phase": words}}.get(kind, {})
+            page.picture.append(Element("rect", kind, {"entry": first, "kind": kind, "from": first, "to": last, "table": table["name"]} | own))
+        page.picture += [Element("path", "refused", {"entry": it, "status": content["status"][it], "table": table["name"]}) for it in table["refusals"]]
+    page.picture += [Element("path", "reset-mark", {"entry": it, "kind": "reset"}) for it in content["resets"]]
+    return page
 
 
 def is_refused(answer):
@@ -59,17 +72,16 @@ def differences(page, told):
     accepted = {(name, it["place"]) for it in answers for name in [it["request"]] if not is_refused(it)}
     images = {(it["from"], it["table"], it["image"]) for it in page.of_kind("image")}
     pins, loads = page.of_kind("pin"), page.of_kind("load")
+    asked, of_tables = ([it for it in page.picture if name in it.said and "kind" not in it.said] for name in ("actor", "table"))
     checks = {
-        "requests": ({(it.said["entry"], it.said["actor"], it.said["status"]) for it in page.picture if it.name == "circle"},
+        "requests": ({(it.said["entry"], it.said["actor"], it.said["status"]) for it in asked},
                      {(it["place"], it["actor"], it["status"]) for it in answers}),
         "lines": ([it.said["entry"] for it in page.log], [it["place"] for it in answers]),
         "refused lines": ({it.said["entry"] for it in page.log if it.has("refused")}, {it["place"] for it in answers if is_refused(it)}),
-        "refused requests": ({it.said["entry"] for it in page.picture if it.name == "circle" and it.has("refused")},
-                             {it["place"] for it in answers if is_refused(it)}),
-        "statuses of tables": ({(it.said["entry"], it.said["status"]) for it in page.picture if it.name == "path"},
-                               {(it.said["entry"], by_place[it.said["entry"]]["status"]) for it in page.picture if it.name == "path"}),
-        "refusals with a table": (events_refused(answers) - {(it.said["entry"], it.said["table"]) for it in page.picture if it.name == "path"},
-                                  set()),
+        "refused requests": ({it.said["entry"] for it in asked if it.has("refused")}, {it["place"] for it in answers if is_refused(it)}),
+        "statuses of tables": ({(it.said["entry"], it.said["status"]) for it in of_tables},
+                               {(it.said["entry"], by_place[it.said["entry"]]["status"]) for it in of_tables}),
+        "refusals with a table": (events_refused(answers) - {(it.said["entry"], it.said["table"]) for it in of_tables}, set()),
         "images": (images - made_by_calls(images, by_place), events(answers, IMAGE_ACTIVE)),
         "addresses got": ({(it["from"], it["handle"]) for it in pins},
                           {(it["place"], handle_of(it)) for it in answers if it["request"] == "Get" and it["status"] in (0, 1)}),

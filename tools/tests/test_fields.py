@@ -7,20 +7,20 @@ import subprocess
 import sys
 import unittest
 
-from tblkit import described, files, programs
+from tblkit import described, files, programs, report
 from tblkit.fields import definitions, kinds, loads, reader, values
 from tblkit.fields.layout import Field
 from tblkit.fields.wrong import Wrong
 
 from . import compiled, cosmos, xtce
-from .test_commands import TOOLS, call
+from .test_commands import COMMAND, TOOLS, call
 from .test_fields_targets import MEMBERS, text_of
 
 HEAD = '#include "cfetbl_table.h"\n'
 PAIR = HEAD + "typedef struct { uint32 First; int16 Second; } Pair_t;\nPair_t Pair = {7, -2};\n"
 FILEDEF = "CFE_TBL_FILEDEF(Pair, APP.Pair, A pair, pair.tbl)\n"
 CHOOSE = [word for it in MEMBERS for word in ("--member", it)]
-TOOL = "cfetbl-fields"
+TOOL = "table"
 
 
 def wide(name, of_type, bits):
@@ -125,7 +125,7 @@ offset  size  order   type    field
                          (1, b"Second: -2 -> 0\n# 1 of 2 fields aren't in both files\n"))
         self.write("first.tbl", files.table_file(bytes(4), {"table": b"APP.Pair"}))
         self.assertEqual(self.run_word("diff", self.pair, self.path("first.tbl"), self.path("part.tbl")),
-                         (1, b"", "cfetbl-fields: bytes 0 to 3 and 3 to 5 of APP.Pair have no field in common\n"))
+                         (1, b"", "cfetbl table: bytes 0 to 3 and 3 to 5 of APP.Pair have no field in common\n"))
 
     def test_far_apart(self):
         """Fields between those that are set go along, and not all of many are told."""
@@ -257,7 +257,7 @@ class WrongInput(compiled.InFolder):
         """One line, status 1, and nothing is written."""
         made = self.path("made")
         status, written, said = call(TOOL, *words, given=given)
-        self.assertEqual((status, written, said), (1, b"", f"cfetbl-fields: {wanted}\n"))
+        self.assertEqual((status, written, said), (1, b"", f"cfetbl table: {wanted}\n"))
         self.assertFalse(os.path.exists(made))
 
     def raises(self, wanted, call_, *given):
@@ -277,7 +277,7 @@ class WrongInput(compiled.InFolder):
         path = self.write("text.o", b"no object")
         self.refused(f"{path}: it is no object file: it doesn't begin as an ELF file does", "build", path, "-o", self.path("made"))
         status, written, said = call(TOOL, "build", self.path("none.o"))
-        self.assertEqual((status, written, said), (2, b"", f"cfetbl-fields: {self.path('none.o')}: No such file or directory\n"))
+        self.assertEqual((status, written, said), (2, b"", f"cfetbl table: {self.path('none.o')}: No such file or directory\n"))
 
     def test_values(self):
         pair, whole = (compiled.made(it, self.folder, name) for it, name in ((PAIR + FILEDEF, "pair"), (text_of("fields.c"), "fields")))
@@ -321,15 +321,15 @@ class WrongInput(compiled.InFolder):
         path = compiled.made(source, self.folder, "packed", compiler=compiled.CLANG)
         status, _, said = call(TOOL, "shape", path)
         if status:
-            self.assertEqual(said, f"cfetbl-fields: {path}: c: by .debug_info it has bits of b, so its place isn't known\n")
+            self.assertEqual(said, f"cfetbl table: {path}: c: by .debug_info it has bits of b, so its place isn't known\n")
 
     def test_without_pyelftools(self):
         """The line that installs it is said, and all that needs none of it goes on."""
         run = ("import runpy, sys; from tblkit.fields import reader; reader.DEBIAN = '/none'; sys.modules['elftools'] = None; "
                "sys.argv = sys.argv[1:]; runpy.run_path(sys.argv[0], run_name='__main__')")
         pair = compiled.made(PAIR + FILEDEF, self.folder, "pair")
-        done = subprocess.run([sys.executable, "-c", run, os.path.join(TOOLS, TOOL), "build", pair], cwd=TOOLS, capture_output=True, check=False)
-        self.assertEqual((done.returncode, done.stdout, done.stderr.decode()), (125, b"", f"cfetbl-fields: {reader.MISSING}\n"))
+        done = subprocess.run([sys.executable, "-c", run, COMMAND[1], TOOL, "build", pair], cwd=TOOLS, capture_output=True, check=False)
+        self.assertEqual((done.returncode, done.stdout, done.stderr.decode()), (125, b"", f"cfetbl table: {reader.MISSING}\n"))
         self.assertIn("`apt-get install python3-pyelftools`", reader.MISSING)
 
 
@@ -428,25 +428,25 @@ ground DUMP active APP.Pair /dump
         cls.write("pair.txt", cls.SESSION.encode())
 
     def test_records(self):
-        status, made, said = call("cfetbl-text", self.path("pair.txt"))
+        status, made, said = call("text", self.path("pair.txt"))
         self.assertEqual((status, said), (0, ""))
         self.assertIn(call(TOOL, "build", self.object, "--spacecraft", "67")[1], made)
         self.assertIn(call(TOOL, "set", self.object, "Second=77", "--processor", "2")[1], made)
 
     def test_by_field(self):
-        status, session, _ = call("cfetbl-text", self.path("pair.txt"))
+        status, session, _ = call("text", self.path("pair.txt"))
         played = subprocess.run([programs.found(), "play"], input=session, stdout=subprocess.PIPE, cwd=self.folder, check=True).stdout
         self.write("pair.transcript", played)
         named = ("--shape-of", f"APP.Pair={self.object}", self.path("pair.txt"), self.path("pair.transcript"))
-        status, shown, said = call("cfetbl-show", *named)
+        status, shown, said = call("show", *named)
         self.assertEqual((status, said), (0, ""))
         lines = [line.strip() for line in shown.decode().splitlines() if line.startswith("      APP.Pair: ")]
         self.assertEqual(lines, ["APP.Pair: First 7, Second -2", "APP.Pair: Second 77", *["APP.Pair: First 7, Second 77"] * 2])
-        page = call("cfetbl-report", *named)[1]
-        self.assertEqual(page.count(b"APP.Pair: First 7, Second 77"), 2)
+        page = json.dumps(report.unpacked(call("report", *named)[1].decode()))
+        self.assertEqual(page.count("APP.Pair: First 7, Second 77"), 2)
 
     def test_typed(self):
-        status, shown, said = call("cfetbl-repl", "--shape-of", "APP.Pair=pair.o", given=self.SESSION.encode(), cwd=self.folder)
+        status, shown, said = call("repl", "--shape-of", "APP.Pair=pair.o", given=self.SESSION.encode(), cwd=self.folder)
         self.assertEqual((status, shown.count(b"APP.Pair: First 7, Second 77")), (0, 2), said)
 
     def test_wrong_lines(self):
@@ -457,12 +457,12 @@ ground DUMP active APP.Pair /dump
                              ("file /a set pair.o First=x", "20: expected a field and its value: First: x is no value of it: expected a "
                               "decimal number, or one in hexadecimal with 0x"),
                              ("file /a built pair.o extra", "22: expected the end of the line, found extra")):
-            status, written, said = call("cfetbl-text", given=f"{line}\n".encode(), cwd=self.folder)
+            status, written, said = call("text", given=f"{line}\n".encode(), cwd=self.folder)
             self.assertEqual((status, written, said.splitlines()[0]), (1, b"", f"<stdin>:1:{wanted}"))
 
     def test_wrong_shapes(self):
         for words, wanted in ((["--shape-of", f"APP.Pair={self.path('pair.c')}"], "it is no object file"), (["--shape-of", "APP.Pair"], "NAME=OBJ")):
-            status, written, said = call("cfetbl-show", *words, self.path("pair.txt"), "/dev/null")
+            status, written, said = call("show", *words, self.path("pair.txt"), "/dev/null")
             self.assertEqual((status, written), (2, b""))
             self.assertIn(wanted, said)
 

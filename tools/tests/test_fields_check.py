@@ -100,7 +100,7 @@ class Judged(compiled.InFolder):
         with open(cls.path("functions.c"), "w", encoding="ascii") as file:
             file.write(FUNCTIONS)
         cls.library("functions.so", cls.path("functions.c"))
-        call("cfetbl-fields", "build", cls.there, "-o", cls.path("limits.tbl"))
+        call("table", "build", cls.there, "-o", cls.path("limits.tbl"))
 
     @classmethod
     def library(cls, name, source):
@@ -108,16 +108,16 @@ class Judged(compiled.InFolder):
         subprocess.run(words, check=True)
 
     def judge(self, function, *words, library="functions.so", file="limits.tbl"):
-        return call("cfetbl-fields", "check", self.there, self.host, self.path(library), function, self.path(file), *words)
+        return call("table", "check", self.there, self.host, self.path(library), function, self.path(file), *words)
 
     def test_the_example(self):
         self.assertEqual(self.judge("CHECKER_ValidateLimits", library="checker.so"),
                          (0, b"event 12 INFORMATION: Limits version 3: 3 points in use\nCHECKER_ValidateLimits -> 0\n", ""))
-        call("cfetbl-fields", "set", self.there, "Point[1].High=-45", "-o", self.path("part.tbl"))
+        call("table", "set", self.there, "Point[1].High=-45", "-o", self.path("part.tbl"))
         self.assertEqual(self.judge("CHECKER_ValidateLimits", library="checker.so", file="part.tbl"), (
             1, b"event 12 ERROR: Point 1 (BATT_TEMP): low limit -5.00, high limit -45.00\nCHECKER_ValidateLimits -> 0xFFFFFFFD (-3)\n",
-            f"cfetbl-fields: {self.path('part.tbl')} has bytes 68 to 71; the others are those of {self.there}\n"))
-        call("cfetbl-fields", "set", self.there, "Point[1].Low=-50", "--base", self.path("limits.tbl"), "-o", self.path("base.tbl"))
+            f"cfetbl table: {self.path('part.tbl')} has bytes 68 to 71; the others are those of {self.there}\n"))
+        call("table", "set", self.there, "Point[1].Low=-50", "--base", self.path("limits.tbl"), "-o", self.path("base.tbl"))
         self.assertEqual(self.judge("CHECKER_ValidateLimits", "--base", self.path("base.tbl"), library="checker.so", file="part.tbl")[:2],
                          (0, b"event 12 INFORMATION: Limits version 3: 3 points in use\nCHECKER_ValidateLimits -> 0\n"))
 
@@ -134,13 +134,13 @@ class Judged(compiled.InFolder):
                                  ("Calls", f"{self.path('functions.so')}: it uses CFE_SB_NotThere, which isn't in it: link what defines "
                                   "that into it"),
                                  ("NoSuch", f"{self.path('functions.so')}: it has no function NoSuch")):
-            self.assertEqual(self.judge(function), (1, b"", f"cfetbl-fields: {wanted}\n"))
+            self.assertEqual(self.judge(function), (1, b"", f"cfetbl table: {wanted}\n"))
         self.assertEqual(self.judge("Accepts", library="none.so"),
-                         (1, b"", f"cfetbl-fields: {self.path('none.so')}: there is no such library\n"))
+                         (1, b"", f"cfetbl table: {self.path('none.so')}: there is no such library\n"))
 
     def test_without_a_compiler(self):
         words = ("check", self.there, self.host, self.path("functions.so"), "Accepts", self.path("limits.tbl"))
-        status, written, said = call("cfetbl-fields", *words, env=os.environ | {"CC": "no-such-compiler"})
+        status, written, said = call("table", *words, env=os.environ | {"CC": "no-such-compiler"})
         self.assertEqual((status, written), (1, b""))
-        self.assertEqual(said, "cfetbl-fields: no-such-compiler: a C compiler is needed for stand-ins of cFE's events, and there is none "
+        self.assertEqual(said, "cfetbl table: no-such-compiler: a C compiler is needed for stand-ins of cFE's events, and there is none "
                          "($CC names one)\n")

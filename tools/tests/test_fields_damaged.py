@@ -93,10 +93,10 @@ class Damaged(compiled.InFolder):
         for number in range(20):
             with self.subTest(number):
                 path = self.write("damaged.o", damaged(content, random.Random(number)))
-                status, written, said = call("cfetbl-fields", "build", path, "-o", self.path("made.tbl"))
+                status, written, said = call("table", "build", path, "-o", self.path("made.tbl"))
                 self.assertIn(status, (0, 1))
                 if status:
-                    self.assertRegex(said, r"\Acfetbl-fields: \S+damaged.o: .+\n\Z")
+                    self.assertRegex(said, r"\Acfetbl table: \S+damaged.o: .+\n\Z")
                     self.assertEqual((written, os.path.exists(self.path("made.tbl"))), (b"", False))
                 else:
                     os.remove(self.path("made.tbl"))

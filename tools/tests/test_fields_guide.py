@@ -61,7 +61,7 @@ class Page(compiled.InFolder):
                 done = subprocess.run(["bash", "-c", command], cwd=self.folder, stdout=subprocess.PIPE, stderr=subprocess.STDOUT, text=True,
                                       check=False)
                 # What the front command says of builds and stores comes by the way.
-                found = [line for line in done.stdout.splitlines() if not line.startswith("cfetbl: ")]
+                found = [line for line in done.stdout.splitlines() if not line.startswith(("cfetbl: ", "cfetbl play: the store is "))]
                 self.assertTrue(fits(wanted, found), f"{command}\n{done.stdout}")
                 # A file that differs, and an image that is rejected, is status 1.
                 self.assertEqual(done.returncode, int(" diff " in command or "(-3)" in done.stdout), command)

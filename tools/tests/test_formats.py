@@ -18,6 +18,9 @@ EDITS = (("docs", "ERR_LOAD_IN_PROGRESS", "ERR_LOAD_PROGRESS", "names.tsv has ER
          ("tools", "event\t5\timage went active", "event\t4\timage went active", "names.tsv has no such event"),
          ("docs", "| an ACTIVATE |", "| a LOAD |", "its section `Index of statuses and events` isn't that of names.tsv"),
          ("docs", "| 17 | 40 | `LastValTableName`", "| 18 | 40 | `LastValTableName`", "its section `Packets in cFE's layouts` isn't that"),
+         ("docs", "| 52 | 1 | turn byte of the first place", "| 52 | 2 | turn byte of the first place", "names.tsv has turn byte of the first place"),
+         ("docs", "| 4 | 2 | check word |", "| 4 | 4 | check word |", "names.tsv has check word, 2 bytes"),
+         ("docs", "| 5 | 4 | number of entries |", "| 6 | 4 | number of entries |", "end record has no field entries"),
          ("tools", "explain\tevent\t5\t", "explain\tevent\t9\t", "names.tsv doesn't explain the event 5"),
          ("tools", "\tERR_IMAGE_SIZE\n", "\tERR_IMAGE_SIZE\nstatus\t89\tERR_ANY\n", "no table with the status 89"))
 

@@ -5,8 +5,9 @@ import shutil
 import subprocess
 import tempfile
 import unittest
+from xml.etree import ElementTree
 
-from tblkit import cfe, dictionary, names, packets, records, show, transcript
+from tblkit import cfe, dictionary, names, packets, records, show, text, transcript
 
 from . import cosmos, recorded, xtce
 from .test_commands import call, into_full
@@ -29,7 +30,7 @@ SAME = {"commandcounter": "commands_accepted", "commanderrorcounter": "commands_
         "numfreesharedbufs": "free_shared_buffers", "lastupdatetime_seconds": "seconds_of_the_last_update",
         "lastupdatedtable": "table_of_the_last_update", "lastfileloaded": "last_file_loaded", "lasttableloaded": "table_of_the_last_load",
         "lastfiledumped": "last_file_dumped", "size": "size", "crc": "check_word_of_the_last_image", "name": "table", "owner": "owner",
-        "timeoflastupdate_seconds": "seconds_of_the_last_update", "sequence_count": "sequence_count", "seconds": "seconds"}
+        "timeoflastupdate_seconds": "seconds_of_the_last_update", "seconds": "seconds"}
 STATE = {"tableloadedonce": 0x01, "loadpending": 0x02, "dumponly": 0x04, "doublebuffered": 0x08, "critical": 0x10}
 
 
@@ -61,7 +62,7 @@ def told(packet):
 
 class Definitions(unittest.TestCase):
     def test_every_packet_of_the_examples(self):
-        readers = {"xtce": xtce.Definition(call("cfetbl-xtce")[1]), "cosmos": cosmos.Definition(call("cfetbl-cosmos")[1].decode())}
+        readers = {"xtce": xtce.Definition(call("xtce")[1]), "cosmos": cosmos.Definition(call("cosmos")[1].decode())}
         count = 0
         for packet, wanted, _ in sent():
             _, found = readers["xtce"].decode(packet.content)
@@ -72,8 +73,8 @@ class Definitions(unittest.TestCase):
         self.assertGreater(count, 100)
 
     def test_every_command(self):
-        known = xtce.Definition(call("cfetbl-xtce")[1])
-        target = cosmos.Definition(call("cfetbl-cosmos")[1].decode())
+        known = xtce.Definition(call("xtce")[1])
+        target = cosmos.Definition(call("cosmos")[1].decode())
         for digits, name, arguments in COMMANDS:
             wanted = bytearray(bytes_of(digits))
             wanted[CHECKSUM] = 0
@@ -82,23 +83,55 @@ class Definitions(unittest.TestCase):
         self.assertEqual(set(known.commands), {it.name for it in names.named("command").values()} | {"HOUSEKEEPING"})
         self.assertEqual(set(target.commands), set(known.commands))
 
+    def test_what_ground_systems_build_on(self):
+        """An abstract command with the headers, a place for each entry, words on each command, and a container of another database."""
+        root = ElementTree.fromstring(call("xtce", "--base", "/CCSDS/tm")[1])
+        commands = list(root.iter(xtce.SPACE + "MetaCommand"))
+        self.assertEqual([it.get("name") for it in commands if it.get("abstract") == "true"], ["command"])
+        bases = [it.find(xtce.SPACE + "BaseMetaCommand") for it in commands[1:]]
+        self.assertEqual({it.get("metaCommandRef") for it in bases}, {"command"})
+        said = {it.get("name"): it.get("shortDescription") for it in commands}
+        self.assertEqual(said["ACTIVATE"], "it is asked for that the load of a table goes active")
+        self.assertEqual(len(set(said.values())), len(commands))
+        entries = [it for listed in root.iter(xtce.SPACE + "EntryList") for it in listed]
+        self.assertEqual({it.find(xtce.SPACE + "LocationInContainerInBits").get("referenceLocation") for it in entries}, {"containerStart"})
+        containers = {it.get("name"): it.find(xtce.SPACE + "BaseContainer") for it in root.iter(xtce.SPACE + "SequenceContainer")}
+        self.assertEqual((containers["packet"].get("containerRef"), containers["event"].get("containerRef")), ("/CCSDS/tm", "packet"))
+        reader = xtce.Definition(call("xtce", "--base", "/CCSDS/tm")[1])
+        packet = bytes_of("0808 C000 0011 00000000 0000 0001 00000000 FFFF 00000000")
+        self.assertEqual(reader.decode(packet)[1]["packet_message_id"], 0x0808)
+
     def test_words(self):
-        for tool in ("cfetbl-xtce", "cfetbl-cosmos"):
+        self.assertEqual(call("cosmos", "--base", "a")[0], 2)
+        for tool in ("xtce", "cosmos"):
             self.assertEqual([call(tool, *it)[0] for it in (["--help"], ["--no"], ["--big-endian"], ["a"])], [0, 2, 2, 2])
             self.assertEqual(into_full(tool)[0], 4)
+
+
+def sent_as_cfe(order):
+    """What a ground system with cFE's layouts gets in the examples, with the objects of `--json` of the packets that it is of."""
+    for session in EXAMPLES:
+        sender = cfe.Sender(order, is_debug=True)
+        for answer in answers(session):
+            told = [it for it in show.as_object(answer, None)["packets"] if it["kind"] != "notice"]
+            got = sender.packets(answer)
+            # (of what a dump, a registry dump and a validation without a function tell, cFE sends one event)
+            yield from zip(got, told[len(told) - len(got):])
 
 
 class LayoutsOfCfe(unittest.TestCase):
     def test_every_packet_of_the_examples(self):
         for order, more in ((cfe.LITTLE, []), (cfe.BIG, ["--big-endian"])):
-            reader = xtce.Definition(call("cfetbl-xtce", "--cfe-layout", *more)[1])
-            target = cosmos.Definition(call("cfetbl-cosmos", "--cfe-layout", *more)[1].decode())
-            for packet, wanted, view in sent():
-                content = cfe.telemetry(packet, view, order)
+            reader = xtce.Definition(call("xtce", "--cfe-layout", *more)[1])
+            target = cosmos.Definition(call("cosmos", "--cfe-layout", *more)[1].decode())
+            kinds = []
+            for content, wanted in sent_as_cfe(order):
                 kind, found = reader.decode(content)
-                self.assertEqual(kind, packet.kind)
+                self.assertEqual(kind, wanted["kind"])
                 self.check(plain(found), wanted)
                 self.check(plain({key.lower(): it for key, it in target.decode(content)[1].items()}), wanted)
+                kinds.append(kind)
+            self.assertGreater(min(kinds.count(it) for it in dictionary.TELEMETRY), 1)
 
     def check(self, found, wanted):
         self.assertEqual({key: found[key] for key, ours in SAME.items() if key in found and ours in wanted},
@@ -106,25 +139,36 @@ class LayoutsOfCfe(unittest.TestCase):
         if wanted["kind"] == "registry":
             self.assertEqual({key: found[key] for key in STATE}, {key: int(bool(wanted["state"] & bit)) for key, bit in STATE.items()})
         if wanted["kind"] == "event":
-            self.assertEqual([found["packetid_appname"], found["packetid_eventid"], found["packetid_eventtype"]],
-                             ["CFE_TBL", wanted["number"], 3 if wanted["status"] else 2])
+            self.assertEqual([found["packetid_appname"], found["packetid_eventtype"] == 3], ["CFE_TBL", wanted["status"] != 0])
+
+    def answer(self, line, status, sent):
+        """The answer to a line, that sent these packets."""
+        entry = transcript.Entry(bytes(4) + bytes([0]) + status.to_bytes(4, "big") + bytes(4), b"", b"".join(sent))
+        return show.Answer(entry, records.Piece(0, text.record_of(line)))
 
     def test_by_hand(self):
         """A refused command as a long event packet, and a request for housekeeping, byte by byte."""
-        event = packets.decode(bytes_of("0808 C001 0011 00000064 8000 0002 0000002D 0000 00000000"))
-        message = b"event 2 command refused: status 45 ERR_LOAD_IN_PROGRESS, row 0".ljust(122, b"\0")
-        self.assertEqual(cfe.telemetry(event, show.NONE_KNOWN), bytes_of(
-            "0808 C001 00A5 00000064 8000 00000000 4346455F54424C 00*13 0200 0300 42000000 01000000") + message + bytes(2))
+        event = bytes_of("0808 C001 0011 00000064 8000 0002 00000041 FFFF 00000000")
+        message = b"Cannot activate table 'A.T'. No Inactive image available".ljust(122, b"\0")
+        sender = cfe.Sender()
+        self.assertEqual(sender.packets(self.answer("ground ACTIVATE A.T", 65, [event])), [bytes_of(
+            "0808 C001 00A5 00000064 8000 00000000 4346455F54424C 00*13 4600 0300 42000000 01000000") + message + bytes(2)])
         body = "04 00 0001 0000 0001 00009C2B 00000000 00 01 00 01 04 000000 00000064 8000"
-        housekeeping = packets.decode(bytes_of(f"0804 C000 011B 00000064 0000 {body} 412E54 00*37 412E54 00*37 2F61 00*62 00*64 412E54 00*37"))
-        self.assertEqual(cfe.telemetry(housekeeping, show.NONE_KNOWN), bytes_of(
-            "0804 C000 0125 00000064 0000 00000000 04 00 0100 0000 0100 2B9C0000 00000000 00 412E54 00*37 01 00 01 04 00 0000 00000000"
-            " 64000000 00000080 412E54 00*37 2F61 00*62 00*64 412E54 00*37"))
+        housekeeping = bytes_of(f"0804 C000 011B 00000064 0000 {body} 412E54 00*37 412E54 00*37 2F61 00*62 00*64 412E54 00*37")
+        self.assertEqual(sender.packets(self.answer("ground HOUSEKEEPING", 0, [housekeeping])), [bytes_of(
+            "0804 C001 0125 00000064 0000 00000000 04 00 0100 0000 0100 2B9C0000 00000000 00 412E54 00*37 01 00 01 04 00 0000 00000000"
+            " 64000000 00000080 412E54 00*37 2F61 00*62 00*64 412E54 00*37")])
+
+    def test_a_registry_dump_without_a_name(self):
+        """It has the platform's default name, and its checksum is as right as before."""
+        named = cfe.command(packets.command("DUMP_REGISTRY", bytes(64), 7))
+        self.assertEqual((named[8:], packets.command_name(named)), (b"/ram/cfe_tbl_reg.log".ljust(64, b"\0"), "DUMP_REGISTRY"))
+        self.assertEqual(named[:7], packets.command("DUMP_REGISTRY", bytes(64), 7)[:7])
 
     def test_commands(self):
         for digits, name, arguments in COMMANDS:
             packet = bytes_of(digits)
-            encoded = bytearray(xtce.Definition(call("cfetbl-xtce", "--cfe-layout")[1]).encode(name, arguments))
+            encoded = bytearray(xtce.Definition(call("xtce", "--cfe-layout")[1]).encode(name, arguments))
             encoded[CHECKSUM] = packet[CHECKSUM]
             self.assertEqual(cfe.command(bytes(encoded)), packet)
             self.assertEqual(cfe.command(packet, cfe.BIG), packet)

@@ -1,4 +1,4 @@
-"""cfetbl-serve and cfetbl-repl where a caller, the network, the disk, the program or a signal hinders them."""
+"""`cfetbl serve` and `cfetbl repl` where a caller, the network, the disk, the program or a signal hinders them."""
 import contextlib
 import fcntl
 import os
@@ -11,11 +11,10 @@ import sys
 import tempfile
 import time
 import unittest
-from unittest import mock
 
 from tblkit import callers, live, locks, programs, records, server, text
 
-from .test_commands import TOOLS, call
+from .test_commands import COMMAND, TOOLS, call
 from .test_serve import WAIT, Service
 from .test_text import bytes_of
 
@@ -62,7 +61,7 @@ class Programs(Calling):
 
     def test_a_store_that_cannot_be_opened(self):
         os.mkdir(os.path.join(self.folder, "cds.store"))
-        status, written, said = call("cfetbl-serve", "--command-port", "0", "--socket", "calls", cwd=self.folder)
+        status, written, said = call("serve", "--command-port", "0", "--socket", "calls", cwd=self.folder)
         self.assertEqual((status, written), (7, b""))
         self.assertIn("cfetbl serve: the program ended with 7: the store file can't be opened", said)
         self.assertNotIn("commands to", said)
@@ -76,10 +75,10 @@ class Programs(Calling):
             self.end(served)
             self.skipTest("the program doesn't lock its store")
         path = os.path.join(self.folder, "cds.store")
-        for tool, words in (("cfetbl-serve", ("--command-port", "0")), ("cfetbl-report", (os.path.join(TOOLS, "..", "examples", "hello.txt"),))):
+        for tool, words in (("serve", ("--command-port", "0")), ("report", (os.path.join(TOOLS, "..", "examples", "hello.txt"),))):
             status, _, said = call(tool, *words, cwd=self.folder)
             self.assertEqual(status, 7, said)
-            self.assertIn(f"is in use by process {programs_of(served.pid)[0]} (tbl_main", said)
+            self.assertIn(f"is in use by process {programs_of(served.pid)[0]} (tbl_serve", said)
         self.assertEqual(self.ask(address, NOOP)[12:14], b"\0\x01")
         self.assertEqual(self.end(served)[0], 0)
         self.assertEqual(os.path.getsize(path), 262_144)
@@ -113,23 +112,16 @@ class Programs(Calling):
             self.assertRegex(locks.in_use(path), rf"^{path} is in use by process {os.getpid()} \(.*python")
         self.assertEqual(locks.in_use(os.path.join(self.folder, "no-such")), "")
 
-    def test_few_requests_are_left(self):
-        """It is said a hundred requests before the last one, and at the last one."""
-        said, noop = [], text.record_of("ground NOOP")
-        here = os.getcwd()
-        self.addCleanup(os.chdir, here)
-        os.chdir(self.folder)
-        with mock.patch.object(records, "MOST_RECORDS", 103), contextlib.ExitStack() as closing:
-            running = live.Running()
+    def test_more_requests_than_a_session_has(self):
+        """A service has no last request, and the run keeps nothing of those that were played."""
+        noop, count = text.record_of("ground NOOP"), records.MOST_RECORDS + 2
+        with contextlib.ExitStack() as closing:
+            running = live.Running(self.folder)
             closing.callback(running.kill)
-            service = server.Service(running, lambda _: None, lambda _: None, said.append)
-            for number in range(1, 104):
-                self.assertFalse(service.is_over)
-                service.command(noop[records.HEAD:])
-                self.assertEqual(len(said), 0 if number < 3 else 1 if number < 103 else 2)
-            self.assertTrue(service.is_over)
-            self.assertEqual(running.finish(), 0)
-        self.assertEqual(said, ["100 requests are left of the 103 of a session", "103 requests were played, and a session has no more"])
+            for place in range(count):
+                self.assertEqual([it.entry.number("place") for it in running.ask(noop)], [place])
+            self.assertEqual((running.finish(), running.count), (0, count))
+            self.assertEqual(running.end_line(), f"end: status 0, the work is done; {count} entries; all {count * len(noop)} bytes of the session were played")
 
     def test_nobody_reads_the_output_any_more(self):
         """Then a write fails, which is no signal that ends the service."""
@@ -211,8 +203,7 @@ class Clients(Calling):
         served, _ = self.start("--socket", self.path)
         self.assertIn("there is no folder of which files are taken", answer_of(self.caller_at(self.path), f"file /a from {outside}")[0])
         self.assertEqual(self.end(served)[0], 0)
-        for words in (["--files", inside], ["--files", outside, "--socket", self.path]):
-            self.assertEqual(call("cfetbl-serve", *words, cwd=self.folder)[0], 2)
+        self.assertEqual(call("serve", "--files", outside, "--socket", self.path, cwd=self.folder)[0], 2)
 
     def test_many_callers(self):
         """Those beyond the most, and those for whom no descriptor is left, take the place of the one that was silent for the longest."""
@@ -233,7 +224,7 @@ class Networks(Calling):
     """Addresses that are taken, unknown or out of reach."""
 
     def words(self, *words):
-        status, written, said = call("cfetbl-serve", *words, cwd=self.folder)
+        status, written, said = call("serve", *words, cwd=self.folder)
         self.assertEqual((status, written, os.listdir(self.folder)), (2, b"", ["script.txt"]))
         return said
 
@@ -250,7 +241,7 @@ class Networks(Calling):
     def test_a_socket_that_was_left(self):
         """That of a service that was killed gives way; that of one that serves doesn't."""
         served, _ = self.start("--socket", self.path)
-        self.assertEqual(call("cfetbl-serve", "--socket", self.path, "--command-port", "0", cwd=self.folder)[0], 2)
+        self.assertEqual(call("serve", "--socket", self.path, "--command-port", "0", cwd=self.folder)[0], 2)
         served.kill()
         served.communicate()
         self.assertTrue(os.path.exists(self.path))
@@ -296,7 +287,7 @@ class Typed(unittest.TestCase):
         with tempfile.TemporaryDirectory() as folder:
             log = os.path.join(folder, "log")
             os.mkfifo(log)
-            run = subprocess.Popen([sys.executable, os.path.join(TOOLS, "cfetbl-compare"), os.devnull, log], stdout=subprocess.PIPE, stderr=subprocess.PIPE)
+            run = subprocess.Popen([*COMMAND, "compare", os.devnull, log], stdout=subprocess.PIPE, stderr=subprocess.PIPE)
             with open(log, "wb", buffering=0) as calls:
                 os.kill(programs_of(run.pid)[0], signal.SIGKILL)
                 calls.write(b"app 1 CFE_TBL_Update 7 -> CFE_SUCCESS\n")
@@ -314,7 +305,7 @@ class Typed(unittest.TestCase):
         for is_terminal in (False, True):
             with self.subTest(is_terminal), tempfile.TemporaryDirectory() as folder:
                 ours, theirs = pty.openpty() if is_terminal else os.pipe()[::-1]
-                run = subprocess.Popen([sys.executable, os.path.join(TOOLS, "cfetbl-repl")], stdin=theirs, stdout=subprocess.PIPE,
+                run = subprocess.Popen([*COMMAND, "repl"], stdin=theirs, stdout=subprocess.PIPE,
                                        stderr=subprocess.PIPE, cwd=folder, env=os.environ | {"TERM": "dumb"})
                 os.close(theirs)
                 os.write(ours, b"ground NOOP\n")

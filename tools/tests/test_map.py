@@ -1,4 +1,4 @@
-"""cfetbl-map: the bank of docs/STORE.md, entries that don't count, gaps, and what its page says."""
+"""`cfetbl map`: the bank of docs/STORE.md, entries that don't count, gaps, and what its page says."""
 import os
 import re
 import tempfile
@@ -100,12 +100,12 @@ class Words(unittest.TestCase):
         with tempfile.TemporaryDirectory() as folder:
             with open(os.path.join(folder, "cds.store"), "wb") as store:
                 store.write(bank_of())
-            self.assertIn(b"1 of 128 slots", call("cfetbl-map", cwd=folder)[1])
-            self.assertEqual(call("cfetbl-map", "-o", "map.html", cwd=folder)[:2], (0, b""))
-            self.assertIn(b"standard input: 1 of", call("cfetbl-map", "-", given=bank_of())[1])
-            self.assertEqual(call("cfetbl-map", "nofile", cwd=folder)[0], 2)
+            self.assertIn(b"1 of 128 slots", call("map", cwd=folder)[1])
+            self.assertEqual(call("map", "-o", "map.html", cwd=folder)[:2], (0, b""))
+            self.assertIn(b"standard input: 1 of", call("map", "-", given=bank_of())[1])
+            self.assertEqual(call("map", "nofile", cwd=folder)[0], 2)
         hello = os.path.join(recorded.TOP, "examples", "hello.txt")
-        status, _, said = call("cfetbl-map", hello)
+        status, _, said = call("map", hello)
         self.assertEqual((status, said[:len("cfetbl map: no store file: ")]), (2, "cfetbl map: no store file: "))
 
 

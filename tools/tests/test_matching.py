@@ -110,7 +110,7 @@ class Matching(unittest.TestCase):
 
     def test_by_the_command_line(self):
         for number in (0, 3, 5):
-            status, page, said = call("cfetbl-report", EXAMPLES[number], EXAMPLES[number - 1][:-len("session")] + "transcript")
+            status, page, said = call("report", EXAMPLES[number], EXAMPLES[number - 1][:-len("session")] + "transcript")
             self.assertEqual((status, page, said), (1, b"", "cfetbl report: the transcript is of another session\n"))
 
 

@@ -28,7 +28,7 @@ class Mutations(unittest.TestCase):
     def test_faults(self):
         with tempfile.TemporaryDirectory() as folder:
             case = self.case(0, folder)
-            case.tool, case.words = "cfetbl-map", []
+            case.word, case.words = "map", []
             for status, written, said, raised, fault in ((0, b"", "", "", ""), (2, b"", "why", "", ""), (0, b"a\nb\t", "", "", ""), (1, b"", "", "KeyError", "traceback"),
                                                          (9, b"", "why", "", "ended with 9"), (2, b"", "", "", "didn't say why"),
                                                          (0, b"\x1b[31m", "", "", "don't print"), (1, b"", "a\rb", "", "don't print")):

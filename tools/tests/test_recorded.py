@@ -36,7 +36,7 @@ def packet_values(packet):
 
 
 def our_values(packet, wanted):
-    """The same fields as cfetbl-show has them. A verdict is told with its sign, and a recording has a detail without."""
+    """The same fields as `cfetbl show` has them. A verdict is told with its sign, and a recording has a detail without."""
     found = {name: packet.get(name) for name in wanted}
     if packet["kind"] == "event":
         found["detail"] %= 1 << 32

@@ -1,4 +1,4 @@
-"""cfetbl-repl: each example typed line by line, lines with a colon, wrong lines, and a terminal with completion."""
+"""`cfetbl repl`: each example typed line by line, lines with a colon, wrong lines, and a terminal with completion."""
 import glob
 import os
 import pty
@@ -12,7 +12,7 @@ import unittest
 from tblkit import completion, states
 
 from . import recorded
-from .test_commands import TOOLS, call
+from .test_commands import COMMAND, TOOLS, call
 from .test_store import bank_of
 
 DESCRIPTIONS = glob.glob(os.path.join(recorded.TOP, "examples", "*.tbl.txt"))
@@ -28,7 +28,7 @@ class Typed(unittest.TestCase):
         self.folder = folder.name
 
     def typed(self, lines):
-        status, written, said = call("cfetbl-repl", given=lines, cwd=self.folder)
+        status, written, said = call("repl", given=lines, cwd=self.folder)
         return status, written.decode(), "\n".join(it for it in said.splitlines() if "unproved" not in it)
 
     def test_examples(self):
@@ -38,7 +38,7 @@ class Typed(unittest.TestCase):
         # (a session that is played under lists of admitted identifiers isn't one of repl's)
         for name in (it for it in EXAMPLES if not it.endswith("/admitted.txt")):
             with self.subTest(name), open(name, "rb") as lines:
-                shown = call("cfetbl-show", name, name[:-len("txt")] + "transcript")[1].decode()
+                shown = call("show", name, name[:-len("txt")] + "transcript")[1].decode()
                 self.assertEqual(self.typed(lines.read()), (0, shown, ""))
 
     def test_state(self):
@@ -95,11 +95,11 @@ class Typed(unittest.TestCase):
         with open(path, "wb") as store:
             store.write(bank_of({0: "43445332", 16: "A50200000000201000000004412E53"}))
         for name, wanted in (("kept", "11 INFO_CDS_EXISTS"), ("none", "0 SUCCESS")):
-            written = call("cfetbl-repl", "--store", name, given=blocks, cwd=self.folder)[1].decode()
+            written = call("repl", "--store", name, given=blocks, cwd=self.folder)[1].decode()
             self.assertIn(f"-> {wanted}, slot 0", written)
         self.assertEqual(os.listdir(self.folder), ["kept"])
-        self.assertEqual(call("cfetbl-repl", "--store", os.path.join(TOOLS, "names.tsv"))[0], 2)
-        self.assertEqual(call("cfetbl-repl", "--durable")[0], 2)
+        self.assertEqual(call("repl", "--store", os.path.join(TOOLS, "names.tsv"))[0], 2)
+        self.assertEqual(call("repl", "--durable")[0], 2)
 
     def test_wrong_lines(self):
         status, written, said = self.typed(b"ground NOPE\n:nothing\nground NOOP\n")
@@ -120,8 +120,8 @@ class Typed(unittest.TestCase):
                                              "record 0, at byte 0, is bad: kind 7F, which is none\n"))
 
     def test_words(self):
-        self.assertEqual(call("cfetbl-repl", "--help")[0], 0)
-        self.assertEqual(call("cfetbl-repl", "a")[0], 2)
+        self.assertEqual(call("repl", "--help")[0], 0)
+        self.assertEqual(call("repl", "a")[0], 2)
 
 
 class Completion(unittest.TestCase):
@@ -139,7 +139,7 @@ class Completion(unittest.TestCase):
     def talk(self, folder, *turns):
         """What is seen at a terminal, after each of the turns: what is typed, and what comes then."""
         ours, theirs = pty.openpty()
-        run = subprocess.Popen([sys.executable, os.path.join(TOOLS, "cfetbl-repl")], stdin=theirs, stdout=theirs, stderr=theirs,
+        run = subprocess.Popen([*COMMAND, "repl"], stdin=theirs, stdout=theirs, stderr=theirs,
                                cwd=folder, env=os.environ | {"TERM": "dumb"})
         os.close(theirs)
         seen = b""

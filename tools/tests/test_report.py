@@ -1,4 +1,4 @@
-"""cfetbl-report: what its picture says of each example, and its words, files and statuses."""
+"""`cfetbl report`: what its picture says of each example, and its words, files and statuses."""
 import glob
 import io
 import json
@@ -9,18 +9,15 @@ import unittest
 from tblkit import names, programs, records, report, show, states, text, transcript
 
 from . import recorded
-from .pages import Page, differences
+from .pages import differences, drawn, packed_in
 from .test_commands import TOOLS, call, into_full
 
 EXAMPLES = sorted(glob.glob(os.path.join(recorded.TOP, "examples", "*.session")))
-# An edit of the page of examples/activation.txt, and what it is found as.
-EDITS = (('data-status="66"', 'data-status="67"', "requests"), ('data-image="2"', 'data-image="3"', "images"),
-         ('data-entry="21" class="entry refused"', 'data-entry="21" class="entry"', "refused lines"),
-         ('class="refused" data-entry="10"', 'class="accepted" data-entry="10"', "refused requests"),
-         ('data-phase="activation asked"', 'data-phase="load validated"', "activations asked"),
-         ('data-kind="pin" data-from="23"', 'data-kind="pin" data-from="24"', "addresses got"),
-         ('data-kind="pin" data-from="3" data-to="22"', 'data-kind="pin" data-from="3" data-to="23"', "addresses released"),
-         ('class="refused" data-entry="21" data-status="9" data-table="A.T"', 'class="refused"', "refusals with a table"))
+# An edit of the session that the page of examples/activation.txt has, in JSON, and what it is found as.
+EDITS = (('"status":[0,0,0,1', '"status":[0,0,0,0', "requests"), ('"image","image 2",2]', '"image","image 2",3]', "images"),
+         ('"refused":[8,9,10,21]', '"refused":[8,9,10]', "refused lines"), ('"refused":[8,9,10,21]', '"refused":[8,9,21]', "refused requests"),
+         ('"activation asked",null]', '"load validated",null]', "activations asked"), ('[23,33,"pin"', '[24,33,"pin"', "addresses got"),
+         ('[3,22,"pin"', '[3,23,"pin"', "addresses released"), ('"refusals":[8,9,10,21]', '"refusals":[8,9,10]', "refusals with a table"))
 HELLO = os.path.join(recorded.TOP, "examples", "hello")
 
 
@@ -49,19 +46,19 @@ class Pictures(unittest.TestCase):
     def test_examples(self):
         for session in EXAMPLES:
             with self.subTest(session):
-                status, page, said = call("cfetbl-report", session, transcript_of(session))
+                status, page, said = call("report", session, transcript_of(session))
                 self.assertEqual((status, said), (0, ""))
-                told = [json.loads(it) for it in call("cfetbl-show", "--json", session, transcript_of(session))[1].splitlines()]
-                self.assertEqual(differences(Page(page.decode()), told), [])
+                told = [json.loads(it) for it in call("show", "--json", session, transcript_of(session))[1].splitlines()]
+                self.assertEqual(differences(packed_in(page.decode()), told), [])
 
     def test_what_is_found(self):
         """A picture that says something else of a request or a table."""
         session = os.path.join(recorded.TOP, "examples", "activation.session")
-        page = call("cfetbl-report", session, transcript_of(session))[1].decode()
-        told = [json.loads(it) for it in call("cfetbl-show", "--json", session, transcript_of(session))[1].splitlines()]
+        page = json.dumps(report.unpacked(call("report", session, transcript_of(session))[1].decode()), separators=(",", ":"))
+        told = [json.loads(it) for it in call("show", "--json", session, transcript_of(session))[1].splitlines()]
         for was, is_now, found in EDITS:
             self.assertIn(was, page)
-            self.assertIn(found, [it[0] for it in differences(Page(page.replace(was, is_now)), told)], was)
+            self.assertIn(found, [it[0] for it in differences(drawn(json.loads(page.replace(was, is_now))), told)], was)
 
     def test_against_the_registry(self):
         """At the end of each example SEND_REGISTRY tells of each table what the picture has at its right end."""
@@ -71,7 +68,7 @@ class Pictures(unittest.TestCase):
                 tables = played(records_of)[1].timeline.standing
                 asked = b"".join(text.record_of(f"ground SEND_REGISTRY {it}") for it in tables)
                 answers, made = played(records_of + asked)
-                page = Page(made.page())
+                page = packed_in(made.page())
                 told = [it.body for answer in answers[-1 - len(tables):-1] for it in answer.packets if it.kind == "registry"]
                 self.assertEqual(len(told), len(tables))
                 for fields in told:
@@ -89,17 +86,17 @@ class Pictures(unittest.TestCase):
 class Words(unittest.TestCase):
     def test_plays_the_session(self):
         with tempfile.TemporaryDirectory() as folder:
-            done = call("cfetbl-report", "-o", "page.html", HELLO + ".txt", cwd=folder)
+            done = call("report", "-o", "page.html", HELLO + ".txt", cwd=folder)
             with open(os.path.join(folder, "page.html"), encoding="utf-8") as page:
                 found = page.read()
             self.assertEqual(done[:2], (0, b""))
-            self.assertEqual(found, call("cfetbl-report", HELLO + ".txt", HELLO + ".transcript")[1].decode())
+            self.assertEqual(found, call("report", HELLO + ".txt", HELLO + ".transcript")[1].decode())
             self.assertNotIn("http://", found.replace("http://www.w3.org/2000/svg", ""))
 
     def test_statuses(self):
-        self.assertEqual(call("cfetbl-report", "--help")[0], 0)
-        self.assertEqual([call("cfetbl-report", *it)[0] for it in ([], ["a", "b", "c"], ["/no/such"], [HELLO + ".transcript"])], [2] * 4)
-        self.assertEqual(into_full("cfetbl-report", HELLO + ".txt", HELLO + ".transcript"),
+        self.assertEqual(call("report", "--help")[0], 0)
+        self.assertEqual([call("report", *it)[0] for it in ([], ["a", "b", "c"], ["/no/such"], [HELLO + ".transcript"])], [2] * 4)
+        self.assertEqual(into_full("report", HELLO + ".txt", HELLO + ".transcript"),
                          (4, "cfetbl report: writing failed: standard output: No space left on device\n"))
 
     def test_a_page_over_what_is_read(self):
@@ -107,19 +104,19 @@ class Words(unittest.TestCase):
             session = os.path.join(folder, "session.txt")
             with open(session, "wb") as file:
                 file.write(b"ground NOOP\n")
-            self.assertEqual(call("cfetbl-report", "-o", session, session, cwd=folder),
+            self.assertEqual(call("report", "-o", session, session, cwd=folder),
                              (2, b"", f"cfetbl report: -o {session} would write over {session}, which is read\n"))
-            self.assertEqual(call("cfetbl-map", "-o", session, session, cwd=folder)[0], 2)
+            self.assertEqual(call("map", "-o", session, session, cwd=folder)[0], 2)
             self.assertEqual(os.path.getsize(session), 12)
 
     def test_another_session(self):
-        status, page, said = call("cfetbl-report", HELLO + ".txt", transcript_of(EXAMPLES[0]))
+        status, page, said = call("report", HELLO + ".txt", transcript_of(EXAMPLES[0]))
         self.assertEqual((status, page, said), (1, b"", "cfetbl report: the transcript is of another session\n"))
 
     def test_a_transcript_that_breaks_off(self):
         with open(HELLO + ".transcript", "rb") as file:
-            status, page, said = call("cfetbl-report", HELLO + ".txt", "-", given=file.read()[:100])
-        self.assertEqual((status, said), (1, "cfetbl report: the transcript breaks off inside an entry\n"))
+            status, page, said = call("report", HELLO + ".txt", "-", given=file.read()[:100])
+        self.assertEqual((status, said), (1, "cfetbl report: the transcript breaks off inside an entry; the page has 1 of the 2 requests of the session\n"))
         self.assertIn(b"broken: the transcript breaks off", page)
 
     def test_how_far_it_is(self):
@@ -136,7 +133,7 @@ class Words(unittest.TestCase):
 
     def test_a_bad_record(self):
         with tempfile.TemporaryDirectory() as folder:
-            status, page, _ = call("cfetbl-report", "-", given=bytes.fromhex("010000081804C00000010022 7F000000"), cwd=folder)
+            status, page, _ = call("report", "-", given=bytes.fromhex("010000081804C00000010022 7F000000"), cwd=folder)
         self.assertEqual(status, 5)
         self.assertIn(b"record 1, at byte 12, is bad", page)
 

@@ -1,4 +1,4 @@
-"""cfetbl-serve: commands and telemetry over UDP in both layouts, a script, callers over a local socket, and how it ends."""
+"""`cfetbl serve`: commands and telemetry over UDP in both layouts, a script, callers over a local socket, and how it ends."""
 import os
 import re
 import signal
@@ -11,7 +11,7 @@ import unittest
 from tblkit import packets
 
 from . import xtce
-from .test_commands import TOOLS, call
+from .test_commands import COMMAND, TOOLS, call
 from .test_text import bytes_of
 
 SCRIPT = b"# CTRL has a table.\napp 1 start CTRL\napp 1 register T size 4\napp 1 notify 0 message 0x1880 code 5 parameter 7\n"
@@ -35,7 +35,7 @@ class Service(unittest.TestCase):
     def start(self, *words, **more):
         """The service, with the address to which commands go."""
         port = str(self.ground.getsockname()[1])
-        served = subprocess.Popen([sys.executable, os.path.join(TOOLS, "cfetbl-serve"), "--command-port", "0", "--telemetry-port", port, *words],
+        served = subprocess.Popen([*COMMAND, "serve", "--command-port", "0", "--telemetry-port", port, *words],
                                   **{"cwd": self.folder, "stdout": subprocess.PIPE, "stderr": subprocess.PIPE} | more)
         self.addCleanup(served.communicate)
         self.addCleanup(served.kill)
@@ -101,13 +101,13 @@ class Served(Service):
     def test_cfe_layout(self):
         """A ground system that has cFE's layouts encodes commands and decodes telemetry by the definition."""
         for order, more in (("little", []), ("big", ["--big-endian"])):
-            known = xtce.Definition(call("cfetbl-xtce", "--cfe-layout", *more)[1])
+            known = xtce.Definition(call("xtce", "--cfe-layout", *more)[1])
             served, address = self.start("--cfe-layout", *more, "--script", "script.txt")
             command = bytearray(known.encode("VALIDATE", {"select": 1, "table": "CTRL.T"}))
             command[7] = 0xFF ^ packets.exclusive_or(command)
             self.assertEqual(command[8:10], (1).to_bytes(2, order))
             kind, values = known.decode(self.ask(address, bytes(command)))
-            self.assertEqual((kind, values["event_message"]), ("event", "event 2 command refused: status 60 ERR_NEVER_LOADED, row 0 CTRL.T"))
+            self.assertEqual((kind, values["event_message"]), ("event", "Internal Error (Status=0x0000003C)"))
             kind, values = known.decode(self.ask(address, packets.command("HOUSEKEEPING", b"")))
             self.assertEqual((kind, values["housekeeping_commanderrorcounter"], values["housekeeping_numtables"]), ("housekeeping", 1, 1))
             self.assertEqual(self.end(served)[0], 0)
@@ -127,11 +127,11 @@ class Served(Service):
         self.assertEqual((len(written), said), (3, b"cfetbl serve: a datagram of 40000 bytes is no command\n"))
 
     def test_words(self):
-        self.assertEqual([call("cfetbl-serve", *it, cwd=self.folder)[0] for it in (
+        self.assertEqual([call("serve", *it, cwd=self.folder)[0] for it in (
             ["--help"], ["--no"], ["--big-endian"], ["--command-port", "65536"], ["--listen", "192.0.2.1"], ["--script", "nofile"])], [0, 2, 2, 2, 2, 2])
         with open(os.path.join(self.folder, "wrong.txt"), "wb") as script:
             script.write(b"app 1 start A\nground NOPE\n")
-        status, _, said = call("cfetbl-serve", "--command-port", "0", "--script", "wrong.txt", cwd=self.folder)
+        status, _, said = call("serve", "--command-port", "0", "--script", "wrong.txt", cwd=self.folder)
         self.assertEqual((status, "wrong.txt, line 2: " in said), (2, True))
 
 

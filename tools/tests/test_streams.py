@@ -12,7 +12,7 @@ import unittest
 
 from tblkit import streams
 
-from .test_commands import TOOLS, call
+from .test_commands import COMMAND, TOOLS, call
 from .test_serve import WAIT
 
 HELLO = os.path.join(TOOLS, "..", "examples", "hello.txt")
@@ -22,17 +22,16 @@ DESCRIPTION = os.path.join(TOOLS, "..", "examples", "gain.tbl.txt")
 class Streams(unittest.TestCase):
     def test_interrupts(self):
         """Each tool that waits for input ends with 130, and with no more than a line."""
-        for tool, *words in (["cfetbl-text"], ["cfetbl-show"], ["cfetbl-table", "make", "-"], ["cfetbl-map", "-"], ["cfetbl-report", "-"],
-                             ["cfetbl-watch", HELLO, "-"], ["cfetbl-compare", HELLO, "-"],
-                             ["cfetbl-table", "describe", "u8:a", "-"]):
-            with self.subTest(tool), tempfile.TemporaryDirectory() as folder:
-                run = subprocess.Popen([sys.executable, os.path.join(TOOLS, tool), *words], stdin=subprocess.PIPE, stdout=subprocess.PIPE,
+        for word, *words in (["text"], ["show"], ["make", "-"], ["map", "-"], ["report", "-"],
+                             ["watch", "--report", "-", HELLO], ["compare", HELLO, "-"],
+                             ["describe", "u8:a", "-"]):
+            with self.subTest(word), tempfile.TemporaryDirectory() as folder:
+                run = subprocess.Popen([*COMMAND, word, *words], stdin=subprocess.PIPE, stdout=subprocess.PIPE,
                                        stderr=subprocess.PIPE, cwd=folder)
                 self.wait_for_read(run.pid)
                 run.send_signal(signal.SIGINT)
                 written, said = run.communicate(timeout=WAIT)
-                name = words[0] if tool == "cfetbl-table" else tool.removeprefix("cfetbl-")
-                self.assertEqual((run.returncode, written, said.decode()), (130, b"", f"cfetbl {name}: interrupted\n"))
+                self.assertEqual((run.returncode, written, said.decode()), (130, b"", f"cfetbl {word}: interrupted\n"))
 
     def test_interrupts_at_a_terminal(self):
         """An interrupt is for all programs of a word: the front command ends with 130, and says it once at most."""
@@ -63,25 +62,25 @@ class Streams(unittest.TestCase):
         """Under a limit a write fails with its status, in the tool and in the program that it starts, and no signal ends either."""
         limit = {"preexec_fn": lambda: resource.setrlimit(resource.RLIMIT_FSIZE, (4096, 4096))}
         with tempfile.TemporaryDirectory() as folder:
-            status, _, said = call("cfetbl-xtce", "-o", "page", cwd=folder, **limit)
+            status, _, said = call("xtce", "-o", "page", cwd=folder, **limit)
             self.assertEqual((status, said), (4, "cfetbl xtce: writing failed: page: File too large\n"))
-            for tool, *words in (["cfetbl-serve", "--command-port", "0"], ["cfetbl-report", HELLO]):
-                status, _, said = call(tool, *words, cwd=folder, **limit)
+            for word, *words in (["serve", "--command-port", "0"], ["report", HELLO]):
+                status, _, said = call(word, *words, cwd=folder, **limit)
                 self.assertEqual(status, 7, said)
 
     def test_no_control_characters(self):
         """Escapes of the input are shown as text, by whatever it is named or said."""
         evil = "\x1b[31m\x07\x9b\u202e"
         self.assertEqual(streams.visible(f"a\tb\n{evil}\udcff é"), "a\tb\n\\x1B[31m\\x07\\x9B\\u202E\\xFF é")
-        for tool, *words in (["cfetbl-text", evil], ["cfetbl-show", "--no" + evil], ["cfetbl-explain", evil], ["cfetbl-table", "describe", evil, "a"],
-                             ["cfetbl-serve", "--to", evil], ["cfetbl-map", evil], ["cfetbl-report", evil], ["cfetbl-store", evil]):
-            status, written, said = call(tool, *words)
-            self.assertEqual((status, [it for it in written.decode() + said if it in evil and it not in "[31m"]), (2, []), (tool, said))
+        for word, *words in (["text", evil], ["show", "--no" + evil], ["explain", evil], ["describe", evil, "a"],
+                             ["serve", "--to", evil], ["map", evil], ["report", evil], ["store", evil]):
+            status, written, said = call(word, *words)
+            self.assertEqual((status, [it for it in written.decode() + said if it in evil and it not in "[31m"]), (2, []), (word, said))
 
     def test_no_bytes_for_a_terminal(self):
         ours, theirs = pty.openpty()
-        for tool, *words in (["cfetbl-text", HELLO], ["cfetbl-table", "make", DESCRIPTION]):
-            done = subprocess.run([sys.executable, os.path.join(TOOLS, tool), *words], stdout=theirs, stderr=subprocess.PIPE)
+        for word, *words in (["text", HELLO], ["make", DESCRIPTION]):
+            done = subprocess.run([*COMMAND, word, *words], stdout=theirs, stderr=subprocess.PIPE)
             self.assertEqual(done.returncode, 2)
             self.assertIn(b"isn't written to a terminal", done.stderr)
         self.assertEqual(select.select([ours], [], [], 0)[0], [])

@@ -3,9 +3,11 @@ import glob
 import io
 import os
 import random
+import re
 import tempfile
 import unittest
 
+from cfetbl.commands import text as text_command
 from tblkit import text
 
 from . import recorded
@@ -38,6 +40,77 @@ def records_of(lines, folder="."):
     into = io.BytesIO()
     text.to_records(io.BytesIO(lines), into, folder)
     return into.getvalue()
+
+
+# What the help of `cfetbl text` has in the forms of lines, each with examples.
+SAMPLES = {
+    "FILE": ("/a",), "TABLE": ("A.T",), "NAME": ("N",), "N": ("1",), "HANDLE": ("0",), "SLOT": ("0",), "COUNT": ("4",), "OFFSET": ("0",),
+    "NUMBER": ("0", "0x10"), "SECONDS": ("0",), "SUBSECONDS": ("0",), "BYTES": ("0102", "empty"), "DESCRIPTION": ("text",),
+    "DATA": ("hex 01", "fill AA 16", "from text", "empty"), "IMAGE": ("inactive", "active", "7"),
+    "OPTION": ("double", "dump-only", "critical", "options 9"), "HEADER": ("content 0", "description N", "states 5")}
+DESCRIPTION = b"table A.T\noffset 0\nu8 a 1\n"
+
+
+def forms():
+    """The forms of lines that the help has, each alternative for itself."""
+    for line in re.findall(r"(?m)^    ((?:ground|file|time|reset|app|bytes) .*)$", text_command.__doc__):
+        first, *others = re.split(r"    +", line)[0].split(" | ")
+        yield first
+        front = first.split()[:2 if first.startswith("app") else 1]
+        yield from (" ".join([*front, it]) for it in others)
+
+
+def lines_of_form(form):
+    """Lines of a form: with and without what is in brackets, and each alternative."""
+    part = re.search(r"\[(.*?)(\.\.)?\]|\b(\w+-?\w*)\|([\w|-]+)", form)
+    if part:
+        chosen = (part[1], "") if part[1] else (part[3], *part[4].split("|"))
+        for it in chosen:
+            yield from lines_of_form(re.sub(" +", " ", form[:part.start()] + it + form[part.end():]).strip())
+        return
+    word = next((it for it in form.split() if it in SAMPLES), None)
+    if word is None:
+        yield form
+        return
+    for sample in SAMPLES[word]:
+        yield from lines_of_form(re.sub(rf"(?<![\w-]){word}(?![\w-])", sample, form, count=1))
+
+
+class Help(unittest.TestCase):
+    """The forms of lines that `cfetbl text --help` has are those that there are."""
+
+    @classmethod
+    def setUpClass(cls):
+        cls._temporary = tempfile.TemporaryDirectory()
+        cls.folder = cls._temporary.name
+        with open(os.path.join(cls.folder, "text"), "wb") as file:
+            file.write(DESCRIPTION)
+
+    @classmethod
+    def tearDownClass(cls):
+        cls._temporary.cleanup()
+
+    def test_each_form_is_one(self):
+        found = [form for form in forms() if " OBJ" not in form]
+        self.assertGreaterEqual(len(found), 40)
+        for form in found:
+            for line in lines_of_form(form):
+                with self.subTest(line):
+                    self.assertIsInstance(text.record_of(line, self.folder), bytes)
+
+    def test_each_word_that_is_allowed_is_there(self):
+        """Whatever words may come next in a line stand in the help."""
+        allowed = set()
+        for form in forms():
+            for line in lines_of_form(form.partition(" OBJ")[0]):
+                words = line.split()
+                for at in range(len(words) + 1):
+                    try:
+                        text.record_of(" ".join([*words[:at], '"?"']), self.folder)
+                    except text.TextError as error:
+                        allowed.update(error.allowed)
+        self.assertGreater(len(allowed), 60)
+        self.assertEqual({it for it in allowed if not re.search(rf"(?<![\w-]){it}(?![\w-])", text_command.__doc__)}, set())
 
 
 class Lines(unittest.TestCase):

@@ -1,4 +1,4 @@
-"""cfetbl-watch: to which request each line of a report belongs, what is no report, and the report that a transcript gives."""
+"""`cfetbl watch`: to which request each line of a report belongs, what is no report, and the report that a transcript gives."""
 import io
 import os
 import tempfile
@@ -8,7 +8,7 @@ from tblkit import text, watched
 
 from .test_commands import call
 
-TOOL = "cfetbl-watch"
+TOOL = "watch"
 OWN = ("app 16 start W", "app 16 register T size 4", "app 16 load 0 hex 01020304", "app 16 get 0", "app 16 release 0",
        "app 16 load 0 hex 05060704", "app 16 get 0", "app 16 release 0", "app 16 get 0")
 OTHERS = ("app 1 start A", "app 1 get 0", "ground NOOP")
@@ -58,16 +58,16 @@ class Watch(unittest.TestCase):
             name = os.path.join(folder, "watch.txt")
             with open(name, "w", encoding="utf-8") as lines:
                 lines.write("\n".join(OWN + OTHERS) + "\n")
-            status, told, said = call(TOOL, name, "-", given=REPORT.encode())
+            status, told, said = call(TOOL, name, "--report", "-", given=REPORT.encode())
             self.assertEqual((status, said), (0, ""))
             self.assertEqual(told.decode().splitlines(), [
                 "3 W.T 0FA1 first", "      record 3: app 16 get 0", "6 W.T 3EE3 changed 0FA1", "      record 6: app 16 get 0",
                 "8 W.T 3EE3 same", "      record 8: app 16 get 0", "watched 3 changed 1"])
-            _, told, _ = call(TOOL, name, "-", given=b"6 W.T 3EE3 first\nwatched 1 changed 0\n")
+            _, told, _ = call(TOOL, name, "--report", "-", given=b"6 W.T 3EE3 first\nwatched 1 changed 0\n")
             self.assertIn("      one of the calls from record 3 to record 6", told.decode())
             for wrong in (b"2 W.T 3EE3 first\nwatched 1 changed 0\n", b"hello\n", b""):
-                self.assertEqual(call(TOOL, name, "-", given=wrong)[0], 1)
-            self.assertEqual(call(TOOL, name)[0], 2)
+                self.assertEqual(call(TOOL, name, "--report", "-", given=wrong)[0], 1)
+            self.assertEqual(call(TOOL, name, name)[0], 2)
 
     def test_a_report_of_a_transcript(self):
         looks = [watched.Look(3, "W.T", 0x0FA1), watched.Look(6, "W.T", 0x3EE3), watched.Look(8, "W.T", 0x3EE3)]

@@ -1,5 +1,4 @@
-"""What people type and read: the help of each word under its name, words that aren't right, numbers of one, sizes, and doubled names."""
-import functools
+"""What people type and read: words that aren't right, numbers of one, sizes, and doubled names."""
 import glob
 import io
 import os
@@ -11,10 +10,9 @@ import unittest
 from tblkit import names, near, numbers, records, shapes, text
 
 from . import recorded
-from .test_commands import TOOLS, call
+from .test_commands import call
 
 FRONT = os.path.join(recorded.TOP, "cfetbl")
-OF_THE_FRONT = ("play", "crew", "watch", "drill", "resets", "test")
 SIZES = b"""app 1 start NAV
 app 1 register M size 4
 app 1 load 0 hex 01
@@ -24,48 +22,9 @@ app 1 load 0 hex 0102030405
 """
 
 
-@functools.cache
 def front(*words):
     done = subprocess.run([FRONT, *words], stdin=subprocess.DEVNULL, capture_output=True, text=True, check=False)
     return done.returncode, done.stdout, done.stderr
-
-
-def words_of_help():
-    """The words that `cfetbl help` has."""
-    lines = front("help")[1].splitlines()
-    return sorted({it for line in lines if line.startswith("  cfetbl ") for it in re.findall(r"cfetbl ([a-z]+)", line)} - {"help"})
-
-
-class Help(unittest.TestCase):
-    def test_each_word_has_its_own(self):
-        found = words_of_help()
-        self.assertEqual(len(found), 21)
-        for word in found:
-            with self.subTest(word):
-                status, written, said = front(word, "--help")
-                self.assertEqual((status, said), (0, ""))
-                self.assertRegex(written, rf"(?m)^ +cfetbl {word}\b")
-                self.assertNotRegex(written, rf"cfetbl-{word}|cfetbl-table")
-                self.assertEqual(front("help", word), (0, written, ""))
-                self.assertEqual(front(word, "-h")[1], written)
-                if word in OF_THE_FRONT:
-                    others = set(re.findall(r"(?m)^  cfetbl ([a-z]+)", written)) - {word}
-                    self.assertEqual(others, {"play"} if word == "crew" and "play" in others else set())
-
-    def test_the_completion_has_the_words(self):
-        with open(os.path.join(TOOLS, "completion.bash"), encoding="ascii") as file:
-            listed = re.search(r" all='([^']*)'", file.read())[1].split()
-        self.assertEqual(sorted(listed), words_of_help())
-
-    def test_the_completion_has_the_options(self):
-        """Those that the help of a word has."""
-        for word in words_of_help():
-            with self.subTest(word):
-                script = f'. "$0"; COMP_WORDS=(cfetbl {word} --); COMP_CWORD=2; _cfetbl; printf "%s\\n" "${{COMPREPLY[@]}}"'
-                done = subprocess.run(["bash", "-c", script, os.path.join(TOOLS, "completion.bash")], capture_output=True, text=True, check=False)
-                listed = set(done.stdout.split())
-                for option in listed - {"--help"}:
-                    self.assertIn(option, front(word, "--help")[1])
 
 
 class NotKnown(unittest.TestCase):
@@ -74,17 +33,15 @@ class NotKnown(unittest.TestCase):
         self.assertEqual(near.meant("xyzzy", ["show"]), "")
         for words, said in ((["plya"], "plya isn't known; did you mean play? (see cfetbl --help)"),
                             (["exmaples"], "exmaples isn't known (see cfetbl --help)"),
-                            (["play", "--shwo", "x"], "--shwo isn't known; did you mean --show or --json? (see cfetbl play --help)"),
-                            (["watch", "--txet"], "--txet isn't known; did you mean --text? (see cfetbl watch --help)"),
-                            (["resets", "--miror"], "--miror isn't known; did you mean --mirror? (see cfetbl resets --help)"),
                             (["help", "sho"], "sho isn't known; did you mean show? (see cfetbl --help)")):
             with self.subTest(words):
                 self.assertEqual(front(*words), (2, "", f"cfetbl: {said}\n"))
 
     def test_options_of_tools(self):
         for tool, option, like in (("show", "--jsno", "--json"), ("store", "--al", "--all"), ("serve", "--clok", "--clock"),
-                                   ("xtce", "--big-endain", "--big-endian"), ("text", "--bakc", "--back")):
-            status, written, said = call(f"cfetbl-{tool}", option)
+                                   ("xtce", "--big-endain", "--big-endian"), ("text", "--bakc", "--back"), ("play", "--shwo", "--show"),
+                                   ("watch", "--txet", "--text"), ("resets", "--miror", "--mirror")):
+            status, written, said = call(tool, option)
             self.assertEqual((status, written), (2, b""))
             self.assertRegex(said, rf"^cfetbl {tool}: unrecognized arguments: {option}; did you mean {like}[^\n]*\(see cfetbl {tool} --help\)\n$")
 
@@ -95,12 +52,12 @@ class NotKnown(unittest.TestCase):
 
     def test_a_shape_of_an_unknown_table(self):
         name = os.path.join(recorded.TOP, "examples", "limits")
-        status, written, said = call("cfetbl-show", "--shape", "CS_APP.Limit=u16:limit", name + ".txt", name + ".transcript")
+        status, written, said = call("show", "--shape", "CS_APP.Limit=u16:limit", name + ".txt", name + ".transcript")
         self.assertEqual((status, written, said), (2, b"", "cfetbl show: --shape: the session has no table CS_APP.Limit; did you mean "
                                                            "CS_APP.Limits?\n"))
-        self.assertEqual(call("cfetbl-show", "--check", "--shape", "CS_APP.Limit=u16:limit", name + ".txt")[0], 2)
-        self.assertEqual(call("cfetbl-show", "--check", "--shape", "CS_APP.Limits=u16:limit", name + ".txt")[0], 0)
-        self.assertEqual(call("cfetbl-show", "--shape", "CS_APP.Limits=u16:limit", name + ".transcript")[0], 2)
+        self.assertEqual(call("show", "--check", "--shape", "CS_APP.Limit=u16:limit", name + ".txt")[0], 2)
+        self.assertEqual(call("show", "--check", "--shape", "CS_APP.Limits=u16:limit", name + ".txt")[0], 0)
+        self.assertEqual(call("show", "--shape", "CS_APP.Limits=u16:limit", name + ".transcript")[0], 2)
 
     def test_tables_of_a_session(self):
         session = io.BytesIO()
@@ -124,14 +81,14 @@ class Numbers(unittest.TestCase):
             path = os.path.join(folder, "calls")
             with open(path, "w", encoding="ascii") as log:
                 log.write("app 1 CFE_TBL_Register T 4 0 none -> CFE_TBL_ERR_BAD_APP_ID\n")
-            self.assertNotIn(b"1 calls", call("cfetbl-compare", "/dev/null", path)[1])
-        self.assertEqual(call("cfetbl-text", given=b"bytes A\n")[2].splitlines()[0],
+            self.assertNotIn(b"1 calls", call("compare", "/dev/null", path)[1])
+        self.assertEqual(call("text", given=b"bytes A\n")[2].splitlines()[0],
                          "<stdin>:1:7: expected the bytes in hexadecimal, two digits a byte, or empty, found 1 digit")
 
 
 class Sizes(unittest.TestCase):
     def test_both_are_told(self):
-        status, written, _ = call("cfetbl-repl", "--store", "none", given=SIZES)
+        status, written, _ = call("repl", "--store", "none", given=SIZES)
         self.assertEqual(status, 0)
         self.assertEqual([it for it in written.decode().splitlines() if "86 ERR_IMAGE_SIZE" in it], [
             "2 app 1 load 0 hex 01 -> 86 ERR_IMAGE_SIZE, the image has 1 byte, and NAV.M has 4",
@@ -144,7 +101,7 @@ class Doubled(unittest.TestCase):
              b"  app 1 cds-register A.B size 4 # twice\nbytes 10\n")
 
     def test_it_is_said(self):
-        status, _, said = call("cfetbl-text", given=self.LINES)
+        status, _, said = call("text", given=self.LINES)
         self.assertEqual((status, said.splitlines()), (0, [
             f"<stdin>:{at}: the application's name is put before this one, so the full name is {name}"
             for at, name in (("2:16", "NAV.NAV.MODES"), ("5:22", "NAV.A.B"))]))
@@ -152,7 +109,7 @@ class Doubled(unittest.TestCase):
     def test_the_examples_have_none(self):
         for name in glob.glob(os.path.join(recorded.TOP, "examples", "*.txt")):
             if not name.endswith(".tbl.txt"):
-                self.assertEqual(call("cfetbl-text", name)[2], "")
+                self.assertEqual(call("text", name)[2], "")
 
 
 class Cfe(unittest.TestCase):

@@ -49,11 +49,13 @@ class Definition:
 
     @property
     def commands(self):
-        return list(self._commands)
+        """The names of the commands that can be sent."""
+        return [name for name, it in self._commands.items() if it.get("abstract") != "true"]
 
     def decode(self, packet):
         """The container of a packet, and the values of its parameters. Bytes that no entry takes are an error."""
-        name = next(name for name, it in self._containers.items() if it.find(SPACE + "BaseContainer") is None)
+        own = set(self._containers)
+        name = next(name for name, it in self._containers.items() if _base_of(it) not in own)
         at, values = self._take(name, packet, 0, {})
         while True:
             below = [it for it in self._containers if self._is_next(it, name, values)]
@@ -78,6 +80,7 @@ class Definition:
         for it in self._containers[name].find(SPACE + "EntryList"):
             parameter = it.get("parameterRef")
             kind, count, encoding, is_little = self._types[self._parameters[parameter]]
+            at = _place(it, at)
             if at + count > 8 * len(packet):
                 raise ValueError(f"{parameter} goes beyond the end")
             raw = _bits(packet, at, count)
@@ -86,17 +89,37 @@ class Definition:
         return at, values
 
     def encode(self, name, arguments):
-        """The packet of a command with these arguments."""
+        """The packet of a command with these arguments: the entries of the command that it extends, with what it assigns there, and its
+        own. No bit is written twice, and none is left out."""
         command = self._commands[name]
+        base, entries = command.find(SPACE + "BaseMetaCommand"), []
+        if base is not None:
+            above = self._commands[base.get("metaCommandRef")]
+            assigned = {it.get("argumentName"): int(it.get("argumentValue")) for it in base.iter(SPACE + "ArgumentAssignment")}
+            if command.find(_path("CommandContainer", "BaseContainer")).get("containerRef") != above.find(SPACE + "CommandContainer").get("name"):
+                raise ValueError(f"{name} extends another container than its command does")
+            entries = self._spelled(above, assigned, 0)
+        entries = self._spelled(command, arguments, 0, entries)
+        whole = at = 0
+        for place, bits, value in sorted(entries):
+            if place != at:
+                raise ValueError(f"{name} has an entry at {place}, and {at} bits before it")
+            whole, at = whole << bits | value, at + bits
+        return whole.to_bytes(at // 8, "big")
+
+    def _spelled(self, command, arguments, at, before=()):
+        """The entries of a command: place, bits and value of each."""
         types = {it.get("name"): it.get("argumentTypeRef") for it in command.iter(SPACE + "Argument")}
-        whole = count = 0
+        found = list(before)
         for it in command.find(_path("CommandContainer", "EntryList")):
             if it.tag == SPACE + "FixedValueEntry":
                 value, bits = int(it.get("binaryValue"), 16), int(it.get("sizeInBits"))
             else:
                 value, bits = self._argument(self._argument_types[types[it.get("argumentRef")]], arguments[it.get("argumentRef")])
-            whole, count = whole << bits | value, count + bits
-        return whole.to_bytes(count // 8, "big")
+            at = _place(it, at)
+            found.append((at, bits, value))
+            at += bits
+        return found
 
     @staticmethod
     def _argument(of_type, given):
@@ -104,6 +127,20 @@ class Definition:
         if kind == "String":
             return int.from_bytes(given.encode("ascii").ljust(bits // 8, b"\0"), "big"), bits
         return int.from_bytes(given.to_bytes(bits // 8, "little" if is_little else "big"), "big"), bits
+
+
+def _base_of(container):
+    base = container.find(SPACE + "BaseContainer")
+    return None if base is None else base.get("containerRef")
+
+
+def _place(entry, usual):
+    """The bit at which an entry stands: from the start of the container where it says so, and else after the one before."""
+    location = entry.find(SPACE + "LocationInContainerInBits")
+    if location is None:
+        return usual
+    bits = int(location.find(SPACE + "FixedValue").text)
+    return bits if location.get("referenceLocation") == "containerStart" else usual + bits
 
 
 def _value(kind, raw, bits, encoding, is_little):

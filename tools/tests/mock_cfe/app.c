@@ -64,5 +64,6 @@ int main(void)
 {
     table();
     block();
+    record_end();
     return 0;
 }

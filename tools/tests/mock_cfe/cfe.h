@@ -8,12 +8,14 @@
 
 typedef int32_t CFE_Status_t;
 typedef int16_t CFE_TBL_Handle_t;
+typedef int32_t int32;
 typedef uint32_t CFE_ES_CDSHandle_t, CFE_SB_MsgId_t, uint32;
 typedef uint16_t CFE_MSG_FcnCode_t, uint16;
 typedef enum { CFE_TBL_SRC_FILE, CFE_TBL_SRC_ADDRESS } CFE_TBL_SrcEnum_t;
-typedef CFE_Status_t (*CFE_TBL_CallbackFuncPtr_t)(void *);
+typedef int32 (*CFE_TBL_CallbackFuncPtr_t)(void *);
 typedef struct { size_t Size; bool TableLoadedOnce, DumpOnly, DoubleBuffered, Critical; } CFE_TBL_Info_t;
 
+#define CFE_TBL_OPT_DUMP_ONLY 2
 #define CFE_RESOURCEID_TO_ULONG(id) ((unsigned long)(id))
 #define CFE_SB_MsgIdToValue(id) (id)
 
@@ -43,6 +45,9 @@ CFE_Status_t CFE_TBL_Manage(CFE_TBL_Handle_t);
 CFE_Status_t CFE_TBL_DumpToBuffer(CFE_TBL_Handle_t);
 CFE_Status_t CFE_TBL_GetAddress(void **, CFE_TBL_Handle_t);
 CFE_Status_t CFE_TBL_ReleaseAddress(CFE_TBL_Handle_t);
+CFE_Status_t CFE_TBL_GetAddresses(void **[], uint16, const CFE_TBL_Handle_t[]);
+CFE_Status_t CFE_TBL_ReleaseAddresses(uint16, const CFE_TBL_Handle_t[]);
+CFE_Status_t CFE_TBL_Modified(CFE_TBL_Handle_t);
 CFE_Status_t CFE_TBL_GetStatus(CFE_TBL_Handle_t);
 CFE_Status_t CFE_TBL_GetInfo(CFE_TBL_Info_t *, const char *);
 CFE_Status_t CFE_TBL_NotifyByMessage(CFE_TBL_Handle_t, CFE_SB_MsgId_t, CFE_MSG_FcnCode_t, uint32);

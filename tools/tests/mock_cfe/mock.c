@@ -123,6 +123,22 @@ CFE_Status_t CFE_TBL_ReleaseAddress(CFE_TBL_Handle_t handle)
     return CFE_SUCCESS;
 }
 
+CFE_Status_t CFE_TBL_GetAddresses(void **addresses[], uint16 count, const CFE_TBL_Handle_t handles[])
+{
+    return count == 0 ? CFE_SUCCESS : CFE_TBL_GetAddress(addresses[0], handles[0]);
+}
+
+CFE_Status_t CFE_TBL_ReleaseAddresses(uint16 count, const CFE_TBL_Handle_t handles[])
+{
+    return count == 0 ? CFE_SUCCESS : CFE_TBL_ReleaseAddress(handles[0]);
+}
+
+CFE_Status_t CFE_TBL_Modified(CFE_TBL_Handle_t handle)
+{
+    is_told = !is_given(handle);
+    return is_given(handle) ? CFE_SUCCESS : CFE_TBL_ERR_INVALID_HANDLE;
+}
+
 CFE_Status_t CFE_TBL_GetStatus(CFE_TBL_Handle_t handle)
 {
     if (!is_given(handle))
