@@ -16,17 +16,17 @@ use Rattle.cds_store.specs.Sound.{slot_at, EntryIs}
 use Rattle.cds_store.specs.StoreBlocks.{StoreParts, StandsFor}
 use Rattle.cds_store.specs.declared.slot.Slot.{Slot}
 
--- the first bytes of the bank, and the directory that they tell
+-- the first bytes of the bank, and the directory that they give
 pub record IsFront (front : List ℕ) (directory : List (Option Block)) (bytes : List ℕ) : Type 0 where
   pub read : front ≡ piece 0 directory_len bytes
   pub told : directory ≡ directory_of bytes
 
--- the same blocks stand open, with the same images
+-- the same blocks are open, with the same images
 pub record SameStore (old image : List ℕ) : Type 0 where
   pub directory : directory_of image ≡ directory_of old
   pub held : (n : ℕ) (b : Block) → slice_index_or (directory_of old) n None ≡ Some b → held_in image n b ≡ held_in old n b
 
--- of the first slots, the gates that tell no block of the directory are closed
+-- of the first slots, the gates that have no block of the directory are closed
 pub record Tidied (old now : List ℕ) (count : ℕ) : Type 0 where
   pub same : SameStore old now
   pub live : is_live now ≡ true
@@ -34,16 +34,16 @@ pub record Tidied (old now : List ℕ) (count : ℕ) : Type 0 where
   pub shut : (n : ℕ) → n < count → n < slot_count → slice_index_or (directory_of old) n None ≡ None → (gate_at now n == gate_open) ≡ false
   pub rest : (n : ℕ) → count ≤ n → n < slot_count → gate_at now n ≡ gate_at old n
 
--- no block stands open
+-- no block is open
 abbrev pub IsEmptied : List ℕ → Type 0
 IsEmptied image = directory_of image ≡ replicate slot_count None
 
--- the slot of a block that stands open
+-- the slot of a block that is open
 abbrev pub opened_slot : Block → Slot
 opened_slot b = record { block = b; doubtful = false }
 
--- in a store of the first version, the turn bytes of the blocks of the first slots tell what their first places hold. Until
--- another version stands there, no turn bytes are looked at
+-- in a store of the first version, the turn bytes of the blocks of the first slots say what their first places hold. Until another version
+-- is written there, no turn bytes are looked at
 pub record Carried (old now : List ℕ) (count : ℕ) : Type 0 where
   pub same : SameStore old now
   pub live : is_live now ≡ true
@@ -70,7 +70,7 @@ is_doubtful_at slots n = is_doubtful_slot (slot_at slots n)
 unfoldable pub found_to : ℕ → (ℕ → Bool) → List ℕ
 found_to count test = filter test (range_with_len 0 count)
 
--- the slots in doubt whose blocks stand open
+-- the slots in doubt whose blocks are open
 abbrev pub is_found : List (Option Slot) → List (Option Block) → ℕ → Bool
 is_found slots directory n = is_doubtful_at slots n && is_some (slice_index_or directory n None)
 
@@ -80,7 +80,7 @@ found_open slots directory = found_to slot_count (is_found slots directory)
 abbrev pub found_in : List (Option Slot) → Blocks → List ℕ
 found_in slots shown = found_to slot_count (λ n. is_doubtful_at slots n && is_some (stored_at shown n))
 
--- the blocks with which a boot begins: those that the store stands for, or those that its bank shows
+-- the blocks with which a boot begins: those that the store represents, or those that its bank shows
 abbrev pub BeginsAt : {B : Type 0} → Type 0 → (B → List ℕ) → StoreParts B → Blocks → Type 0
 BeginsAt tells now kept blocks = StandsFor tells now kept blocks ⊎ (tells × (blocks ≡ store_of (now kept.bank)))
 

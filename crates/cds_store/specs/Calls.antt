@@ -12,13 +12,13 @@ pub record Steady {B : Type 0} (size faults stops : B → ℕ) (old new : B) : T
   pub fault_count : faults old ≤ faults new
   pub stop_count : stops old ≤ stops new
 
--- a fault moved the count of faults alone, a stop that of stops, and a call that is done moved neither
+-- a fault moved only the count of faults, a stop only that of stops, and a call that is done moved neither
 abbrev pub CallCounted : {A B : Type 0} → (B → ℕ) → (B → ℕ) → B → B → Result A BankFault → Type 0
 CallCounted faults stops old new (Ok x) = Still faults stops old new
 CallCounted faults stops old new (Err (Fault gate old_gate)) = RoseAlone faults stops old new
 CallCounted faults stops old new (Err (Stopped gate old_gate)) = RoseAlone stops faults old new
 
--- nor did a reservation for which there was no room
+-- a reservation for which there was no room moved neither too
 abbrev pub ReserveCounted : {A B : Type 0} → (B → ℕ) → (B → ℕ) → B → B → Result A ReserveFault → Type 0
 ReserveCounted faults stops old new (Ok x) = Still faults stops old new
 ReserveCounted faults stops old new (Err NoRoom) = Still faults stops old new
@@ -38,7 +38,7 @@ pub record HasFlags (gate old : Bool) (fault : BankFault) : Type 0 where
   pub gate_is : is_gate fault ≡ gate
   pub old_is : is_old fault ≡ old
 
--- where a reservation broke off in a write
+-- if a reservation broke off in a write
 abbrev pub IfBank : ReserveFault → (BankFault → Type 0) → Type 0
 IfBank NoRoom P = Unit {0}
 IfBank (Bank fault) P = P fault

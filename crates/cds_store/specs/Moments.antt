@@ -46,7 +46,7 @@ TearsTurn slot b written bytes image = Torn (turn_place slot (hidden_in bytes sl
 abbrev pub CopyTears : ℕ → Block → List ℕ → List ℕ → List ℕ → Type 0
 CopyTears slot b written bytes image = TearsPlace slot b bytes image ⊎ TearsTurn slot b written bytes image
 
--- and where it broke off, by whether that was in its turn byte
+-- and if it broke off, by whether that was in its turn byte
 abbrev pub TearsBy : Bool → ℕ → Block → List ℕ → List ℕ → List ℕ → Type 0
 TearsBy true slot b written bytes image = TearsTurn slot b written bytes image
 TearsBy false slot b written bytes image = TearsPlace slot b bytes image

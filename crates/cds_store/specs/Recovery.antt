@@ -16,18 +16,18 @@ use Rattle.cds_store.specs.declared.recovery.RecoverFault.{RecoverFault}
 use Rattle.cds_store.specs.declared.recovery.RecoverFault.TheVariants.{Fault, Stopped, Memory}
 use Rattle.tbl_kinds.specs.declared.block.BlockKind.{BlockKind}
 
--- where a block of this kind and name is open, this is what it holds: its last completed image, or none where it has had
--- none; and where copies of it broke off at their turn byte since, that or the image of one of these
+-- if a block of this kind and name is open, this is what it holds: its last completed image, or none if it has had none. If copies of it
+-- broke off at their turn byte since, it holds that or the image of one of these
 abbrev pub Recovers : BlockKind → List ℕ → Blocks → Option (List ℕ) → Type 0
 Recovers kind name blocks image = (slot : ℕ) → open_of kind name blocks ≡ Some slot → ForSome (stored_at blocks slot) (λ b. MayGive b image)
 
--- what was counted where nothing is told: a fault or a stop alone, or nothing where memory ran out
+-- what was counted if nothing is recovered: only a fault or only a stop, or nothing if memory ran out
 abbrev pub RecoverCounted : {B : Type 0} → (B → ℕ) → (B → ℕ) → B → B → RecoverFault → Type 0
 RecoverCounted faults stops old new Fault = RoseAlone faults stops old new
 RecoverCounted faults stops old new Stopped = RoseAlone stops faults old new
 RecoverCounted faults stops old new Memory = Still faults stops old new
 
--- after the boot, what the open block of this kind and name holds is read, where there is one
+-- after the boot, what the open block of this kind and name holds is read, if there is one
 abbrev pub open_reads : BlockKind → List ℕ → Blocks → List ℕ → List BankCall
 open_reads kind name blocks bytes = option_map_or (λ (slot : ℕ). option_map_or (λ (b : Stored). restore_calls bytes slot b.block) (stored_at blocks slot) []) (open_of kind name blocks) []
 

@@ -19,7 +19,7 @@ abbrev pub is_doubtful_slot : BlockKind → List ℕ → Option Slot → Bool
 is_doubtful_slot kind name None = false
 is_doubtful_slot kind name (Some s) = is_of kind name s.block && s.doubtful
 
--- whether an open block stands there, of whatever name
+-- whether it has an open block, of whatever name
 abbrev pub has_open : Option Slot → Bool
 has_open None = false
 has_open (Some s) = not s.doubtful

@@ -17,7 +17,7 @@ pub record AreTogether (slots : List (Option Slot)) : Type 0 where
   pub right : (n : ℕ) → ForSome (slot_at slots n) (λ s. is_right s.block ≡ true)
   pub apart : (n m : ℕ) → n ≢ m → ForSome (slot_at slots n) (λ a. ForSome (slot_at slots m) (λ b. agree a.block b.block ≡ true))
 
--- the entry of a free slot has a closed gate; that of a taken one tells its block, and its gate is open or in doubt
+-- the entry of a free slot has a closed gate; that of a taken one has its block, and its gate is open or in doubt
 abbrev pub EntryIs : List ℕ → ℕ → Option Slot → Type 0
 EntryIs bytes n None = (gate_at bytes n == gate_open) ≡ false
 EntryIs bytes n (Some s) = (block_in (told_at bytes n) ≡ Some s.block) × (s.doubtful ≡ false → (gate_at bytes n == gate_open) ≡ true)
@@ -34,7 +34,7 @@ pub record IsSound {B : Type 0} (tells : Type 0) (size : B → ℕ) (now : B →
   pub room : bank_size ≤ size kept.bank
   pub matches : kept.booted ≡ true → tells → Matches (now kept.bank) kept.slots
 
--- a block that can be made in this slot, beside those that are there
+-- a block that can be made in this slot, besides those that are there
 pub record IsNew (n : ℕ) (slots : List (Option Slot)) (block : Block) : Type 0 where
   pub within : n < slot_count
   pub free : slot_at slots n ≡ None
@@ -46,8 +46,8 @@ abbrev pub IsOpenOf : ℕ → Option Slot → Type 0
 IsOpenOf size None = ⊥
 IsOpenOf size (Some s) = (s.doubtful ≡ false) × (s.block.size ≡ size)
 
--- what holds of a store, of the bytes into which it reads the first ones of its bank, and of those in which it spells an image
--- as it stands in a place
+-- what holds of a store, of the bytes into which it reads the first ones of its bank, and of those in which it spells an image as a place
+-- has it
 pub record IsKept {B : Type 0} (tells : Type 0) (size : B → ℕ) (now : B → List ℕ) (kept : StoreParts B) (front room : List ℕ) : Type 0 where
   pub sound : IsSound tells size now kept
   pub len : length front ≡ directory_len

@@ -1,4 +1,4 @@
--- Which lists of blocks a store stands for.
+-- Which lists of blocks a store represents.
 use Rattle.std.specs.Prelude.{◌≡◌, ℕ, List, map, slice_set, Bool, true, false, Option, Some, None, Result, Ok, Err, option_and_then}
 use Rattle.std.specs.Option.{option_map, ForSome}
 use Rattle.tbl_kinds.specs.Blocks.{Stored, Store as Blocks}
@@ -24,7 +24,7 @@ slot_of b = record { block = b.block; doubtful = b.doubtful }
 abbrev pub AreHeld : List ℕ → Blocks → Type 0
 AreHeld bytes blocks = (slot : ℕ) → ForSome (stored_at blocks slot) (λ b. MayGive b (held_in bytes slot b.block))
 
--- the open and the doubtful blocks are these, and what the bank holds, where it tells, shows them
+-- the open and the doubtful blocks are these, and what the bank holds shows them, if it shows its bytes
 pub record StandsFor {B : Type 0} (tells : Type 0) (now : B → List ℕ) (kept : StoreParts B) (blocks : Blocks) : Type 0 where
   pub slots : kept.slots ≡ map (option_map slot_of) blocks
   pub shows : tells → Shows blocks (store_of (now kept.bank))
@@ -42,17 +42,17 @@ doubted s = record { block = s.block; doubtful = true }
 abbrev pub with_new : Bool → ℕ → Block → Blocks → Blocks
 with_new doubtful slot block blocks = slice_set blocks slot (Some (new_block doubtful block.kind block.name block.size block.offset))
 
--- where the write that broke off was of its gate, it is in doubt, and else it isn't there
+-- if the write that broke off was of its gate, it is in doubt, and else it isn't there
 abbrev pub made_or_not : Bool → ℕ → Block → Blocks → Blocks
 made_or_not true slot block blocks = with_new true slot block blocks
 made_or_not false slot block blocks = blocks
 
--- where the write that closes the gate of a doubtful block broke off
+-- if the write that closes the gate of a doubtful block broke off
 abbrev pub closing : Option ℕ → Blocks → Blocks
 closing None blocks = blocks
 closing (Some slot) blocks = delete_broken slot blocks
 
--- where a new block was to be made beside, that one closed before
+-- if a new block was to be made as well, and the doubtful one was closed before
 abbrev pub broken_at : Bool → Bool → Option ℕ → ℕ → Block → Blocks → Blocks
 broken_at gate true old slot block blocks = closing old blocks
 broken_at gate false old slot block blocks = made_or_not gate slot block (freed old blocks)

@@ -28,7 +28,7 @@ impl Model for BlockList {
     ghost invariant = { λ l. l.count ≤ 128 };
 }
 
-/// What stands at a place that isn't used.
+/// What is at a place that isn't used.
 fn unused() -> Block {
     Block {
         kind: BlockKind::App,

@@ -30,7 +30,7 @@ use cds_layout::{Directory, ENTRIES_PLACE, is_live, read_directory};
 use tbl_kinds::{ResetKind, Slots};
 use tbl_outside::{Bank, Failed};
 
-/// Reads the first bytes of the bank, and the directory that they tell.
+/// Reads the first bytes of the bank, and the directory that they give.
 pub(crate) fn read_front<B: Bank>(
     bank: &mut B,
     front: &mut [u8],
@@ -106,7 +106,7 @@ pub(crate) fn clear_all<B: Bank>(bank: &mut B, front: &mut [u8]) -> Result<(), B
     clear(bank, first, entries_of(front))
 }
 
-/// Closes the gates of a live bank that tell no block, and carries a store of the first version over.
+/// Closes the gates of a live bank that have no block, and carries a store of the first version over.
 fn renew<B: Bank>(
     bank: &mut B,
     front: &[u8],
@@ -165,7 +165,7 @@ fn tidy<B: Bank>(
     }
 }
 
-/// Boots after a reset of the processor: each block that stands open is there, and those in doubt are settled.
+/// Boots after a reset of the processor: each open block is there, and those in doubt are settled.
 pub(crate) fn boot_processor<B: Bank>(
     bank: &mut B,
     slots: &mut Vec<Option<Slot>>,

@@ -1,5 +1,5 @@
-//! A store of the first version, in which a block had one place, is carried over: the turn bytes of each block tell its first
-//! place, and at last the version says that they count.
+//! A store of the first version, in which a block had one place, is carried over: first the turn bytes of each block are written for its
+//! first place, and last the version, which says that they count.
 
 ghost use Rattle.std.specs.Prelude.{◌≡◌, ◌≤◌, ◌<◌, ◌+◌, ◌++◌, List, ℕ, None, Some, [], ◌∷◌, true, false, length, is_ok, OnOk, IfOk, IfErr, slice_index_or};
 ghost use Rattle.tbl_kinds.specs.Places.{bank_size};
@@ -24,7 +24,7 @@ use cds_layout::{
 use tbl_kinds::Block;
 use tbl_outside::{Bank, Failed};
 
-/// The turn bytes by which the first place shows, if it is whole.
+/// The turn bytes that make the first place show, if it is whole.
 fn carried_turns(whole: bool) -> [u8; 2]
     ensures { result ≡ carried_turns whole }
 {
@@ -59,7 +59,7 @@ fn first_shows<B: Bank>(bank: &mut B, block: &Block, room: &mut [u8]) -> Result<
     }
 }
 
-/// Reads the first place of a block, and writes the turn bytes by which it shows, if it is whole.
+/// Reads the first place of a block, and writes the turn bytes that make it show, if it is whole.
 fn carry_block<B: Bank>(
     bank: &mut B,
     slot: u8,
@@ -143,7 +143,7 @@ fn carry_blocks<B: Bank>(
     Ok(())
 }
 
-/// Writes the version, by which the turn bytes count from now on.
+/// Writes the version. From now on the turn bytes count.
 fn write_version<B: Bank>(bank: &mut B) -> Result<(), BankFault>
     requires room { bank_size ≤ B.size bank.old }
     ensures done { OnOk result (B.tells → (old : List ℕ) → Carried old (B.now bank.old) slot_count → IsTidy old (B.now bank.new)) }

@@ -20,7 +20,7 @@ const LIVE: u8 = LIVE_MARK[0];
 /// Where the rest of the mark begins, with the version and twelve zeros.
 const MARK_PLACE: u32 = 1;
 
-/// Takes the first byte of the live mark away, where it is there: from then on the bank shows no block.
+/// Takes away the first byte of the live mark, if it is there. From then on the bank shows no block.
 fn close_live<B: Bank>(bank: &mut B, first: u8) -> Result<(), BankFault>
     requires room { bank_size ≤ B.size bank.old }
     requires read { B.tells → first ≡ byte_at 0 (B.now bank.old) }
@@ -96,8 +96,8 @@ fn open_live<B: Bank>(bank: &mut B) -> Result<(), BankFault>
     write(bank, 0, &[LIVE], false, false)
 }
 
-/// Clears the directory of a bank whose first byte was read: it is live then, and no gate is open. The first byte of the
-/// live mark goes first and comes last, so that no reset finds a part of the directory.
+/// Clears the directory of a bank whose first byte was read: it is live then, and no gate is open. The first byte of the live mark is taken
+/// away first and written last, so that no reset finds a part of the directory.
 pub(crate) fn clear<B: Bank>(bank: &mut B, first: u8, zeros: &[u8]) -> Result<(), BankFault>
     requires room { bank_size ≤ B.size bank.old }
     requires read { B.tells → first ≡ byte_at 0 (B.now bank.old) }

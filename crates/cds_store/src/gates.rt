@@ -29,7 +29,7 @@ fn doubt(slots: &mut Vec<Option<Slot>>, slot: u8)
     }
 }
 
-/// Closes the gate of a slot that is taken, and frees the slot. Where the write breaks off, the slot is in doubt.
+/// Closes the gate of a slot that is taken, and frees the slot. If the write breaks off, the slot is in doubt.
 pub(crate) fn close<B: Bank>(
     bank: &mut B,
     slots: &mut Vec<Option<Slot>>,

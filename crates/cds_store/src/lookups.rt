@@ -20,7 +20,7 @@ fn is_of(block: &Block, kind: BlockKind, name: &Name40) -> bool
     block.kind == kind && block.name.bytes() == name.bytes()
 }
 
-/// Whether an open block of this kind and name stands in a slot.
+/// Whether a slot has an open block of this kind and name.
 fn is_open(slot: &Option<Slot>, kind: BlockKind, name: &Name40) -> bool
     ensures { result ≡ is_open_slot kind name.now slot.now }
 {
@@ -30,7 +30,7 @@ fn is_open(slot: &Option<Slot>, kind: BlockKind, name: &Name40) -> bool
     }
 }
 
-/// Whether one in doubt stands there.
+/// Whether it has one in doubt.
 fn is_doubtful(slot: &Option<Slot>, kind: BlockKind, name: &Name40) -> bool
     ensures { result ≡ is_doubtful_slot kind name.now slot.now }
 {
@@ -125,7 +125,7 @@ pub(crate) fn block_in(slots: &[Option<Slot>], slot: u8) -> Option<&Block>
     }
 }
 
-/// The slot of this number, where an open block stands in it.
+/// The slot of this number, if it has an open block.
 pub(crate) fn open_in(slots: &[Option<Slot>], number: u16) -> Option<u8>
     requires { length slots.now ≤ 256 }
     ensures some { IfSome result (λ slot. slot ≡ number) }
@@ -137,7 +137,7 @@ pub(crate) fn open_in(slots: &[Option<Slot>], number: u16) -> Option<u8>
     }
 }
 
-/// Puts the block of a slot last, where one stands there.
+/// Puts the block of a slot last, if it has one.
 fn add_block(slot: &Option<Slot>, blocks: &mut BlockList)
     requires { length blocks.old.items < 128 }
     ensures { blocks.new.items ≡ blocks.old.items ++ blocks_of (slot.now ∷ []) }

@@ -19,8 +19,7 @@ use cds_layout::GATE_OPEN;
 use tbl_kinds::Block;
 use tbl_outside::Bank;
 
-/// Opens the gate of a free slot whose entry tells a block that holds no image. Where the write breaks off, the slot is
-/// in doubt.
+/// Opens the gate of a free slot whose entry has a block that holds no image. If the write breaks off, the slot is in doubt.
 fn open_gate<B: Bank>(
     bank: &mut B,
     slots: &mut Vec<Option<Slot>>,
@@ -50,8 +49,8 @@ fn open_gate<B: Bank>(
     written
 }
 
-/// Makes a block in a free slot: the entry is written, by which no place of it shows, and then the gate is opened. Where the
-/// first write breaks off, the slot stays free; where that of the gate does, it is in doubt.
+/// Makes a block in a free slot: first the entry is written, which makes no place of it show, and then the gate is opened. If the first
+/// write breaks off, the slot stays free. If the write of the gate breaks off, the slot is in doubt.
 pub(crate) fn make<B: Bank>(
     bank: &mut B,
     slots: &mut Vec<Option<Slot>>,

@@ -122,10 +122,10 @@ fn boot_and_restore<B: Bank>(
     }
 }
 
-/// What the block of this kind and name holds after a reset: a store is made over the bank and booted as after a reset of
-/// the processor, and the open block is restored. Whatever blocks the bank shows, and so also those that a call left which
-/// a reset broke off, an open one comes back as its last completed image, or as one whose copy broke off since. Where the
-/// bank shows none of this kind and name, nothing comes back. The bank comes back too, and can be opened again.
+/// What the block of this kind and name holds after a reset: a store is made over the bank and booted as after a reset of the processor,
+/// and the open block is restored. The blocks that the bank shows may be any, also those of a call that a reset broke off. An open one
+/// comes back as its last completed image, or as one whose copy broke off since. If the bank shows none of this kind and name, nothing
+/// comes back. The bank comes back too, and can be opened again.
 pub fn recover<B: Bank>(
     alloc: Global,
     bank: B,
@@ -142,7 +142,7 @@ pub fn recover<B: Bank>(
     ensures still { IfOk result (λ told. Still B.faults B.stops bank told.1) }
     ensures fault { IfErr result (λ back. RecoverCounted B.faults B.stops bank back.bank back.cause) }
 
-    // The bank is booted, and of the block alone what it holds is read, once.
+    // The bank is booted. Then only what the block holds is read, once.
     ensures calls_ok { IfOk result (λ told. B.tells →
         Asks B.tells_calls B.calls bank told.1 true (recover_calls kind name.now (B.now bank) (B.now told.1))) }
     ensures calls_err { IfErr result (λ back. (back.cause ≢ RecoverFault.Memory) → B.tells →

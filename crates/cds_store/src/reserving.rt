@@ -24,7 +24,7 @@ use crate::slot::Slot;
 use tbl_kinds::{Block, BlockKind, Name40};
 use tbl_outside::Bank;
 
-/// Closes a doubtful block, where there is one.
+/// Closes a doubtful block, if there is one.
 fn close_old<B: Bank>(
     bank: &mut B,
     slots: &mut Vec<Option<Slot>>,

@@ -1,4 +1,4 @@
-//! After a boot each slot has the block that stands open, and none is in doubt.
+//! After a boot each slot has the block that is open in it, and none is in doubt.
 
 ghost use Rattle.std.specs.Prelude.{◌≡◌, ◌<◌, ◌&&◌, ◌++◌, [], ◌∷◌, None, length, map, replicate, is_some, slice_index_or, if◌then◌else◌};
 ghost use Rattle.std.specs.Option.{option_map};
@@ -20,7 +20,7 @@ fn is_doubtful(slot: &Option<Slot>) -> bool
     }
 }
 
-/// Whether a slot is in doubt, and its block stands open.
+/// Whether a slot is in doubt, and its block is open.
 fn is_found(slots: &[Option<Slot>], directory: &Directory, slot: u8) -> bool
     requires { slot < length slots.now }
     ensures { result ≡ is_found slots.now directory.now slot }
@@ -38,7 +38,7 @@ fn note(found: &mut Slots, slot: u8, is_found: bool)
     }
 }
 
-/// The slots in doubt whose blocks stand open, in their order.
+/// The slots in doubt whose blocks are open, in their order.
 pub(crate) fn find_found(slots: &[Option<Slot>], directory: &Directory) -> Slots
     requires { length slots.now ≡ slot_count }
     ensures { result ≡ found_open slots.now directory.now }
@@ -64,7 +64,7 @@ fn opened(directory: &Directory, slot: u8) -> Option<Slot>
     }
 }
 
-/// Each slot gets the block that stands open in it.
+/// Each slot gets the block that is open in it.
 pub(crate) fn open_all(slots: &mut Vec<Option<Slot>>, directory: &Directory)
     requires slots { length slots.old.items ≡ slot_count }
     requires directory { length directory.now ≡ slot_count }

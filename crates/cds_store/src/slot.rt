@@ -4,6 +4,6 @@ use tbl_kinds::Block;
 #[derive(Drop)]
 pub struct Slot {
     pub block: Block,
-    /// Whether a write of its gate byte broke off, so that only a boot can tell whether it is open.
+    /// Whether a write of its gate byte broke off, so that only a boot finds out whether it is open.
     pub doubtful: bool,
 }

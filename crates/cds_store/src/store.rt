@@ -44,7 +44,7 @@ pub struct Store<B: Bank> {
     directory: Directory,
     /// Into which a boot reads the first bytes of the bank.
     front: Vec<u8>,
-    /// In which an image is spelled as it stands in a place.
+    /// The bytes in which an image is spelled as a place has it.
     room: Vec<u8>,
 }
 
@@ -149,9 +149,9 @@ impl<B: Bank> Store<B> {
         self.bank
     }
 
-    /// Reads the directory, and answers which slots in doubt it found open. After a reset of the processor each block
-    /// that stands open is there, and gates that tell none are closed; after a power-on, and over a bank that isn't live,
-    /// the directory is cleared. An `Err` leaves the store as right after `make`, without slots: boot again.
+    /// Reads the directory, and answers which slots in doubt it found open. After a reset of the processor each open block is there, and
+    /// gates that have none are closed; after a power-on, and over a bank that isn't live, the directory is cleared. An `Err` leaves the
+    /// store as right after `make`, without slots: boot again.
     pub fn boot(&mut self, kind: ResetKind) -> Result<Slots, BankFault>
         ensures booted { self.new.booted ≡ is_ok result }
         ensures ok { IfOk result (λ found. B.tells → (blocks : Blocks) → BeginsAt B.tells B.now self.old blocks →
@@ -222,7 +222,7 @@ impl<B: Bank> Store<B> {
         block_in(&self.slots, slot)
     }
 
-    /// The slot of this number, where an open block stands in it; none where it is in doubt, and where no block is there.
+    /// The slot of this number, if it has an open block. None if it is in doubt or has no block.
     pub fn open_in(&self, number: u16) -> Option<u8>
         ensures some { IfSome result (λ slot. slot ≡ number) }
         ensures open { is_some result ≡ has_open (slot_at self.now.slots number) }
@@ -257,7 +257,7 @@ impl<B: Bank> Store<B> {
         ensures slot { IfOk result (λ slot. (blocks : Blocks) → StandsFor B.tells B.now self.old blocks →
             least_free (closed kind name.now blocks) ≡ Some slot) }
 
-        // There is no room exactly where the definition has none, and then nothing was done.
+        // There is no room exactly if the definition has none, and then nothing was done.
         ensures full { (blocks : Blocks) → StandsFor B.tells B.now self.old blocks →
             lacks_room result ≡ not (has_room size (doubtful_of kind name.now blocks) blocks) }
         ensures untouched { lacks_room result ≡ true → self.new ≡ self.old }
@@ -281,9 +281,9 @@ impl<B: Bank> Store<B> {
         reserve(&mut self.bank, &mut self.slots, kind, name, size)
     }
 
-    /// Copies an image into an open block of its size: head and bytes in one write into the place that doesn't show, and then
-    /// its turn byte, by which it shows. Broken off before that byte it leaves what the block held; broken off in it, that or
-    /// the image.
+    /// Copies an image into an open block of its size: head and bytes in one write into the place that doesn't show, and then its turn
+    /// byte, which makes it show. If the copy breaks off before that byte, the block holds what it held. If it breaks off in that byte, the
+    /// block holds that or the image.
     pub fn copy(&mut self, slot: u8, image: &[u8]) -> Result<(), BankFault>
         requires booted { self.old.booted ≡ true }
         requires can { IsOpenOf (length image.now) (slot_at self.old.slots slot) }
@@ -319,7 +319,7 @@ impl<B: Bank> Store<B> {
         ensures ok { OnOk result ((blocks : Blocks) → StandsFor B.tells B.now self.old blocks →
             StandsFor B.tells B.now self.new (after (restore slot (Some into.new)) blocks)) }
 
-        // A block whose copies were all completed comes back as the last of them, or as none where it has had none.
+        // A block whose copies were all completed comes back as the last of them, or as none if it has had none.
         ensures comes_back { B.tells → (blocks : Blocks) → StandsFor B.tells B.now self.old blocks →
             ForSome (stored_at blocks slot) (λ b. b.trying ≡ [] → ComesBack result b.held into.new) }
         ensures torn { IfErr result (λ fault. B.tells → ForSome (slot_at self.old.slots slot) (λ s.
@@ -339,7 +339,7 @@ impl<B: Bank> Store<B> {
         restore(&mut self.bank, &self.slots, slot, into)
     }
 
-    /// Closes a slot that is taken, and frees it. Where the write breaks off, the slot is in doubt.
+    /// Closes a slot that is taken, and frees it. If the write breaks off, the slot is in doubt.
     pub fn delete_block(&mut self, slot: u8) -> Result<(), BankFault>
         requires booted { self.old.booted ≡ true }
         requires taken { IsSome (slot_at self.old.slots slot) }

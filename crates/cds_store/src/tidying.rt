@@ -1,4 +1,4 @@
-//! The gates of a live bank that tell no block are closed.
+//! The gates of a live bank that have no block are closed.
 
 ghost use Rattle.std.specs.Prelude.{◌≡◌, ◌≤◌, ◌<◌, ◌+◌, List, ℕ, [], true, false, length, is_ok, OnOk, IfErr, if◌then◌else◌};
 ghost use Rattle.tbl_kinds.specs.Places.{bank_size};
@@ -15,7 +15,7 @@ use crate::writes::set_gate;
 use cds_layout::{Directory, GATE_CLOSED, GATE_OPEN, SLOTS, gate_place};
 use tbl_outside::Bank;
 
-/// Whether the gate of a slot is open, and its entry tells no block of the directory.
+/// Whether the gate of a slot is open, and its entry has no block of the directory.
 fn is_stray(front: &[u8], directory: &Directory, slot: u8) -> bool
     requires len { length front.now ≡ directory_len }
     requires within { slot < slot_count }
@@ -24,8 +24,7 @@ fn is_stray(front: &[u8], directory: &Directory, slot: u8) -> bool
     front[gate_place(slot) as usize] == GATE_OPEN && directory.slot(slot).is_none()
 }
 
-/// Closes the gate of a slot, where it tells no block of the directory. The first bytes and the directory are those with
-/// which the boot began.
+/// Closes the gate of a slot, if it has no block of the directory. The first bytes and the directory are those with which the boot began.
 fn tidy_slot<B: Bank>(
     bank: &mut B,
     front: &[u8],
@@ -54,7 +53,7 @@ fn tidy_slot<B: Bank>(
     }
 }
 
-/// Closes each gate that tells no block of the directory, from the first slot to the last.
+/// Closes each gate that has no block of the directory, from the first slot to the last.
 pub(crate) fn tidy_live<B: Bank>(
     bank: &mut B,
     front: &[u8],

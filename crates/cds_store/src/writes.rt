@@ -68,8 +68,8 @@ pub(crate) fn set_gate<B: Bank>(
     write(bank, gate_place(slot), &[gate], true, old)
 }
 
-/// Writes what the entry of a slot has after its gate, while that is closed. Both places of its block are closed by it: what
-/// an earlier block left there never comes back.
+/// Writes what the entry of a slot has after its gate, while that is closed. It closes both places of its block, so what an earlier block
+/// left there never comes back.
 pub(crate) fn write_entry<B: Bank>(bank: &mut B, slot: u8, block: &Block) -> Result<(), BankFault>
     requires within { slot < slot_count }
     requires right { is_right block.now ≡ true }
@@ -116,7 +116,7 @@ fn turns_of<B: Bank>(bank: &mut B, slot: u8) -> Result<Turns, BankFault>
     }
 }
 
-/// Writes the turn byte of a place, by which that place shows.
+/// Writes the turn byte of a place, which makes that place show.
 fn write_turn<B: Bank>(bank: &mut B, slot: u8, place: Place, turn: Turn) -> Result<(), BankFault>
     requires within { slot < slot_count }
     requires room { bank_size ≤ B.size bank.old }
@@ -138,7 +138,7 @@ fn write_turn<B: Bank>(bank: &mut B, slot: u8, place: Place, turn: Turn) -> Resu
     )
 }
 
-/// Writes head and image, as they stand in a place, into a place of a block.
+/// Writes head and image, as a place has them, into a place of a block.
 fn write_place<B: Bank>(
     bank: &mut B,
     block: &Block,

@@ -19,7 +19,7 @@ use Rattle.tbl_outside.specs.declared.validator.Validator.{Ghosts as ValidatorGh
 
 -- ---- an entry
 
--- no bytes and no packets stand in it yet, and there is room for one event packet
+-- it has no bytes and no packets yet, and there is room for one event packet
 pub record IsEmptyReply (reply : Reply) : Type 0 where
   pub no_bytes : reply.bytes.list ≡ []
   pub no_packets : reply.packets.list ≡ []
@@ -63,7 +63,7 @@ pub record CanAnswer {B C : Type 0} (v : ValidatorGhosts C) (now : Moment B C) :
   pub ready : AreReady v now.parts
   pub numbers : AreCounts now.counts
 
--- the request of the entry was made, and the entry has what it did and how it is told, with this report
+-- the request of the entry was made, and the entry has what it did and how it is reported, with this report
 pub record Answers {B C : Type 0} (g : Ghosts B) (v : ValidatorGhosts C) (old new : Moment B C) (report : Reported) : Type 0 where
   pub actor_is : new.entry.actor ≡ old.entry.actor
   pub request_is : new.entry.request ≡ old.entry.request
@@ -71,7 +71,7 @@ pub record Answers {B C : Type 0} (g : Ghosts B) (v : ValidatorGhosts C) (old ne
   pub told : Tells old.counts new.counts (told_at old.parts.seconds old.parts.sub new.parts.tables new.entry.request (effect_in new.entry report)) new.entry.reply.packets.list
   pub small : IsSmall new.entry
 
--- and where memory ran out, the parts and what is counted are as they were
+-- and if memory ran out, the parts and what is counted are as they were
 abbrev pub Answered : {B C E : Type 0} → Ghosts B → ValidatorGhosts C → Moment B C → Moment B C → Reported → Result Unit E → Type 0
 Answered g v old new report (Ok x) = Answers g v old new report
 Answered g v old new report (Err e) = (new.parts ≡ old.parts) × (new.counts ≡ old.counts)

@@ -32,13 +32,13 @@ pub record AsksIn {B C : Type 0} (held : PartsView B C) (actor : Actor) (request
   pub owners : may_ask request ≡ true → (s : State) → IsStateOf s.store held s → (given : Given) → asked_in (effect_of s actor request given) ≡ questions
   pub others : may_ask request ≡ false → questions ≡ []
 
--- whatever opening the engine stands for, and whatever it has played since: an entry of this request asks this
+-- whatever opening the engine represents, and whatever it has played since: an entry of this request asks this
 pub record Asks {B C : Type 0} (g : Ghosts B) (engine : EngineView B C) (actor : Actor) (request : Request) (questions : List Question) : Type 0 where
   pub owners : may_ask request ≡ true → g.tells → (opening : State) (past : List Entry) → Stands g opening past engine
       → (e : Entry) → e.actor ≡ actor → e.request ≡ request → questions_in (run_from (begins_at opening) past) e ≡ questions
   pub others : may_ask request ≡ false → questions ≡ []
 
--- the engine stands for whatever it stood for, over the same bank
+-- the engine represents whatever it represented before, over the same bank
 pub record StandsOn {B C : Type 0} (g : Ghosts B) (old new : EngineView B C) : Type 0 where
   pub stands : (opening : State) (past : List Entry) → Stands g opening past old → Stands g opening past new
   pub after : (past : List Entry) → IsAfter past old → IsAfter past new
@@ -50,7 +50,7 @@ pub record StandsOn {B C : Type 0} (g : Ghosts B) (old new : EngineView B C) : T
 abbrev pub MeetsLimit : {B C : Type 0} → EngineView B C → Type 0
 MeetsLimit engine = (limit : ℕ) × IsLimit engine limit
 
--- another function stands under this number, if one did, and nothing else is changed
+-- another function has this number, if there was one, and nothing else is changed
 pub record HandsIn {B C : Type 0} (number : ℕ) (check : C) (old new : EngineView B C) : Type 0 where
   pub kit : Hands number check old.state.kit new.state.kit
   pub rest : new ≡ record old { state = record old.state { kit = new.state.kit } }

@@ -15,7 +15,7 @@ use Rattle.cds_layout.specs.Order.{boot_calls}
 use Rattle.cds_store.specs.StoreBlocks.{StoreParts, StandsFor}
 use Rattle.store_requests.specs.BankCalls.{AsksIn}
 
--- where no boot comes, the bank is as it was
+-- if no boot comes, the bank is as it was
 abbrev pub BootAsks : {B : Type 0} → Ghosts B → Option ResetKind → B → B → Bool → Type 0
 BootAsks g None old new done = new ≡ old
 BootAsks g (Some kind) old new done = Asks g.tells_calls g.calls old new done (boot_calls kind (g.now old))

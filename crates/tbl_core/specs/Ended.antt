@@ -8,7 +8,7 @@ use Rattle.store_requests.specs.Called.{with_boot}
 use Rattle.tbl_core.specs.declared.service.StepFault.{StepFault}
 use Rattle.tbl_core.specs.declared.service.StepFault.TheVariants.{Memory, BootFault, BootStopped}
 
--- only where a call was stopped a boot may have told more
+-- a boot may have added to the note only if a call was stopped
 pub record Follows (called note : BankNote) : Type 0 where
   pub ended : Bool
   pub stopped : Bool
@@ -16,7 +16,7 @@ pub record Follows (called note : BankNote) : Type 0 where
   pub is : note ≡ with_boot ended stopped found called
   pub same : called.outcome ≢ Stopped → note ≡ called
 
--- what a boot alone told, where there was one
+-- what a boot alone reported, if there was one
 abbrev pub boot_only : Outcome → BankNote → BankNote
 boot_only Stopped note = with_boot note.ended note.stopped [] untouched
 boot_only Untouched note = untouched
@@ -27,7 +27,7 @@ boot_only Failed note = untouched
 abbrev pub session_end : BankNote → Result Unit StepFault
 session_end note = if note.ended then (if note.stopped then Err BootStopped else Err BootFault) else Ok tt
 
--- a request was played, also where a boot in it was the last
+-- a request was played, also if a boot in it was the last
 abbrev pub OnPlayed : Result Unit StepFault → Type 0 → Type 0
 OnPlayed (Ok x) P = P
 OnPlayed (Err Memory) P = Unit {0}

@@ -1,4 +1,4 @@
--- What one step of the engine does, over every past that it may have played. The past is a list of entries that contracts alone see.
+-- What one step of the engine does, over every past that it may have played. The past is a list of entries that only contracts see.
 use Rattle.std.specs.Prelude.{◌≡◌, ◌≢◌, ℕ, List, [], ◌∷◌, ◌++◌, ◌<◌, length, Option, Some, Result}
 use Rattle.tbl_kinds.specs.declared.block.Block.{Block}
 use Rattle.tbl_kinds.specs.declared.entry.Entry.{Entry}
@@ -32,8 +32,8 @@ use Rattle.tbl_core.specs.declared.service.StepFault.{StepFault}
 use Rattle.tbl_outside.specs.declared.bank.Bank.{Ghosts}
 use Rattle.tbl_outside.specs.declared.validator.Validator.{Ghosts as ValidatorGhosts}
 
--- one request was played, and this is its entry, which has its causes: the counts of the bank moved as its note tells, and so where its
--- answer tells of trouble
+-- one request was played, and this is its entry, which has its causes: the counts of the bank moved as its note says, and also if its
+-- answer reports trouble
 pub record HasEntry {B C : Type 0} (g : Ghosts B) (old new : EngineView B C) (asked : Actor × Request) (e : Entry) (result : Result Unit StepFault) : Type 0 where
   pub actor_is : e.actor ≡ asked.0
   pub request_is : e.request ≡ asked.1
@@ -43,7 +43,7 @@ pub record HasEntry {B C : Type 0} (g : Ghosts B) (old new : EngineView B C) (as
   pub cause : HasCause e.reply.status e.given.note
   pub small : IsSmall e
 
--- whatever opening the engine stood for, and whatever it has played since: with this entry behind that past all of this holds
+-- whatever opening the engine represented, and whatever it has played since: with this entry after that past all of this holds
 pub record Steps {B C : Type 0} (g : Ghosts B) (v : ValidatorGhosts C) (old new : EngineView B C) (asked : Actor × Request) (e : Entry) (result : Result Unit StepFault) : Type 0 where
   pub adds : HasEntry g old new asked e result
   pub after : (past : List Entry) → IsAfter past old → IsAfter (past ++ e ∷ []) new
@@ -60,7 +60,7 @@ pub record Steps {B C : Type 0} (g : Ghosts B) (v : ValidatorGhosts C) (old new 
   -- whatever functions it was given at first, the verdicts are still theirs
   pub verdicts : (opening : State) (past : List Entry) (given : List (Option (KitEntry C))) → Vouches g v.verdict given opening (core_of past old)
       → Vouches g v.verdict given opening (core_of (past ++ e ∷ []) new)
-  -- and so each verdict that is told of an image
+  -- and so each verdict that is reported of an image
   pub kept : g.tells → (opening : State) (past : List Entry) (given : List (Option (KitEntry C))) → Vouches g v.verdict given opening (core_of past old)
       → KeepsToFunctions v.verdict given opening (past ++ e ∷ [])
   -- what a restore gave is what its block held in the bank as the step began
@@ -83,7 +83,7 @@ pub record Steps {B C : Type 0} (g : Ghosts B) (v : ValidatorGhosts C) (old new 
   -- what a handle pins after it, it pinned before, or it got the address in it
   pub pins : (past : List Entry) → IsAfter past old → PinsOnward (core_of past old) (core_of (past ++ e ∷ []) new)
 
--- one entry more stands in a log, of which this holds
+-- a log has one entry more, and this holds of it
 abbrev pub Enters : (Entry → Type 0) → List Entry → List Entry → Type 0
 Enters Is log entries = (e : Entry) × (entries ≡ log ++ e ∷ []) × Is e
 

@@ -20,7 +20,7 @@ pub record IsAnsweredIn (s : State) (e : Entry) : Type 0 where
   pub status : e.reply.status ≡ effect.status
   pub bytes : e.reply.bytes.list ≡ effect.bytes
 
--- A Read was answered as the model answers it in each state with these parts, whatever the bank tells. If it was given bytes, they are the
+-- A Read was answered as the model answers it in each state with these parts, whatever the bank shows. If it was given bytes, they are the
 -- very buffer that was handed in, with its spare room.
 pub record GivesLent {B C : Type 0} (held : PartsView B C) (slice : Buffer) (e : Entry) : Type 0 where
   pub answered : (s : State) → IsStateOf s.store held s → IsAnsweredIn s e

@@ -1,4 +1,4 @@
--- How the pins of handles go on from entry to entry, and what a pin that was lent tells of the core.
+-- How the pins of handles go on from entry to entry, and what a pin that was lent says of the core.
 use Rattle.std.specs.Prelude.{◌≡◌, ◌≢◌, ◌⊎◌, ℕ, ◌+◌, List, length, Bool, true, ◌&&◌, Some, IsSome, if◌then◌else◌, slice_get, slice_index_or, slice_set}
 use Rattle.tbl_model.specs.State.{Load, Table, Handle, Tables}
 use Rattle.tbl_model.specs.Tables.{table_at}

@@ -1,4 +1,4 @@
--- How requests are parted: by what plays them, and by whether packets tell of them.
+-- How requests are parted: by what plays them, and by whether packets report them.
 use Rattle.std.specs.Prelude.{ℕ, Bool, true, false, Option, Some, None}
 use Rattle.tbl_kinds.specs.declared.request.Request.{Request}
 use Rattle.tbl_kinds.specs.declared.request.Request.TheVariants as ask
@@ -17,7 +17,7 @@ is_uplink _ = false
 
 -- ---- applications
 
--- the handle of a call of which packets tell, which the owner of its table alone may make
+-- the handle of a call that packets report, and that only the owner of its table may make
 abbrev pub told_handle : Request → Option ℕ
 told_handle (ask.LoadImage handle image) = Some handle
 told_handle (ask.LoadFile handle name) = Some handle

@@ -1,4 +1,4 @@
--- What the core keeps, and which histories it stands for.
+-- What the core keeps, and which histories it represents.
 use Rattle.std.specs.Prelude.{◌≡◌, ◌⊎◌, ℕ, suc, ◌+◌, ◌*◌, ◌^◌, ◌-◌, ◌<◌, ◌≤◌, List, [], ◌∷◌, ◌++◌, length, Bool, true, false, not, Option, Some, None, IsSome, Result, slice_get}
 use Rattle.std.specs.Option.{ForSome}
 use Rattle.std.proofs.Common.{ℤ}
@@ -68,7 +68,7 @@ use Rattle.tbl_outside.specs.declared.validator.Validator.{Ghosts as ValidatorGh
 
 -- ---- what is kept
 
--- the parts of the service, as far as a state tells of them, with the validation functions themselves
+-- the parts of the service, as a state has them, with the validation functions themselves
 pub record PartsView (B C : Type 0) : Type 0 where
   pub tables : Tables
   pub pending : List (ℕ × Bool)
@@ -118,9 +118,9 @@ works_view works = record { state = parts_view works.parts; counts = counts_view
 abbrev pub core_of : {B C : Type 0} → List Entry → EngineView B C → CoreView B C
 core_of past engine = record { entries = past; state = engine.state; counts = engine.counts; gets = engine.gets }
 
--- ---- what the parts stand for
+-- ---- what the parts represent
 
--- over these blocks they stand for this state
+-- over these blocks they represent this state
 pub record IsStateOf {B C : Type 0} (blocks : Blocks) (held : PartsView B C) (s : State) : Type 0 where
   pub tables : s.tables ≡ held.tables
   pub pending : s.pending ≡ held.pending
@@ -148,27 +148,27 @@ state_of held = record {
   ended = held.ended;
 }
 
--- and the store stands for its blocks. After a boot that failed or was stopped it stands for none
+-- and the store represents its blocks. After a boot that failed or was stopped it represents none
 pub record HoldsAll {B C : Type 0} (g : Ghosts B) (held : PartsView B C) (s : State) : Type 0 where
   pub parts : IsStateOf s.store held s
   pub blocks : held.ended ≡ false → HasBlocks g.tells g.now held.store s.store
 
--- the parts and the running numbers stand for a run: its state, and what is counted over what was told
+-- the parts and the running numbers represent a run: its state, and what is counted over what was reported
 pub record Shows {B C : Type 0} (g : Ghosts B) (held : PartsView B C) (numbers : Counts) (r : Run) : Type 0 where
   pub state : HoldsAll g held r.state
   pub counts : counts_of r.past ≡ numbers
 
--- where the bank tells its bytes, the core's history is legal from the opening state on, and the core stands for what it leads to
+-- if the bank shows its bytes, the core's history is legal from the opening state on, and the core represents what it leads to
 pub record FollowsFrom {B C : Type 0} (g : Ghosts B) (opening : State) (core : CoreView B C) : Type 0 where
   pub legal : g.tells → IsLegal opening core.entries (run_from (begins_at opening) core.entries).state
   pub shows : g.tells → Shows g core.state core.counts (run_from (begins_at opening) core.entries)
 
--- the same of an engine, for a past that it doesn't keep: from the opening state on that past is legal, and the engine stands for what
--- it leads to
+-- the same of an engine, for a past that it doesn't keep: from the opening state on that past is legal, and the engine represents what it
+-- leads to
 abbrev pub Stands : {B C : Type 0} → Ghosts B → State → List Entry → EngineView B C → Type 0
 Stands g opening past engine = FollowsFrom g opening (core_of past engine)
 
--- and the verdicts in it are those of these functions, of which each that stands in the kit is one
+-- and the verdicts in it are those of these functions, each of which is one of the kit's
 pub record Vouches {B C : Type 0} (g : Ghosts B) (verdict : C → List ℕ → ℤ) (given : List (Option (KitEntry C))) (opening : State) (core : CoreView B C) : Type 0 where
   pub stands : FollowsFrom g opening core
   pub verdicts : g.tells → AreGiven verdict given (begins_at opening) core.entries
@@ -211,7 +211,7 @@ pub record IsReady {B C : Type 0} (v : ValidatorGhosts C) (engine : EngineView B
   pub numbers : AreCounts engine.counts
   pub places : length engine.gets ≡ handle_limit
 
--- the engine with the bound on images taken anew
+-- the engine with the bound on images taken again
 abbrev pub recounted : {B C : Type 0} → EngineView B C → EngineView B C
 recounted engine = record engine { images = most_images engine.state.tables }
 
@@ -249,7 +249,7 @@ step_of old new request = record { old = old; new = new; request = request }
 
 -- ---- one request about tables
 
--- the request has this effect, and the parts stand for the state that it leaves, over the same blocks
+-- the request has this effect, and the parts represent the state that it leaves, over the same blocks
 abbrev pub Leaves : {B C : Type 0} → Blocks → Effect → PartsView B C → Option model.Effect → Type 0
 Leaves blocks done held None = ⊥
 Leaves blocks done held (Some e) = IsEffect done e.questions e.next e × IsStateOf blocks held e.next
@@ -259,8 +259,7 @@ abbrev pub IsJudged : {C : Type 0} → ValidatorGhosts C → List (Option (KitEn
 IsJudged v old new verdicts None = ⊥
 IsJudged v old new verdicts (Some e) = Judged v old new e.questions verdicts
 
--- the request was done: this was its effect, the kit gave what it was asked for, no more events are told, and the store wasn't
--- called
+-- the request was done: this was its effect, the kit gave what it was asked for, no more events are reported, and the store wasn't called
 pub record Does {B C : Type 0} (v : ValidatorGhosts C) (most : ℕ) (old new : PartsView B C) (means : State → Given → Option model.Effect) (done : Effect) : Type 0 where
   pub effect : (s : State) → IsStateOf s.store old s → Leaves s.store done new (means s (given_of done))
   pub judged : (s : State) → IsStateOf s.store old s → IsJudged v old.kit new.kit done.verdicts (means s (given_of done))
@@ -292,7 +291,7 @@ pub record DoesAndCopies {B C : Type 0} (g : Ghosts B) (v : ValidatorGhosts C) (
 abbrev pub EndsIn : Request → List StoreCall → Blocks → Blocks → Type 0
 EndsIn request calls store left = DuringCalls (writes calls) store left ⊎ ((request ≡ ask.Reset PowerOn) × ShowsBlocks empty_store left)
 
--- in this state it has this effect, where the service has this note after it
+-- in this state it has this effect, if the service has this note after it
 pub record HasEffect {B C : Type 0} (g : Ghosts B) (v : ValidatorGhosts C) (step : Step B C) (s : State) (done : Effect) (note : BankNote) (e : model.Effect) : Type 0 where
   pub before : State  -- the boot
   pub holds : HoldsAll g step.new before
@@ -309,7 +308,7 @@ abbrev pub Has : {B C : Type 0} → Ghosts B → ValidatorGhosts C → Step B C 
 Has g v step s done note None = ⊥
 Has g v step s done note (Some e) = HasEffect g v step s done note e
 
--- the request was made. This holds over a bank that doesn't tell its bytes too
+-- the request was made. This also holds over a bank that doesn't show its bytes
 pub record Makes {B C : Type 0} (g : Ghosts B) (v : ValidatorGhosts C) (request : Request) (old new : PartsView B C) (done : Effect) : Type 0 where
   pub fit : (n : ℕ) → AreFit n (state_of old) → AreFit (suc n) (state_of new)
   pub judged : (questions : List Question) × Judged v old.kit new.kit questions done.verdicts
@@ -322,21 +321,21 @@ pub record Makes {B C : Type 0} (g : Ghosts B) (v : ValidatorGhosts C) (request 
   pub cause : HasCause done.answer.status done.note
   pub pins : HaveImages old.tables → HaveImages new.tables × PinsGoOn old.tables new.tables request done.answer.status
 
--- and this where it tells them: with any note that a boot may have told more, this was its effect
+-- and this if the bank shows them: with any note to which a boot may have added, this was its effect
 abbrev pub Meets : {B C : Type 0} → Ghosts B → ValidatorGhosts C → Step B C → (State → Given → Option model.Effect) → Effect → Type 0
 Meets g v step means done = g.tells → (s : State) → HoldsAll g step.old s → (note : BankNote) → Follows done.note note
     → Has g v step s done note (means s (record { note = note; verdicts = done.verdicts }))
 
 -- ---- the boot
 
--- after a call that was stopped no tables are left, and the service has ended where the boot failed
+-- after a call that was stopped no tables are left, and the service has ended if the boot failed
 abbrev pub after_stop : {B C : Type 0} → Outcome → BankNote → StoreParts B → PartsView B C → PartsView B C
 after_stop Stopped note store held = record held { tables = no_tables; pending = []; store = store; ended = note.ended }
 after_stop Untouched note store held = held
 after_stop Done note store held = held
 after_stop Failed note store held = held
 
--- in this state its effect was this, which the parts stand for
+-- in this state its effect was this, and the parts represent the state after it
 pub record HadEffect {B C : Type 0} (g : Ghosts B) (v : ValidatorGhosts C) (step : Step B C) (s : State) (done : Effect) (e : model.Effect) : Type 0 where
   pub told : IsEffect done e.questions e.next (uncalled e)
   pub holds : HoldsAll g step.new e.next
@@ -346,7 +345,7 @@ pub record HadEffect {B C : Type 0} (g : Ghosts B) (v : ValidatorGhosts C) (step
   pub asked : BankAsked g (boot_in step.request done.note.outcome) step.old.store step.new.store e.calls s.store done.note
   pub moments : Leaving g step.old.store step.new.store (EndsIn step.request e.calls s.store)
 
--- the request was made, and the service booted after it where it was stopped
+-- the request was made, and the service booted after it if it was stopped
 pub record IsMade {B C : Type 0} (g : Ghosts B) (v : ValidatorGhosts C) (step : Step B C) (means : State → Given → Option model.Effect) (done : Effect) : Type 0 where
   pub effect : g.tells → (s : State) → HoldsAll g step.old s → (e : model.Effect) × (means s (given_of done) ≡ Some e) × HadEffect g v step s done e
   pub fit : (n : ℕ) → AreFit n (state_of step.old) → AreFit (suc n) (state_of step.new)
@@ -368,7 +367,7 @@ pub record PinsOnward {B C : Type 0} (old new : CoreView B C) : Type 0 where
   pub got : (handle : ℕ) (e : Entry) → slice_get new.entries (length old.entries) ≡ Some e → gets_address handle e.request e.reply.status ≡ true
       → (pins_image handle new.state.tables ≡ true) × (handle < handle_limit → place_in new.gets handle ≡ length old.entries)
 
--- one request was played, and this is its entry: it is answered rightly whatever run the engine stood for
+-- one request was played, and this is its entry: it is answered rightly whatever run the engine represented
 pub record Plays {B C : Type 0} (g : Ghosts B) (v : ValidatorGhosts C) (old new : EngineView B C) (asked : Actor × Request) (entry : Entry) (result : Result Unit StepFault) : Type 0 where
   pub actor_is : entry.actor ≡ asked.0
   pub request_is : entry.request ≡ asked.1
@@ -396,7 +395,7 @@ pub record IsOfPin {B C : Type 0} (pin : Pin) (core : CoreView B C) : Type 0 whe
   pub got : IsGetAt core.entries pin.place pin.handle
   pub image : (image : List ℕ) → pinned_image pin.handle core.state.tables ≡ Some image → place_in core.gets pin.handle ≡ pin.place → image ≡ pin.bytes
 
--- one entry more, which has its causes: the counts of the bank moved as its note tells, and so where its answer tells of trouble
+-- one entry more, which has its causes: the counts of the bank moved as its note says, and also if its answer reports trouble
 pub record AddsOne {B C : Type 0} (g : Ghosts B) (old new : CoreView B C) (actor : Actor) (request : Request) (result : Result Unit StepFault) : Type 0 where
   pub entry : Entry
   pub actor_is : entry.actor ≡ actor
@@ -412,7 +411,7 @@ abbrev pub start_fault : BankFault → StartFault
 start_fault (Fault gate old) = BootFault
 start_fault (Cut gate old) = BootStopped
 
--- a start that isn't done moved the count that it tells
+-- a start that isn't done moved the count that it reports
 abbrev pub StartCounted : {B : Type 0} → Ghosts B → B → B → StartFault → Type 0
 StartCounted g old new Memory = Still g.faults g.stops old new
 StartCounted g old new BootFault = RoseAlone g.faults g.stops old new

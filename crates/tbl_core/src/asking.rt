@@ -91,7 +91,7 @@ impl<B: Bank, C: Validator> Engine<B, C> {
         self.works.parts.asks(actor, request)
     }
 
-    /// Makes room for this request, if there can be: how many images the tables have had is counted anew where the bound on that is too
+    /// Makes room for this request, if there can be: how many images the tables have had is counted again if the bound on that is too
     /// great. Whether the engine plays the request.
     pub fn make_room(&mut self, request: &Request) -> bool
         ensures room { result ≡ true → HasRoom self.new request.now }
@@ -105,8 +105,8 @@ impl<B: Bank, C: Validator> Engine<B, C> {
         self.limit_met(request).is_none()
     }
 
-    /// Puts another function in the place of the one of this number, if one stands there. It is the same application's, so whatever the
-    /// engine stood for, it stands for.
+    /// Puts another function in the place of the one of this number, if there is one. It is the same application's, so the engine
+    /// represents whatever it represented before.
     pub fn hand(&mut self, number: u8, check: C)
         requires fresh { C.asked check < 2 ^ 62 }
         ensures hands { HandsIn number check self.old self.new }

@@ -1,4 +1,4 @@
-//! Boots: the service begins anew, by a Reset, or at once where a request was stopped inside a call of the store.
+//! Boots: the service begins again, by a Reset, or at once if a request was stopped inside a call of the store.
 
 ghost use Rattle.std.specs.Prelude.{◌≡◌, [], replicate, not, true, false, None, Some, IfOk, OnErr};
 ghost use Rattle.tbl_kinds.specs.Blocks.{Store as Blocks};
@@ -28,7 +28,7 @@ use store_requests::{note_room, noted};
 use tbl_kinds::{Answer, BankNote, Bytes, Given, Memory, Note, Outcome, ResetKind, Status};
 use tbl_outside::{Bank, Validator};
 
-/// The store boots, and the note tells how it went.
+/// The store boots, and the note says how it went.
 fn boot_store<B: Bank>(store: &mut Store<B>, kind: ResetKind, note: &mut BankNote)
     requires fresh { NoBoot note.now }
     ensures booted { store.new.booted ≡ not note.exit.now.ended }
@@ -99,7 +99,7 @@ impl<B: Bank, C: Validator> Parts<B, C> {
         self.ended = note.ended;
     }
 
-    /// What outlives a reset of the processor goes with a power-on: uplinked files, and applications that run.
+    /// What outlives a reset of the processor is gone after a power-on: uplinked files, and applications that run.
     fn clear_at_power_on(&mut self, kind: ResetKind)
         ensures held { parts_view self.new ≡ record (parts_view self.old) { drawer = if_processor kind self.old.drawer []; apps = if_processor kind self.old.apps (replicate 16 None) } }
         ensures report { self.new.report ≡ self.old.report }
@@ -130,8 +130,8 @@ impl<B: Bank, C: Validator> Parts<B, C> {
         Ok(noted(Answer::plain(status), empty, whole))
     }
 
-    /// Boots as after a reset of the processor where a call of the store was stopped in the request of this note. The note tells
-    /// how the boot went.
+    /// Boots as after a reset of the processor if a call of the store was stopped in the request of this note. The note says how the boot
+    /// went.
     #[inline(always)]
     pub(crate) fn boot_if_stopped(&mut self, note: &mut Note)
         requires fresh { note.old.outcome ≡ Stopped → NoBoot note.old }

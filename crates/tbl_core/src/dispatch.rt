@@ -1,4 +1,4 @@
-//! Which request is played by what, and what packets tell of it.
+//! What plays each request, and what packets report of it.
 
 ghost use Rattle.std.specs.Prelude.{◌≡◌, [], true, None, IfOk, OnOk, OnErr, ◌≤◌, Some, IsSome};
 ghost use Rattle.tbl_kinds.specs.Requests.{Fits};
@@ -49,8 +49,8 @@ fn keep_given(given: &mut Given, note: Note, report: &Report)
 }
 
 impl<B: Bank, C: Validator> Parts<B, C> {
-    /// Does what the request of an entry asks, and keeps what came of it in the entry. If memory runs out, nothing is changed but
-    /// the entry and what is told.
+    /// Does what the request of an entry asks, and keeps the outcome in the entry. If memory runs out, nothing is changed but the entry and
+    /// what is reported.
     pub(crate) fn answer(
         &mut self,
         entry: &mut Entry,
@@ -86,7 +86,7 @@ impl<B: Bank, C: Validator> Parts<B, C> {
         }
     }
 
-    /// Plays a command, and tells what it did.
+    /// Plays a command, and reports what it did.
     fn command(&mut self, entry: &mut Entry, counters: &mut Counters) -> Result<(), Memory>
         requires command { is_command entry.old.request ≡ true }
         requires actor { entry.old.actor ≡ by.Ground }
@@ -120,7 +120,7 @@ impl<B: Bank, C: Validator> Parts<B, C> {
         Ok(())
     }
 
-    /// Does what a command asks that was read so. Where a call of the store was stopped, the service doesn't boot yet.
+    /// Does what a command asks that was read so. If a call of the store was stopped, the service doesn't boot yet.
     fn command_effect(
         &mut self,
         command: &ReadCommand,
@@ -197,9 +197,9 @@ impl<B: Bank, C: Validator> Parts<B, C> {
         }
     }
 
-    // ---- calls that only the owner of a table may make, and of which packets tell
+    // ---- calls that only the owner of a table may make, and that packets report
 
-    /// Does what an application asks for the table of a handle, whose owner alone may, and of which packets tell.
+    /// Does what an application asks for the table of a handle. Only the table's owner may ask it, and packets report it.
     fn owner(
         &mut self,
         app: u8,
@@ -236,7 +236,7 @@ impl<B: Bank, C: Validator> Parts<B, C> {
         }
     }
 
-    /// Does what the owner of the table of a row asks for it, and tells what was done.
+    /// Does what the owner of the table of a row asks for it, and reports what was done.
     fn told_call(
         &mut self,
         row: u8,
@@ -270,7 +270,7 @@ impl<B: Bank, C: Validator> Parts<B, C> {
         Ok(())
     }
 
-    /// Does what the owner of the table of a row asks for it. Where a copy into the store was stopped, the service doesn't boot yet.
+    /// Does what the owner of the table of a row asks for it. If a copy into the store was stopped, the service doesn't boot yet.
     fn told_effect(
         &mut self,
         row: u8,
@@ -305,9 +305,9 @@ impl<B: Bank, C: Validator> Parts<B, C> {
         }
     }
 
-    /// Does what the owner of the table of a row asks for it, by which an image can go active. Where one did and the table is
-    /// critical, the image is copied into its block. The memory for the copy is taken first, as nothing can be taken back then; the
-    /// copy comes last, so that no image is kept that didn't go active.
+    /// Does what the owner of the table of a row asks for it, by which an image can go active. If one did and the table is critical, the
+    /// image is copied into its block. The memory for the copy is taken first, as nothing can be taken back then; the copy comes last, so
+    /// that no image is kept that didn't go active.
     fn activate(
         &mut self,
         row: u8,

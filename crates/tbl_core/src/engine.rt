@@ -36,9 +36,9 @@ const ENGINE_LIMIT: u64 = (1 << 61) - 1;
 /// How many images a table may have had, so that its count doesn't wrap in the request after.
 const IMAGE_LIMIT: u32 = 4_294_967_293;
 
-/// The table service without its history: its state, the validation functions of its applications, and the bank that it keeps blocks
-/// in. Its memory doesn't grow with what was requested. What was requested and answered is known to contracts alone: they say what
-/// holds for every past that the engine may have played.
+/// The table service without its history: its state, the validation functions of its applications, and the bank in which it keeps blocks.
+/// Its memory doesn't grow with what was requested. Only contracts know what was requested and answered: they say what holds for every past
+/// that the engine may have played.
 #[derive(Drop)]
 pub struct Engine<B: Bank, C: Validator> {
     pub(crate) works: Works<B, C>,
@@ -57,9 +57,9 @@ impl<B: Bank, C: Validator> Model for Engine<B, C> {
 }
 
 impl<B: Bank, C: Validator> Engine<B, C> {
-    /// The engine at its start, which has played nothing, with these validation functions. Table files may come from these spacecraft
-    /// and processors, also after each reset. It boots as after a reset of the processor, since the bank may have blocks of an
-    /// earlier session; the bank again where that fails or is stopped, or where memory runs out.
+    /// The engine at its start, which has played nothing, with these validation functions. Table files may come from these spacecraft and
+    /// processors, also after each reset. It boots as after a reset of the processor, since the bank may have blocks of an earlier session;
+    /// an error gives the bank back if that fails or is stopped, or if memory runs out.
     #[tactic(auto, unfolding(tbl_model::specs::Counts::counts_of))]
     pub fn start(
         alloc: Global,
@@ -76,7 +76,7 @@ impl<B: Bank, C: Validator> Engine<B, C> {
         ensures admit { IfOk result (λ engine. engine.state.admit ≡ admit) }
         ensures live { IfOk result (λ engine. engine.state.ended ≡ false) }
         ensures counts { IfOk result (λ engine. Still B.faults B.stops bank engine.state.store.bank) }
-        // A reset at any moment in it leaves the blocks that the bank showed, also where there is no engine then.
+        // A reset at any moment in it leaves the blocks that the bank showed, also if there is no engine then.
         ensures crash { IfOk result (λ engine. B.tells_moments → LeavesOnly B.clock B.left_since bank engine.state.store.bank (ShowsIn (store_of (B.now bank)))) }
         ensures crash_err { IfErr result (λ back. B.tells_moments → LeavesOnly B.clock B.left_since bank back.bank (ShowsIn (store_of (B.now bank)))) }
         ensures cause { IfErr result (λ back. StartCounted B.Bank bank back.bank back.cause) }
@@ -127,9 +127,9 @@ impl<B: Bank, C: Validator> Engine<B, C> {
         self.works.played
     }
 
-    /// The limit that keeps it from playing this request, if one does: 2^61 - 1 requests were played, or a table may have had
-    /// 4,294,967,293 images since it was registered, as far as they were counted (`recount` counts them anew). A reset may come even
-    /// after so many images, and leaves no tables.
+    /// The limit that keeps it from playing this request, if one does: 2^61 - 1 requests were played, or a table may have had 4,294,967,293
+    /// images since it was registered, as they were counted (`recount` counts them again). A reset may come even after so many images,
+    /// since it leaves no tables.
     pub fn limit_met(&self, request: &Request) -> Option<u64>
         ensures { MatchOption result (HasRoom self.now request.now) (IsLimit self.now) }
     {
@@ -145,8 +145,8 @@ impl<B: Bank, C: Validator> Engine<B, C> {
         }
     }
 
-    /// Counts anew how many images the tables have had since they were registered. Nothing else is changed, so whatever the engine stood
-    /// for, it stands for. A table that is registered again begins with none, and a reset leaves no tables.
+    /// Counts again how many images the tables have had since they were registered. Nothing else is changed, so the engine represents
+    /// whatever it represented before. A table that is registered again begins with none, and a reset leaves no tables.
     pub fn recount(&mut self)
         ensures { self.new ≡ recounted self.old }
     {
@@ -164,8 +164,8 @@ impl<B: Bank, C: Validator> Engine<B, C> {
         begun(self.works.parts.alloc, actor, request)
     }
 
-    /// Plays the request of an entry, and keeps in the entry what came of it. Whatever the engine stood for, and whatever it has played
-    /// since, it stands for that with this entry more. Where the service boots in it and that boot fails or is stopped, it plays no
+    /// Plays the request of an entry, and keeps the outcome in the entry. Whatever the engine represented, and whatever it has played
+    /// since, it now represents that with this entry added. If the service boots in it and that boot fails or is stopped, it plays no
     /// further one. If memory runs out, nothing is changed but the entry.
     #[inline(always)]
     pub fn play(&mut self, entry: &mut Entry) -> Result<(), StepFault>
@@ -199,8 +199,8 @@ impl<B: Bank, C: Validator> Engine<B, C> {
         self.works.play_read(entry, pin, slice)
     }
 
-    /// Lends the image that a handle pins, with the place of the call that got its address. None where the handle leads to no
-    /// table, or pins no image. An Err means that the image has as many owners as can be counted.
+    /// Lends the image that a handle pins, with the place of the call that got its address. None if the handle leads to no table, or pins
+    /// no image. An Err means that the image has as many owners as can be counted.
     pub fn lend(&self, handle: u16) -> Result<Option<Pin>, Memory>
         ensures lent { IfOk result (λ lent. lent ≡ lent_at handle (place_in self.now.gets handle) self.now.state.tables) }
         ensures none { IfOk result (λ lent. is_some lent ≡ pins_image handle self.now.state.tables) }

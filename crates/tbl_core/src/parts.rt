@@ -1,4 +1,4 @@
-//! What requests work on, beside the history.
+//! What requests work on, besides the history.
 
 ghost use Rattle.std.specs.Prelude.{◌≡◌, false, ◌↔◌, [], replicate, None, IsTrue, IfOk, IfErr, ◌≤◌};
 ghost use Rattle.tbl_kinds.specs.Places.{bank_size};
@@ -16,7 +16,7 @@ use tbl_outside::{Back, Bank, Validator};
 use tbl_registry::Tables;
 use validation::{Kit, Pending};
 
-/// The parts of the service, of which a request changes several in one go.
+/// The parts of the service. A request may change several of them in one go.
 #[derive(Drop)]
 pub(crate) struct Parts<B: Bank, C: Validator> {
     pub alloc: Global,
@@ -31,13 +31,13 @@ pub(crate) struct Parts<B: Bank, C: Validator> {
     pub clock: Clock,
     /// Whether a boot failed or was stopped.
     pub ended: bool,
-    /// What telemetry tells of the request that is played.
+    /// What telemetry reports of the request that is played.
     pub report: Report,
     /// Memory that a copy into the store may need.
     pub copies: CopyRoom,
 }
 
-/// What the parts take from memory beside the store.
+/// What the parts take from memory besides the store.
 #[derive(Drop)]
 struct Room {
     tables: Tables,

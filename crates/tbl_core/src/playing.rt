@@ -137,7 +137,7 @@ impl<B: Bank, C: Validator> Works<B, C> {
         })
     }
 
-    /// The place of the latest request that got an address by this handle, 0 where there is none.
+    /// The place of the latest request that got an address by this handle, 0 if there is none.
     fn place_of(&self, handle: u16) -> u64
         ensures { result ≡ place_in self.now.gets.items handle }
     {
@@ -163,7 +163,7 @@ impl<B: Bank, C: Validator> Works<B, C> {
         self.parts.tables.lend(handle, self.place_of(handle))
     }
 
-    /// Takes the bound on the images of a table anew: the most that one has had.
+    /// Takes the bound on the images of a table again: the most that one has had.
     pub(crate) fn recount(&mut self)
         requires ready { IsReady C.Validator (works_view self.old) }
         ensures images { works_view self.new ≡ recounted (works_view self.old) }
@@ -172,8 +172,8 @@ impl<B: Bank, C: Validator> Works<B, C> {
         self.images = self.parts.tables.most_images();
     }
 
-    /// Does what a request asks to which nothing is answered yet, and keeps in its entry what came of it. If memory runs out, nothing
-    /// is changed but the entry. Where the service boots in the request and that boot fails or is stopped, the entry is the last one.
+    /// Does what a request asks that isn't answered yet, and keeps the outcome in its entry. If memory runs out, nothing is changed but the
+    /// entry. If the service boots in the request and that boot fails or is stopped, the entry is the last one.
     #[inline(always)]
     pub(crate) fn play(&mut self, entry: &mut Entry) -> Result<(), StepFault>
         requires fits { Fits entry.old.actor entry.old.request }

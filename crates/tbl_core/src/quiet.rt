@@ -1,4 +1,4 @@
-//! Requests of which no packet tells, and that don't call the Critical Data Store.
+//! Requests that no packet reports, and that don't call the Critical Data Store.
 
 ghost use Rattle.std.specs.Prelude.{◌≡◌, [], true, false, None, IfOk, OnOk, OnErr};
 ghost use Rattle.tbl_kinds.specs.Requests.{Fits};
@@ -27,7 +27,7 @@ use tbl_kinds::{Actor, Answer, Bytes, Entry, Memory, Request, Status};
 use tbl_outside::{Bank, Validator};
 
 impl<B: Bank, C: Validator> Parts<B, C> {
-    /// Takes an uplinked file, or the time. Nothing is told of it.
+    /// Takes an uplinked file, or the time. Nothing is reported.
     pub(crate) fn uplink_call(&mut self, entry: &mut Entry) -> Result<(), Memory>
         requires uplink { is_uplink entry.old.request ≡ true }
         requires actor { entry.old.actor ≡ by.Ground }
@@ -66,7 +66,7 @@ impl<B: Bank, C: Validator> Parts<B, C> {
         }
     }
 
-    /// Does what an application asks of which no packet tells, and that doesn't call the Critical Data Store.
+    /// Does what an application asks that no packet reports, and that doesn't call the Critical Data Store.
     pub(crate) fn user(
         &mut self,
         app: u8,

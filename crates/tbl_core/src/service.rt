@@ -97,9 +97,9 @@ impl<B: Bank, C: Validator> Model for Core<B, C> {
 }
 
 impl<B: Bank, C: Validator> Core<B, C> {
-    /// The service at its start, with an empty history and these validation functions. Table files may come from these spacecraft
-    /// and processors, also after each reset. It boots as after a reset of the processor, since the bank may have blocks of an
-    /// earlier session; the bank again where that fails or is stopped, or where memory runs out.
+    /// The service at its start, with an empty history and these validation functions. Table files may come from these spacecraft and
+    /// processors, also after each reset. It boots as after a reset of the processor, since the bank may have blocks of an earlier session;
+    /// an error gives the bank back if that fails or is stopped, or if memory runs out.
     pub fn start(
         alloc: Global,
         bank: B,
@@ -115,7 +115,7 @@ impl<B: Bank, C: Validator> Core<B, C> {
         ensures empty { IfOk result (λ core. core.entries ≡ []) }
         ensures live { IfOk result (λ core. core.state.ended ≡ false) }
         ensures counts { IfOk result (λ core. Still B.faults B.stops bank core.state.store.bank) }
-        // A reset at any moment in it leaves the blocks that the bank showed, also where there is no service then.
+        // A reset at any moment in it leaves the blocks that the bank showed, also if there is no service then.
         ensures crash { IfOk result (λ core. B.tells_moments → LeavesOnly B.clock B.left_since bank core.state.store.bank (ShowsIn (store_of (B.now bank)))) }
         ensures crash_err { IfErr result (λ back. B.tells_moments → LeavesOnly B.clock B.left_since bank back.bank (ShowsIn (store_of (B.now bank)))) }
         ensures cause { IfErr result (λ back. StartCounted B.Bank bank back.bank back.cause) }
@@ -158,15 +158,14 @@ impl<B: Bank, C: Validator> Core<B, C> {
         self.engine.is_live()
     }
 
-    /// Plays one request, and adds its entry to the history. Where the service boots in it and that boot fails or is stopped,
-    /// it plays no further one.
+    /// Plays one request, and adds its entry to the history. If the service boots in it and that boot fails or is stopped, it plays no
+    /// further one.
     #[inline(always)]
     pub fn step(&mut self, actor: Actor, request: Request) -> Result<(), StepFault>
         requires fits { Fits actor request }
         requires live { self.old.state.ended ≡ false }
         requires room { length self.old.entries < record_limit }
-        // One entry more, also where a boot in the request was the last; its note and its answer have their causes in the counts
-        // of the bank.
+        // One entry more, also if a boot in the request was the last; its note and its answer have their causes in the counts of the bank.
         ensures adds { OnPlayed result (AddsOne B.Bank self.old self.new actor request result) }
         ensures legal { OnPlayed result ((opening : State) → FollowsFrom B.Bank opening self.old → FollowsFrom B.Bank opening self.new) }
         ensures whole { OnPlayed result (B.tells → (opening : State) → opening.tables ≡ no_tables → opening.pending ≡ [] → FollowsFrom B.Bank opening self.old → IsWhole opening self.new.entries) }
@@ -181,7 +180,7 @@ impl<B: Bank, C: Validator> Core<B, C> {
         // Whatever functions it was given at first, the history's verdicts are still theirs.
         ensures verdicts { OnPlayed result ((opening : State) (given : List (Option (Function C))) → Vouches B.Bank C.verdict given opening self.old
             → Vouches B.Bank C.verdict given opening self.new) }
-        // And so each verdict that is told of an image.
+        // And so each verdict that is reported of an image.
         ensures kept { OnPlayed result (B.tells → (opening : State) (given : List (Option (Function C))) → Vouches B.Bank C.verdict given opening self.old
             → KeepsToFunctions C.verdict given opening self.new.entries) }
         // What a restore gave is what its block held in the bank as the step began.
@@ -227,8 +226,7 @@ impl<B: Bank, C: Validator> Core<B, C> {
         requires slice { IsSliceOf pin.now request slice.list }
         // Over any bank: what was handed in is what is answered, or the Read is refused.
         ensures lent { StillPins pin.now self.old.gets → OnPlayed result (LastGives self.old.state self.old.entries self.new.entries slice) }
-        // One entry more, also where a boot in the request was the last; its note and its answer have their causes in the counts
-        // of the bank.
+        // One entry more, also if a boot in the request was the last; its note and its answer have their causes in the counts of the bank.
         ensures adds { OnPlayed result (AddsOne B.Bank self.old self.new actor request result) }
         ensures legal { OnPlayed result ((opening : State) → FollowsFrom B.Bank opening self.old → FollowsFrom B.Bank opening self.new) }
         ensures whole { OnPlayed result (B.tells → (opening : State) → opening.tables ≡ no_tables → opening.pending ≡ [] → FollowsFrom B.Bank opening self.old → IsWhole opening self.new.entries) }
@@ -243,7 +241,7 @@ impl<B: Bank, C: Validator> Core<B, C> {
         // Whatever functions it was given at first, the history's verdicts are still theirs.
         ensures verdicts { OnPlayed result ((opening : State) (given : List (Option (Function C))) → Vouches B.Bank C.verdict given opening self.old
             → Vouches B.Bank C.verdict given opening self.new) }
-        // And so each verdict that is told of an image.
+        // And so each verdict that is reported of an image.
         ensures kept { OnPlayed result (B.tells → (opening : State) (given : List (Option (Function C))) → Vouches B.Bank C.verdict given opening self.old
             → KeepsToFunctions C.verdict given opening self.new.entries) }
         // What a restore gave is what its block held in the bank as the step began.
@@ -274,8 +272,8 @@ impl<B: Bank, C: Validator> Core<B, C> {
             .play_read(&mut self.engine, actor, request, pin, slice)
     }
 
-    /// Lends the image that a handle pins, with the place of the call that got its address. None where the handle leads to no
-    /// table, or pins no image. An Err means that the image has as many owners as can be counted.
+    /// Lends the image that a handle pins, with the place of the call that got its address. None if the handle leads to no table, or pins
+    /// no image. An Err means that the image has as many owners as can be counted.
     pub fn lend(&self, handle: u16) -> Result<Option<Pin>, Memory>
         ensures lent { IfOk result (λ lent. lent ≡ lent_at handle (place_in self.now.gets handle) self.now.state.tables) }
         ensures none { IfOk result (λ lent. is_some lent ≡ pins_image handle self.now.state.tables) }

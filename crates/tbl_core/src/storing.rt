@@ -19,7 +19,7 @@ use tbl_kinds::{Bytes, Entry, Given, Memory, Request};
 use tbl_outside::{Bank, Validator};
 
 impl<B: Bank, C: Validator> Parts<B, C> {
-    /// Resets the processor. Nothing is told of it.
+    /// Resets the processor. Nothing is reported.
     #[inline(never)]
     pub(crate) fn reset_call(
         &mut self,
@@ -44,7 +44,7 @@ impl<B: Bank, C: Validator> Parts<B, C> {
         Ok(())
     }
 
-    /// Does what an application asks that calls the Critical Data Store, and boots where a call of it was stopped.
+    /// Does what an application asks that calls the Critical Data Store, and boots if a call of it was stopped.
     #[inline(never)]
     pub(crate) fn store_call(
         &mut self,

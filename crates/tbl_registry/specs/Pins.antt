@@ -4,13 +4,13 @@ use Rattle.std.specs.Option.{ForSome}
 use Rattle.tbl_model.specs.State.{Load, Table}
 use Rattle.access_desc.specs.declared.handle_view.HandleView.{HandleView}
 
--- P of what stands at each place
+-- P of what is at each place
 abbrev pub AtEachPlace : {X : Type 0} → (X → Type 0) → List (Option X) → Type 0
 AtEachPlace P places = (n : ℕ) → ForSome (slice_index_or places n None) P
 
--- a table with so many images, this image before the last and this load has an image for a pin of the last one, or of
--- the old one before it. Beside a pin of the old one no load is open. A table with a single buffer has no image before
--- the last, so its pins are of the last one
+-- a table with so many images, this image before the last and this load has an image for a pin of the last one, or of the old one before
+-- it. While a pin of the old one lasts no load is open. A table with a single buffer has no image before the last, so its pins are of the
+-- last one
 pub record IsPinned (count : ℕ) (before : Option (List ℕ)) (load : Option Load) (old : Bool) : Type 0 where
   pub loaded : 0 < count
   pub kept : old ≡ true → IsSome before

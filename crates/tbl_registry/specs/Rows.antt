@@ -8,8 +8,8 @@ use Rattle.tbl_registry.specs.declared.row.DumpFile.{DumpFile}
 use Rattle.tbl_registry.specs.declared.row.DumpFile.TheVariants.{Quiet, Asked, Filled}
 use Rattle.tbl_registry.specs.declared.row.Row.TheInside.{Inside}
 
--- a table of 1 to 16,384 bytes, whose images all have its size. It has a last one once it had one, and one before that
--- only where it has two buffers. A dump-only table has one buffer and no load
+-- a table of 1 to 16,384 bytes, whose images all have its size. It has a last one once it had one, and one before that only if it has two
+-- buffers. A dump-only table has one buffer and no load
 pub record IsTable (t : Table) : Type 0 where
   pub some_bytes : 0 < t.size
   pub within : t.size ≤ table_limit
@@ -48,7 +48,7 @@ table_of row = record {
   file = row.file;
 }
 
--- it has two buffers where its table has that option
+-- it has two buffers if its table has that option
 pub record IsRow (row : Inside) : Type 0 where
   pub table : IsTable (table_of row)
   pub buffers : row.buffers.double ≡ is_double (table_of row)

@@ -21,7 +21,7 @@ handle_of rows h = record { app = h.app; row = h.row; told = h.told; pin = pin_o
 abbrev pub tables_of : List (Option Table) → List (Option HandleView) → Tables
 tables_of rows handles = record { rows = rows; handles = map (option_map (handle_of rows)) handles }
 
--- it pins the last of so many images, and was told of all
+-- it pins the last of so many images, and knows of all
 abbrev pub with_last : ℕ → HandleView → HandleView
 with_last count h = with_told count (with_pin h)
 
@@ -29,7 +29,7 @@ with_last count h = with_told count (with_pin h)
 abbrev pub drop_before_unless : Bool → Table → Table
 drop_before_unless pinned t = record t { before = if pinned then t.before else None }
 
--- an image becomes the last one, and the one that was stays where it is pinned and there is a buffer for it
+-- an image becomes the last one, and the one that was stays if it is pinned and there is a buffer for it
 abbrev pub with_next : Table → List ℕ → Bool → Table
 with_next t image pinned = drop_before_unless pinned (record t { count = t.count + 1; last = Some image; before = if is_double t then t.last else None })
 

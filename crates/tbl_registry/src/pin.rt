@@ -6,8 +6,8 @@ use buffer_pairs::Image;
 use std::alloc::Global;
 use tbl_kinds::{Bytes, Memory, Name40};
 
-/// An image that a handle pinned, lent by the registry. It owns the bytes beside the table: nobody changes them while it stands,
-/// also where the handle has given its pin back since. It can be read in any thread, without the registry.
+/// An image that a handle pinned, lent by the registry. It owns the bytes together with the table. Nobody changes them while it lives, also
+/// if the handle has given its pin back since. It can be read in any thread, without the registry.
 #[derive(Drop)]
 pub struct Pin {
     bytes: Image,
@@ -36,8 +36,8 @@ impl Pin {
         self.bytes.bytes()
     }
 
-    /// The bytes of the image once more, in the same memory. It copies none and takes no memory, and fails only where they have as
-    /// many owners as can be counted.
+    /// The bytes of the image once more, in the same memory. It copies none and takes no memory, and fails only if they have as many owners
+    /// as can be counted.
     pub fn bytes_again(&self, alloc: Global) -> Result<Bytes, Memory>
         ensures { IfOk result (λ bytes. bytes.list ≡ self.now.bytes) }
     {

@@ -27,7 +27,7 @@ pub struct NewTable {
     /// How many bytes an image of it has.
     pub size: u32,
     pub flags: Options,
-    /// The number under which its validation function stands in the kit.
+    /// The number that its validation function has in the kit.
     pub validator: Option<u8>,
     /// The image that it begins with, as a recovered one.
     pub first: Option<Image>,
@@ -54,7 +54,7 @@ pub struct RowView {
     /// How many bytes an image of it has.
     pub size: u32,
     pub flags: Options,
-    /// The number under which its validation function stands in the kit.
+    /// The number that its validation function has in the kit.
     pub validator: Option<u8>,
     /// How many images it has had since its registration.
     pub count: u32,
@@ -65,7 +65,7 @@ pub struct RowView {
     /// Whether the activation of the open load was requested.
     pub asked: bool,
     pub dump: Dump,
-    /// The command packet that tells the owner of pending work.
+    /// The command packet that notifies the owner of pending work.
     pub notice: Option<Notice>,
 }
 
@@ -333,8 +333,8 @@ impl Row {
         }
     }
 
-    /// A further owner of its last image, or of the one before it. None where there is none; an Err means that the image has as
-    /// many owners as can be counted.
+    /// A further owner of its last image, or of the one before it. None if there is none; an Err means that the image has as many owners as
+    /// can be counted.
     pub(crate) fn share(&self, before: bool) -> Result<Option<Image>, Memory>
         ensures image { IfOk result (λ image. image ≡ (if before then self.now.before else self.now.last)) }
         ensures loaded { 0 < self.now.count → IsSome self.now.last }
@@ -350,7 +350,7 @@ impl Row {
         }
     }
 
-    /// An image that it has no more, for the memory that its bytes stand in.
+    /// An image that it doesn't have any more, for the memory of its bytes.
     pub(crate) fn take_spare(&mut self) -> Option<Image>
         ensures { self.new ≡ self.old }
     {
@@ -397,7 +397,7 @@ impl Row {
         self.file = file.copy();
     }
 
-    /// What is pending for it, where no validation is.
+    /// What is pending for it, if no validation is.
     pub(crate) fn pending(&self) -> Status
         ensures { (row : ℕ) → result ≡ pending_status [] row self.now }
     {
@@ -410,7 +410,7 @@ impl Row {
         }
     }
 
-    /// Sets the notice that tells its owner of pending work.
+    /// Sets the notice of pending work to its owner.
     pub(crate) fn set_notice(&mut self, notice: Notice)
         ensures { self.new ≡ record self.old { notice = Some notice } }
     {
@@ -480,7 +480,7 @@ impl Row {
         });
     }
 
-    /// Writes bytes into its open load in place, where nobody else has the load's image. Whether it did.
+    /// Writes bytes into its open load in place, if nobody else has the load's image. Whether it did.
     pub(crate) fn write_load(&mut self, offset: u32, bytes: &[u8]) -> bool
         requires load { IsSome self.old.load }
         requires within { offset + length bytes.now ≤ self.old.size }
@@ -504,7 +504,7 @@ impl Row {
     }
 }
 
-/// The bytes of the image that is kept, none where there is none.
+/// The bytes of the image that is kept, none if there is none.
 fn kept_bytes(buffers: &Buffers) -> &[u8]
     ensures { result.now ≡ unwrap_or buffers.now.kept [] }
 {
@@ -514,7 +514,7 @@ fn kept_bytes(buffers: &Buffers) -> &[u8]
     }
 }
 
-/// Writes bytes into the load in place, where nobody else has its image. Whether it did.
+/// Writes bytes into the load in place, if nobody else has its image. Whether it did.
 fn write_load(load: &mut OpenLoad, offset: u32, bytes: &[u8]) -> bool
     requires { offset + length bytes.now ≤ length load.old.image }
     ensures { load.new ≡ (if result then record { image = patched load.old.image offset bytes.now; checked = false } else load.old) }

@@ -54,7 +54,7 @@ pub(crate) fn is_named(rows: &[Option<Row>], row: u8, name: &[u8]) -> bool
     }
 }
 
-/// The row with the table of this full name. It stands by itself, as a hint finds most names before it.
+/// The row with the table of this full name. It is a function of its own, as a hint finds most names before it.
 #[inline(never)]
 pub(crate) fn row_of_name(rows: &[Option<Row>], name: &[u8]) -> Option<usize>
     ensures row { result ≡ position (has_name name.now) rows.now }
@@ -94,7 +94,7 @@ pub(crate) fn table_in(rows: &[Option<Row>], row: u8) -> Option<&Row>
     }
 }
 
-/// One more, where this one counts.
+/// One more, if this one counts.
 fn counted(count: u16, counts: bool) -> u16
     requires { count < 256 }
     ensures { result ≡ (if counts then count + 1 else count) }
@@ -112,7 +112,7 @@ fn has_critical(row: &Option<Row>) -> bool
     }
 }
 
-/// How many images a table has had, 0 where there is none.
+/// How many images a table has had, 0 if there is none.
 fn images_in(row: &Option<Row>) -> u32
     ensures { result ≡ images_in row.now }
 {

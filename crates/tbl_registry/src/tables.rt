@@ -231,8 +231,8 @@ impl Tables {
         Some(table_in(&self.rows, row)?.view())
     }
 
-    /// Which image of the table of a row the ground means by a selector: the last one by 1, that of the open load by 0. A
-    /// dump-only table has one image alone. None for any other selector.
+    /// Which image of the table of a row the ground means by a selector: the last one by 1, that of the open load by 0. A dump-only table
+    /// has only one image. None for any other selector.
     pub fn selected(&self, row: u8, select: u16) -> Option<bool>
         requires { IsSome (table_at self.now row) }
         ensures { ForSome (table_at self.now row) (λ t. result ≡ selected t select) }
@@ -240,14 +240,14 @@ impl Tables {
         let Some(table) = table_in(&self.rows, row) else {
             unreachable!();
         };
-        // Any other selector is refused for a dump-only table too, though it has one image alone.
+        // Any other selector is refused for a dump-only table too, though it has only one image.
         if select > 1 {
             return None;
         }
         Some(table.is_dump_only() || select == 1)
     }
 
-    /// The record of the table of a row, as the registry tells it (`CFE_TBL_GetInfo`).
+    /// The record of the table of a row, as the registry gives it (`CFE_TBL_GetInfo`).
     #[inline]
     pub fn record(&self, row: u8) -> [u8; RECORD_LENGTH]
         requires { IsSome (table_at self.now row) }
@@ -278,7 +278,7 @@ impl Tables {
         Some(table_in(&self.rows, row)?.name())
     }
 
-    /// The last image of the table of a row, None where there is none.
+    /// The last image of the table of a row, None if there is none.
     pub fn last(&self, row: u8) -> Option<&[u8]>
         ensures image { option_map (λ (image : Bor (List ℕ)). image.now) result ≡ option_and_then (λ (t : Table). t.last) (table_at self.now row) }
         ensures size { IfSome result (λ image. ForSome (table_at self.now row) (λ t. length image.now ≡ t.size)) }
@@ -289,7 +289,7 @@ impl Tables {
         table_in(&self.rows, row)?.image(false)
     }
 
-    /// The image of the open load of the table of a row, None where there is none.
+    /// The image of the open load of the table of a row, None if there is none.
     pub fn load(&self, row: u8) -> Option<&[u8]>
         ensures image { option_map (λ (image : Bor (List ℕ)). image.now) result ≡ option_map (λ (load : Load). load.image) (option_and_then (λ (t : Table). t.load) (table_at self.now row)) }
         ensures size { IfSome result (λ image. ForSome (table_at self.now row) (λ t. length image.now ≡ t.size)) }
@@ -298,14 +298,14 @@ impl Tables {
         table_in(&self.rows, row)?.load()
     }
 
-    /// The name of the file of the pending dump of the table of a row, None where no dump is pending.
+    /// The name of the file of the pending dump of the table of a row, None if no dump is pending.
     pub fn dump_name(&self, row: u8) -> Option<&Name64>
         ensures { option_copied result ≡ option_and_then (λ (t : Table). dump_name t.dump) (table_at self.now row) }
     {
         table_in(&self.rows, row)?.dump_name()
     }
 
-    /// The image of the filled dump of the table of a row, None where no dump is filled.
+    /// The image of the filled dump of the table of a row, None if no dump is filled.
     pub fn filled(&self, row: u8) -> Option<&[u8]>
         ensures image { option_map (λ (image : Bor (List ℕ)). image.now) result ≡ option_and_then (λ (t : Table). filled_image t.dump) (table_at self.now row) }
         ensures size { IfSome result (λ image. ForSome (table_at self.now row) (λ t. length image.now ≤ t.size)) }

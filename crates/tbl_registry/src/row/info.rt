@@ -1,4 +1,4 @@
-//! What the registry tells of a table.
+//! What the registry says of a table.
 
 ghost use Rattle.std.specs.Prelude.{◌≡◌, ◌==◌, ◌<◌, ◌≤◌, length, position, is_some, IfSome};
 ghost use Rattle.std.specs.Option.{option_map_or};
@@ -18,10 +18,10 @@ use tbl_kinds::{Name40, Options};
 /// How many bytes a record of the registry has.
 pub(crate) const RECORD_LENGTH: usize = 144;
 
-/// How many of them stand before its names.
+/// How many of them come before its names.
 const NUMBERS_LENGTH: usize = 20;
 
-/// Where the first dot stands.
+/// The place of the first dot.
 fn first_dot(name: &[u8]) -> Option<usize>
     ensures first { result ≡ position (λ b. b == 46) name.now }
     ensures within { IfSome result (λ dot. dot < length name.now) }
@@ -29,7 +29,7 @@ fn first_dot(name: &[u8]) -> Option<usize>
     name.iter().position(|byte| *byte == b'.')
 }
 
-/// How many bytes stand before the first dot, or else all.
+/// How many bytes come before the first dot, or else all.
 fn before_dot(name: &[u8]) -> usize
     ensures first { result ≡ position_or_len (λ b. b == 46) name.now }
     ensures within { result ≤ length name.now }
@@ -87,7 +87,7 @@ impl Row {
             + bit_at(32, self.load.is_some())
     }
 
-    /// The check word of its last image, 0 where there is none.
+    /// The check word of its last image, 0 if there is none.
     fn check(&self) -> u32
         ensures { result ≡ option_map_or check16 self.now.last 0 }
     {

@@ -53,7 +53,7 @@ fn give(working: &mut Working, row: u8)
     working.give(buffer as u8);
 }
 
-/// The later of two rows, of which only one before the end counts.
+/// The later of two rows. Only one before the end counts.
 fn later(last: Option<u8>, row: Option<u8>, end: usize) -> Option<u8>
     ensures { result ≡ later end last row }
 {

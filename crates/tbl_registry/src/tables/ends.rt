@@ -19,7 +19,7 @@ impl Tables {
         let Some(table) = table_in(&self.rows, row) else {
             unreachable!();
         };
-        // While the table is there it can tell whether it uses a buffer.
+        // While the table is there it can say whether it uses a buffer.
         settle(&mut self.working, row, table.uses_buffer(), false);
         self.counts.loads -= table.has_load() as u16;
         self.counts.tables -= 1;

@@ -20,7 +20,7 @@ use access_desc::{HandleView, Handles};
 use buffer_pairs::Image;
 use tbl_kinds::{Answer, INLINE_LIMIT, Memory, Status};
 
-/// What a handle stands for, with its table's row and its table.
+/// What a handle represents, with its table's row and its table.
 fn access<'a>(
     rows: &'a [Option<Row>],
     handles: &Handles,
@@ -38,7 +38,7 @@ fn access<'a>(
     Some((view, row, table))
 }
 
-/// The handle pins the last image of its table, which has had so many, and is told of it.
+/// The handle pins the last image of its table, which has had so many, and knows of it.
 fn pin_last(handles: &mut Handles, handle: u16, count: u32)
     requires { IsSome (at_place handles.old handle) }
     ensures { handles.new ≡ changed_at (with_last count) handles.old handle }
@@ -78,7 +78,7 @@ fn first_in_way(handles: &Handles, row: u8, old_only: bool) -> Option<u16>
     }
 }
 
-/// Whether the table has an image that its handle was not told of yet, as a status.
+/// Whether the table has an image that its handle doesn't know of yet, as a status.
 fn update_status(told: u32, count: u32) -> Status
     ensures { result ≡ (if nat_lt told count then Status.INFO_UPDATED else Status.SUCCESS) }
 {
@@ -114,8 +114,8 @@ impl Tables {
         Some(table_in(&self.rows, row)?.view().owner)
     }
 
-    /// Gives an application a further handle on the table of a row: the least free one, None where 256 are given. It was told
-    /// of no image, and pins none.
+    /// Gives an application a further handle on the table of a row: the least free one, None if 256 are given. It knows of no image, and
+    /// pins none.
     pub fn new_handle(&mut self, app: u8, row: u8) -> Option<u16>
         requires { IsSome (table_at self.old row) }
         ensures least_free { result ≡ least_free self.old.handles }
@@ -144,7 +144,7 @@ impl Tables {
         drop_before(table, &self.handles, row);
     }
 
-    /// The row of the table that this handle registered, None for a further handle, or where the handle leads to no table.
+    /// The row of the table that this handle registered, None for a further handle, or if the handle leads to no table.
     pub fn registered_by(&self, handle: u16) -> Option<u8>
         ensures row { result ≡ registered_by self.now handle }
         ensures table { IfSome result (λ row. IsSome (table_at self.now row)) }
@@ -157,7 +157,7 @@ impl Tables {
         }
     }
 
-    /// The application that a handle was given to, None where no such handle is given.
+    /// The application that a handle was given to, None if no such handle is given.
     pub fn app_of(&self, handle: u16) -> Option<u8>
         ensures { result ≡ option_map (λ (h : Handle). h.app) (handle_at self.now handle) }
     {
@@ -171,7 +171,7 @@ impl Tables {
         self.handles.limit()
     }
 
-    /// What is pending for the table of a handle, as `CFE_TBL_GetStatus` tells, where no validation is.
+    /// What is pending for the table of a handle, as `CFE_TBL_GetStatus` gives it, if no validation is.
     pub fn status(&self, handle: u16) -> Answer
         requires { IsSome (access_of self.now handle) }
         ensures status { ForSome (access_of self.now handle) (λ a. result.status ≡ pending_status [] a.row a.table) }
@@ -183,14 +183,14 @@ impl Tables {
         Answer::plain(table.pending())
     }
 
-    /// What a handle stands for, None where no such handle is given.
+    /// What a handle represents, None if no such handle is given.
     pub fn handle(&self, handle: u16) -> Option<HandleView>
         ensures { handle_at self.now handle ≡ option_map (handle_of self.now.rows) result }
     {
         self.handles.view(handle)
     }
 
-    /// The handle pins the last image of its table and is told of it.
+    /// The handle pins the last image of its table and knows of it.
     pub fn get_address(&mut self, handle: u16) -> Answer
         requires { IsSome (access_of self.old handle) }
         ensures status { result.status ≡ (get_address handle self.old).status }
@@ -257,8 +257,8 @@ impl Tables {
         Ok(&image[from..to])
     }
 
-    /// The image that the handle pins, where the stated bytes are the whole of it and more than stand in a value itself: a
-    /// read of them can have them without a copy. None else.
+    /// The image that the handle pins, if the stated bytes are the whole of it and more than a value itself can hold: a read of them can
+    /// have them without a copy. None else.
     pub fn read_whole(&self, handle: u16, offset: u32, len: u32) -> Option<&Image>
         ensures { IfSome result (λ image. read handle offset len self.now ≡ Ok image.now) }
     {
@@ -278,9 +278,8 @@ impl Tables {
         Some(image)
     }
 
-    /// Lends the image that a handle pins, with the place of the call that got its address. None where the handle leads to no
-    /// table, or pins no image. No byte is copied, and no memory is taken; an Err means that the image has as many owners as can
-    /// be counted.
+    /// Lends the image that a handle pins, with the place of the call that got its address. None if the handle leads to no table, or pins
+    /// no image. An Err means that the image has as many owners as can be counted.
     pub fn lend(&self, handle: u16, place: u64) -> Result<Option<Pin>, Memory>
         ensures lent { IfOk result (λ lent. lent ≡ lent_at handle place self.now) }
         ensures none { IfOk result (λ lent. is_some lent ≡ pins_image handle self.now) }

@@ -21,7 +21,7 @@ use tbl_kinds::Name64;
 use tbl_model::Notice;
 use working_buffers::Working;
 
-/// The pins of a table are of the image before its new one, which goes where there are none.
+/// The pins of a table are of the image before its new one, which is dropped if there are none.
 fn move_pins(table: &mut Row, handles: &mut Handles, row: u8)
     ensures handles { handles.new ≡ map (option_map (after_new_image row)) handles.old }
     ensures table { table.new ≡ drop_before_unless (is_some (position (has (pins_old row)) handles.new)) table.old }
@@ -123,8 +123,8 @@ impl Tables {
         take_load(table, &mut self.working, row, image);
     }
 
-    /// Writes bytes into the open load of the table of a row, in place, where nobody else has the load's image. Whether it
-    /// did: the load isn't validated any more then, and else nothing was changed.
+    /// Writes bytes into the open load of the table of a row, in place, if nobody else has the load's image. Whether it did: if so, the
+    /// load isn't validated any more, and else nothing was changed.
     pub fn write_load(&mut self, row: u8, offset: u32, bytes: &[u8]) -> bool
         requires table { IsSome (table_at self.old row) }
         requires load { ForSome (table_at self.old row) (λ t. IsSome t.load) }
@@ -178,7 +178,7 @@ impl Tables {
         table.ask();
     }
 
-    /// The notice that tells the owner of the table of a row of pending work.
+    /// Sets the notice of pending work to the owner of the table of a row.
     pub fn set_notice(&mut self, row: u8, notice: Notice)
         requires { IsSome (table_at self.old row) }
         ensures { self.new ≡ set_notice row notice self.old }

@@ -32,7 +32,7 @@ fn over_zeros(alloc: Global, size: u32, offset: u32, bytes: &[u8]) -> Result<Ima
     Image::patched(alloc, &zeros, offset, bytes)
 }
 
-/// An image that the table of the row has no more, for the memory that its bytes stand in.
+/// An image that the table of the row doesn't have any more, for the memory of its bytes.
 fn spare_of(row: &mut Option<Row>) -> Option<Image>
     ensures { row.new ≡ row.old }
 {
@@ -52,7 +52,7 @@ fn take_spare(rows: &mut [Option<Row>], row: usize) -> Option<Image>
 }
 
 impl Tables {
-    /// The last image of the table of a row (`active`), or that of its open load. None where there is none.
+    /// The last image of the table of a row (`active`), or that of its open load. None if there is none.
     pub fn image(&self, row: u8, active: bool) -> Option<&[u8]>
         ensures image { IfSome result (λ image. ForSome (table_at self.now row) (λ t. image.now ≡ judged_image t active)) }
         ensures there { ForSome (table_at self.now row) (λ t. is_some result ≡ has_image t active) }
@@ -78,8 +78,8 @@ impl Tables {
         }
     }
 
-    /// A new image of these bytes for the table of a row. It stands in the memory of one that the table had before, where
-    /// nobody has that any more and it isn't long.
+    /// A new image of these bytes for the table of a row. It takes the memory of one that the table had before, if nobody has that any more
+    /// and it isn't long.
     pub fn whole_image(&mut self, alloc: Global, row: u8, bytes: &[u8]) -> Result<Image, Memory>
         requires { IsSome (table_at self.old row) }
         ensures image { IfOk result (λ image. image ≡ bytes.now) }
