@@ -15,8 +15,8 @@ use Rattle.cds_store.specs.Sound.{slot_at}
 use Rattle.cds_store.specs.StoreBlocks.{StoreParts}
 use Rattle.cds_store.specs.declared.slot.Slot.{Slot}
 
--- by how the calls of the store went: where none was made, the bank is as it was; where they are done, it was asked all of this, and
--- else the first of it, up to what broke off
+-- by how the calls of the store went: if none was made, the bank is as it was; if they are done, it was asked all of this, and else the
+-- first of it, up to what broke off
 abbrev pub AsksBy : {B : Type 0} → Ghosts B → B → B → Outcome → List BankCall → Type 0
 AsksBy g old new Untouched calls = new ≡ old
 AsksBy g old new Done calls = Asks g.tells_calls g.calls old new true calls
@@ -34,7 +34,7 @@ restore_at bytes slots slot = option_map_or (λ (s : Slot). restore_calls bytes 
 abbrev pub delete_named : List (Option Slot) → List ℕ → List BankCall
 delete_named slots name = close_calls (option_or (open_slot kind.Table name slots) (doubtful_slot kind.Table name slots))
 
--- what it asks to make a block, where there is room for one
+-- what it asks to make a block, if there is room for one
 abbrev pub make_at : BlockKind → List (Option Slot) → List ℕ → ℕ → Option (List BankCall)
 make_at kind slots name size =
     let old = doubtful_slot kind name slots in
@@ -51,7 +51,7 @@ register_at (Some old) slots name size = renew_at slots old name size
 
 -- ---- any calls of the store
 
--- what one asks over these bytes, where the store knows this of its slots
+-- what one asks over these bytes, if the store knows this of its slots
 abbrev pub asked_by : List ℕ → List (Option Slot) → StoreCall → List BankCall
 asked_by bytes slots (reserve kind name size) = unwrap_or (make_at kind slots name size) []
 asked_by bytes slots (copy slot image) = copy_at bytes slots slot image
@@ -63,7 +63,7 @@ abbrev pub slots_after : StoreCall → List (Option Slot) → List (Option Slot)
 slots_after (delete slot) slots = slice_set slots slot None
 slots_after _ slots = slots
 
--- what several ask, one after another. A copy and a restore, which go by the bytes, are alone in their request
+-- what several ask, one after another. A copy and a restore, which go by the bytes, are the only ones of their request
 abbrev pub asked_in : List ℕ → List (Option Slot) → List StoreCall → List BankCall
 asked_in bytes slots [] = []
 asked_in bytes slots (call ∷ calls) = asked_by bytes slots call ++ asked_in bytes (slots_after call slots) calls

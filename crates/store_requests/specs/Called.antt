@@ -41,7 +41,7 @@ pub record NoBoot (note : BankNote) : Type 0 where
   pub stopped : note.stopped ≡ false
   pub found : note.found ≡ []
 
--- what the calls left, with what a boot after them told
+-- what the calls left, with what a boot after them reported
 abbrev pub with_boot : Bool → Bool → List ℕ → BankNote → BankNote
 with_boot ended stopped found note = record note { ended = ended; stopped = stopped; found = found }
 
@@ -54,7 +54,7 @@ boots_after Failed note s = s
 
 -- ---- counts
 
--- the counts of the bank moved as the note tells: one that it tells rose by so many at least, and one that it doesn't tell didn't move
+-- the counts of the bank moved as the note says: one that it names rose by so many at least, and one that it doesn't name didn't move
 pub record Troubled {B : Type 0} (g : Ghosts B) (old new : B) (note : BankNote) : Type 0 where
   pub fault_count : g.faults old ≤ g.faults new
   pub stop_count : g.stops old ≤ g.stops new
@@ -74,7 +74,7 @@ abbrev pub broken_status : BankFault → Status
 broken_status (Fault gate old) = ERR_CDS_FAULT
 broken_status (Cut gate old) = INFO_STOPPED
 
--- no packet tells more than the answer, and no function was asked
+-- no packet reports more than the answer, and no function was asked
 pub record IsSilent (done : Effect) : Type 0 where
   pub table : done.table ≡ None
   pub events : done.events ≡ []
@@ -82,7 +82,7 @@ pub record IsSilent (done : Effect) : Type 0 where
   pub notice : done.notice ≡ None
   pub verdicts : done.verdicts ≡ None ∷ None ∷ []
 
--- it answers this, with this note, and no packet tells more
+-- it answers this, with this note, and no packet reports more
 pub record IsTold (done : Effect) (status : Status) (detail : ℕ) (bytes : List ℕ) (note : BankNote) : Type 0 where
   pub status_is : done.answer.status ≡ status
   pub detail_is : done.answer.detail ≡ detail
@@ -94,7 +94,7 @@ pub record IsTold (done : Effect) (status : Status) (detail : ℕ) (bytes : List
 abbrev pub done_note : BankNote → BankNote
 done_note note = record note { outcome = Done; done = note.done + 1 }
 
--- whether an open block of an application of this name stands in a slot
+-- whether a slot has an open block of an application of this name
 abbrev pub is_own_slot : List ℕ → Option Slot → Bool
 is_own_slot app_name None = false
 is_own_slot app_name (Some b) = same_kind b.block.kind App && not b.doubtful && is_named_by app_name b.block.name
@@ -108,12 +108,12 @@ abbrev pub call_status : Result Unit BankFault → Status
 call_status (Ok x) = SUCCESS
 call_status (Err fault) = broken_status fault
 
--- a restore that gave no image: what was told of its block, or that the bank failed
+-- a restore that gave no image: what was noted of its block, or that the bank failed
 abbrev pub IsUngiven : Effect → Option ℕ → List ℕ → BankNote → Type 0
 IsUngiven done (Some told) bytes note = IsTold done ERR_CDS_TORN told bytes (record (done_note note) { torn = told })
 IsUngiven done None bytes note = IsTold done ERR_CDS_FAULT 0 bytes (broken_note (Fault false false) note)
 
--- the same of a reservation, which tells its slot, or that there is no room
+-- the same of a reservation, whose note has its slot, or that there is no room
 abbrev pub reserve_note : Result ℕ ReserveFault → BankNote → BankNote
 reserve_note (Ok slot) note = done_note note
 reserve_note (Err NoRoom) note = note
@@ -128,8 +128,8 @@ abbrev pub reserve_detail : Result ℕ ReserveFault → ℕ
 reserve_detail (Ok slot) = slot
 reserve_detail (Err fault) = 0
 
--- its reply isn't too long and no packet tells it, and no function was asked. Its note and its answer have their causes in the counts
--- of the bank
+-- its reply isn't too long and no packet reports it, and no function was asked. Its note and its answer have their causes in the counts of
+-- the bank
 pub record IsCall {B : Type 0} (g : Ghosts B) (old new : StoreParts B) (done : Effect) : Type 0 where
   pub within : IsWithin 0 done
   pub verdicts : done.verdicts ≡ None ∷ None ∷ []
@@ -139,7 +139,7 @@ pub record IsCall {B : Type 0} (g : Ghosts B) (old new : StoreParts B) (done : E
   pub trouble : Troubled g old.bank new.bank done.note
   pub booted : new.booted ≡ true
 
--- what a reset may leave from the one moment to the other, where the bank tells its moments
+-- what a reset may leave from the one moment to the other, if the bank shows its moments
 abbrev pub Leaving : {B : Type 0} → Ghosts B → StoreParts B → StoreParts B → (Store → Type 0) → Type 0
 Leaving g old new IsLeft = g.tells_moments → LeavesOnly g.clock g.left_since old.bank new.bank (λ image. IsLeft (store_of image))
 
@@ -155,9 +155,9 @@ unasked s = record { state = s; questions = [] }
 abbrev pub done_first : model.Effect → BeforeCalls
 done_first e = record { state = e.next; questions = e.questions }
 
--- a request that did this before it called the store has this effect, where the service has this note after it; before a boot the
--- store stands for the blocks that the calls leave, and the note is one that they may leave. A reset in one of those that write leaves
--- what those before it and this one made of the blocks, and a restore is never stopped. The bank was asked what its calls ask, once
+-- a request that did this before it called the store has this effect, if the service has this note after it; before a boot the store
+-- represents the blocks that the calls leave, and the note is one that they may leave. A reset in one of those that write leaves what those
+-- before it and this one made of the blocks, and a restore is never stopped. The bank was asked what its calls ask, once
 pub record IsCalled {B : Type 0} (g : Ghosts B) (old kept : StoreParts B) (first : BeforeCalls) (done : Effect) (note : BankNote) (e : model.Effect) : Type 0 where
   pub blocks : StandsFor g.tells g.now kept (left_by e.calls note first.state.store)
   pub effect : IsEffect done first.questions (boots_after note.outcome note (record first.state { store = left_by e.calls note first.state.store })) (uncalled e)
@@ -168,16 +168,16 @@ pub record IsCalled {B : Type 0} (g : Ghosts B) (old kept : StoreParts B) (first
   pub moments : Leaving g old kept (DuringCalls (writes e.calls) first.state.store)
   pub asked : AsksIn g old kept done.note.outcome e.calls
 
--- this holds whatever a boot after the calls tells
+-- this holds whatever a boot after the calls reports
 abbrev pub CallsAfter : {B : Type 0} → Ghosts B → StoreParts B → StoreParts B → BeforeCalls → Effect → (BankNote → model.Effect) → Type 0
 CallsAfter g old kept first done means = (ended stopped : Bool) (found : List ℕ)
     → IsCalled g old kept first done (with_boot ended stopped found done.note) (means (with_boot ended stopped found done.note))
 
--- the same where no validation function is asked
+-- the same if no validation function is asked
 abbrev pub Calls : {B : Type 0} → Ghosts B → StoreParts B → StoreParts B → State → Effect → (BankNote → model.Effect) → Type 0
 Calls g old kept s done means = CallsAfter g old kept (unasked s) done means
 
--- what a restore among its calls gave is what its block held in the bank before, whatever a boot after them tells
+-- what a restore among its calls gave is what its block held in the bank before, whatever a boot after them reports
 abbrev pub GaveAsHeld : {B : Type 0} → Ghosts B → StoreParts B → Store → Effect → (BankNote → model.Effect) → Type 0
 GaveAsHeld g old blocks done means = (ended stopped : Bool) (found : List ℕ)
     → RestoresHeld (g.now old.bank) (means (with_boot ended stopped found done.note)).calls blocks (with_boot ended stopped found done.note)

@@ -15,17 +15,17 @@ use Rattle.std.specs.Global.{Box}
 use Rattle.tbl_kinds.specs.declared.note.Outside.{Outside}
 use Rattle.tbl_outside.specs.declared.bank.Bank.{Ghosts}
 
--- nothing is told of it yet
+-- it has nothing yet
 abbrev pub IsFresh : Box Outside → Type 0
 IsFresh outside = outside.value.note ≡ untouched
 
--- where it was stopped, something else
+-- if it was stopped, something else
 abbrev pub unless_stopped : {X : Type 0} → Result Unit BankFault → X → X → X
 unless_stopped (Ok x) told other = told
 unless_stopped (Err (Fault gate old)) told other = told
 unless_stopped (Err (Cut gate old)) told other = other
 
--- where the bank failed, that is told too
+-- if the bank failed, that is reported too
 abbrev pub with_failure : ℕ → ℕ → Result Unit BankFault → List TelemetryEvent → List TelemetryEvent
 with_failure row slot (Ok x) events = events
 with_failure row slot (Err (Fault gate old)) events = events ++ CopyFailed row slot ∷ []
@@ -42,7 +42,7 @@ pub record IsCopied (row slot : ℕ) (ended : Result Unit BankFault) (before don
   pub note : done.note ≡ call_note ended untouched
   pub verdicts : done.verdicts ≡ before.verdicts
 
--- the answer stays but where the copy was stopped, no more is told than one event, and the note has its cause in the counts of the bank
+-- the answer stays unless the copy was stopped, no more than one event is reported, and the note has its cause in the counts of the bank
 pub record IsCopyCall {B : Type 0} (g : Ghosts B) (old new : StoreParts B) (before done : Effect) : Type 0 where
   pub within : (most : ℕ) → IsWithin most before → IsWithin (suc most) done
   pub verdicts : done.verdicts ≡ before.verdicts

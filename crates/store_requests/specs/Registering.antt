@@ -1,4 +1,4 @@
--- A table is registered, and the answer tells its handle.
+-- A table is registered, and the answer gives its handle.
 use Rattle.std.specs.Prelude.{◌≡◌, ◌⊎◌, ℕ, ◌≤◌, List, [], ◌∷◌, length, true, false, Option, Some, None, Result, Ok, Err, OnOk, IfErr, IfSome}
 use Rattle.std.specs.Option.{ForSome}
 use Rattle.tbl_kinds.specs.Blocks.{Store as Blocks}
@@ -42,16 +42,16 @@ pub record Enters (old new : Tables) (t : Table) (done : Effect) (status : Statu
 abbrev pub EntersUncritical : Tables → Tables → Table → Effect → BankNote → Type 0
 EntersUncritical old new t done note = Enters old new (uncritical t) done WARN_NOT_CRITICAL note
 
--- a call for its block broke off: the table isn't critical, or it isn't registered, as the service begins anew
+-- a call for its block broke off: the table isn't critical, or it isn't registered, as the service begins again
 abbrev pub EntersBroken : Tables → Tables → Table → Effect → BankFault → BankNote → Type 0
 EntersBroken old new t done (Fault gate prior) note = EntersUncritical old new t done (broken_note (Fault gate prior) note)
 EntersBroken old new t done (Cut gate prior) note = IsTold done INFO_STOPPED 0 [] (broken_note (Cut gate prior) note) × (new ≡ old)
 
--- it begins with this image of its block, which the note tells
+-- it begins with this image of its block, which the note has
 abbrev pub EntersRecovered : Tables → Tables → Table → Effect → List ℕ → BankNote → Type 0
 EntersRecovered old new t done image note = Enters old new (with_first (Some image) t) done INFO_RECOVERED_TBL (record (done_note note) { restored = done.note.restored })
 
--- by what was told of its block, which gave no image
+-- by what was noted of its block, which gave no image
 abbrev pub EntersWithout : Tables → Tables → Table → Effect → Option ℕ → Type 0
 EntersWithout old new t done (Some told) = Enters old new t done SUCCESS (record (done_note untouched) { torn = told })
 EntersWithout old new t done None = EntersBroken old new t done (Fault false false) untouched

@@ -128,7 +128,7 @@ fn register_block<B: Bank>(
     }
 }
 
-/// Registers a block of this full name, of which an open one is in this slot.
+/// Registers a block of this full name that has an open one in this slot.
 fn register_again<B: Bank>(
     alloc: Global,
     store: &mut Store<B>,
@@ -161,7 +161,7 @@ fn register_again<B: Bank>(
     Ok(renew(store, slot, name, size, empty, note))
 }
 
-/// Registers a block of this full name, of which no open one is there.
+/// Registers a block of this full name that has no open one.
 fn register_new<B: Bank>(
     alloc: Global,
     store: &mut Store<B>,

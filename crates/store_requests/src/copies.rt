@@ -79,9 +79,8 @@ fn went_active(events: &[TelemetryEvent]) -> bool
 
 // ---- how a copy ended
 
-/// The copy into the block of a slot was broken off. Where the bank failed, that is told after what was done, as the image is
-/// active all the same. Where it was stopped, nothing of the request is told but what was done, since the processor was reset
-/// before it could answer.
+/// The copy into the block of a slot was broken off. If the bank failed, that is reported after what was done, as the image is active all
+/// the same. If it was stopped, only what was done is reported of the request, since the processor was reset before it could answer.
 fn broken_off(
     row: u8,
     slot: u8,

@@ -11,7 +11,7 @@ use request_effects::Effect;
 use std::alloc::Global;
 use tbl_kinds::{Answer, BankNote, Bytes, Memory, Note, Outcome, Outside, Status};
 
-/// Memory for a note, which tells of no call yet.
+/// Memory for a note, which has no call yet.
 pub fn note_room(alloc: Global) -> Result<Box<Outside>, Memory>
     ensures { IfOk result (λ note. note.value.note ≡ untouched) }
 {
@@ -66,7 +66,7 @@ pub(crate) fn done(answer: Answer, bytes: Bytes, mut note: Box<Outside>) -> Effe
     noted(answer, bytes, note)
 }
 
-/// The next call of a request broke off. Where it was stopped, the service boots after it.
+/// The next call of a request broke off. If it was stopped, the service boots after it.
 pub(crate) fn broken(fault: BankFault, empty: Bytes, mut note: Box<Outside>) -> Effect
     ensures { IsTold result (broken_status fault) 0 empty.list (broken_note fault note.value.note) }
 {

@@ -50,7 +50,7 @@ fn is_named_by(app_name: &Name20, name: &Name40) -> bool
     }
 }
 
-/// The open block of an application in this slot, where its name is one of that application's.
+/// The open block of an application in this slot, if its name is one of that application's.
 fn find_own<B: Bank>(store: &Store<B>, app_name: &Name20, slot: u16) -> Option<Own>
     ensures slot { IfSome result (λ own. own.slot ≡ slot) }
     ensures sized { IfSome result (λ own. IsOpenOf own.size (slot_at store.now.slots slot)) }
@@ -138,7 +138,7 @@ pub fn cds_copy<B: Bank>(
     }
 }
 
-/// The image that a block gave is the reply, and the note tells it.
+/// The image that a block gave is the reply, and the note has it.
 fn given(image: &[u8], mut reply: Bytes, mut kept: Bytes, mut note: Box<Outside>) -> Effect
     requires reply { length image.now ≤ reply.spare }
     requires kept { length image.now ≤ kept.spare }
@@ -154,7 +154,7 @@ fn given(image: &[u8], mut reply: Bytes, mut kept: Bytes, mut note: Box<Outside>
     done(Answer::plain(Status::SUCCESS), reply, note)
 }
 
-/// A block that was read gave no image: this is told of it.
+/// A block that was read gave no image: the note and the answer say so.
 fn torn(words: u32, empty: Bytes, mut note: Box<Outside>) -> Effect
     requires { note.value.note.done < 255 }
     ensures { IsTold result Status.ERR_CDS_TORN words empty.list (record (done_note note.value.note) { torn = words }) }
@@ -216,7 +216,7 @@ fn restore_into<B: Bank>(
     }
 }
 
-/// Restores the image of a block. All memory is taken before, since a read of the bank that failed has to be told.
+/// Restores the image of a block. All memory is taken before, since a read of the bank that failed has to be reported.
 fn restore_from<B: Bank>(
     alloc: Global,
     store: &mut Store<B>,

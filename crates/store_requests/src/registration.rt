@@ -40,8 +40,8 @@ use validation::Kit;
 /// So many tables can be critical (`CFE_PLATFORM_TBL_MAX_CRITICAL_TABLES`).
 const MOST_CRITICAL: u16 = 32;
 
-/// A call for the block of a table broke off. Where the bank failed in it, the table is registered and isn't critical, so that an
-/// application can run without the store.
+/// A call for the block of a table broke off. If the bank failed in it, the table is registered and isn't critical, so that an application
+/// can run without the store.
 fn lost(
     tables: &mut Tables,
     app: u8,
@@ -91,7 +91,7 @@ fn recovered(
     noted(answer, empty, note)
 }
 
-/// Its block has no image, and tells this: the table begins without one.
+/// Its block has no image, and the note says so: the table begins without one.
 fn torn(
     tables: &mut Tables,
     app: u8,
@@ -173,7 +173,7 @@ fn image_room(alloc: Global, size: u32) -> Result<Arc<Vec<u8>, Global>, Memory>
     Ok(Arc::new(alloc, bytes)?)
 }
 
-/// Restores the image of a block into its room, in place. None where the room has another owner: then nothing is done.
+/// Restores the image of a block into its room, in place. None if the room has another owner: then nothing is done.
 fn restore_into<B: Bank>(
     store: &mut Store<B>,
     slot: u8,
@@ -188,8 +188,8 @@ fn restore_into<B: Bank>(
     Some(store.restore(slot, bytes.as_mut_slice()))
 }
 
-/// Registers a critical table whose open block stands in this slot, and has its size. All memory is taken before its image is
-/// restored, which is done in place: the table's image is made of the very bytes that were read.
+/// Registers a critical table whose open block is in this slot and has its size. All memory is taken before its image is restored. That is
+/// done in place: the table's image is made of the very bytes that were read.
 fn recover<B: Bank>(
     alloc: Global,
     tables: &mut Tables,
@@ -286,7 +286,7 @@ fn renew<B: Bank>(
     }
 }
 
-/// Registers a critical table of which an open block of another size is in this slot.
+/// Registers a critical table that has an open block of another size in this slot.
 fn keep_again<B: Bank>(
     alloc: Global,
     tables: &mut Tables,
@@ -317,7 +317,7 @@ fn keep_again<B: Bank>(
     Ok(renew(tables, store, app, slot, plan, empty, note))
 }
 
-/// Registers a critical table of which no open block is there.
+/// Registers a critical table that has no open block.
 fn keep_new<B: Bank>(
     alloc: Global,
     tables: &mut Tables,
@@ -376,7 +376,7 @@ fn keep<B: Bank>(
 
 // ---- a registration
 
-/// Registers a critical table, which nothing refuses. Where as many are critical as can be, the store isn't called.
+/// Registers a critical table that nothing refuses. If as many are critical as can be, the store isn't called.
 fn register_critical<B: Bank>(
     alloc: Global,
     tables: &mut Tables,
@@ -426,7 +426,7 @@ pub fn register<B: Bank, C: Validator>(
     ensures call { IfOk result (IsCall B.Bank store.old store.new) }
     ensures gave { IfOk result (λ done. B.tells → (s : State) → s.tables ≡ tables.old → s.kit ≡ owners kit.now → s.apps ≡ apps.now → StandsFor B.tells B.now store.old s.store
         → GaveAsHeld B.Bank store.old s.store done (register_effect s app short.now size flags validator)) }
-    // What holds of tables still does, over a bank that doesn't tell its bytes too.
+    // What holds of tables still does. This also holds over a bank that doesn't show its bytes.
     ensures fit { IfOk result (λ done. (s : State) (n : ℕ) → s.tables ≡ tables.old → s.kit ≡ owners kit.now → AreFit n s → AreFit (suc n) (record s { tables = tables.new })) }
     ensures one { IfOk result (λ done. RegistersOne tables.old tables.new app) }
     ensures err_tables { OnErr result (tables.new ≡ tables.old) }

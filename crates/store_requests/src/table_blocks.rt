@@ -51,7 +51,7 @@ pub(crate) fn sized_block<B: Bank>(store: &Store<B>, name: &Name40, size: usize)
     }
 }
 
-/// Deletes the block of a table of this name, where none is registered.
+/// Deletes the block of a table of this name, if no such table is registered.
 fn delete_table_block<B: Bank>(
     alloc: Global,
     store: &mut Store<B>,

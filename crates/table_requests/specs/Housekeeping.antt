@@ -7,7 +7,7 @@ use Rattle.tbl_model.specs.TableSteps.{end_dump}
 use Rattle.tbl_model.specs.Dumps.{Ended, then_end, is_filled}
 use Rattle.tbl_model.specs.declared.telemetry.TelemetryEvent.{TelemetryEvent}
 
--- what was written so far: the drawer, the bytes of all files, and what is told of them
+-- what was written so far: the drawer, the bytes of all files, and what is reported of them
 pub record Written : Type 0 where
   pub drawer : List File
   pub bytes : List ℕ

@@ -15,7 +15,7 @@ abbrev pub verdict_events : ℕ → Option ℤ → List TelemetryEvent
 verdict_events row None = []
 verdict_events row (Some verdict) = Judged row verdict ∷ []
 
--- it was answered so. Where the table of the row took the image, this is the table, and this the event
+-- it was answered so. If the table of the row took the image, this is the table, and this the event
 pub record IsLoaded (taken : Bool) (row : ℕ) (loaded : Loaded) (named : Named) (active : TelemetryEvent) (in_use : List ℕ) (done : Effect) : Type 0 where
   pub answer : done.answer ≡ (if taken then record { status = SUCCESS; detail = 0 } else loaded.answer)
   pub bytes : done.bytes ≡ (if taken then [] else (if loaded.answer.status.0 == ERR_NO_BUFFER_AVAIL.0 then in_use else []))

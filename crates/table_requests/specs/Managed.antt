@@ -1,4 +1,4 @@
--- What is told of all that an owner has done for its table.
+-- What is reported of all that an owner has done for its table.
 use Rattle.std.specs.Prelude.{ℕ, List, [], ◌∷◌, ◌++◌, if◌then◌else◌, Option, Some, None}
 use Rattle.tbl_model.specs.declared.telemetry.TelemetryEvent.{TelemetryEvent}
 use Rattle.tbl_model.specs.declared.telemetry.TelemetryEvent.TheVariants.{Finished}
@@ -11,6 +11,6 @@ abbrev pub judged_events : ℕ → List ℕ → Option Judgement → List Teleme
 judged_events row name None = []
 judged_events row name (Some j) = Finished row j.active j.check j.verdict name ∷ []
 
--- both validations, and the update, of which this is the event
+-- both validations, and the update with its event
 abbrev pub managed_events : ℕ → List ℕ → Managed → TelemetryEvent → List TelemetryEvent
 managed_events row name done active = (judged_events row name done.first ++ judged_events row name done.second) ++ (if is_updated done.answer then active ∷ [] else [])

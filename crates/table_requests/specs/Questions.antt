@@ -23,6 +23,6 @@ asked_in_order (Some first) second = question_of first ∷ asked second
 abbrev pub all_asked : Questions → List Question
 all_asked it = asked_in_order it.first it.second
 
--- what the validation of an image asks, where it is pending
+-- what the validation of an image asks, if it is pending
 abbrev pub pending_asked : List (ℕ × Bool) → ℕ → Table → Bool → List Question
 pending_asked pending row t active = if is_pending row active pending then questions t (judged_image t active) else []

@@ -7,6 +7,6 @@ use Rattle.tbl_model.specs.TableSteps.{read}
 abbrev pub Reads : ℕ → ℕ → ℕ → Tables → List ℕ → Type 0
 Reads handle offset len tables bytes = read handle offset len tables ≡ Ok bytes
 
--- they are what a read gives, where it gives any
+-- they are what a read gives, if it gives any
 abbrev pub AreRead : ℕ → ℕ → ℕ → Tables → List ℕ → Type 0
 AreRead handle offset len tables slice = (bytes : List ℕ) → Reads handle offset len tables bytes → slice ≡ bytes

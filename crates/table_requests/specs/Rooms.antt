@@ -19,7 +19,7 @@ copy_room t = if is_critical_in t then 24 else 0
 abbrev pub event_room : Bool → ℕ
 event_room can = if can then 24 else 0
 
--- of a load: for the verdict, where the table has a validation function, for the image that goes active, and for its copy
+-- of a load: for the verdict, if the table has a validation function, for the image that goes active, and for its copy
 abbrev pub load_room : Table → ℕ
 load_room t = copy_room (Some t) + event_room (is_some t.validator) + 24
 

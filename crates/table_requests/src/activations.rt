@@ -59,7 +59,7 @@ fn activate_found(
     Ok(answer)
 }
 
-/// The ground asks that the load of the table of this name goes active (`CFE_TBL_ACTIVATE_CC`), of which its owner is told.
+/// The ground asks that the load of the table of this name goes active (`CFE_TBL_ACTIVATE_CC`), and its owner is notified.
 #[tactic(auto, unfolding(tbl_model::specs::Activations::activate_command_effect))]
 pub(crate) fn activate(
     tables: &mut Tables,
@@ -126,7 +126,7 @@ pub(crate) fn abort(
     }
 }
 
-/// What an update of a table is answered, and what is told of it: where it was made, this is the table, and this the event.
+/// The answer to an update of a table, and what is reported of it: if it was made, this is the table, and this the event.
 fn told(answer: Answer, table: Named, active: TelemetryEvent, report: &mut Report) -> Answer
     requires { report.old ≡ nothing_reported }
     ensures effect { (s : State) (row : ℕ) (t : Table) (tables : Registry) → table ≡ record { row = row; name = t.name } → active ≡ activated row t
@@ -155,7 +155,7 @@ pub(crate) fn update_room(tables: &Tables, row: u8) -> usize
     copy_room(tables, row) + event_room(table.asked)
 }
 
-/// Makes the load of the table in the row active, and tells it.
+/// Makes the load of the table in the row active, and reports it.
 fn make_update(tables: &mut Tables, clock: Clock, row: u8, report: &mut Report) -> Answer
     requires table { IsSome (table_at tables.old row) }
     requires loads { HaveLoads tables.old }
@@ -175,7 +175,7 @@ fn make_update(tables: &mut Tables, clock: Clock, row: u8, report: &mut Report) 
     told(answer, table, active, report)
 }
 
-/// The owner of the table in the row makes its load active (`CFE_TBL_Update`), where the ground asked for it.
+/// The owner of the table in the row makes its load active (`CFE_TBL_Update`), if the ground asked for it.
 pub fn update(
     tables: &mut Tables,
     clock: Clock,

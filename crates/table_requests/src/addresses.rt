@@ -56,8 +56,8 @@ fn piece<'a>(
     }
 }
 
-/// Puts the bytes that the handle's image has there. Where they are the whole image and many, they stay where they are and get a
-/// further owner; else they are copied.
+/// Puts the bytes that the handle's image has there. If they are the whole image and many, they stay in place and get a further owner; else
+/// they are copied.
 fn put_piece(
     tables: &Tables,
     handle: u16,

@@ -30,8 +30,8 @@ pub(crate) fn event_room(can: bool) -> usize
     if can { EVENT_LENGTH } else { 0 }
 }
 
-/// The tests that all calls with a handle have in common: the application runs, the handle is in use, it is this
-/// application's, its table is there, and for the owner alone, the caller owns it. The row of the table.
+/// The tests that all calls with a handle have in common: the application runs, the handle is in use, it is this application's, its table
+/// is there, and, if only the owner may call, the caller owns it. The row of the table.
 pub fn check(tables: &Tables, apps: &Apps, app: u8, handle: u16, owner: bool) -> Result<u8, Status>
     ensures ok { IfOk result (λ row. (s : State) (effect : ℕ → Model) → s.tables ≡ tables.now → s.apps ≡ apps.now → if_handle s app handle owner effect ≡ effect row) }
     ensures err { IfErr result (λ status. (s : State) (effect : ℕ → Model) → s.tables ≡ tables.now → s.apps ≡ apps.now → if_handle s app handle owner effect ≡ answered s status 0) }
@@ -56,7 +56,7 @@ fn put_row(bytes: &mut Bytes, row: Option<u8>)
     }
 }
 
-/// Appends the rows that stand at some of the places.
+/// Appends the rows that are at some of the places.
 fn put_rows(bytes: &mut Bytes, places: &[Option<u8>])
     requires { length places.now ≤ bytes.old.spare }
     ensures rows { bytes.new.list ≡ bytes.old.list ++ rows_in places.now }
@@ -67,7 +67,7 @@ fn put_rows(bytes: &mut Bytes, places: &[Option<u8>])
     }
 }
 
-/// Where a load was answered that no shared buffer is free, the reply gives the rows that use them.
+/// If the answer to a load was that no shared buffer is free, the reply gives the rows that use them.
 #[tactic(auto, using(crate::proofs::Buffers::rows_in_padded))]
 pub(crate) fn put_users(tables: &Tables, answer: Answer, bytes: &mut Bytes)
     requires empty { bytes.old.list ≡ [] }

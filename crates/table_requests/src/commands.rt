@@ -26,8 +26,8 @@ use tbl_kinds::{Admit, Answer, Bytes, Memory, Status};
 use tbl_registry::Tables;
 use validation::Pending;
 
-/// Plays a command that calls nothing of the store, as it was read from its packet. Files are loaded from admitted spacecraft and
-/// processors alone. There is room in the packets for the event of the command itself.
+/// Plays a command that calls nothing of the store, as it was read from its packet. Files are loaded only from admitted spacecraft and
+/// processors. There is room in the packets for the event of the command itself.
 pub fn ground_command(
     alloc: Global,
     tables: &mut Tables,

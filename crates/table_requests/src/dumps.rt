@@ -131,8 +131,8 @@ fn dump_found(
     Ok(answer)
 }
 
-/// The ground dumps the table of this name into a file (`CFE_TBL_DUMP_CC`): its last image, or that of its open load. Of a
-/// dump-only table the owner is asked to fill the dump, and is told.
+/// The ground dumps the table of this name into a file (`CFE_TBL_DUMP_CC`): its last image, or that of its open load. For a dump-only
+/// table, the owner is asked to fill the dump, and is notified.
 #[tactic(auto, unfolding(tbl_model::specs::Dumps::dump_effect))]
 #[inline(never)]
 pub(crate) fn dump(

@@ -19,7 +19,7 @@ use tbl_kinds::{Admit, Answer, Bytes, Memory, Name64, Status};
 use tbl_model::Named;
 use tbl_registry::Tables;
 
-/// Fills the load of the table in the row where it was found, or answers why not.
+/// Fills the load of the table in the row, if that was found, or answers why not.
 fn load_found(
     alloc: Global,
     tables: &mut Tables,

@@ -1,4 +1,4 @@
-//! Housekeeping: dumps that came to their end are written, and the state is told.
+//! Housekeeping: dumps that came to their end are written, and the state is reported.
 
 ghost use Rattle.std.specs.Prelude.{◌≡◌, ◌≤◌, ◌+◌, ◌*◌, ℕ, [], ◌∷◌, length, None, Some, OnOk, OnErr, IfOk};
 ghost use Rattle.std.specs.List.{fold};
@@ -23,8 +23,8 @@ use tbl_registry::Tables;
 /// The length of a housekeeping packet.
 const HOUSEKEEPING_LENGTH: usize = 290;
 
-/// Writes the file of the filled dump of the table of a row, if there is one, and then those of further rows. The drawer,
-/// the bytes of all files and what is told of them; no dump ends yet. If memory runs out, the drawer is as it was.
+/// Writes the file of the filled dump of the table of a row, if there is one, and then those of further rows. Returns the drawer, the bytes
+/// of all files and what is reported of them; no dump ends yet. If memory runs out, the drawer is as it was.
 #[cycle(files)]
 fn write_row(
     alloc: Global,
@@ -140,9 +140,8 @@ fn count_filled(tables: &Tables, places: &[Option<u8>]) -> usize
     count
 }
 
-/// The ground asks for housekeeping (`CFE_TBL_SEND_HK_MID`): each filled dump is written as its file, in order of rows,
-/// or dropped where the drawer is full, and the packet tells the state after. If memory runs out, no dump ends and the
-/// drawer is as it was.
+/// The ground asks for housekeeping (`CFE_TBL_SEND_HK_MID`): each filled dump is written as its file, in order of rows, or dropped if the
+/// drawer is full, and the packet reports the state after. If memory runs out, no dump ends and the drawer is as it was.
 #[tactic(auto, unfolding(tbl_model::specs::Dumps::housekeeping_effect))]
 #[inline(never)]
 pub(crate) fn housekeeping(

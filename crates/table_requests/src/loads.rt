@@ -92,7 +92,7 @@ fn load_room(tables: &Tables, row: u8) -> usize
     copy_room(tables, row) + event_room(table.validator.is_some()) + EVENT_LENGTH
 }
 
-/// Tells that a verdict came, if one did.
+/// Reports that a verdict came, if one did.
 fn tell_verdict(row: u8, verdict: Option<i32>, report: &mut Report)
     requires { report.old ≡ nothing_reported }
     ensures { report.new ≡ record nothing_reported { events = verdict_events row verdict; verdicts = verdict ∷ None ∷ [] } }
@@ -103,8 +103,8 @@ fn tell_verdict(row: u8, verdict: Option<i32>, report: &mut Report)
     report.judge([verdict, None]);
 }
 
-/// What a load is answered that the owner of the table in a row asked for, and what is told of it. Where the table took the image,
-/// this is the table, and this the event.
+/// The answer to a load that the owner of the table in a row asked for, and what is reported of it. If the table took the image, this is
+/// the table, and this the event.
 fn told(
     tables: &Tables,
     row: u8,
@@ -142,7 +142,7 @@ pub(crate) fn set_update_time(tables: &mut Tables, row: u8, updated: bool, clock
     }
 }
 
-/// Loads an image of the table of a row, and tells it.
+/// Loads an image of the table of a row, and reports it.
 fn load_whole<C: Validator>(
     alloc: Global,
     tables: &mut Tables,
@@ -236,7 +236,7 @@ fn note_file(tables: &mut Tables, row: u8, taken: bool, file: &Name64)
     }
 }
 
-/// Loads the bytes of a file for the table of a row, or for a part of it, and tells it.
+/// Loads the bytes of a file for the table of a row, or for a part of it, and reports it.
 fn load_bytes<C: Validator>(
     alloc: Global,
     tables: &mut Tables,
@@ -362,7 +362,7 @@ pub fn load_file<C: Validator>(
     ensures err { OnErr result (tables.new ≡ tables.old) }
     ensures not_asked { OnErr result (kit.new ≡ kit.old) }
 {
-    // A table that takes no load is told before a file that isn't there.
+    // That a table takes no load is reported before a file that isn't there.
     if let Some(answer) = partial_load::closed_refusal(tables, row) {
         return Ok(answer);
     }

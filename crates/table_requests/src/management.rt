@@ -29,7 +29,7 @@ use tbl_outside::Validator;
 use tbl_registry::{Dump, Tables};
 use validation::{Kit, Pending};
 
-/// Tells that a validation of the table in the row, of this name, came to its end, if one did.
+/// Reports that a validation of the table in the row, of this name, came to its end, if one did.
 fn tell_judgement(row: u8, name: &Name40, judgement: Option<Judgement>, report: &mut Report)
     requires { length report.old.events < most_events }
     ensures { report.new ≡ record report.old { events = report.old.events ++ judged_events row name.now judgement } }
@@ -39,7 +39,7 @@ fn tell_judgement(row: u8, name: &Name40, judgement: Option<Judgement>, report: 
     }
 }
 
-/// Tells the event, if it was done.
+/// Reports the event, if it was done.
 fn tell_done(done: bool, event: TelemetryEvent, report: &mut Report)
     requires { length report.old.events < most_events }
     ensures { report.new ≡ record report.old { events = report.old.events ++ (if done then event ∷ [] else []) } }
@@ -61,7 +61,7 @@ fn verdicts(first: Option<Judgement>, second: Option<Judgement>) -> [Option<i32>
     }
 }
 
-/// What is told of all that was done for the table in a row, of this name: where it was updated, this is the event.
+/// What is reported of all that was done for the table in a row, of this name: if it was updated, this is the event.
 fn told(row: u8, done: Managed, name: &Name40, active: TelemetryEvent, report: &mut Report)
     requires { report.old ≡ nothing_reported }
     ensures report { report.new ≡ record nothing_reported { events = managed_events row name.now done active; verdicts = verdicts_of done.first done.second } }
@@ -83,7 +83,7 @@ fn pending_room(tables: &Tables, pending: &Pending, row: u8) -> usize
     update_room(tables, row) + first + second
 }
 
-/// Does all that is pending for the table in the row, and tells it.
+/// Does all that is pending for the table in the row, and reports it.
 fn manage_all<C: Validator>(
     tables: &mut Tables,
     kit: &mut Kit<C>,

@@ -32,7 +32,7 @@ pub struct Question {
 #[derive(Drop)]
 pub struct Questions {
     pub first: Option<Question>,
-    /// It is asked after a first one alone.
+    /// It is asked only after a first one.
     pub second: Option<Question>,
 }
 
@@ -112,7 +112,7 @@ pub fn load_file_asks(
     }
 }
 
-/// What the validation of an image of the table of a row asks, where it is pending.
+/// What the validation of an image of the table of a row asks, if it is pending.
 fn pending_asks(
     alloc: Global,
     tables: &Tables,

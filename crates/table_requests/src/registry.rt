@@ -1,4 +1,4 @@
-//! What the registry tells of a table, to an application or to the ground.
+//! What the registry says of a table, to an application or to the ground.
 
 ghost use Rattle.std.specs.Prelude.{◌≡◌, ◌≤◌, [], length, IfOk};
 ghost use Rattle.tbl_model.specs.State.{State};

@@ -41,7 +41,7 @@ pub(crate) fn finished(row: u8, judgement: Judgement, name: Name40) -> Telemetry
     }
 }
 
-/// What VALIDATE is answered about the table in a row, which has this name and gives this notice, and what is told of it.
+/// The answer to VALIDATE about the table in a row, which has this name and gives this notice, and what is reported of it.
 fn told(
     came: Requested,
     row: u8,
@@ -109,8 +109,8 @@ fn validate_found(
     Ok(answer)
 }
 
-/// The ground asks for the validation of an image of the table of this name (`CFE_TBL_VALIDATE_CC`): of the last one, or
-/// of that of the open load. Its owner is told where it has a validation function.
+/// The ground asks for the validation of an image of the table of this name (`CFE_TBL_VALIDATE_CC`): of the last one, or of that of the
+/// open load. Its owner is notified if it has a validation function.
 #[tactic(auto, unfolding(tbl_model::specs::Validations::validate_effect))]
 pub(crate) fn validate(
     tables: &mut Tables,
@@ -139,7 +139,7 @@ pub(crate) fn validate(
     }
 }
 
-/// What is told of a validation that an owner has done, of the table in a row, of this name.
+/// What is reported of a validation that an owner has done, of the table in a row, of this name.
 fn tell_validated(row: u8, came: Validated, name: Name40, report: &mut Report)
     requires { report.old ≡ nothing_reported }
     ensures effect { (s : State) (t : Table) (tables : Registry) (pending : List (ℕ × Bool)) → t.name ≡ name
@@ -154,8 +154,8 @@ fn tell_validated(row: u8, came: Validated, name: Name40, report: &mut Report)
     }
 }
 
-/// The owner of the table in a row has a validation of it done that is pending (`CFE_TBL_Validate`), that of the last
-/// image first. The one event that it tells fits into the room for an event.
+/// The owner of the table in a row has a validation of it done that is pending (`CFE_TBL_Validate`), that of the last image first. The one
+/// event that it reports fits into the room for an event.
 pub fn app_validate<C: Validator>(
     tables: &mut Tables,
     kit: &mut Kit<C>,

@@ -1,4 +1,4 @@
--- What stands at the address of a handle.
+-- What is at the address of a handle.
 use Rattle.std.specs.Prelude.{Option, Some, None}
 use base.Fml.{Fml, feq}
 use denote.RawPtr.{Ptr, null_ptr}

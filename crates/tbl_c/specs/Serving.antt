@@ -32,7 +32,7 @@ Serving = EngineView (List ℕ) Spoken
 
 -- ---- verdicts
 
--- the verdict that counts for the second question: the first one's where both are one question
+-- the verdict that counts for the second question: the first one's if both are one question
 abbrev pub second_of : Question → Question → ℤ → ℤ → ℤ
 second_of q r v w = if (q.number == r.number) && bytes_eq q.image r.image then v else w
 
@@ -43,7 +43,7 @@ Said (q ∷ []) (v ∷ vs) (a ∷ answers) = (a ≡ Some v) × AllByRecursion (�
 Said (q ∷ r ∷ []) (v ∷ w ∷ vs) (a ∷ b ∷ answers) = (a ≡ Some v) × (b ≡ Some (second_of q r v w)) × AllByRecursion (λ (c : Option ℤ). c ≡ None) answers
 Said _ _ _ = ⊥
 
--- so the functions answer them, as far as they stand in the kit
+-- so the functions answer them, if they are in the kit
 abbrev pub WillSay : List Question → List ℤ → List (Option (KitEntry Spoken)) → Type 0
 WillSay [] verdicts kit = Unit {0}
 WillSay (q ∷ []) (v ∷ vs) kit = ForSome (entry_at kit q.number) (λ e. answer_of e.check q.image ≡ v)
@@ -52,11 +52,11 @@ WillSay _ _ _ = ⊥
 
 -- ---- a step
 
--- the entry, as the transcript tells it: FFFFFFFF is no entry's place, and after FFFFFFFE comes 0
+-- the entry, as the transcript has it: FFFFFFFF is no entry's place, and after FFFFFFFE comes 0
 abbrev pub told_as : Serving → Entry → List ℕ
 told_as old e = entry_bytes (old.played % 4294967295) e
 
--- what C is told of a call: the status, a length, a number, and bytes, where others stood before
+-- what C gets of a call: the status, a length, a number, and bytes over those that were there
 pub record Outcome : Type 0 where
   pub status : ℕ
   pub told : ℕ
@@ -64,7 +64,7 @@ pub record Outcome : Type 0 where
   pub out : List ℕ
   pub out_then : List ℕ
 
--- these bytes are told, over what stood there, and how many they are
+-- C gets these bytes, over what was there, and how many they are
 pub record IsTold (bytes : List ℕ) (o : Outcome) : Type 0 where
   pub length_is : o.told ≡ length bytes
   pub bytes_are : o.out_then ≡ over_front bytes o.out
@@ -77,19 +77,19 @@ end_of status = if status == 7 then Err BootFault else (if status == 8 then Err 
 abbrev pub IsPlayed : ℕ → Type 0
 IsPlayed status = (status ≡ 0) ⊎ (status ≡ 7) ⊎ (status ≡ 8)
 
--- what is told of an entry by the status; with 20 memory ran out for its spelling
+-- what C gets of an entry by the status; with 20 memory ran out for its spelling
 abbrev pub TellsEntry : Result Unit StepFault → List ℕ → Outcome → Type 0
 TellsEntry end bytes o = (IsPlayed o.status × (end ≡ end_of o.status) × IsTold bytes o) ⊎ (o.status ≡ 20)
 
--- a request was played, and this is told of its entry
+-- a request was played, and C gets this of its entry
 pub record Played (g : Ghosts (List ℕ)) (v : ValidatorGhosts Spoken) (old new : Serving) (asked : Actor × Request) (o : Outcome) : Type 0 where
   pub entry : Entry
   pub end : Result Unit StepFault
   pub steps : Steps g v old new asked entry end
   pub tells : TellsEntry end (told_as old entry) o
 
--- The questions of the request were answered with the verdicts that were handed in, and it was played. Before that nothing was changed
--- but that functions which answer so stand in the kit.
+-- The questions of the request were answered with the verdicts that were handed in, and it was played. Before that only the kit was
+-- changed: its functions answer so.
 pub record Plays (g : Ghosts (List ℕ)) (v : ValidatorGhosts Spoken) (old new : Serving) (pair : Pair) (verdicts : List ℤ) (o : Outcome) : Type 0 where
   pub questions : List Question
   pub asks : Asks g old pair.actor pair.request questions
@@ -99,7 +99,7 @@ pub record Plays (g : Ghosts (List ℕ)) (v : ValidatorGhosts Spoken) (old new :
   pub played : Played g v handed new (pair.actor, pair.request) o
   pub said : may_ask pair.request ≡ true → g.tells → (opening : State) (past : List Entry) → Stands g opening past old → Said questions verdicts played.entry.given.verdicts
 
--- a verdict is missing for this question of the request, and it is told
+-- a verdict is missing for this question of the request, and C gets the question
 pub record Lacks (g : Ghosts (List ℕ)) (old new : Serving) (pair : Pair) (verdicts : List ℤ) (o : Outcome) : Type 0 where
   pub questions : List Question
   pub asks : Asks g old pair.actor pair.request questions
@@ -109,7 +109,7 @@ pub record Lacks (g : Ghosts (List ℕ)) (old new : Serving) (pair : Pair) (verd
   pub tells : IsTold question.image o
   pub on : StandsOn g old new
 
--- nothing was played and nothing is told, and the service stands for what it stood for
+-- nothing was played and C gets nothing, and the service represents what it represented before
 pub record IsUnchanged (g : Ghosts (List ℕ)) (old new : Serving) (o : Outcome) : Type 0 where
   pub on : StandsOn g old new
   pub untold : o.out_then ≡ o.out
@@ -130,7 +130,7 @@ pub record IsWhole (pair : Pair) (input : List ℕ) : Type 0 where
   pub is_record : IsRecord pair
   pub spelled : input ≡ spelling pair
 
--- bytes stand after this record
+-- there are bytes after this record
 pub record IsLonger (pair : Pair) (input : List ℕ) : Type 0 where
   pub is_record : IsRecord pair
   pub front : take (length (spelling pair)) input ≡ spelling pair
@@ -156,7 +156,7 @@ pub record Between (before after : Option Serving) (Is : Serving → Serving →
   pub holds : after ≡ Some new
   pub is : Is old new
 
--- a closed handle stays closed, and is told by 18
+-- a closed handle stays closed, and the status is 18
 abbrev pub OnHeld : Option Serving → Option Serving → ℕ → (Serving → Serving → Type 0) → Type 0
 OnHeld before after status Is = ((status ≡ 18) × (before ≡ None) × (after ≡ None)) ⊎ Between before after Is
 

@@ -1,4 +1,4 @@
--- What is told to C.
+-- What C gets.
 use Rattle.std.specs.Prelude.{ℕ, List, ◌++◌, length, take, drop}
 
 -- these bytes over the front of others, as many as there is room for

@@ -10,7 +10,7 @@ use std::alloc::Global;
 use std::marker::Model;
 use std::{mem, ptr};
 
-/// A service that C holds, or none. C sees the address alone, and contracts see what stands there. A handle of zeros is closed.
+/// A service that C holds, or none. C sees only the address, and contracts see what is there. A handle of zeros is closed.
 #[repr(C)]
 pub struct Handle {
     at: *mut u8,
@@ -33,7 +33,7 @@ impl Handle {
         }
     }
 
-    /// A handle for what stands at an address.
+    /// A handle for what is at an address.
     fn some(service: Loose<Service, Global>) -> Handle
         ensures { result.service ≡ Some service.value }
     {
@@ -41,7 +41,7 @@ impl Handle {
         Handle { at: at as *mut u8 }
     }
 
-    /// What stands at the address, if there is one.
+    /// What is at the address, if there is anything.
     fn into_loose(self, alloc: Global) -> Option<Loose<Service, Global>>
         ensures { option_map (λ service. service.value) result ≡ self.service }
     {

@@ -1,5 +1,5 @@
-//! The service for C: whoever links it may rely on it that each call plays one record, that what it tells is the entry of one legal
-//! history that begins as the handle was opened, and that nothing of a history is kept.
+//! The service for C. Whoever links it may rely on this: each call plays one record, what it reports is the entry of one legal history that
+//! begins as the handle was opened, and nothing of a history is kept.
 #![tactic(auto)]
 
 mod handle;
@@ -22,8 +22,8 @@ use tbl_fakes::CalmBank;
 use tbl_outside::{Bank, Validator};
 pub use told::Told;
 
-/// Opens a handle over a copy of preserved memory of 262,144 bytes: boots over it, with files of all spacecraft and processors
-/// admitted. One that is open is closed first, and it is closed where that fails. The status is 0, 1 or 17.
+/// Opens a handle over a copy of preserved memory of 262,144 bytes: boots over it, with files of all spacecraft and processors admitted.
+/// One that is open is closed first, and it stays closed if that fails. The status is 0, 1 or 17.
 #[unsafe(no_mangle)]
 pub extern "C" fn tbl_open(alloc: Global, handle: &mut Handle, bank: &[u8]) -> u8
     ensures ok { result ≡ 0 → (new : Serving) × (handle.new.service ≡ Some new) × Begins ⟦<CalmBank as Bank>⟧ bank.now new }
@@ -46,9 +46,9 @@ pub extern "C" fn tbl_open(alloc: Global, handle: &mut Handle, bank: &[u8]) -> u
     }
 }
 
-/// Plays the request of one record, with the verdicts that validation functions give on the images it asks them about, in order. Where
-/// one is missing nothing is played, and C is told which function it is of (`number`) and the image (`length`, and its bytes in `out`).
-/// Else C is told the entry: `out` has the beginning of its bytes and `length` says how many it has.
+/// Plays the request of one record, with the verdicts that validation functions give on the images it asks them about, in order. If one is
+/// missing nothing is played, and C gets the function that it is of (`number`) and the image (`length`, and its bytes in `out`). Else C
+/// gets the entry: `out` has the beginning of its bytes and `length` says how many it has.
 #[unsafe(no_mangle)]
 pub extern "C" fn tbl_step(
     alloc: Global,
@@ -59,7 +59,7 @@ pub extern "C" fn tbl_step(
     told: &mut Told,
 ) -> u8
     // The service begins where `tbl_open` left it, and each step goes on from where the one before left it. So by `legal` of `Steps` the
-    // entries that C was told are one legal history.
+    // entries that C got are one legal history.
     ensures { OnHeld handle.old.service handle.new.service result (λ old new. Stepped ⟦<CalmBank as Bank>⟧ ⟦<Answering as Validator>⟧ old new input.now
         verdicts.now (record { status = result; told = told.new.length; number = told.new.number; out = out.old; out_then = out.new })) }
 {
@@ -71,7 +71,7 @@ pub extern "C" fn tbl_step(
     status
 }
 
-/// Tells preserved memory from a place on, as much of it as there is room for.
+/// Gives preserved memory from a place on, as much of it as there is room for.
 #[unsafe(no_mangle)]
 pub extern "C" fn tbl_bank(alloc: Global, handle: &mut Handle, from: usize, out: &mut [u8]) -> u8
     ensures { OnHeld handle.old.service handle.new.service result (λ old new. (new ≡ old) × (out.new ≡ over_front (drop from old.state.store.bank) out.old)) }

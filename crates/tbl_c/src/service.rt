@@ -1,4 +1,4 @@
-//! The service behind a handle: an engine over a bank in memory, whose validation functions answer with what C hands in.
+//! The service of a handle: an engine over a bank in memory, whose validation functions answer with what C hands in.
 
 ghost use Rattle.std.specs.Prelude.{◌≡◌, ◌≤◌, ◌%◌, ◌^◌, map, ℕ, List, false, true, Some, None, [], ◌∷◌, IfErr, IfOk, OnOk, OnErr, IfSome, MatchOption, length, drop, slice_get};
 ghost use Rattle.tbl_kinds.specs.Places.{bank_size};
@@ -41,7 +41,7 @@ const PLACE_COUNT: u64 = 4_294_967_295;
 /// How many bytes of room the spelling of an entry has from the beginning. A longer one takes more.
 const SPELLING_ROOM: usize = 20_480;
 
-/// An engine over a bank in memory, with the kit of applications in C, and what it needs to tell entries.
+/// An engine over a bank in memory, with the kit of applications in C, and what it needs to give entries to C.
 #[derive(Drop)]
 pub(crate) struct Service {
     alloc: Global,
@@ -75,7 +75,7 @@ fn mute_kit(alloc: Global) -> Result<Kit<Answering>, Memory>
     Kit::make(alloc, entries)
 }
 
-/// The status that tells why there is no engine.
+/// The status that says why there is no engine.
 fn start_status(fault: StartFault) -> u8
     ensures { IsUnopened result }
 {
@@ -116,7 +116,7 @@ fn open_question(questions: &Questions, answered: usize) -> Option<&Question>
     }
 }
 
-/// Has the functions of two questions answer so. Where both are of one function, it answers each image with its own verdict.
+/// Has the functions of two questions answer so. If both are of one function, it answers each image with its own verdict.
 fn hand_two(
     engine: &mut Engine<CalmBank, Answering>,
     first: Question,
@@ -152,7 +152,7 @@ fn hand_in(engine: &mut Engine<CalmBank, Answering>, questions: Questions, verdi
     }
 }
 
-/// Tells C which image has to be judged first, and by which function.
+/// Gives C the image that has to be judged first, and the function that judges it.
 fn tell_question(question: &Question, out: &mut [u8], told: &mut Told)
     ensures number { told.new.number ≡ question.now.number }
     ensures length { told.new.length ≡ length question.now.image.list }
@@ -183,7 +183,7 @@ fn play(engine: &mut Engine<CalmBank, Answering>, entry: &mut Entry) -> Result<u
     }
 }
 
-/// Tells an entry, whether memory suffices for its spelling.
+/// Gives C an entry. Returns whether memory suffices for its spelling.
 fn tell(room: &mut Vec<u8>, place: u32, entry: &Entry, out: &mut [u8], told: &mut Told) -> bool
     requires small { IsSmall entry.now }
     ensures length { result ≡ true → told.new.length ≡ length (entry_bytes place entry.now) }
@@ -219,7 +219,7 @@ impl Service {
         })
     }
 
-    /// Plays the request of a record, and tells its entry.
+    /// Plays the request of a record, and gives C its entry.
     pub(crate) fn step(
         &mut self,
         input: &[u8],
@@ -242,7 +242,7 @@ impl Service {
         }
     }
 
-    /// Plays a request, if its verdicts were handed in; else tells which one is missing.
+    /// Plays a request, if its verdicts were handed in; else gives C the question whose verdict is missing.
     fn answer(
         &mut self,
         actor: Actor,
@@ -273,7 +273,7 @@ impl Service {
         }
     }
 
-    /// Plays a request whose verdicts were handed in, and tells its entry. An Err means that memory ran out, and nothing was played.
+    /// Plays a request whose verdicts were handed in, and gives C its entry. An Err means that memory ran out, and nothing was played.
     fn play(
         &mut self,
         actor: Actor,

@@ -1,9 +1,9 @@
-//! What is told to C.
+//! What C gets.
 
 ghost use Rattle.std.specs.Prelude.{◌≡◌, drop};
 ghost use Rattle.tbl_c.specs.Told.{over_front};
 
-/// What C is told of a call beside bytes.
+/// What C gets of a call besides bytes.
 #[repr(C)]
 #[derive(Clone, Copy)]
 pub struct Told {
