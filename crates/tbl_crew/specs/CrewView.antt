@@ -14,7 +14,7 @@ pub record CrewView (B C : Type 0) : Type 0 where
   pub fault : Option StepFault
   pub left : List (List Request)
 
--- a boot that ended the service is told by the last entry; else the service goes on
+-- the last entry has a boot that ended the service; else the service goes on
 abbrev pub TellsFault : {B C : Type 0} → Option StepFault → CoreView B C → Type 0
 TellsFault None core = core.state.ended ≡ false
 TellsFault (Some Memory) core = core.state.ended ≡ false

@@ -16,7 +16,7 @@ use Rattle.tbl_kinds.specs.Transcript.{pairs_of}
 use Rattle.tbl_kinds.specs.declared.entry.Entry.{Entry}
 use Rattle.tbl_kinds.specs.declared.request.Request.{Request}
 
--- what an actor played is its whole script, in order; where a step answered a fault, the beginning of it
+-- what an actor played is its whole script, in order; if a step answered a fault, the beginning of it
 abbrev pub HasPlayed : Option StepFault → List Request → List Request → Type 0
 HasPlayed None script played = played ≡ script
 HasPlayed (Some fault) script played = (rest : List Request) × (script ≡ played ++ rest)
@@ -26,9 +26,9 @@ pub record HavePlayed (fault : Option StepFault) (scripts : List (List Request))
   pub parts : (actor : ℕ) → HasPlayed fault (script_of scripts actor) (part actor (pairs_of entries))
   pub actors : HaveActors (pairs_of entries)
 
--- Whoever played, and in which order their turns came, one history was served. For each actor its requests are its script, in order,
--- each once; where a step answered a fault, the beginning of it, and where that was out of memory, a request is left. It has no more
--- entries than a session may have, and the service has ended where the last of them tells it (`caused`).
+-- Whoever played, and in which order their turns came, one history was served. For each actor its requests are its script, in order, each
+-- once. If a step answered a fault, they are the beginning of it, and if that was out of memory, a request is left. It has no more entries
+-- than a session may have, and the service has ended if the last of them says so (`caused`).
 pub record OneHistory {B C : Type 0} (g : Ghosts B) (verdict : C → List ℕ → ℤ) (o : Opening B C) (scripts : List (List Request)) (fault : Option StepFault) (core : CoreView B C) : Type 0 where
   pub served : IsServed g verdict o core.state.store.bank core.entries
   pub played : HavePlayed fault scripts core.entries

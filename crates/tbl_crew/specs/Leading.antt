@@ -1,4 +1,4 @@
--- What a crew stands for: its opening, and the scripts that its actors were given.
+-- What a crew represents: its opening, and the scripts that its actors were given.
 use Rattle.std.specs.Prelude.{◌≡◌, ℕ, List, ◌∷◌, ◌++◌, Option, Some, None}
 use Rattle.std.proofs.Common.{ℤ}
 use Rattle.tbl_kinds.specs.Transcript.{pairs_of}
@@ -26,21 +26,21 @@ ArePlayed fault scripts entries left = (actor : ℕ) → IsPlayed fault (script_
 abbrev pub LacksOne : List (List Request) → List Entry → Type 0
 LacksOne scripts entries = (actor : ℕ) × (request : Request) × (rest : List Request) × (script_of scripts actor ≡ part actor (pairs_of entries) ++ request ∷ rest)
 
--- out of memory is told only where a request wasn't played for it
+-- out of memory is reported only if a request wasn't played for it
 abbrev pub LacksAfter : Option StepFault → List (List Request) → List Entry → Type 0
 LacksAfter None scripts entries = Unit {0}
 LacksAfter (Some Memory) scripts entries = LacksOne scripts entries
 LacksAfter (Some BootFault) scripts entries = Unit {0}
 LacksAfter (Some BootStopped) scripts entries = Unit {0}
 
--- The core keeps to all that the opening promises; and each actor's requests in its history are its script, as far as it was played,
--- and no entry is of any other actor.
+-- The core keeps to all that the opening promises; and each actor's requests in its history are its script, up to where it was played, and
+-- no entry is of any other actor.
 pub record LeadsFrom {B C : Type 0} (g : Ghosts B) (verdict : C → List ℕ → ℤ) (o : Opening B C) (scripts : List (List Request)) (h : CrewView B C) : Type 0 where
   pub serves : Serves g verdict o h.core
   pub played : ArePlayed h.fault scripts h.core.entries h.left
   pub lacks : LacksAfter h.fault scripts h.core.entries
   pub actors : HaveActors (pairs_of h.core.entries)
 
--- whatever the old one stands for, the new one does
+-- whatever the old one represents, the new one does
 abbrev pub LeadsOn : {B C : Type 0} → Ghosts B → (C → List ℕ → ℤ) → CrewView B C → CrewView B C → Type 0
 LeadsOn {B} {C} g verdict old new = (o : Opening B C) (scripts : List (List Request)) → LeadsFrom g verdict o scripts old → LeadsFrom g verdict o scripts new

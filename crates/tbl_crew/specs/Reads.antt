@@ -19,7 +19,7 @@ abbrev pub plan_by : Request → Option ReadPlan
 plan_by (ask.Read handle offset len) = Some (record { handle = handle; offset = offset; len = len })
 plan_by _ = None
 
--- what a script reads first, where it begins with a Read
+-- what a script reads first, if it begins with a Read
 abbrev pub plan_of : List Request → Option ReadPlan
 plan_of [] = None
 plan_of (request ∷ requests) = plan_by request
@@ -54,7 +54,7 @@ pub record IsTakenOf (pins : List Pin) (read : ReadPlan) (pin : Pin) (slice : Li
 abbrev pub last_got : List Entry → Option ℕ
 last_got entries = option_and_then handle_got (slice_get entries (length entries - 1))
 
--- where the last entry got an address, its handle pins by that entry
+-- if the last entry got an address, its handle pins by that entry
 abbrev pub PinsLast : {B C : Type 0} → CoreView B C → Type 0
 PinsLast core = (handle : ℕ) → last_got core.entries ≡ Some handle → (pins_image handle core.state.tables ≡ true) × (handle < handle_limit → place_in core.gets handle + 1 ≡ length core.entries)
 

@@ -14,7 +14,7 @@ abbrev pub first_of : List Request → Option Request
 first_of [] = None
 first_of (request ∷ requests) = Some request
 
--- the same scripts but for this actor's
+-- the same scripts except this actor's
 abbrev pub with_script : List (List Request) → ℕ → List Request → List (List Request)
 with_script scripts actor script = slice_set scripts actor script
 

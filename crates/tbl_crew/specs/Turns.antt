@@ -40,7 +40,7 @@ pub record EndedBefore {B C : Type 0} (old new : CrewView B C) : Type 0 where
   pub kept : old.fault ≡ Some fault
   pub same : new ≡ old
 
--- the actor's next request was played, as one entry more. Where it got an address, the image is lent
+-- the actor's next request was played, as one entry more. If it got an address, the image is lent
 pub record PlaysNext {B C : Type 0} (g : Ghosts B) (old new : CrewView B C) (actor : ℕ) (turn : Turn) : Type 0 where
   pub request : Request
   pub takes : Takes old new actor request
@@ -63,7 +63,7 @@ pub record HasDone {B C : Type 0} (old new : CrewView B C) (actor : ℕ) : Type 
   pub went : old.fault ≡ None
   pub same : new ≡ old
 
--- the one that the answer tells
+-- the one that the answer names
 abbrev pub Turns : {B C : Type 0} → Ghosts B → CrewView B C → CrewView B C → ℕ → Turn → Type 0
 Turns g old new actor Played = PlaysNext g old new actor Played
 Turns g old new actor (Pinned pin) = PlaysNext g old new actor (Pinned pin)

@@ -29,13 +29,13 @@ use Rattle.tbl_crew.specs.declared.watching.WatchEnd.TheVariants.{Step, Memory}
 
 -- ---- what is promised
 
--- these are the looks of the history; where a step answered a fault, of the entries before it, which are all but the last, or all
+-- these are the looks of the history; if a step answered a fault, those of the entries before it, which are all but the last, or all
 abbrev pub AreLooks : {B C : Type 0} → Ghosts B → Opening B C → Option StepFault → List Look → List Entry → Type 0
 AreLooks g o None looks entries = AreLooksOf g.tells o.state entries looks
 AreLooks g o (Some cause) looks entries = (before : List Entry) × (rest : List Entry) × (entries ≡ before ++ rest) × (length rest ≤ 1) × AreLooksOf g.tells o.state before looks
 
--- These are the looks of the history before a call by which the watcher got an address. It's the watcher's last one, so no look is
--- missing but that of this call.
+-- These are the looks of the history before a call that gave the watcher an address. It's the watcher's last one, so only the look of this
+-- call is missing.
 pub record LacksLook {B C : Type 0} (g : Ghosts B) (o : Opening B C) (looks : List Look) (entries : List Entry) : Type 0 where
   pub before : List Entry
   pub call : Entry
@@ -46,7 +46,7 @@ pub record LacksLook {B C : Type 0} (g : Ghosts B) (o : Opening B C) (looks : Li
   pub last : All (λ (e : Entry). is_by watcher e.actor ≡ false) after
   pub seen : AreLooksOf g.tells o.state before looks
 
--- One history was served. Each actor but the watcher has played its whole script, and the watcher the beginning of its script, to the
+-- One history was served. Each actor except the watcher has played its whole script, and the watcher the beginning of its script, to the
 -- call whose look is missing. The history has no more entries than a session may have, and the service goes on.
 pub record CutShort {B C : Type 0} (g : Ghosts B) (verdict : C → List ℕ → ℤ) (o : Opening B C) (scripts : List (List Request)) (looks : List Look) (core : CoreView B C) : Type 0 where
   pub served : IsServed g verdict o core.state.store.bank core.entries
@@ -57,8 +57,8 @@ pub record CutShort {B C : Type 0} (g : Ghosts B) (verdict : C → List ℕ → 
   pub caused : IsCaused g o.bank core
   pub live : core.state.ended ≡ false
 
--- Where nothing ended it, it is as with any crew, and the watcher has looked at each image that its calls got. So it is where a step
--- answered a fault, but that a look may be missing then too. Where memory alone ran out for a look, the watcher's script was cut short.
+-- If nothing ended it, it is as with any crew, and the watcher has looked at each image that its calls got. So it is if a step answered a
+-- fault, except that a look may be missing then too. If only memory ran out for a look, the watcher's script was cut short.
 abbrev pub IsWatched : {B C : Type 0} → Ghosts B → (C → List ℕ → ℤ) → Opening B C → List (List Request) → Option WatchEnd → List Look → CoreView B C → Type 0
 IsWatched g verdict o scripts None looks core = OneHistory g verdict o scripts None core × AreLooks g o None looks core.entries
 IsWatched g verdict o scripts (Some (Step cause)) looks core = OneHistory g verdict o scripts (Some cause) core × (AreLooks g o (Some cause) looks core.entries ⊎ LacksLook g o looks core.entries)
@@ -80,12 +80,12 @@ looks_after looks PinMemory = looks
 looks_after looks Ended = looks
 looks_after looks Done = looks
 
--- whatever the first crew stood for, this one does, and these are the looks of its history
+-- whatever the first crew represented, this one does, and these are the looks of its history
 abbrev pub HasWatched : {B C : Type 0} → Ghosts B → (C → List ℕ → ℤ) → CrewView B C → List Look → CrewView B C → Type 0
 HasWatched {B} {C} g verdict first looks h = (o : Opening B C) (scripts : List (List Request)) → LeadsFrom g verdict o scripts first
     → LeadsFrom g verdict o scripts h × AreLooks g o h.fault looks h.core.entries
 
--- whatever the first crew stood for, the look of the watcher's last call is missing
+-- whatever the first crew represented, the look of the watcher's last call is missing
 abbrev pub HasMissed : {B C : Type 0} → Ghosts B → (C → List ℕ → ℤ) → CrewView B C → List Look → CrewView B C → Type 0
 HasMissed {B} {C} g verdict first looks h = (o : Opening B C) (scripts : List (List Request)) → LeadsFrom g verdict o scripts first → LacksLook g o looks h.core.entries
 

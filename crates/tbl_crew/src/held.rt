@@ -91,7 +91,7 @@ impl<B: Bank, C: Validator> Crew<B, C> {
         ensures core { IfOk result (λ crew. crew.core ≡ core) }
         ensures fault { IfOk result (λ crew. crew.fault ≡ None) }
         ensures left { IfOk result (λ crew. crew.left ≡ scripts) }
-        // Whatever the service began with, the crew stands for it, with these scripts and nothing played.
+        // Whatever the service began with, the crew represents it, with these scripts and nothing played.
         ensures stands { IfOk result (λ crew. (o : Opening B C) → Serves B.Bank C.verdict o core → LeadsFrom B.Bank C.verdict o scripts crew) }
         ensures err { IfErr result (λ back. (back.0 ≡ core) × (back.1 ≡ scripts)) }
     {
@@ -121,12 +121,12 @@ impl<B: Bank, C: Validator> Crew<B, C> {
         (Box::into_inner(self.core), self.fault)
     }
 
-    /// Plays the next request of an actor: 0 is the ground, 1 to 16 are the applications. Where the step answers a fault, this
-    /// turn and all later ones have ended.
+    /// Plays the next request of an actor: 0 is the ground, 1 to 16 are the applications. If the step answers a fault, this turn and all
+    /// later ones have ended.
     pub fn turn(&mut self, actor: u8) -> Turn
         requires actor { actor < actor_count }
         ensures turns { Turns B.Bank self.old self.new actor result }
-        // Whatever it stood for.
+        // Whatever it represented.
         ensures leads { LeadsOn B.Bank C.verdict self.old self.new }
         // And whatever was lent.
         ensures pins { (pin : Pin) → IsOfPin pin self.old.core → IsOfPin pin self.new.core }
@@ -135,7 +135,7 @@ impl<B: Bank, C: Validator> Crew<B, C> {
         turn_fields(core, &mut self.fault, &mut self.left, actor)
     }
 
-    /// The bytes that the actor's next request reads; None where it isn't a Read. Only the actor's own turns change the answer.
+    /// The bytes that the actor's next request reads; None if it isn't a Read. Only the actor's own turns change the answer.
     pub fn next_read(&self, actor: u8) -> Option<ReadPlan>
         requires actor { actor < actor_count }
         ensures { result ≡ plan_of (script_of self.now.left actor) }
@@ -206,7 +206,7 @@ fn last_address(entries: &[Entry]) -> Option<u16>
     }
 }
 
-/// What came of a turn whose request was played. Where it got an address, the image is lent.
+/// What came of a turn whose request was played. If it got an address, the image is lent.
 #[tactic(auto, using(crate::proofs::LendingLemmas::lent_last))]
 fn played<B: Bank, C: Validator>(core: &Core<B, C>) -> Turn
     requires pins { PinsLast core.now }

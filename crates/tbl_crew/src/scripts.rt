@@ -43,7 +43,7 @@ impl Script {
         }
     }
 
-    /// How many requests there are, as far as they can be played.
+    /// How many requests there are, of those that can be played.
     fn len(&self) -> u32
         ensures { result ≡ min (length self.now) record_limit }
     {
@@ -114,7 +114,7 @@ impl Scripts {
         self.scripts[usize::from(actor.number())].push(request)
     }
 
-    /// How many requests each actor has, as far as they can be played.
+    /// How many requests each actor has, of those that can be played.
     pub(crate) fn counts(&self) -> [u32; ACTOR_COUNT]
         ensures { (actor : ℕ) → actor < actor_count → slice_index result actor ≡ min (length (script_of self.now actor)) record_limit }
     {

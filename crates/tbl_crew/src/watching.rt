@@ -61,8 +61,8 @@ fn look_and_keep<G: Gate>(
     Ok(())
 }
 
-/// Plays the watcher's script from its seat like that of any actor, and looks at each image that it is lent. Where memory runs out for
-/// a look it ends early, and this look alone is missing.
+/// Plays the watcher's script from its seat like that of any actor, and looks at each image that it is lent. If memory runs out for a look
+/// it ends early, and only this look is missing.
 fn watch_script<B: Bank, C: Validator, G: Gate, R: Wait>(
     rt: &R,
     alloc: Global,
@@ -182,7 +182,7 @@ fn watch_range<B: Bank + Send, C: Validator + Send, G: Gate + Sync, R: Threads +
     (place, watch, looked)
 }
 
-/// Plays each script in a thread of its own, as far as steps and looks go, and takes the crew out of the lock.
+/// Plays each script in a thread of its own, up to where steps and looks end, and takes the crew out of the lock.
 fn watch_beside<B: Bank + Send, C: Validator + Send, G: Gate + Sync, R: Threads + Wait + Sync>(
     rt: &R,
     alloc: Global,
@@ -283,8 +283,8 @@ fn unwatched<B: Bank, C: Validator>(
     (core, watch, end_of(fault, Ok(())))
 }
 
-/// Plays each script of a crew in a thread of its own; where there is no memory for the lock, the caller plays them. The watcher looks
-/// at each image that it is lent.
+/// Plays each script of a crew in a thread of its own; if there is no memory for the lock, the caller plays them. The watcher looks at each
+/// image that it is lent.
 fn watch_all<B: Bank + Send, C: Validator + Send, G: Gate + Sync, R: Threads + Wait + Sync>(
     rt: &R,
     alloc: Global,
@@ -311,9 +311,9 @@ fn watch_all<B: Bank + Send, C: Validator + Send, G: Gate + Sync, R: Threads + W
     }
 }
 
-/// Plays the actors' scripts beside each other like `crew`. Application 16 is the watcher: at each of its calls that gets the
-/// address of a table (`CFE_TBL_GetAddress`), its thread looks at the image that was lent, without the lock. Where memory runs out for
-/// a look, the watcher plays no further request, and the other actors play their scripts to the end: this look alone is missing.
+/// Plays the actors' scripts at the same time, like `crew`. Application 16 is the watcher: at each of its calls that gets the address of a
+/// table (`CFE_TBL_GetAddress`), its thread looks at the image that was lent, without the lock. If memory runs out for a look, the watcher
+/// plays no further request, and the other actors play their scripts to the end: only this look is missing.
 pub fn crew_watched<B: Bank + Send, C: Validator + Send, G: Gate + Sync, R: Threads + Wait + Sync>(
     rt: &R,
     alloc: Global,

@@ -33,7 +33,7 @@ use tbl_outside::{Bank, Gate, Validator};
 use tbl_registry::Pin;
 use turn_lock::{Place, TurnLock};
 
-/// A turn by which the actor's next request is played, and the bytes that it reads after that.
+/// A turn that plays the actor's next request. Returns it, and the bytes that the actor reads after that.
 fn plain_turn<B: Bank, C: Validator, R: Wait>(
     rt: &R,
     lock: &TurnLock<Crew<B, C>>,
@@ -65,7 +65,7 @@ struct Taken<'a> {
     slice: Bytes,
 }
 
-/// A turn by which a Read is played whose bytes were taken of a lent image, and the bytes that the actor reads after that.
+/// A turn that plays a Read whose bytes were taken from a lent image. Returns it, and the bytes that the actor reads after that.
 fn read_turn<B: Bank, C: Validator, R: Wait>(
     rt: &R,
     lock: &TurnLock<Crew<B, C>>,
@@ -84,7 +84,7 @@ fn read_turn<B: Bank, C: Validator, R: Wait>(
     ensures seat { IsSeat place.new.me actor 1 }
     ensures known { AreKnown pins.now result.1 actor place.new.me.0.seen }
     ensures turned { HaveTurned B.Bank C.verdict actor result.0 place.old.me.0.seen place.new.me.0.seen }
-    // As long as the pin stands, the reply is the buffer that was taken before this turn.
+    // As long as the pin lives, the reply is the buffer that was taken before this turn.
     ensures lent { HaveReadLent B.Bank C.verdict actor (record { pin = taken.entry.pin.now; slice = taken.entry.slice; turn = result.0 }) place.old.me.0.seen place.new.me.0.seen }
 {
     let _ = plan;
@@ -97,7 +97,7 @@ fn read_turn<B: Bank, C: Validator, R: Wait>(
     (turn, next)
 }
 
-/// Where the pin of this handle is.
+/// The place of the pin of this handle.
 fn place_of(pins: &[Pin], handle: u16) -> Option<usize>
     ensures first { result ≡ position (is_of handle) pins.now }
     ensures within { IfSome result (λ n. n < length pins.now) }
@@ -131,7 +131,7 @@ fn take_ahead(alloc: Global, pins: &[Pin], read: ReadPlan) -> Result<Option<Take
     }
 }
 
-/// Keeps the pin of a handle in the place of its earlier one. Where memory runs out it isn't kept.
+/// Keeps the pin of a handle in the place of its earlier one. If memory runs out it isn't kept.
 pub(crate) fn keep(pins: &mut Vec<Pin>, pin: Pin)
     ensures { Keeps pins.old.items pins.new.items pin }
 {
@@ -250,8 +250,8 @@ fn ask_nothing(counts: &[u32; ACTOR_COUNT], from: u8, count: u8) -> bool
     these.iter().all(|asked| *asked == 0)
 }
 
-/// Plays the scripts of so many actors, from one on, with a thread for each that asks anything, but for one, which the caller plays.
-/// Where a thread can't be started the caller plays what it was for, after its own.
+/// Plays the scripts of so many actors, from one on. Each that asks anything has a thread, except one, which the caller plays. If a thread
+/// can't be started the caller plays what it was for, after its own.
 #[cycle(halves)]
 #[tactic(auto, using(crate::proofs::MoveLemmas::one_left, crate::proofs::MoveLemmas::ended_both))]
 pub(crate) fn play_range<
@@ -290,7 +290,7 @@ pub(crate) fn play_range<
     let middle = from + low;
     let (place, other) = halve(lock, counts, place, from, count);
     if ask_nothing(counts, from, low) || ask_nothing(counts, middle, high) {
-        // One of the halves takes no time, so the other one needs no thread beside it.
+        // One of the halves takes no time, so the other one needs no thread of its own.
         let mut place = play_range(rt, alloc, lock, gate, counts, place, from, low);
         let other = play_range(rt, alloc, lock, gate, counts, other, middle, high);
         lock.join(&mut place, other);
@@ -377,7 +377,7 @@ pub(crate) fn unplayed<B: Bank, C: Validator>(
     }
 }
 
-/// Plays each script of a crew in a thread of its own; where there is no memory for the lock, the caller plays them.
+/// Plays each script of a crew in a thread of its own; if there is no memory for the lock, the caller plays them.
 fn play_all<B: Bank + Send, C: Validator + Send, G: Gate + Sync, R: Threads + Wait + Sync>(
     rt: &R,
     alloc: Global,
@@ -397,9 +397,8 @@ fn play_all<B: Bank + Send, C: Validator + Send, G: Gate + Sync, R: Threads + Wa
     }
 }
 
-/// Plays the actors' scripts beside each other, with a thread for each but one, which the caller plays; where there is no memory for the
-/// lock, the caller plays them all. The entries stand in the order of the turns. Where a step answers a fault, no further request is
-/// played.
+/// Plays the actors' scripts at the same time, with a thread for each but one, which the caller plays. If there is no memory for the lock,
+/// the caller plays them all. The entries are in the order of the turns. If a step answers a fault, no further request is played.
 pub fn crew<B: Bank + Send, C: Validator + Send, G: Gate + Sync, R: Threads + Wait + Sync>(
     rt: &R,
     alloc: Global,

@@ -5,7 +5,7 @@ use Rattle.tbl_model.specs.State.{Tables}
 use Rattle.tbl_registry.specs.Images.{most_images}
 use Rattle.tbl_core.specs.Service.{engine_limit, image_limit}
 
--- so many at most; and after so many, with these tables, none more, where this number is told
+-- so many at most; and after so many, with these tables, none more, when this number is given
 pub record Bound : Type 1 where
   pub limit : ℕ
   pub full : ℕ → Tables → ℕ → Type 0

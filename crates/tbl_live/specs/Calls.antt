@@ -1,11 +1,11 @@
--- The calls of one actor, as a history tells them.
+-- The calls of one actor, as a history has them.
 use Rattle.std.specs.Prelude.{ℕ, suc, ◌==◌, if◌then◌else◌, List, [], ◌∷◌, drop}
 use Rattle.tbl_kinds.specs.Records.{actor_number}
 use Rattle.tbl_kinds.specs.declared.entry.Entry.{Entry}
 use Rattle.tbl_kinds.specs.declared.request.Request.{Request}
 use Rattle.tbl_kinds.specs.declared.status.Status.{Status}
 
--- where a call stands in the history, what it requested, and its reply
+-- the place of a call in the history, what it requested, and its reply
 pub record Call : Type 0 where
   pub place : ℕ
   pub request : Request
@@ -17,7 +17,7 @@ pub record Call : Type 0 where
 abbrev pub call_of : ℕ → Entry → Call
 call_of place e = record { place = place; request = e.request; status = e.reply.status; detail = e.reply.detail; bytes = e.reply.bytes.list }
 
--- of entries the first of which stands at this place, those of this actor, by its number
+-- of entries, where the first has this place, those of this actor, by its number
 abbrev pub own_from : ℕ → ℕ → List Entry → List Call
 own_from place actor [] = []
 own_from place actor (e ∷ es) = if actor_number e.actor == actor then call_of place e ∷ own_from (suc place) actor es else own_from (suc place) actor es

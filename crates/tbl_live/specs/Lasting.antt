@@ -1,4 +1,4 @@
--- A core that keeps the last entry alone.
+-- A core that keeps only the last entry.
 use Rattle.std.specs.Prelude.{◌≡◌, List, [], ◌∷◌, ◌++◌, map, Option, Some}
 use Rattle.tbl_kinds.specs.declared.entry.Entry.{Entry}
 use Rattle.tbl_core.specs.Service.{CoreView, EngineView, IsAfter, core_of}

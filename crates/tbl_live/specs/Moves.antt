@@ -20,7 +20,7 @@ IsFit e = Fits e.actor e.request
 abbrev pub Grows : ℕ → List Entry → List Entry → Type 0
 Grows actor old new = (new ≡ old) ⊎ ((e : Entry) × (actor_number e.actor ≡ actor) × IsFit e × (new ≡ old ++ e ∷ []))
 
--- The core goes on from whatever it stood for, the history grows by one entry at most, and a fault stays. What was lent is lent still.
+-- The core goes on from whatever it represented, the history grows by one entry at most, and a fault stays. What was lent is still lent.
 pub record Moves {B C : Type 0} (g : Ghosts B) (verdict : C → List ℕ → ℤ) (old : ServedView B C) (actor : ℕ) (new : ServedView B C) : Type 0 where
   pub continues : Continues g verdict old.core new.core
   pub base : new.base ≡ old.base

@@ -1,4 +1,4 @@
--- What a call tells its caller, by the caller's seat before it and after it.
+-- What a call gives its caller, by the caller's seat before it and after it.
 use Rattle.std.specs.Prelude.{◌≡◌, ℕ, ◌+◌, ◌<◌, ◌≤◌, List, [], ◌∷◌, ◌++◌, Some, None, Result, Ok, Err}
 use Rattle.std.specs.List.{AllByRecursion}
 use Rattle.tbl_kinds.specs.declared.request.Actor.{Actor}
@@ -52,13 +52,13 @@ pub record GoesOn {B C : Type 0} (old new : SeatView B C) : Type 0 where
   pub met : (fault : StepFault) → old.met ≡ Some fault → new.met ≡ Some fault
   pub pins : (pin : Pin) → IsLentTo old pin → IsLentTo new pin
 
--- the seat is still of its service and its actor, it goes on, and this is what its call told
+-- the seat is still of its service and its actor, it goes on, and this is what its call gave
 pub record Says {B C : Type 0} (bound : Bound) (old new : SeatView B C) (request : Request) (bytes after : List ℕ) (result : Result Receipt CallFault) : Type 0 where
   pub same : IsSame old new
   pub told : Told bound old new request bytes after result
   pub goes_on : GoesOn old new
 
--- so it is where no call was made
+-- so it is if no call was made
 pub record CallsNothing {B C : Type 0} (old new : SeatView B C) : Type 0 where
   pub same : IsSame old new
   pub calls : new.calls ≡ old.calls

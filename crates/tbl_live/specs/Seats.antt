@@ -19,8 +19,8 @@ pub record ServiceView (B C : Type 0) : Type 0 where
   pub of : TableId
   pub opened : CoreView B C
 
--- A seat: of which service and of which actor it is, its calls, how many entries the history had and which fault was kept as its
--- last call ended. `seen` is all that the lock held then.
+-- A seat: its service and its actor, its calls, and how many entries the history had and which fault was kept as its last call ended.
+-- `seen` is all that the lock held then.
 pub record SeatView (B C : Type 0) : Type 0 where
   pub of : TableId
   pub actor : Actor
@@ -38,7 +38,7 @@ calls_in actor (x ∷ xs) = own x.base actor x.core.entries
 abbrev pub seat_of : {B C : Type 0} → TableId → Actor → List (ServedView B C) → ℕ → Option StepFault → SeatView B C
 seat_of of actor seen saw met = record { of = of; actor = actor; seen = seen; calls = calls_in (actor_number actor) seen; saw = saw; met = met }
 
--- it tells no more entries than there were, and the fault that was kept then
+-- it gives no more entries than there were, and the fault that was kept then
 pub record TellsLast {B C : Type 0} (saw : ℕ) (met : Option StepFault) (last : ServedView B C) : Type 0 where
   pub saw_at_most : saw ≤ length last.core.entries
   pub met_is : met ≡ last.fault
@@ -92,15 +92,15 @@ pub record IsFresh {B C : Type 0} (seat : SeatView B C) : Type 0 where
 abbrev pub AreFresh : {B C : Type 0} → List (SeatView B C) → Type 0
 AreFresh {B} {C} seats = (number : ℕ) (seat : SeatView B C) → get_elem? seats number ≡ some seat → IsFresh seat
 
--- the seats of so many actors, in order, by which no call was made
+-- the seats of so many actors, in order, before their first calls
 pub record AreDealt {B C : Type 0} (of : TableId) (many : ℕ) (seats : List (SeatView B C)) : Type 0 where
   pub count : length seats ≡ many
   pub each : (number : ℕ) (seat : SeatView B C) → get_elem? seats number ≡ some seat → IsOfActor of number seat × IsFresh seat
 
 -- ---- at the end
 
--- What a seat tells of this core: its calls are all that the history has of its actor from the place `base` on, it saw no more entries
--- than there are, and a fault that it met is one that a step answered, after which the service has ended.
+-- What a seat says of this core: its calls are all that the history has of its actor from the place `base` on, it saw no more entries than
+-- there are, and a fault that it met is one that a step answered, after which the service has ended.
 pub record TellsOf {B C : Type 0} (base : ℕ) (core : CoreView B C) (seat : SeatView B C) : Type 0 where
   pub calls : seat.calls ≡ own base (actor_number seat.actor) core.entries
   pub saw : seat.saw ≤ length core.entries

@@ -1,4 +1,4 @@
--- What the lock of a service holds: the core, the fault that a step answered, and where the history stood as the service opened.
+-- What the lock of a service holds: the core, the fault that a step answered, and how long the history was as the service opened.
 use Rattle.std.specs.Prelude.{◌≡◌, ℕ, ◌<◌, ◌≤◌, List, length, Option, Some, None, true, false}
 use Rattle.tbl_kinds.specs.declared.entry.Entry.{Entry}
 use Rattle.tbl_session.specs.Trouble.{EndsInBoot}
@@ -14,7 +14,7 @@ pub record ServedView (B C : Type 0) : Type 0 where
 abbrev pub served_view : {B C : Type 0} → CoreView B C → Option StepFault → ℕ → ServedView B C
 served_view core fault base = record { core = core; fault = fault; base = base }
 
--- the last entry tells the boot that a step answered so
+-- the last entry has the boot that a step answered so
 abbrev pub EndsBy : StepFault → List Entry → Type 0
 EndsBy Memory entries = ⊥
 EndsBy BootFault entries = EndsInBoot false entries

@@ -24,7 +24,7 @@ impl Model for Board {
     ghost view = { λ b. b.receipts };
 }
 
-/// Where a receipt stands on its board. Contracts see the receipt as its `value`.
+/// The place of a receipt on its board. Contracts see the receipt as its `value`.
 #[derive(Drop)]
 pub struct Ticket {
     pushed: Pushed<Receipt>,

@@ -52,8 +52,8 @@ impl<'a> Taken<'a> {
     }
 }
 
-/// A core that a service can be opened over: `Core`, which keeps its history and ends after 32,768 requests, or `Lasting`, which keeps
-/// the last entry alone.
+/// A core that a service can be opened over: `Core`, which keeps its history and ends after 32,768 requests, or `Lasting`, which keeps only
+/// the last entry.
 pub trait ServiceCore<B: Bank, C: Validator>: Drop {
     /// The core, with all that it has played.
     ghost core: { Self → CoreView B C };

@@ -29,8 +29,8 @@ use tbl_outside::{Back, Bank, Validator};
 use tbl_registry::Pin;
 use validation::Kit;
 
-/// A core that keeps its last entry and no other, so its memory doesn't grow with what it has played. What it has played is known to
-/// contracts alone.
+/// A core that keeps its last entry and no other, so its memory doesn't grow with what it has played. Only contracts know what it has
+/// played.
 #[derive(Drop)]
 pub struct Lasting<B: Bank, C: Validator> {
     engine: Engine<B, C>,
@@ -51,7 +51,8 @@ impl<B: Bank, C: Validator> Model for Lasting<B, C> {
 
 impl<B: Bank, C: Validator> Lasting<B, C> {
     /// A core at its start, as `Core::start` gives one: with these validation functions, and for table files from these spacecraft and
-    /// processors. It boots as after a reset of the processor; the bank again where that fails or is stopped, or where memory runs out.
+    /// processors. It boots as after a reset of the processor; an error gives the bank back if that fails or is stopped, or if memory runs
+    /// out.
     pub fn start(
         alloc: Global,
         bank: B,
@@ -66,7 +67,7 @@ impl<B: Bank, C: Validator> Lasting<B, C> {
         ensures empty { IfOk result (λ it. (core_in it).entries ≡ []) }
         ensures live { IfOk result (λ it. (core_in it).state.ended ≡ false) }
         ensures counts { IfOk result (λ it. Still B.faults B.stops bank (core_in it).state.store.bank) }
-        // A reset at any moment in it leaves the blocks that the bank showed, also where there is no core then.
+        // A reset at any moment in it leaves the blocks that the bank showed, also if there is no core then.
         ensures crash { IfOk result (λ it. B.tells_moments → LeavesOnly B.clock B.left_since bank (core_in it).state.store.bank (ShowsIn (store_of (B.now bank)))) }
         ensures crash_err { IfErr result (λ back. B.tells_moments → LeavesOnly B.clock B.left_since bank back.bank (ShowsIn (store_of (B.now bank)))) }
         ensures cause { IfErr result (λ back. StartCounted B.Bank bank back.bank back.cause) }

@@ -5,7 +5,7 @@ ghost use Rattle.std.specs.Prelude.{◌≡◌};
 use tbl_core::StepFault;
 use tbl_kinds::{Actor, Status};
 
-/// Where a call stands in the history, and how it was answered.
+/// The place of a call in the history, and how it was answered.
 #[derive(Clone, Copy, PartialEq, Eq)]
 pub struct Receipt {
     pub(crate) place: u64,
@@ -36,7 +36,7 @@ impl Receipt {
         self.status
     }
 
-    /// What the status is about: a handle, a verdict, a function code. 0 where nothing is named.
+    /// What the status is about: a handle, a verdict, a function code. 0 if nothing is named.
     pub fn detail(&self) -> u32
         ensures { result ≡ self.now.detail }
     {
@@ -53,8 +53,8 @@ pub enum CallFault {
     /// a table has had as many images as can be counted, which is `count`: a reset, which is played, makes room by it. Or so many
     /// requests were played, 2^61 - 1.
     Full { count: u64 },
-    /// The service booted in this call, and that boot failed or was stopped. The call stands in the history as its last entry, and
-    /// the bytes of its reply were appended.
+    /// The service booted in this call, and that boot failed or was stopped. The call is the last entry of the history, and the bytes of
+    /// its reply were appended.
     Step(StepFault),
     /// Memory ran out. Nothing was changed.
     Memory,

@@ -54,7 +54,7 @@ fn actor_at(number: u8) -> Actor
 }
 
 impl<B: Bank, C: Validator, K: ServiceCore<B, C>> Seat<B, C, K> {
-    /// The seat of the actor of this number, by which no call was made.
+    /// The seat of the actor of this number, before its first call.
     pub(crate) fn make(place: Place<Served<B, C, K>>, number: u8) -> Seat<B, C, K>
         requires { IsSeat place.me (actor_of number) 0 None }
         ensures { result ≡ seat_of place.table_id (actor_of number) place.me.0.seen 0 None }

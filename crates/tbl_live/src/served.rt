@@ -155,7 +155,7 @@ fn refusal<B: Bank, C: Validator, K: ServiceCore<B, C>>(
     }
 }
 
-/// Appends the bytes of a reply if they are few, and else gives a further owner of them, where there is one to be had.
+/// Appends the bytes of a reply if they are few, and else gives a further owner of them, if they can have one.
 fn append_or_own(reply: &Bytes, out: &mut Bytes) -> Option<Bytes>
     requires room { length reply.now.list ≤ out.old.spare }
     ensures bytes { with_later out.new.list result ≡ out.old.list ++ reply.now.list }

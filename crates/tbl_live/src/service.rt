@@ -93,9 +93,9 @@ impl<B: Bank, C: Validator, K: ServiceCore<B, C>> Service<B, C, K> {
         self.turn(rt, seat, request, None, out)
     }
 
-    /// Lends the image that a handle pins, as from the call that got its address (`CFE_TBL_GetAddress`) on, and plays no request. None
-    /// where the handle leads to no table, or pins no image. An Err means that the image has as many owners as can be counted. The
-    /// pin can be read in any thread without the lock, also after the address was released.
+    /// Lends the image that a handle pins, as from the call that got its address (`CFE_TBL_GetAddress`) on, and plays no request. None if
+    /// the handle leads to no table, or pins no image. An Err means that the image has as many owners as can be counted. The pin can be
+    /// read in any thread without the lock, also after the address was released.
     pub fn lend<R: Wait>(
         &self,
         rt: &R,
@@ -116,9 +116,9 @@ impl<B: Bank, C: Validator, K: ServiceCore<B, C>> Service<B, C, K> {
         lent
     }
 
-    /// Plays a Read by the handle of a lent image, of so many bytes from an offset on, like `call`. Its bytes are taken of the image
-    /// before the lock, and where the handle still pins by the call that the pin was lent after, the step reads none. They are
-    /// appended to `out` after the lock is free. So threads that read beside each other don't wait for each other's bytes.
+    /// Plays a Read by the handle of a lent image, of so many bytes from an offset on, like `call`. Its bytes are taken from the image
+    /// before the lock. If the handle still pins by the call that the pin was lent after, the step reads none. They are appended to `out`
+    /// after the lock is free. So threads that read at the same time don't wait for each other's bytes.
     pub fn read_pinned<R: Wait>(
         &self,
         rt: &R,
@@ -200,7 +200,7 @@ impl<B: Bank, C: Validator, K: ServiceCore<B, C>> Service<B, C, K> {
     /// keeps. It waits for nobody.
     pub fn close(self, seats: Seats<B, C, K>) -> K
         requires seats { AreSeats self.of (seats.ground ∷ seats.apps.items) }
-        // Whatever opening the core stood for as the service opened, it stands for it still.
+        // Whatever opening the core represented as the service opened, it still represents.
         ensures serves { (o : Opening B C) → Serves B.Bank C.verdict o self.opened → Serves B.Bank C.verdict o (K.core result) }
         // So all that a session promises of its history holds of this one.
         ensures served { (o : Opening B C) → Serves B.Bank C.verdict o self.opened → IsServed B.Bank C.verdict o (K.core result).state.store.bank (K.core result).entries }

@@ -22,7 +22,7 @@ status_of SinkFailed failed whole = 4
 status_of Memory failed whole = 1
 status_of Unwritten failed whole = 1
 
--- what a sink had taken, where it tells it, and how often it had failed
+-- what a sink had taken, if it shows it, and how often it had failed
 abbrev pub Taken : Type 0
 Taken = Option (List ℕ) × ℕ
 
@@ -32,7 +32,7 @@ WritesEnd status result bytes before after =
     ((result ≡ status) × (after.0 ≡ append_known before.0 bytes) × (after.1 ≡ before.1))
     ⊎ ((result ≡ 4) × TakesFront before.0 after.0 bytes × Rose before.1 after.1)
 
--- the end of a stream whose service didn't begin: the end record alone, but where memory ran out
+-- the end of a stream whose service didn't begin: only the end record, unless memory ran out
 abbrev pub FinishesUnbegun : StartFault → ℕ → Taken → Taken → Type 0
 FinishesUnbegun NoMemory result before after = (result ≡ 1) × (after.0 ≡ before.0) × (after.1 ≡ before.1)
 FinishesUnbegun FirstFault result before after = WritesEnd 7 result (end_bytes 7 0 0) before after
@@ -42,7 +42,7 @@ FinishesUnbegun FirstStopped result before after = WritesEnd 8 result (end_bytes
 abbrev pub end_at : {B C : Type 0} → ℕ → Played B C → List ℕ
 end_at status p = end_bytes status (place_of p.place) (p.offset % 2 ^ 32)
 
--- how the telling ended: with this end record, but for where an entry wasn't written whole
+-- how the writing ended: with this end record, unless an entry wasn't written whole
 abbrev pub Finishes : Standing → ℕ → ℕ → List ℕ → Taken → Taken → Type 0
 Finishes SinkFailed status result bytes before after = (result ≡ 4) × (after.0 ≡ before.0)
 Finishes Unwritten status result bytes before after = (result ≡ 1) × (after.0 ≡ before.0) × (after.1 ≡ before.1)

@@ -16,7 +16,7 @@ use Rattle.tbl_stream.specs.Places.{place_of}
 use Rattle.tbl_stream.specs.Standing.{TellsWritten, TellsCause, TellsBoot}
 use Rattle.tbl_stream.specs.declared.standing.Standing.{Standing}
 
--- the engine, where the next entry stands in the transcript, and how many bytes the records have that were played
+-- the engine, the place of the next entry in the transcript, and how many bytes the records have that were played
 pub record Played (B C : Type 0) : Type 0 where
   pub engine : EngineView B C
   pub place : ℕ
@@ -28,7 +28,7 @@ pub record Streaming (B C : Type 0) : Type 0 where
   pub rest : List ℕ
   pub standing : Standing
 
--- what was played, what the sink had taken by then, where it tells it, and how often it had failed
+-- what was played, what the sink had taken by then, if it shows it, and how often it had failed
 pub record Moment (B C : Type 0) : Type 0 where
   pub played : Played B C
   pub taken : Option (List ℕ)
@@ -37,14 +37,14 @@ pub record Moment (B C : Type 0) : Type 0 where
 abbrev pub moment : {B C K : Type 0} → SinkGhosts K → Played B C → K → Moment B C
 moment k played sink = record { played = played; taken = k.taken sink; unwritten = k.faults sink }
 
--- The engine went on by these entries: whatever it had played before, and whatever it stood for with that, it has played these after it,
--- and stands for that with them. Its history stays legal, its verdicts are the functions', a reset at any moment leaves the blocks of a
--- place of it, and the counts of the bank rose by what it tells.
+-- The engine went on by these entries: whatever it had played before, and whatever it represented with that, it has played these after it,
+-- and represents that with them. Its history stays legal, and its verdicts are the functions'. A reset at any moment leaves the blocks of a
+-- place of it, and the counts of the bank rose by what it says.
 pub record Goes {B C : Type 0} (g : Ghosts B) (verdict : C → List ℕ → ℤ) (old new : EngineView B C) (entries : List Entry) : Type 0 where
   pub after : (past : List Entry) → IsAfter past old → IsAfter (past ++ entries) new
   pub continues : (past : List Entry) → Continues g verdict (core_of past old) (core_of (past ++ entries) new)
 
--- From one moment to a later one these entries were played, each of a record, and told as a standing says; the numbers of the transcript
+-- From one moment to a later one these entries were played, each of a record, and written as a standing says; the numbers of the transcript
 -- went on by them.
 pub record Plays {B C : Type 0} (g : Ghosts B) (verdict : C → List ℕ → ℤ) (standing : Standing) (old new : Moment B C) (entries : List Entry) : Type 0 where
   pub goes : Goes g verdict old.played.engine new.played.engine entries

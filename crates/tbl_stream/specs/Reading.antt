@@ -14,12 +14,12 @@ abbrev pub HasFailed : Bool → ℕ → ℕ → Type 0
 HasFailed true before after = Rose before after
 HasFailed false before after = after ≡ before
 
--- the same where the reading may go on
+-- the same if the reading may go on
 abbrev pub HasFailedAtEnd : Option Bool → ℕ → ℕ → Type 0
 HasFailedAtEnd None before after = after ≡ before
 HasFailedAtEnd (Some failed) before after = HasFailed failed before after
 
--- a stream that is still open ends only where the input does or a read failed, and nothing is found out of the input after that
+-- a stream that is still open ends only if the input does or a read failed, and nothing is found out about the input after that
 pub record EndsReading (standing : Standing) (failed : Bool) (at_end : Type 0) : Type 0 where
   pub ended : standing ≡ Open → failed ≡ false → at_end
   pub cut : failed ≡ true → standing ≡ Open

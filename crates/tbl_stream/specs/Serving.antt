@@ -1,4 +1,4 @@
--- A service that lives, as it is seen from outside: what was read, what it made of that, and what the status and the transcript tell.
+-- A service that lives, as it is seen from outside: what was read, what it made of that, and what the status and the transcript say.
 use Rattle.std.specs.Prelude.{◌≡◌, ◌≢◌, ◌⊎◌, ℕ, ◌+◌, ◌^◌, ◌<◌, ◌≤◌, List, [], ◌++◌, length, Option}
 use Rattle.std.specs.List.{AllByRecursion}
 use Rattle.std.proofs.Common.{ℤ}
@@ -18,7 +18,7 @@ use Rattle.tbl_session.specs.Session.{Ran, Boots, HasCauses, IsBooted, IsBrokenO
 use Rattle.tbl_stream.specs.Places.{told_from, told_with_end}
 use Rattle.tbl_stream.specs.Standing.{IsFront}
 
--- ---- what a status tells
+-- ---- what a status says
 
 -- all records that were read were played, or 13: the engine had no room for the next one
 abbrev pub IsEnded : ℕ → Type 0
@@ -27,7 +27,7 @@ IsEnded status = (status ≡ 0) ⊎ (status ≡ 3) ⊎ (status ≡ 5) ⊎ (statu
 abbrev pub IsStatus : ℕ → Type 0
 IsStatus status = IsEnded status ⊎ IsBooted status ⊎ IsBrokenOff status
 
--- which end of the input a status tells, by what stands after the records that were played
+-- which end of the input a status says, by what comes after the records that were played
 pub record EndsAs (status : ℕ) (rest : List ℕ) (at_end read_failed : Type 0) : Type 0 where
   pub done : status ≡ 0 → (rest ≡ []) × at_end
   pub cut : status ≡ 3 → IsFront rest × read_failed
@@ -35,7 +35,7 @@ pub record EndsAs (status : ℕ) (rest : List ℕ) (at_end read_failed : Type 0)
 
 -- ---- what the sink took
 
--- the sink took all entries but one at most, the last, and then something; `Tells` says what that is
+-- the sink took all entries but the last at most, and then something; `Tells` says what that is
 pub record LacksOne (entries : List Entry) (before after : Option (List ℕ)) : Type 0 where
   pub front : List Entry
   pub last : List Entry
@@ -71,17 +71,17 @@ pub record Lives {B C : Type 0} (g : Ghosts B) (verdict : C → List ℕ → ℤ
   pub near : length rest < rest_limit
   -- what was served
   pub served : IsServed g verdict o r.bank_then entries
-  -- what is told of it
+  -- what is reported of it
   pub known : IsStatus r.status
   pub ends : EndsAs r.status rest (IsAtEnd r.left_then) (Rose r.unread r.unread_then)
   pub boots : Boots g o.bank r entries read r.status
   pub causes : HasCauses g o.bank r
-  -- 13 comes where a table may have had as many images as are counted, and so at least that many requests were played, or where 2^64 - 1
-  -- bytes were read
+  -- 13 comes if a table may have had as many images as are counted, and so at least that many requests were played, or if 2^64 - 1 bytes
+  -- were read
   pub full : r.status ≡ 13 → (image_limit ≤ length entries) ⊎ (2 ^ 64 ≤ 1 + length read)
   pub told : Tells r.status entries r.taken r.taken_then
 
--- A failed read is told by 3, unless the service ended before its input did (1, 4, 7, 8); and a failed write by 4.
+-- A failed read is reported by 3, unless the service ended before its input did (1, 4, 7, 8); and a failed write by 4.
 pub record TellsFailures {B : Type 0} (r : Ran B) : Type 0 where
   pub reads : IsEnded r.status → (r.status ≢ 3) → r.unread_then ≡ r.unread
   pub writes : (r.status ≢ 4) → r.unwritten_then ≡ r.unwritten

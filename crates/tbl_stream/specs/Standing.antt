@@ -1,4 +1,4 @@
--- What is known of a stream by how it stands.
+-- What is known of a stream by its standing.
 use Rattle.std.specs.Prelude.{◌≡◌, ◌⊎◌, ◌≤◌, ℕ, ◌+◌, List, [], ◌∷◌, ◌++◌, length, take, Option, Some, None, Bool, true, false}
 use Rattle.std.specs.Io.KnownBytes.{append_known}
 use Rattle.tbl_kinds.specs.Heads.{IsShort, IsBad}
@@ -17,7 +17,7 @@ use Rattle.tbl_stream.specs.declared.standing.Standing.TheVariants.{Open, Bad, F
 abbrev pub IsFront : List ℕ → Type 0
 IsFront rest = (rest ≡ []) ⊎ IsShort rest
 
--- what stands after the records that were played
+-- what comes after the records that were played
 abbrev pub Leaves : Standing → List ℕ → Type 0
 Leaves Open behind = IsFront behind
 Leaves Bad behind = IsBad behind
@@ -28,7 +28,7 @@ Leaves SinkFailed behind = Unit {0}
 Leaves Memory behind = Unit {0}
 Leaves Unwritten behind = Unit {0}
 
--- the sink took the spellings of these entries, the first of which stands at this place
+-- the sink took the spellings of these entries, where the first has this place
 abbrev pub IsWritten : ℕ → List Entry → Option (List ℕ) → Option (List ℕ) → Type 0
 IsWritten place entries before taken = taken ≡ append_known before (told_from place entries)
 
@@ -56,7 +56,7 @@ abbrev pub TellsCause : Standing → ℕ → ℕ → Type 0
 TellsCause SinkFailed before after = Rose before after
 TellsCause _ before after = after ≡ before
 
--- a boot that ended the service is told. Else it goes on, unless the last entry wasn't written
+-- a boot that ended the service is reported. Else it goes on, unless the last entry wasn't written
 abbrev pub TellsBoot : Standing → Bool → List Entry → Type 0
 TellsBoot Open ended entries = ended ≡ false
 TellsBoot Bad ended entries = ended ≡ false
@@ -67,7 +67,7 @@ TellsBoot BootStopped ended entries = EndsInBoot true entries
 TellsBoot SinkFailed ended entries = Unit {0}
 TellsBoot Unwritten ended entries = Unit {0}
 
--- the engine has no room only where a table may have had as many images as can be counted, and so many requests were played at least
+-- the engine has no room only if a table may have had as many images as can be counted, and so at least that many requests were played
 abbrev pub TellsFull : Standing → ℕ → Type 0
 TellsFull Full played = image_limit ≤ played
 TellsFull _ played = Unit {0}
@@ -78,13 +78,13 @@ HasMetLimit engine = (engine_limit ≤ engine.played) ⊎ (image_limit ≤ engin
 
 -- ---- one record
 
--- the record stands in front of the bytes, and has so many of them
+-- the record is at the front of the bytes, and has so many of them
 pub record IsItem (pair : Pair) (used : ℕ) (bytes : List ℕ) : Type 0 where
   pub is_record : IsRecord pair
   pub spelled : take used bytes ≡ spelling pair
   pub len : used ≡ length (spelling pair)
 
--- nothing was played, and the standing tells of nothing else
+-- nothing was played, and the standing is about nothing else
 abbrev pub IsQuiet : Standing → Type 0
 IsQuiet Open = Unit {0}
 IsQuiet Bad = Unit {0}
@@ -92,19 +92,19 @@ IsQuiet Full = Unit {0}
 IsQuiet Memory = Unit {0}
 IsQuiet _ = ⊥
 
--- how a stream stands after a record that was played: None where a further one may follow
+-- the standing of a stream after a record that was played: None if a further one may follow
 abbrev pub standing_after : Option Standing → Standing
 standing_after None = Open
 standing_after (Some standing) = standing
 
--- what a step leaves to be told, once its entry is written: nothing, or a boot
+-- what a step leaves to be reported, once its entry is written: nothing, or a boot
 abbrev pub IsEnding : Option Standing → Type 0
 IsEnding None = Unit {0}
 IsEnding (Some BootFault) = Unit {0}
 IsEnding (Some BootStopped) = Unit {0}
 IsEnding (Some _) = ⊥
 
--- an entry that wasn't written whole is told before that
+-- an entry that wasn't written whole is reported before that
 abbrev pub first_of : Option Standing → Option Standing → Option Standing
 first_of None ending = ending
 first_of (Some stop) ending = Some stop
@@ -130,7 +130,7 @@ TellsStop SinkFailed before after piece = TakesFront before after piece
 TellsStop Unwritten before after piece = after ≡ before
 TellsStop _ before after piece = ⊥
 
--- a stop is the sink's failure, or no memory for a spelling; where it isn't the first, no write failed
+-- a stop is the sink's failure, or no memory for a spelling; if it isn't the first, no write failed
 abbrev pub TellsWhy : Option Standing → ℕ → ℕ → Type 0
 TellsWhy None before after = after ≡ before
 TellsWhy (Some SinkFailed) before after = Rose before after

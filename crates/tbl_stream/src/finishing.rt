@@ -96,7 +96,7 @@ fn tell_empty_end<K: Sink>(status: u8, sink: &mut K) -> u8
     }
 }
 
-/// Ends a stream whose service didn't begin: its transcript is the end record alone. Where memory ran out there is none.
+/// Ends a stream whose service didn't begin: its transcript is only the end record. If memory ran out there is none.
 pub(crate) fn finish_unbegun<K: Sink>(fault: StartFault, sink: &mut K) -> u8
     ensures finishes { FinishesUnbegun fault result (K.taken sink.old, K.faults sink.old) (K.taken sink.new, K.faults sink.new) }
     ensures count { K.faults sink.old ≤ K.faults sink.new }

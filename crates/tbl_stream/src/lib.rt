@@ -1,5 +1,5 @@
 //! Session records as they come in, for as long as they come: each is played, its entry goes to the sink at once, and no entry is kept.
-//! Whatever the service had played before, what the sink takes tells what it played since.
+//! Whatever the service had played before, what the sink takes is what it played since.
 #![tactic(auto)]
 
 mod finishing;

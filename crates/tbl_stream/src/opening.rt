@@ -46,7 +46,7 @@ fn start<B: Bank, C: Validator>(
     Ok(Engine::start(alloc, bank, kit, admit)?)
 }
 
-/// A stream of which nothing was fed yet, over a service at its start; or the bank again.
+/// A stream before anything was fed, over a service at its start. An error gives the bank back.
 pub(crate) fn begin<B: Bank, C: Validator>(
     alloc: Global,
     bank: B,

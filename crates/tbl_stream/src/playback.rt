@@ -27,7 +27,7 @@ use transcript::end_record;
 /// How many places there are: the one after FFFFFFFE is 0 again, since FFFFFFFF begins the end record.
 const PLACE_COUNT: u64 = 4_294_967_295;
 
-/// How many bytes of room the spelling of an entry has from the beginning. Longer ones take more where they come.
+/// How many bytes of room the spelling of an entry has from the beginning. Longer ones take more when they come.
 const SHORT_SPELLING: usize = 256;
 
 /// The place after this one.
@@ -45,8 +45,8 @@ fn next_offset(offset: u32, used: usize) -> u32
     ((u64::from(offset) + used as u64) % (1 << 32)) as u32
 }
 
-/// The record at the front of bytes, whose request is put in its place: its actor, and how many bytes it has. An Err tells how the stream
-/// stands where no record is whole, or memory ran out for its request.
+/// The record at the front of bytes: its actor, and how many bytes it has. Its request is written to `request`. An Err gives the standing
+/// of the stream if no record is whole, or if memory ran out for its request.
 fn next_item(alloc: Global, bytes: &[u8], request: &mut Request) -> Result<(Actor, usize), Standing>
     ensures item { IfOk result (λ found. IsItem (record { actor = found.0; request = request.new }) found.1 bytes.now) }
     ensures quiet { IfErr result IsQuiet }
@@ -67,7 +67,7 @@ fn next_item(alloc: Global, bytes: &[u8], request: &mut Request) -> Result<(Acto
 pub(crate) struct Playback<B: Bank, C: Validator> {
     alloc: Global,
     engine: Engine<B, C>,
-    /// Where the next entry stands in the transcript.
+    /// The place of the next entry in the transcript.
     place: u32,
     /// The number of bytes of the records that were played, in four bytes.
     offset: u32,
@@ -89,7 +89,7 @@ impl<B: Bank, C: Validator> Model for Playback<B, C> {
 }
 
 impl<B: Bank, C: Validator> Playback<B, C> {
-    /// A stream in which nothing was played yet; the engine again where memory ran out.
+    /// A stream before anything was played. An error gives the engine back if memory ran out.
     pub(crate) fn make(alloc: Global, engine: Engine<B, C>) -> Result<Playback<B, C>, Engine<B, C>>
         ensures engine { IfOk result (λ p. p.engine ≡ engine) }
         ensures place { IfOk result (λ p. p.place ≡ place_of engine.played) }
@@ -116,8 +116,8 @@ impl<B: Bank, C: Validator> Playback<B, C> {
         self.engine
     }
 
-    /// Plays a record. `Ok(None)` where its entry was written and a further one may follow, `Ok(Some(..))` where it was played
-    /// and the stream is over.
+    /// Plays a record. `Ok(None)` if its entry was written and a further one may follow, `Ok(Some(..))` if it was played and the stream is
+    /// over.
     fn play_record<K: Sink>(
         &mut self,
         actor: Actor,
@@ -142,8 +142,7 @@ impl<B: Bank, C: Validator> Playback<B, C> {
         Ok(first_stop(stop, ending))
     }
 
-    /// Plays the record at a place where one is whole, and answers None once its entry was written; else what stands in
-    /// its way.
+    /// Plays the record at a place if one is whole, and answers None once its entry was written; else what is in its way.
     fn play_next<K: Sink>(&mut self, bytes: &[u8], at: &mut usize, sink: &mut K) -> Option<Standing>
         requires live { self.old.engine.state.ended ≡ false }
         requires within { at.old ≤ length bytes.now }

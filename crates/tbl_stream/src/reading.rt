@@ -14,7 +14,7 @@ use tbl_outside::{Bank, Failed, Sink, Source, Validator};
 /// How many bytes are asked for at a time.
 const PIECE_LENGTH: usize = 4096;
 
-/// Reads one piece of the input and feeds it; None where the stream goes on, and else whether a read failed.
+/// Reads one piece of the input and feeds it; None if the stream goes on, and else whether a read failed.
 fn read_piece<B: Bank, C: Validator, S: Source, K: Sink>(
     stream: &mut Stream<B, C>,
     piece: &mut [u8],
@@ -48,7 +48,7 @@ fn read_piece<B: Bank, C: Validator, S: Source, K: Sink>(
 }
 
 /// Reads the input to its end, or to what ends the stream before, and answers whether a read failed. After 2^64 - 1 reads it ends too,
-/// which is in more than half a million years where it reads a million times a second.
+/// which takes more than half a million years at a million reads a second.
 pub(crate) fn read_all<B: Bank, C: Validator, S: Source, K: Sink>(
     stream: &mut Stream<B, C>,
     source: &mut S,

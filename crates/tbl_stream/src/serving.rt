@@ -70,10 +70,10 @@ fn serve_all<S: Source, K: Sink, B: Bank, C: Validator>(
     }
 }
 
-/// Serves what comes in: boots over the bank, plays each record of the source, and writes its entry to the sink at once. It ends with
-/// the input, and keeps nothing of what it has told. With no word table files come from anywhere; with `admit` and two lists they come
-/// from those spacecraft and processors alone. The status is that of a session that is played, but for 6, which isn't there, and 13: a
-/// table has had 4,294,967,293 images, so that nothing but a reset would have room, or 2^61 - 1 requests were played.
+/// Serves what comes in: boots over the bank, plays each record of the source, and writes its entry to the sink at once. It ends with the
+/// input, and keeps nothing of what it has written. With no word table files come from anywhere; with `admit` and two lists they come only
+/// from those spacecraft and processors. The status is that of a session that is played, with two differences: 6 doesn't come, and 13 means
+/// that a table has had 4,294,967,293 images, so that only a reset would have room, or that 2^61 - 1 requests were played.
 pub fn serve<S: Source, K: Sink, B: Bank, C: Validator>(
     alloc: Global,
     words: &[Bytes],

@@ -1,4 +1,4 @@
-/// How a stream stands after a piece of its input.
+/// The standing of a stream after a piece of its input.
 #[derive(Clone, Copy, PartialEq, Eq)]
 pub(crate) enum Standing {
     /// All whole records were played. What is left is the beginning of a further one, or nothing.

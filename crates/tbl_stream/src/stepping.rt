@@ -12,7 +12,7 @@ use tbl_core::{Engine, StepFault};
 use tbl_kinds::{Actor, Entry, Memory, Request};
 use tbl_outside::{Bank, Validator};
 
-/// Plays the request of an entry. `Ok(None)` where a further one may follow, `Ok(Some(..))` where a boot in it failed or was stopped.
+/// Plays the request of an entry. `Ok(None)` if a further one may follow, `Ok(Some(..))` if a boot in it failed or was stopped.
 #[inline(always)]
 pub(crate) fn step<B: Bank, C: Validator>(
     engine: &mut Engine<B, C>,
@@ -36,7 +36,7 @@ pub(crate) fn step<B: Bank, C: Validator>(
     }
 }
 
-/// Whether the engine plays this request. How many images its tables have had is counted anew where the bound on that is too great.
+/// Whether the engine plays this request. How many images its tables have had is counted again if the bound on that is too great.
 fn make_room<B: Bank, C: Validator>(engine: &mut Engine<B, C>, request: &Request) -> bool
     ensures room { result ≡ true → HasRoom engine.new request.now }
     ensures full { result ≡ false → HasMetLimit engine.new }
@@ -50,8 +50,8 @@ fn make_room<B: Bank, C: Validator>(engine: &mut Engine<B, C>, request: &Request
     engine.limit_met(request).is_none()
 }
 
-/// Plays a request. The entry that it became, and what it leaves to be told once that is written; or how the stream stands where it wasn't
-/// played.
+/// Plays a request. Returns the entry that it became, and what it leaves to be reported once that is written; or the standing of the stream
+/// if it wasn't played.
 pub(crate) fn answer<B: Bank, C: Validator>(
     engine: &mut Engine<B, C>,
     actor: Actor,
@@ -81,7 +81,7 @@ pub(crate) fn answer<B: Bank, C: Validator>(
     }
 }
 
-/// What a record leaves to be told: that its entry wasn't written whole, or else what its step left.
+/// What a record leaves to be reported: that its entry wasn't written whole, or else what its step left.
 pub(crate) fn first_stop(stop: Option<Standing>, ending: Option<Standing>) -> Option<Standing>
     ensures { result ≡ first_of stop ending }
 {

@@ -21,7 +21,7 @@ use tbl_outside::{Bank, Sink, Validator};
 /// What a stream answers to a piece of its input.
 #[derive(Clone, Copy, PartialEq, Eq)]
 pub enum Fed {
-    /// All records that are whole were played and told.
+    /// All records that are whole were played and their entries written.
     More,
     /// The stream is over: a bad record follows those that were played, the engine has no room, a boot failed or was stopped, or the
     /// sink failed.
@@ -55,8 +55,8 @@ impl<B: Bank, C: Validator> Model for Stream<B, C> {
 }
 
 impl<B: Bank, C: Validator> Stream<B, C> {
-    /// A stream over an engine, of which nothing was fed yet. Its first entry stands at the place after those that the engine has
-    /// played. An Err means out of memory, and gives the engine back.
+    /// A stream over an engine, before anything was fed. Its first entry has the place after those that the engine has played. An Err means
+    /// out of memory, and gives the engine back.
     pub fn make(alloc: Global, engine: Engine<B, C>) -> Result<Stream<B, C>, Engine<B, C>>
         requires live { engine.state.ended ≡ false }
         ensures engine { IfOk result (λ stream. stream.played.engine ≡ engine) }
@@ -73,8 +73,7 @@ impl<B: Bank, C: Validator> Stream<B, C> {
         })
     }
 
-    /// Plays the records that are whole with this piece of the input, and tells their entries. It doesn't matter where
-    /// the input is cut.
+    /// Plays the records that are whole with this piece of the input, and writes their entries. It doesn't matter where the input is cut.
     pub fn feed<K: Sink>(&mut self, piece: &[u8], sink: &mut K) -> Fed
         requires is_open { self.old.standing ≡ Open }
         ensures answer { result ≡ answer_of self.new.standing }
@@ -112,7 +111,7 @@ impl<B: Bank, C: Validator> Stream<B, C> {
         )
     }
 
-    /// Ends the stream as where the engine has no room.
+    /// Ends the stream as when the engine has no room.
     pub(crate) fn stop(&mut self)
         ensures played { self.new.played ≡ self.old.played }
         ensures rest { self.new.rest ≡ self.old.rest }
@@ -143,7 +142,7 @@ fn answer(standing: Standing) -> Fed
     }
 }
 
-/// Plays a piece, and notes how the stream stands then.
+/// Plays a piece, and notes the standing of the stream then.
 fn feed_fields<B: Bank, C: Validator, K: Sink>(
     playback: &mut Playback<B, C>,
     kept: &mut Vec<u8>,
@@ -188,8 +187,7 @@ fn play_piece<B: Bank, C: Validator, K: Sink>(
     play_rest(playback, kept, piece, at, sink)
 }
 
-/// Moves bytes of the piece after the kept ones, as many as the record's head or its body lacks, and plays the record
-/// where it is whole.
+/// Moves bytes of the piece after the kept ones, as many as the record's head or its body lacks, and plays the record if it is whole.
 fn complete<B: Bank, C: Validator, K: Sink>(
     playback: &mut Playback<B, C>,
     kept: &mut Vec<u8>,

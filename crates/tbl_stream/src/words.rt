@@ -17,8 +17,8 @@ fn lists_of(word: &[u8], spacecraft: &[u8], processors: &[u8]) -> Option<Admit>
     read_admit(spacecraft, processors)
 }
 
-/// From which spacecraft and processors files are admitted: from all where there is no word, and from those of the lists after `admit`;
-/// None where the words are others.
+/// The spacecraft and processors that files are admitted from: all if there is no word, and those of the lists after `admit`. None if the
+/// words are others.
 pub(crate) fn admitted_by(words: &[Bytes]) -> Option<Admit>
     ensures { (admit : Admitted) → (result ≡ Some admit) ↔ Asks words.now admit }
 {

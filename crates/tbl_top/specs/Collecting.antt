@@ -26,7 +26,7 @@ put_last scripts (p ∷ pairs) = put_last (pushed scripts p) pairs
 abbrev pub scripts_of : List Pair → List (List Request)
 scripts_of pairs = put_last (replicate actor_count []) pairs
 
--- of what was fed these records were taken, and after them are at most so many bytes, of which a standing tells
+-- these records were taken of what was fed, and after them are at most so many bytes, which a standing describes
 pub record HasTaken (standing : Standing) (fed : List ℕ) (most : ℕ) (pairs : List Pair) (c : Collecting) : Type 0 where
   pub behind : List ℕ
   pub parts : fed ≡ joined pairs ++ behind
@@ -38,7 +38,7 @@ pub record HasTaken (standing : Standing) (fed : List ℕ) (most : ℕ) (pairs :
   pub leaves : Leaves standing (length pairs) behind
   pub keeps : IsKept standing behind c.rest
 
--- a record more was taken, which stood between these places
+-- a record more was taken, which was between these places
 pub record TakesOne (at further : ℕ) (old new : Collecting) : Type 0 where
   pub pair : Pair
   pub is_record : IsRecord pair
@@ -47,14 +47,14 @@ pub record TakesOne (at further : ℕ) (old new : Collecting) : Type 0 where
   pub scripts : new.scripts ≡ pushed old.scripts pair
   pub count : new.count ≡ old.count + 1
 
--- none was, and a standing tells what stands at the place
+-- none was, and a standing describes what is at the place
 pub record TakesNone (standing : Standing) (at further : ℕ) (old new : Collecting) : Type 0 where
   pub same : new ≡ old
   pub stays : further ≡ at
   pub input : IsOfInput standing
   pub leaves : Leaves standing old.count (drop at old.rest)
 
--- with a piece more: an open input goes on, where something came; else this is how it ended
+-- with a piece more: an open input goes on, if something came; else this is how it ended
 abbrev pub TakesMore : Option (Standing × Bool) → List ℕ → Collecting → Type 0 → Type 0 → Type 0
 TakesMore None fed c some at_end = some × (most : ℕ) × (pairs : List Pair) × HasTaken Open fed most pairs c
 TakesMore (Some ended) fed c some at_end = (pairs : List Pair) × (c.scripts ≡ scripts_of pairs) × HasRead ended.0 pairs c.rest fed ended.1 at_end

@@ -22,7 +22,7 @@ use Rattle.tbl_kinds.specs.declared.status.TheConstants.Status.{SUCCESS, INFO_UP
 
 -- ---- the counts
 
--- the answer of a call by which an image went active, also where a reset came into the copy to the store that follows
+-- the answer of a call by which an image went active, also if a reset came into the copy to the store that follows
 abbrev pub went_well : Status → Status → Bool
 went_well good status = (status.0 == good.0) || (status.0 == INFO_STOPPED.0)
 
@@ -77,7 +77,7 @@ pub record Drills {B C : Type 0} (seed rounds : ℕ) (g : Ghosts B) (verdict : C
   pub causes : HasCauses g o.bank r
   pub told : TellsText r.status (summary entries) (r.taken, r.unwritten) (r.taken_then, r.unwritten_then)
 
--- what was seen of a call that was given no source, beside whatever one has left
+-- what was seen of a call that was given no source, with whatever source one has left
 abbrev pub unread : {K B : Type 0} → SinkGhosts K → Option (List ℕ) → ℕ → K → K → ℕ × B → Ran B
 unread k left faults before after ended = record {
   left = left;

@@ -21,7 +21,7 @@ status_of SinkFailed failed whole = 4
 status_of Memory failed whole = 1
 status_of Unwritten failed whole = 1
 
--- what a sink had taken, where it tells it, and how often it had failed
+-- what a sink had taken, if it shows it, and how often it had failed
 abbrev pub Taken : Type 0
 Taken = Option (List ℕ) × ℕ
 
@@ -41,7 +41,7 @@ FinishesUnbegun NoMemory result before after = (result ≡ 1) × (after.0 ≡ be
 FinishesUnbegun FirstFault result before after = WritesEndAlone 7 result before after
 FinishesUnbegun FirstStopped result before after = WritesEndAlone 8 result before after
 
--- how the telling ended: without an end record where an entry wasn't written whole
+-- how the writing ended: without an end record if an entry wasn't written whole
 abbrev pub Finishes : Standing → ℕ → ℕ → List Entry → Taken → Taken → Type 0
 Finishes SinkFailed status result entries before after = (result ≡ 4) × (after.0 ≡ before.0)
 Finishes Unwritten status result entries before after = (result ≡ 1) × (after.0 ≡ before.0) × (after.1 ≡ before.1)

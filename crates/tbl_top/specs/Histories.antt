@@ -17,7 +17,7 @@ PlaysSession Watch = Unit {0}
 PlaysSession (Drill seed rounds) = Unit {0}
 PlaysSession _ = ⊥
 
--- the history of which its outcome speaks; without a session there is none
+-- the history that its outcome is about; without a session there is none
 abbrev pub history_of : {B C : Type 0} (word : Word) (g : Ghosts B) (verdict : C → List ℕ → ℤ) (o : Opening B C) (r : Ran B) → Outcome word g verdict o r → List Entry
 history_of Play g verdict o r outcome = outcome.0.entries
 history_of Crew g verdict o r outcome = outcome.0.entries

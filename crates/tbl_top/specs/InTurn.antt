@@ -11,7 +11,7 @@ use Rattle.tbl_session.specs.Orders.{InOrder}
 use Rattle.tbl_session.specs.Session.{Ran, Session}
 use Rattle.tbl_kinds.specs.declared.entry.Entry.{Entry}
 
--- the sink took all entries but one at most, the last, and then something; `Tells` says what that is
+-- the sink took all entries but the last at most, and then something; `Tells` says what that is
 pub record LacksOne (entries : List Entry) (before after : Option (List ℕ)) : Type 0 where
   pub front : List Entry
   pub last : List Entry
@@ -20,11 +20,11 @@ pub record LacksOne (entries : List Entry) (before after : Option (List ℕ)) : 
   pub more : List ℕ
   pub grown : after ≡ append_known before (entries_bytes 0 front ++ more)
 
--- no read failed; or one did, and then the end record alone was to be written, with 3
+-- no read failed; or one did, and then only the end record was to be written, with 3
 abbrev pub ReadsLast : {B : Type 0} → Ran B → List Entry → Type 0
 ReadsLast r entries = (r.unread_then ≡ r.unread) ⊎ (r.status ≡ 3) ⊎ ((r.status ≡ 4) × TakesFront r.taken r.taken_then (transcript entries 3))
 
--- the records were requested in order; nothing was played after an entry that wasn't written whole, nor after a read that failed
+-- the records were requested in order; nothing was played after an entry that wasn't written whole or after a read that failed
 abbrev pub InTurn : {B : Type 0} → Ran B → ℕ → List Pair → List Entry → Type 0
 InTurn r status pairs entries = InOrder status pairs entries × LacksOne entries r.taken r.taken_then × ReadsLast r entries
 

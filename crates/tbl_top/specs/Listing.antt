@@ -9,8 +9,8 @@ use Rattle.tbl_outside.specs.Streams.{TakesFront}
 use Rattle.tbl_outside.specs.declared.bank.Bank.{Ghosts}
 use Rattle.tbl_top.specs.Finishing.{Taken}
 
--- What a sink took of a text, by the status: after 0 all of it, after 4 a front of it, where the sink failed, and else nothing. A write
--- that fails is told by 4.
+-- What a sink took of a text, by the status: after 0 all of it, after 4 a front of it, if the sink failed, and else nothing. A write that
+-- fails is reported by 4.
 pub record TellsText (status : ℕ) (text : List ℕ) (before after : Taken) : Type 0 where
   pub whole : status ≡ 0 → after.0 ≡ append_known before.0 text
   pub broken : status ≡ 4 → TakesFront before.0 after.0 text × Rose before.1 after.1

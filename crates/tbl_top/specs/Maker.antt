@@ -4,7 +4,7 @@ use Rattle.tbl_session.specs.Session.{Ran}
 use Rattle.tbl_maker.specs.declared.form.Form.{Form}
 use Rattle.maker_words.specs.Answers.{Told, ComesOfText, ComesOfFile, Answers, MakesOnly, DescribesOnly, TellsFailures, MakesThrough, DescribesThrough}
 
--- what the source and the sink told, before the run and after it
+-- what the source and the sink showed, before the run and after it
 abbrev pub source_of : {B : Type 0} → Ran B → Told
 source_of r = record { bytes = r.left; faults = r.unread }
 
@@ -17,14 +17,14 @@ sink_of r = record { bytes = r.taken; faults = r.unwritten }
 abbrev pub sink_after : {B : Type 0} → Ran B → Told
 sink_after r = record { bytes = r.taken_then; faults = r.unwritten_then }
 
--- `make` answers what comes of the text that was read, and 0 only where that is a description. The bank isn't touched.
+-- `make` answers what comes of the text that was read, and 0 only if that is a description. The bank isn't touched.
 pub record MakesFile {B : Type 0} (bank : B) (r : Ran B) : Type 0 where
   pub answers : Answers ComesOfText r.status (source_of r) (source_after r) (sink_of r) (sink_after r)
   pub made : MakesOnly r.status (source_of r) (source_after r) (sink_of r) (sink_after r)
   pub failures : TellsFailures r.status (source_of r) (source_after r) (sink_of r) (sink_after r)
   pub untouched : r.bank_then ≡ bank
 
--- `describe` answers what comes of the file that was read, and 0 only where the shape describes it. The bank isn't touched.
+-- `describe` answers what comes of the file that was read, and 0 only if the shape describes it. The bank isn't touched.
 pub record DescribesFile {B : Type 0} (shape : List Form) (bank : B) (r : Ran B) : Type 0 where
   pub answers : Answers (ComesOfFile shape) r.status (source_of r) (source_after r) (sink_of r) (sink_after r)
   pub described : DescribesOnly shape r.status (source_of r) (source_after r) (sink_of r) (sink_after r)

@@ -39,6 +39,6 @@ pub record IsCutShort (first : Option (List ℕ)) (entries : List Entry) (taken 
   pub count : ℕ
   pub grown : taken ≡ append_known first (entries_bytes 0 front ++ take count (entry_bytes (length front) last))
 
--- or a front of them, where all were played before the first was written
+-- or a front of them, if all were played before the first was written
 abbrev pub IsFrontWritten : Option (List ℕ) → List Entry → Option (List ℕ) → Type 0
 IsFrontWritten first entries taken = TakesFront first taken (entries_bytes 0 entries)

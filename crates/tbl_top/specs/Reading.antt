@@ -15,13 +15,13 @@ abbrev pub HasFailed : Bool → ℕ → ℕ → Type 0
 HasFailed true before after = Rose before after
 HasFailed false before after = after ≡ before
 
--- the same where the reading may go on
+-- the same if the reading may go on
 abbrev pub HasFailedAtEnd : Option Bool → ℕ → ℕ → Type 0
 HasFailedAtEnd None before after = after ≡ before
 HasFailedAtEnd (Some failed) before after = HasFailed failed before after
 
--- This was read: these records, and after them what a standing tells. What is kept of it is what stands after them as long as more
--- could follow; and more could only where the input ended or a read failed. Nothing is found out of the input after a failed read.
+-- This was read: these records, and after them what a standing describes. What is kept is what comes after them, as long as more could
+-- follow. More could follow only if the input ended or a read failed. Nothing is found out about the input after a failed read.
 pub record HasRead (standing : Standing) (pairs : List Pair) (kept read : List ℕ) (failed : Bool) (at_end : Type 0) : Type 0 where
   pub behind : List ℕ
   pub parts : read ≡ joined pairs ++ behind
@@ -34,7 +34,7 @@ pub record HasRead (standing : Standing) (pairs : List Pair) (kept read : List �
   pub cut : failed ≡ true → HasPlayedAll standing → standing ≡ Open
   pub stops : StopsReading read
 
--- as a session that is played: it was fed, and the session is open still only where the input ended or a read failed
+-- as a session that is played: it was fed, and the session is still open only if the input ended or a read failed
 pub record EndsReading {B C : Type 0} (p : Playing B C) (read : List ℕ) (failed : Bool) (at_end : Type 0) : Type 0 where
   pub feeds : Feeds p.standing read 36931 p.core p.rest
   pub ended : p.standing ≡ Open → failed ≡ false → at_end

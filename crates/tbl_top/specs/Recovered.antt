@@ -64,7 +64,7 @@ pub record TableBegins (r : Run) (e : Entry) (name : List ℕ) (status : Status)
   pub critical : is_critical table ≡ true
   pub image : table.last ≡ first
 
--- it is told as recovered, with this image
+-- it is reported as recovered, with this image
 abbrev pub IsRecovered : Run → Entry → List ℕ → List ℕ → Type 0
 IsRecovered r e name image = TableBegins r e name INFO_RECOVERED_TBL (Some image)
 
@@ -76,16 +76,16 @@ IsEmpty r e name = TableBegins r e name SUCCESS None
 abbrev pub IsRecoveredOrEmpty : (List ℕ → Type 0) → Run → Entry → List ℕ → Type 0
 IsRecoveredOrEmpty IsSuch r e name = ((image : List ℕ) × IsSuch image × IsRecovered r e name image) ⊎ IsEmpty r e name
 
--- as what a block holds: with its image, or as a new one where it holds none
+-- as what a block holds: with its image, or as a new one if it holds none
 abbrev pub IsGivenBack : Option (List ℕ) → Run → Entry → List ℕ → Type 0
 IsGivenBack None r e name = IsEmpty r e name
 IsGivenBack (Some image) r e name = IsRecovered r e name image
 
 -- ---- what comes back of the blocks that a reset came over
 
--- A table whose last copy was completed, in a block whose gate is sure, always comes back with its image. Of each block that the reset
--- left: where no copy broke off since the last completed one, the table comes back with what the block holds; else with that, or with an
--- image whose copy broke off since. It begins with none only where the block holds none.
+-- A table whose last copy was completed, in a block whose gate is sure, always comes back with its image. For each block that the reset
+-- left: if no copy broke off since the last completed one, the table comes back with what the block holds; else with that, or with an image
+-- whose copy broke off since. It begins with none only if the block holds none.
 pub record GivesBack (blocks : Store) (image : List ℕ) (r : Run) (e : Entry) (name : List ℕ) (size : ℕ) : Type 0 where
   pub completed : (slot : ℕ) (block : Block) (copied : List ℕ) → IsBlockOf name size block → HasCompleted blocks slot block copied → IsRecovered r e name copied
   pub sure : (slot : ℕ) (b : Stored) → IsBlockOf name size b.block → IsShown blocks (store_of image) slot b → b.trying ≡ [] → IsGivenBack b.held r e name
@@ -101,8 +101,8 @@ pub record RecoversFrom (opening : State) (entries : List Entry) (image : List �
 
 -- ---- two histories
 
--- Whichever critical table the second history registers over the blocks of the image, by an application that runs there or as the first
--- thing after the start of one, comes back so.
+-- Any critical table that the second history registers over the blocks of the image comes back so, whether an application that runs there
+-- registers it or one that was just started.
 pub record AllComeBack {C : Type 0} (ComesBackSo : Run → Entry → List ℕ → ℕ → Type 0) (image : List ℕ) (kit : List (KitEntry C)) (admit : Admitted) (next : List Entry) : Type 0 where
   pub recovered : (place : ℕ) (e : Entry) (name : List ℕ) (r : Registration) → RegistersAt (store_of image) (state_from image kit admit) next place e name r
       → ComesBackSo (run_at (state_from image kit admit) next place) e name r.size
@@ -113,7 +113,7 @@ pub record AllComeBack {C : Type 0} (ComesBackSo : Run → Entry → List ℕ �
 abbrev pub RecoversBoth : {C : Type 0} → State → List Entry → List ℕ → List (KitEntry C) → Admitted → List Entry → Type 0
 RecoversBoth first entries image kit admit next = AllComeBack (RecoversFrom first entries image) image kit admit next
 
--- The image was left once the first history had ended: each table comes back from the blocks that stood after all its entries.
+-- The image was left once the first history had ended: each table comes back from the blocks as they were after all its entries.
 abbrev pub RecoversLast : {C : Type 0} → State → List Entry → List ℕ → List (KitEntry C) → Admitted → List Entry → Type 0
 RecoversLast first entries image kit admit next = AllComeBack (GivesBack (run_from (begins_at first) entries).state.store image) image kit admit next
 

@@ -1,4 +1,4 @@
--- What is known of a session by how it stands.
+-- What is known of a session by its standing.
 use Rattle.std.specs.Prelude.{◌≡◌, ◌⊎◌, ℕ, ◌<◌, List, length, Option, Some, None, true, false}
 use Rattle.tbl_kinds.specs.Records.{record_limit}
 use Rattle.tbl_kinds.specs.Heads.{IsBad}
@@ -14,7 +14,7 @@ use Rattle.tbl_core.specs.declared.service.StepFault.{StepFault}
 use Rattle.tbl_core.specs.declared.service.StepFault.TheVariants.{Memory as NoMemory, BootFault as Faulted, BootStopped as Stopped}
 use Rattle.tbl_kinds.specs.declared.entry.Entry.{Entry}
 
--- what stands after so many records that were played
+-- what comes after so many records that were played
 abbrev pub Leaves : Standing → ℕ → List ℕ → Type 0
 Leaves Open played behind = IsBeginning played behind
 Leaves Bad played behind = IsBad behind × (played < record_limit)
@@ -25,7 +25,7 @@ Leaves SinkFailed played behind = Unit {0}
 Leaves Memory played behind = Unit {0}
 Leaves Unwritten played behind = Unit {0}
 
--- reading alone leads to these
+-- only reading leads to these
 abbrev pub IsOfInput : Standing → Type 0
 IsOfInput Open = Unit {0}
 IsOfInput Bad = Unit {0}
@@ -33,7 +33,7 @@ IsOfInput Full = Unit {0}
 IsOfInput Memory = Unit {0}
 IsOfInput _ = ⊥
 
--- playing a script alone leads to these
+-- only playing a script leads to these
 abbrev pub IsOfScript : Standing → Type 0
 IsOfScript Open = Unit {0}
 IsOfScript BootFault = Unit {0}
@@ -70,7 +70,7 @@ abbrev pub TellsCause : Standing → ℕ → ℕ → Type 0
 TellsCause SinkFailed before after = Rose before after
 TellsCause _ before after = after ≡ before
 
--- a boot that ended the service is told. Else it goes on, unless the last entry wasn't written
+-- a boot that ended the service is reported. Else it goes on, unless the last entry wasn't written
 abbrev pub TellsBoot : {B C : Type 0} → Standing → CoreView B C → Type 0
 TellsBoot Open core = core.state.ended ≡ false
 TellsBoot Bad core = core.state.ended ≡ false
@@ -81,7 +81,7 @@ TellsBoot BootStopped core = EndsInBoot true core.entries
 TellsBoot SinkFailed core = Unit {0}
 TellsBoot Unwritten core = Unit {0}
 
--- how a session stands after what its crew played: a fault that a step answered goes before what was read
+-- the standing of a session after what its crew played: a fault that a step answered has precedence over what was read
 abbrev pub standing_behind : Option StepFault → Standing → Standing
 standing_behind None read = read
 standing_behind (Some NoMemory) read = Memory
@@ -94,16 +94,16 @@ IsStop SinkFailed = Unit {0}
 IsStop Unwritten = Unit {0}
 IsStop _ = ⊥
 
--- and a stop goes before both
+-- and a stop has precedence over both
 abbrev pub StandsBehind : Option StepFault → Standing → Standing → Type 0
 StandsBehind fault read standing = (standing ≡ standing_behind fault read) ⊎ IsStop standing
 
--- the same after a record that was played: None where a further one may follow
+-- the same after a record that was played: None if a further one may follow
 abbrev pub TellsService : {B C : Type 0} → Option Standing → CoreView B C → Type 0
 TellsService None core = core.state.ended ≡ false
 TellsService (Some standing) core = TellsBoot standing core
 
--- what a step leaves to be told, once its entry is written: nothing, or a boot
+-- what a step leaves to be reported, once its entry is written: nothing, or a boot
 abbrev pub IsEnding : Option Standing → Type 0
 IsEnding None = Unit {0}
 IsEnding (Some BootFault) = Unit {0}
@@ -116,7 +116,7 @@ TellsStop SinkFailed before after piece = TakesFront before after piece
 TellsStop Unwritten before after piece = after ≡ before
 TellsStop _ before after piece = ⊥
 
--- a stop is the sink's failure, or no memory for a spelling; where it isn't the first, no write failed
+-- a stop is the sink's failure, or no memory for a spelling; if it isn't the first, no write failed
 abbrev pub TellsWhy : Option Standing → ℕ → ℕ → Type 0
 TellsWhy None before after = after ≡ before
 TellsWhy (Some SinkFailed) before after = Rose before after

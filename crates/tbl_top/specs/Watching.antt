@@ -20,7 +20,7 @@ use Rattle.tbl_kinds.specs.declared.entry.Entry.{Entry}
 abbrev pub Watched : {B C : Type 0} → Ghosts B → Opening B C → List Look → ℕ → List Pair → List Entry → Type 0
 Watched g o looks status pairs entries = ByActor status pairs entries × AreLooksOf g.tells o.state entries looks
 
--- what was seen of a run, but for what its sink took
+-- what was seen of a run, except what its sink took
 abbrev pub but_for_sink : {B : Type 0} → Ran B → Ran B
 but_for_sink r = record {
   left = r.left;
@@ -35,9 +35,9 @@ but_for_sink r = record {
   status = r.status;
 }
 
--- The session is what one with a thread for each actor is, but that no transcript is written. In its place the sink takes the report of
--- the looks, once the input was read to its end and all of it was played: whole, or a front of it where the sink fails. After every other
--- status it takes nothing.
+-- The session is like one with a thread for each actor, except that no transcript is written. Instead the sink takes the report of the
+-- looks, once the input was read to its end and all of it was played: the whole report, or a front of it if the sink fails. After every
+-- other status it takes nothing.
 pub record Watches {B C : Type 0} (g : Ghosts B) (verdict : C → List ℕ → ℤ) (o : Opening B C) (r : Ran B) : Type 0 where
   pub looks : List Look
   pub session : Session (Watched g o looks) g verdict o (but_for_sink r)

@@ -57,7 +57,7 @@ impl Collector {
         })
     }
 
-    /// Takes the record at a place, where one is whole; else answers what stands in its way.
+    /// Takes the record at a place, if one is whole; else answers what is in its way.
     fn take_next(&mut self, at: &mut usize) -> Option<Standing>
         requires within { at.old ≤ length self.old.rest }
         ensures within { at.new ≤ length self.new.rest }
@@ -88,7 +88,7 @@ impl Collector {
         }
     }
 
-    /// Takes the records that are whole with this piece of the input, and answers what stands after them.
+    /// Takes the records that are whole with this piece of the input, and answers what comes after them.
     fn feed(&mut self, piece: &[u8]) -> Standing
         // Of whatever was fed before, more records are taken, and what is after them is what the answer says.
         ensures takes { (fed : List ℕ) (most : ℕ) (pairs : List Pair) → HasTaken Open fed most pairs self.old
@@ -107,7 +107,7 @@ impl Collector {
         }
     }
 
-    /// Reads one piece of the input; None where more may come, and else how the input stands and whether the read failed.
+    /// Reads one piece of the input; None if more may come, and else the standing of the input and whether the read failed.
     fn read_piece<S: Source>(
         &mut self,
         piece: &mut [u8],
@@ -133,7 +133,7 @@ impl Collector {
         }
     }
 
-    /// Reads an input to its end, or to what is no record, and answers how it stands then and whether a read failed.
+    /// Reads an input to its end, or to what is no record, and answers its standing then and whether a read failed.
     pub(crate) fn read_all<S: Source>(&mut self, source: &mut S) -> (Standing, bool)
         requires fresh { HasTaken Open [] 0 [] self.old }
         ensures reads { (read : List ℕ) × (S.left source.old ≡ prepend_known read (S.left source.new))

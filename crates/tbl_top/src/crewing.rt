@@ -29,7 +29,7 @@ use tbl_core::{Core, StartFault, StepFault};
 use tbl_kinds::Admit;
 use tbl_outside::{Back, Bank, Gate, KitEntry, Sink, Source, Validator};
 
-/// How a session stands after what its crew played.
+/// The standing of a session after what its crew played.
 pub(crate) fn standing_behind(fault: Option<StepFault>, read: Standing) -> Standing
     ensures { result ≡ standing_behind fault read }
 {
@@ -41,7 +41,7 @@ pub(crate) fn standing_behind(fault: Option<StepFault>, read: Standing) -> Stand
     }
 }
 
-/// Writes what a crew played, and answers how the session stands after it.
+/// Writes what a crew played, and answers the standing of the session after it.
 fn tell_crew<B: Bank, C: Validator, K: Sink>(
     playback: &mut Playback<B, C>,
     fault: Option<StepFault>,
@@ -98,7 +98,7 @@ pub(crate) fn play_crew<
     (status, playback.end())
 }
 
-/// A session in which nothing was read yet, over a service at its start; or the bank again.
+/// A session before anything was read, over a service at its start. An error gives the bank back.
 fn begin_crew<B: Bank, C: Validator>(
     alloc: Global,
     bank: B,

@@ -67,7 +67,7 @@ fn tell_summary<B: Bank, C: Validator, K: Sink>(
     }
 }
 
-/// Plays a drill: boots over the bank, plays the session of this seed, and writes its line where all of it was played.
+/// Plays a drill: boots over the bank, plays the session of this seed, and writes its line if all of it was played.
 pub(crate) fn run_drill<K: Sink, B: Bank, C: Validator>(
     alloc: Global,
     seed: u64,

@@ -104,7 +104,7 @@ pub(crate) fn unbegun_status(fault: StartFault) -> u8
     }
 }
 
-/// Ends a session whose service didn't begin: its transcript is the end record alone. Where memory ran out there is none.
+/// Ends a session whose service didn't begin: its transcript is only the end record. If memory ran out there is none.
 pub(crate) fn finish_unbegun<K: Sink>(fault: StartFault, sink: &mut K) -> u8
     ensures finishes { FinishesUnbegun fault result (K.taken sink.old, K.faults sink.old) (K.taken sink.new, K.faults sink.new) }
     ensures count { K.faults sink.old ≤ K.faults sink.new }

@@ -1,4 +1,5 @@
-//! A session from its bytes to its transcript, in one call or as a stream, in order or with a thread for each actor: whatever it is, the history that is told is the sequential service's.
+//! A session from its bytes to its transcript, in one call or as a stream, in order or with a thread for each actor: in each case the
+//! history that is written is the sequential service's.
 #![tactic(auto)]
 
 mod collecting;

@@ -33,10 +33,10 @@ pub(crate) const RECORD_LIMIT: usize = 32_768;
 /// The length of a record's head.
 const HEAD_LENGTH: usize = 4;
 
-/// How many bytes of room the spelling of an entry has from the beginning. Longer ones take more where they come.
+/// How many bytes of room the spelling of an entry has from the beginning. Longer ones take more when they come.
 const SHORT_SPELLING: usize = 256;
 
-/// How a session stands after a piece of the input.
+/// The standing of a session after a piece of the input.
 #[derive(Clone, Copy, PartialEq, Eq)]
 pub(crate) enum Standing {
     /// All whole records were played. What is left is the beginning of a further one, or nothing.
@@ -83,7 +83,7 @@ impl<B: Bank, C: Validator> Model for Playback<B, C> {
 }
 
 impl<B: Bank, C: Validator> Playback<B, C> {
-    /// A session in which nothing was played yet; the core again where memory ran out.
+    /// A session in which nothing was played yet; an error gives the core back if memory ran out.
     pub(crate) fn make(alloc: Global, core: Core<B, C>) -> Result<Playback<B, C>, Core<B, C>>
         requires live { core.state.ended ≡ false }
         requires empty { core.entries ≡ [] }
@@ -101,7 +101,7 @@ impl<B: Bank, C: Validator> Playback<B, C> {
         })
     }
 
-    /// Writes each entry of the history; None where the sink took all of them.
+    /// Writes each entry of the history; None if the sink took all of them.
     pub(crate) fn tell_all<K: Sink>(&mut self, sink: &mut K) -> Option<Standing>
         ensures same { self.new ≡ self.old }
         ensures written { MatchOption result (IsWritten (K.taken sink.old) self.old.entries (K.taken sink.new))
@@ -125,8 +125,8 @@ impl<B: Bank, C: Validator> Playback<B, C> {
         self.core
     }
 
-    /// Plays a record. `Ok(None)` where its entry was written and a further one may follow, `Ok(Some(..))` where it was played
-    /// and the session is over.
+    /// Plays a record. `Ok(None)` if its entry was written and a further one may follow, `Ok(Some(..))` if it was played and the session is
+    /// over.
     fn play_record<K: Sink>(
         &mut self,
         actor: Actor,
@@ -158,8 +158,7 @@ impl<B: Bank, C: Validator> Playback<B, C> {
         }
     }
 
-    /// Plays the record at a place where one is whole, and answers None once its entry was written; else what stands in
-    /// its way.
+    /// Plays the record at a place if one is whole, and answers None once its entry was written; else what is in its way.
     fn play_next<K: Sink>(&mut self, bytes: &[u8], at: &mut usize, sink: &mut K) -> Option<Standing>
         requires live { self.old.state.ended ≡ false }
         requires within { at.old ≤ length bytes.now }
@@ -254,8 +253,8 @@ fn offset_of(entries: &[Entry]) -> u32
 }
 
 impl<B: Bank + Send, C: Validator + Send> Playback<B, C> {
-    /// Plays scripts with a thread for each actor, where nothing was played yet. The session after it, of which no entry is
-    /// told yet, and the fault that a step answered.
+    /// Plays scripts with a thread for each actor, if nothing was played yet. Returns the session after it, with no entry written yet, and
+    /// the fault that a step answered.
     pub(crate) fn play_beside<R: Threads + Wait + Sync, G: Gate + Sync>(
         self,
         rt: &R,

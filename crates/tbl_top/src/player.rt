@@ -29,7 +29,7 @@ use tbl_outside::{Bank, Sink, Validator};
 /// What a session answers to a piece of its input.
 #[derive(Clone, Copy, PartialEq, Eq)]
 pub enum Fed {
-    /// All records that are whole were played and told.
+    /// All records that are whole were played and their entries written.
     More,
     /// The session is over: a bad record or a byte too many follows those that were played, a boot failed or was stopped, or
     /// the sink failed.
@@ -64,8 +64,7 @@ impl<B: Bank, C: Validator> Model for Player<B, C> {
 }
 
 impl<B: Bank, C: Validator> Player<B, C> {
-    /// A session over a service with an empty history, of which nothing was fed yet. An Err means out of memory, and gives
-    /// the core back.
+    /// A session over a service with an empty history, before anything was fed. An Err means out of memory, and gives the core back.
     pub fn make(alloc: Global, core: Core<B, C>) -> Result<Player<B, C>, Core<B, C>>
         requires live { core.state.ended ≡ false }
         requires empty { core.entries ≡ [] }
@@ -81,8 +80,7 @@ impl<B: Bank, C: Validator> Player<B, C> {
         })
     }
 
-    /// Plays the records that are whole with this piece of the input, and tells their entries. It doesn't matter where
-    /// the input is cut.
+    /// Plays the records that are whole with this piece of the input, and writes their entries. It doesn't matter where the input is cut.
     pub fn feed<K: Sink>(&mut self, piece: &[u8], sink: &mut K) -> Fed
         requires is_open { self.old.standing ≡ Open }
         ensures answer { result ≡ answer_of self.new.standing }
@@ -92,12 +90,12 @@ impl<B: Bank, C: Validator> Player<B, C> {
         ensures more { result ≡ Fed.More → bytes_fed self.new ≡ bytes_fed self.old ++ piece.now }
         ensures kept { result ≡ Fed.More → length self.new.rest < 32836 }
 
-        // The requests of the history are the records of what was fed; where memory ran out, the sink failed or a boot did, the first of them.
+        // The requests of the history are the records of what was fed; if memory ran out, the sink failed or a boot did, the first of them.
         ensures begins { BeginsWith (bytes_fed self.old ++ piece.now) (pairs_of self.new.core.entries) }
         ensures records { HasPlayedAll self.new.standing → AreRecords (bytes_fed self.old ++ piece.now) (pairs_of self.new.core.entries) }
 
-        // Where the bank tells its bytes, the history stays legal, each read of it is whole, no image goes active unjudged, the
-        // verdicts are the functions', and each critical table has its block.
+        // If the bank shows its bytes, the history stays legal, each read of it is whole, no image goes active unjudged, the verdicts are
+        // the functions', and each critical table has its block.
         ensures continues { Continues B.Bank C.verdict self.old.core self.new.core }
         ensures vouched { B.tells → (opening : State) → opening.tables ≡ no_tables → opening.pending ≡ [] → FollowsFrom B.Bank opening self.old.core → IsVouched opening self.new.core.entries }
         ensures whole { B.tells → (opening : State) → opening.tables ≡ no_tables → opening.pending ≡ [] → FollowsFrom B.Bank opening self.old.core → HasWholeReads opening self.new.core.entries }
@@ -105,13 +103,13 @@ impl<B: Bank, C: Validator> Player<B, C> {
             → AreBacked (run_from (begins_at opening) self.new.core.entries).state }
         ensures session { IsSession self.new.core }
 
-        // The counts of the bank rise by what the entries tell at least, and a boot that ended the service is told by the last one.
+        // The counts of the bank rise by at least what the entries say, and the last entry has a boot that ended the service.
         ensures boot { TellsBoot self.new.standing self.new.core }
 
-        // Where the bank tells its moments, a reset at any of them leaves the blocks of a place of the history, or what the entry under
-        // way there made of them, and what a restore gave stood in one of these images.
+        // If the bank shows its moments, a reset at any of them leaves the blocks of a place of the history, or what the entry under way
+        // there made of them, and what a restore gave was in one of these images.
 
-        // The sink took the entries' spellings; where it failed or memory ran out for a spelling, a front of them.
+        // The sink took the entries' spellings; if it failed or memory ran out for a spelling, a front of them.
         ensures written { (first : Option (List ℕ)) → IsWritten first self.old.core.entries (K.taken sink.old) → TellsWritten self.new.standing first self.new.core.entries (K.taken sink.new) }
         ensures cause { TellsCause self.new.standing (K.faults sink.old) (K.faults sink.new) }
         ensures count { K.faults sink.old ≤ K.faults sink.new }
@@ -172,7 +170,7 @@ fn answer(standing: Standing) -> Fed
     }
 }
 
-/// Plays a piece, and notes how the session stands then.
+/// Plays a piece, and notes the standing of the session then.
 fn feed_fields<B: Bank, C: Validator, K: Sink>(
     playback: &mut Playback<B, C>,
     kept: &mut Vec<u8>,
@@ -227,8 +225,7 @@ fn play_piece<B: Bank, C: Validator, K: Sink>(
     play_rest(playback, kept, piece, at, sink)
 }
 
-/// Moves bytes of the piece after the kept ones, as many as the record's head or its body lacks, and plays the record
-/// where it is whole.
+/// Moves bytes of the piece after the kept ones, as many as the record's head or its body lacks, and plays the record if it is whole.
 fn complete<B: Bank, C: Validator, K: Sink>(
     playback: &mut Playback<B, C>,
     kept: &mut Vec<u8>,

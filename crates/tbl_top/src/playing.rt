@@ -15,7 +15,7 @@ use tbl_core::Core;
 use tbl_kinds::{Actor, Memory, Request};
 use tbl_outside::{Bank, Sink, Validator};
 
-/// Writes the last entry, and answers this where the sink took it.
+/// Writes the last entry, and answers this if the sink took it.
 fn write_last<B: Bank, C: Validator, K: Sink>(
     core: &Core<B, C>,
     out: &mut Vec<u8>,
@@ -39,8 +39,8 @@ fn write_last<B: Bank, C: Validator, K: Sink>(
     }
 }
 
-/// Plays a request and writes its entry. `Ok(None)` where the sink took the entry and a further request may follow,
-/// `Ok(Some(..))` where the entry was added and the session is over: it wasn't written whole, or a boot failed or was stopped.
+/// Plays a request and writes its entry. `Ok(None)` if the sink took the entry and a further request may follow, `Ok(Some(..))` if the
+/// entry was added and the session is over: it wasn't written whole, or a boot failed or was stopped.
 pub(crate) fn play<B: Bank, C: Validator, K: Sink>(
     core: &mut Core<B, C>,
     out: &mut Vec<u8>,

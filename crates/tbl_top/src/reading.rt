@@ -20,7 +20,7 @@ pub(crate) const PIECE_LENGTH: usize = 4096;
 /// bytes, and the beginning of one more.
 pub(crate) const MOST_READS: u32 = 1_076_100_000;
 
-/// Reads one piece of the input and feeds it; None where the session goes on, and else whether a read failed.
+/// Reads one piece of the input and feeds it; None if the session goes on, and else whether a read failed.
 fn read_piece<B: Bank, C: Validator, S: Source, K: Sink>(
     player: &mut Player<B, C>,
     piece: &mut [u8],

@@ -19,14 +19,14 @@ use std::thread::Threads;
 use tbl_kinds::Bytes;
 use tbl_outside::{Bank, Gate, KitEntry, Sink, Source, Validator};
 
-/// Does what the words ask for. `play` and `crew` boot over the bank as after a reset of the processor, read session records from
-/// the source, play them, and write the transcript to the sink: with `play` in order, as they come in, with `crew` with a thread
-/// for each actor, once all of them were read. Table files may come from the spacecraft and processors that the words admit. `watch`
-/// plays as `crew` does, and writes in place of the transcript a report of the images that application 16 got. `store` reads the bank alone, and writes the text of its store.
-/// `make` reads a description from the source and writes its table file, and `describe` reads a table file and writes its
-/// description; neither reads nor writes the bank. The applications have the validation functions of the kit, which are numbered from
-/// 0; these may be boxes or of any one type. The gate is told of each turn of a thread. The status, which docs/FORMATS.md lists,
-/// and the bank come back.
+/// Does what the words ask for. `play` and `crew` boot over the bank as after a reset of the processor, read session records from the
+/// source, play them, and write the transcript to the sink: with `play` in order, as they come in, with `crew` with a thread for each
+/// actor, once all of them were read. Table files may come from the spacecraft and processors that the words admit. `watch` plays as `crew`
+/// does, and instead of the transcript it writes a report of the images that application 16 got. `store` reads only the bank, and writes
+/// the text of its store. `make` reads a description from the source and writes its table file, and `describe` reads a table file and
+/// writes its description; neither reads nor writes the bank. The applications have the validation functions of the kit, which are numbered
+/// from 0; these may be boxes or of any one type. The gate is called at each turn of a thread. Returns the status, which
+/// docs/reference/statuses.md lists, and the bank.
 pub fn run<
     R: Threads + Wait + Sync,
     S: Source,
@@ -46,13 +46,13 @@ pub fn run<
 ) -> (u8, B)
     requires room { bank_size ≤ B.size bank }
     requires asked { All (λ (e : Entry C). C.asked e.check < 2 ^ 62) kit.items }
-    // 2 comes only where it doesn't know the words, and always then, but where memory runs out for the word after `describe`. Nothing
-    // is read or written then.
+    // 2 comes only if it doesn't know the words. It always comes then, unless memory runs out for the word after `describe`. Nothing is
+    // read or written then.
     ensures usage { result.0 ≡ 2 → (word : CommandWord) (admit : Admitted) → ¬ Asks words.now word admit }
     ensures unknown { ((word : CommandWord) (admit : Admitted) → ¬ Asks words.now word admit) → IsUnknown words.now result.0 }
     ensures untouched { ((word : CommandWord) (admit : Admitted) → ¬ Asks words.now word admit) → (source.new ≡ source.old) × (sink.new ≡ sink.old) × (result.1 ≡ bank) }
 
-    // Where the word needs no records, the source isn't read. Nothing is read after the end of the input, nor after a read that failed.
+    // If the word needs no records, the source isn't read. Nothing is read after the end of the input or after a read that failed.
     ensures unread { (word : CommandWord) (admit : Admitted) → Asks words.now word admit → ReadsNothing word → source.new ≡ source.old }
     ensures once { ReadsToEnd (S.how_far source.old) (S.how_far source.new) }
 

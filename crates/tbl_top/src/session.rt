@@ -37,7 +37,7 @@ use tbl_outside::{Back, Bank, KitEntry, Sink, Source, Validator};
 /// The words aren't those that the program knows.
 pub(crate) const USAGE: u8 = 2;
 
-/// A session in which nothing was read yet, over a service at its start; or the bank again.
+/// A session before anything was read, over a service at its start. An error gives the bank back.
 pub(crate) fn begin<B: Bank, C: Validator>(
     alloc: Global,
     bank: B,
@@ -112,7 +112,7 @@ pub(crate) fn play_in_order<S: Source, K: Sink, B: Bank, C: Validator>(
     }
 }
 
-/// Does what one of the words asks for, but for those that need threads, which it answers with 2.
+/// Does what one of the words asks for, except for those that need threads, which it answers with 2.
 fn do_word<S: Source, K: Sink, B: Bank, C: Validator>(
     alloc: Global,
     word: Word,

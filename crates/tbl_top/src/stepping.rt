@@ -12,7 +12,7 @@ use tbl_core::{Core, StepFault};
 use tbl_kinds::{Actor, Memory, Request};
 use tbl_outside::{Bank, Validator};
 
-/// Plays a request. `Ok(None)` where a further one may follow, `Ok(Some(..))` where a boot in it failed or was stopped.
+/// Plays a request. `Ok(None)` if a further one may follow, `Ok(Some(..))` if a boot in it failed or was stopped.
 #[inline(always)]
 pub(crate) fn step<B: Bank, C: Validator>(
     core: &mut Core<B, C>,

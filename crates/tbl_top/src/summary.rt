@@ -7,7 +7,7 @@ use plain_text::{append_decimal, append_text};
 use std::alloc::Global;
 use tbl_kinds::{Bytes, Entry, Memory, Request, Status};
 
-/// What the line counts beside all entries.
+/// What the line counts besides all entries.
 #[derive(Clone, Copy)]
 pub(crate) enum Class {
     /// Answers of success.

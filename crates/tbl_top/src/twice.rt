@@ -47,9 +47,9 @@ impl<B: Bank> Reset<B, B> for BetweenCalls {
     }
 }
 
-/// Does what `run` does with these words, and after a reset what it does with others over the bank that the reset left: the status of the
-/// first, and the status and the bank of the second. Each critical table that the second one registers comes back from the history that
-/// the first one served, in whatever order and by whatever threads, as the law of recovery says.
+/// Does what `run` does with these words, and after a reset what it does with others over the bank that the reset left: returns the status
+/// of the first, and the status and the bank of the second. Each critical table that the second one registers comes back from the history
+/// that the first one served, whatever its order and its threads were, as the law of recovery says.
 pub fn run_again<
     R: Threads + Wait + Sync,
     S: Source,

@@ -45,7 +45,7 @@ fn fault_of(end: Option<WatchEnd>) -> Option<StepFault>
     }
 }
 
-/// Writes the report where all was played to the end of the input, and answers the status.
+/// Writes the report if all was played to the end of the input, and answers the status.
 fn tell_report<K: Sink>(
     watch: &Watch,
     standing: Standing,
@@ -112,7 +112,7 @@ fn make_both(alloc: Global) -> Result<(Collector, Watch), Memory>
     Ok((Collector::make(alloc)?, Watch::make(alloc)?))
 }
 
-/// A session in which nothing was read yet, over a service at its start; or the bank again.
+/// A session before anything was read, over a service at its start. An error gives the bank back.
 fn begin_watch<B: Bank, C: Validator>(
     alloc: Global,
     bank: B,

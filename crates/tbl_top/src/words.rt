@@ -35,7 +35,7 @@ pub enum Word {
     Describe { shape: Shape },
 }
 
-/// What a word asks for that stands alone.
+/// What a word asks for that comes without further words.
 fn lone_word(word: &[u8]) -> Option<Word>
     ensures { (given : CommandWord) → (result ≡ Some given) ↔ Spells (word.now ∷ []) given all_admitted }
 {
@@ -126,8 +126,8 @@ fn two_words(alloc: Global, word: &[u8], shape: &[u8]) -> Result<Option<(Word, A
     }
 }
 
-/// What the words ask for, and from which spacecraft and processors files are admitted then; None where the program doesn't know
-/// them. Memory may run out for a shape.
+/// What the words ask for, and the spacecraft and processors that files are admitted from then; None if the program doesn't know them.
+/// Memory may run out for a shape.
 pub(crate) fn word_of(alloc: Global, words: &[Bytes]) -> Result<Option<(Word, Admit)>, Memory>
     ensures told { IfOk result (λ found. (given : CommandWord) (admit : Admitted) → (found ≡ Some (given, admit)) ↔ Asks words.now given admit) }
     ensures memory { IfErr result (λ _. AsksWithShape words.now) }
@@ -146,7 +146,7 @@ pub(crate) fn word_of(alloc: Global, words: &[Bytes]) -> Result<Option<(Word, Ad
     }
 }
 
-/// What is told of a session with a thread for each actor.
+/// What is written of a session with a thread for each actor.
 #[derive(Clone, Copy)]
 pub(crate) enum Telling {
     /// `crew`: its transcript.
@@ -155,7 +155,7 @@ pub(crate) enum Telling {
     Report,
 }
 
-/// What is told of a session with a thread for each actor, and its lists, where this is one.
+/// What is written of a session with a thread for each actor, and its lists, if this is one.
 fn telling_of(given: Option<(Word, Admit)>) -> Option<(Telling, Admit)>
     ensures crew { (admit : Admitted) → (result ≡ Some (Transcript, admit)) ↔ (given ≡ Some (Crew, admit)) }
     ensures watch { (admit : Admitted) → (result ≡ Some (Report, admit)) ↔ (given ≡ Some (Watch, admit)) }
@@ -172,7 +172,7 @@ fn telling_of(given: Option<(Word, Admit)>) -> Option<(Telling, Admit)>
     }
 }
 
-/// What the words ask for, where it is a session.
+/// What the words ask for, if it is a session.
 fn session_word(words: &[Bytes]) -> Option<(Word, Admit)>
     ensures { (given : CommandWord) (admit : Admitted) → HasThreads given → (result ≡ Some (given, admit)) ↔ Asks words.now given admit }
 {
@@ -188,7 +188,7 @@ fn session_word(words: &[Bytes]) -> Option<(Word, Admit)>
     }
 }
 
-/// What is told of a session with a thread for each actor, and its lists, where the words ask for one.
+/// What is written of a session with a thread for each actor, and its lists, if the words ask for one.
 pub(crate) fn threads_of(words: &[Bytes]) -> Option<(Telling, Admit)>
     ensures crew { (admit : Admitted) → (result ≡ Some (Transcript, admit)) ↔ Asks words.now Crew admit }
     ensures watch { (admit : Admitted) → (result ≡ Some (Report, admit)) ↔ Asks words.now Watch admit }
