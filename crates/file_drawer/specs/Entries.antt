@@ -21,7 +21,7 @@ abbrev pub IsNewTo : List (List ℕ) → List ℕ → Type 0
 IsNewTo [] name = Unit {0}
 IsNewTo (other ∷ others) name = (bytes_eq other name ≡ false) × IsNewTo others name
 
--- no name stands twice
+-- no name comes twice
 abbrev pub AreApart : List (List ℕ) → Type 0
 AreApart [] = Unit {0}
 AreApart (name ∷ others) = IsNewTo others name × AreApart others

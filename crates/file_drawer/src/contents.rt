@@ -6,7 +6,7 @@ use tbl_kinds::{Bytes, FILE_NAME_LENGTH, Memory, Uplink};
 /// From how many bytes on a file is in the same memory as what it was made of. A copy of fewer takes less than a block for the memory's owners.
 const SHARED_LENGTH: usize = 2_048;
 
-/// The bytes of a file. In the memory of an uplink they stand behind the field of its name.
+/// The bytes of a file. In the memory of an uplink they come after the field of its name.
 #[derive(Drop)]
 pub struct Contents {
     bytes: Bytes,

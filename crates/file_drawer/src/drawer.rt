@@ -64,7 +64,7 @@ impl Entry {
     }
 }
 
-/// Whether the file of this name stands at a place.
+/// Whether the file of this name is at a place.
 fn is_at(entries: &[Entry], place: usize, name: &Name64) -> bool
     ensures at { IsTrue result → slice_get (names (files_of entries.now)) place ≡ Some name.now }
     ensures within { IsTrue result → place < length entries.now }
@@ -75,7 +75,7 @@ fn is_at(entries: &[Entry], place: usize, name: &Name64) -> bool
     }
 }
 
-/// Where the first file of this name stands.
+/// The place of the first file of this name.
 fn first_of(entries: &[Entry], name: &Name64) -> Option<usize>
     ensures place { result ≡ position (is_named name.now) entries.now }
     ensures within { IfSome result (λ place. place < length entries.now) }
@@ -83,7 +83,7 @@ fn first_of(entries: &[Entry], name: &Name64) -> Option<usize>
     entries.iter().position(|entry| entry.has_name(name))
 }
 
-/// Where the file of this name stands: the place of the hint is looked at first.
+/// The place of the file of this name: the place of the hint is looked at first.
 #[tactic(auto, using(crate::proofs::Finding::first_named, crate::proofs::Finding::none_named))]
 fn find(entries: &[Entry], hint: u8, name: &Name64) -> Option<usize>
     ensures at { IfSome result (λ place. slice_get (names (files_of entries.now)) place ≡ Some name.now) }
@@ -97,7 +97,7 @@ fn find(entries: &[Entry], hint: u8, name: &Name64) -> Option<usize>
     first_of(entries, name)
 }
 
-/// A further file, which goes last.
+/// A further file, which is put last.
 fn push(entries: &mut Vec<Entry>, name: &Name64, contents: Contents) -> Result<(), Memory>
     ensures file { OnOk result (files_of entries.new.items ≡ files_of entries.old.items ++ (name.now, contents) ∷ []) }
     ensures err { OnErr result (entries.new.items ≡ entries.old.items) }
@@ -115,8 +115,8 @@ fn drop_last(entries: &mut Vec<Entry>)
     let _ = entries.pop();
 }
 
-/// The uplinked files, at most 64, in order of the first uplink of their names. They stand for the file system that tables are loaded from and
-/// dumped to (cFE User's Guide, Table Services). How many bytes a file may have is the caller's rule.
+/// The uplinked files, at most 64, in order of the first uplink of their names. They represent the file system that tables are loaded from
+/// and dumped to (cFE User's Guide, Table Services). How many bytes a file may have is the caller's rule.
 #[derive(Drop)]
 pub struct Drawer {
     entries: Vec<Entry>,
@@ -147,7 +147,7 @@ impl Drawer {
         })
     }
 
-    /// Where the file of a name stands.
+    /// The place of the file of a name.
     fn place_of(&self, name: &Name64) -> Option<usize>
         ensures at { IfSome result (λ place. slice_get (names self.now) place ≡ Some name.now) }
         ensures within { IfSome result (λ place. place < length self.now) }
@@ -180,7 +180,7 @@ impl Drawer {
 
     /// Puts a file under its name, and gives the contents that it replaced. The contents are moved and not copied.
     pub fn put(&mut self, name: &Name64, contents: Contents) -> Result<Option<Contents>, PutFault>
-        // A name that is there keeps its place, and a new one goes last.
+        // A name that is there keeps its place, and a new one is put last.
         ensures file { OnOk result (self.new ≡ with_file self.old name.now contents) }
         ensures replaced { IfOk result (λ old. old ≡ contents_of self.old name.now) }
 

@@ -104,7 +104,7 @@ pub it_is_in_doubt : stored_at (cds_copy_effect copied.next 1 0 (3 ∷ 4 ∷ [])
 unfolding cds_register_effect cds_copy_effect place
 it_is_in_doubt = refl
 
--- a stop leaves the same block, and the service begins anew, with the application
+-- a stop leaves the same block, and the service begins again, with the application
 pub copy_is_stopped : answer_of (cds_copy_effect copied.next 1 0 (3 ∷ 4 ∷ []) was_stopped) ≡ plain INFO_STOPPED
 unfolding cds_register_effect cds_copy_effect place
 copy_is_stopped = refl
@@ -119,7 +119,7 @@ the_application_stays = refl
 
 -- ---- resets
 
--- a table of 4 bytes is registered, and goes with each reset
+-- a table of 4 bytes is registered, and is gone after each reset
 abbrev pub with_table : State
 with_table = (register_effect copied.next 1 (codes "T") 4 0 None untouched).next
 

@@ -5,11 +5,11 @@ use Rattle.tbl_kinds.specs.StoreSteps.{stored_at}
 use Rattle.tbl_kinds.specs.StoreCalls.{StoreCall, copy, delete}
 use Rattle.tbl_kinds.specs.declared.block.Block.{Block}
 
--- an open block that holds this image, of which no copy broke off since then
+-- an open block that holds this image, and no copy of it broke off since then
 abbrev pub completed : Block → List ℕ → Stored
 completed block image = record { block = block; held = Some image; trying = []; doubtful = false }
 
--- it stands in this slot
+-- it is in this slot
 abbrev pub HasCompleted : Store → ℕ → Block → List ℕ → Type 0
 HasCompleted store slot block image = stored_at store slot ≡ Some (completed block image)
 

@@ -29,7 +29,7 @@ pub record DuringCalls (calls : List StoreCall) (store left : Store) : Type 0 wh
 
 -- ---- an entry under way
 
--- those of several calls that write to the bank. A restore reads, and a reset inside it leaves what stood before
+-- those of several calls that write to the bank. A restore reads, and a reset inside it leaves what was there before
 abbrev pub writes : List StoreCall → List StoreCall
 writes calls = filter (λ call. not (is_restore call)) calls
 

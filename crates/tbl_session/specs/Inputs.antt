@@ -1,10 +1,10 @@
--- What was read of an input, as far as it could hold records.
+-- What was read of an input, while it could hold records.
 use Rattle.std.specs.Prelude.{◌≡◌, ◌⊎◌, ℕ, ◌<◌, ◌≤◌, List, [], ◌++◌, length}
 use Rattle.std.specs.List.{AllByRecursion}
 use Rattle.tbl_kinds.specs.Heads.{IsShort}
 use Rattle.tbl_kinds.specs.Records.{Pair, IsRecord, joined, record_limit}
 
--- after so many records stands nothing, or the beginning of one that a session may still have
+-- after so many records comes nothing, or the beginning of one that a session may still have
 abbrev pub IsBeginning : ℕ → List ℕ → Type 0
 IsBeginning played rest = (rest ≡ []) ⊎ (IsShort rest × (played < record_limit))
 
@@ -16,8 +16,8 @@ piece_limit = 4096
 abbrev pub rest_limit : ℕ
 rest_limit = 36932
 
--- Before the last piece stood records, and at most the beginning of a further one: nothing was read after a piece with
--- which a bad record, or a byte too many, was there.
+-- Before the last piece there were records, and at most the beginning of a further one: nothing was read after a piece with which a bad
+-- record, or a byte too many, was there.
 pub record StopsReading (read : List ℕ) : Type 0 where
   pub records : List Pair
   pub beginning : List ℕ

@@ -28,7 +28,7 @@ pub record InLastBoot (opening : State) (entries : List Entry) (image : List ℕ
 abbrev pub AtExit : State → List Entry → List ℕ → Type 0
 AtExit opening entries image = AfterCrash opening entries (length entries) (store_of image) ⊎ InLastBoot opening entries image
 
--- what a restore in this entry gave is what its block held in one of these images, which shows the blocks that stood before the entry
+-- what a restore in this entry gave is what its block held in one of these images, which shows the blocks as they were before the entry
 pub record GaveLeft (IsLeft : List ℕ → Type 0) (r : Run) (e : Entry) : Type 0 where
   pub bytes : List ℕ
   pub left : IsLeft bytes

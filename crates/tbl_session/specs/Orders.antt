@@ -1,4 +1,4 @@
--- In which order the records of a session become its history.
+-- The order in which the records of a session become its history.
 use Rattle.std.specs.Prelude.{◌≡◌, ℕ, List, [], ◌++◌}
 use Rattle.tbl_kinds.specs.Records.{Pair}
 use Rattle.tbl_kinds.specs.Transcript.{pairs_of}

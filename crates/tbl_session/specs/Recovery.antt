@@ -27,13 +27,13 @@ use Rattle.tbl_session.specs.Backed.{AreSingle}
 
 -- ---- a history, and the blocks that a reset came over in it
 
--- entries that were answered, from a state without tables on, over blocks of which no two are of one kind and one name
+-- entries that were answered, from a state without tables on, over blocks that all differ in kind or name
 pub record IsHistory (opening : State) (entries : List Entry) : Type 0 where
   pub tables : opening.tables ≡ no_tables
   pub single : AreSingle opening.store
   pub answered : AreAnswered (begins_at opening) entries
 
--- those that the calls before it had made; or what the next one made of them, where it broke off
+-- those that the calls before it had made; or what the next one made of them, if it broke off
 abbrev pub blocks_by : {blocks left : Store} {IsNext : StoreCall → Type 0} → Shows blocks left ⊎ (call : StoreCall) × IsNext call × BreaksTo call blocks left → Store
 blocks_by {blocks} (inl shows) = blocks
 blocks_by {blocks} (inr broke) = broken broke.2.gate broke.2.old broke.0 blocks
@@ -47,7 +47,7 @@ abbrev pub blocks_under : (r : Run) (e : Entry) (left : Store) → UnderWay r e 
 blocks_under r e left (inl during) = blocks_during during
 blocks_under r e left (inr power_on) = empty_store
 
--- those that stood between two entries; or those of the entry under way
+-- those between two entries; or those of the entry under way
 abbrev pub blocks_at : (opening : State) (entries : List Entry) (place : ℕ) (left : Store) → AfterCrash opening entries place left → Store
 blocks_at opening entries place left (inl shows) = (run_from (begins_at opening) (take place entries)).state.store
 blocks_at opening entries place left (inr next) = blocks_under (run_from (begins_at opening) (take place entries)) next.0 left next.2
@@ -65,7 +65,7 @@ pub record IsShown (store left : Store) (slot : ℕ) (b : Stored) : Type 0 where
   pub there : stored_at store slot ≡ Some b
   pub shown : IsSome (stored_at left slot)
 
--- an image of which a copy was completed last, or broke off since then
+-- an image whose copy was completed last, or broke off since then
 abbrev pub WasCopied : Stored → List ℕ → Type 0
 WasCopied b image = (b.held ≡ Some image) ⊎ Contains b.trying image
 
@@ -109,7 +109,7 @@ pub record Begins (left : Store) (e : Effect) (name : List ℕ) (first : Option 
   pub image : table.last ≡ first
   pub store : e.next.store ≡ left
 
--- it is told as recovered, with this image
+-- it is reported as recovered, with this image
 pub record Recovers (left : Store) (e : Effect) (name image : List ℕ) : Type 0 where
   pub status : e.status ≡ INFO_RECOVERED_TBL
   pub begins : Begins left e name (Some image)

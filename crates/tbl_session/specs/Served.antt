@@ -14,13 +14,13 @@ use Rattle.tbl_session.specs.Trouble.{Rises, HaveCauses}
 use Rattle.tbl_session.specs.Verdicts.{AreGiven, KeepsToFunctions}
 use Rattle.tbl_kinds.specs.declared.entry.Entry.{Entry}
 
--- The one history of which `Session` speaks.
+-- The one history that `Session` is about.
 --
--- Each answer that tells of trouble has its cause in its note, and the counts of the bank rose by what the notes tell at least. Where
--- the bank tells its bytes, the history is legal, no image goes active that its table's function didn't answer for, each verdict, also
--- as an event tells it, is that of the function which was given under its number, and each critical table has its block. Where the bank
--- tells its moments, each image that a reset may have left since is one of a place of this history (`moments`), at the exit of its
--- last one (`exit`), and what a restore gave stood in one of them (`restored`).
+-- Each answer that reports trouble has its cause in its note, and the counts of the bank rose by at least what the notes say. If the bank
+-- shows its bytes, the history is legal, and no image goes active that its table's function didn't answer for. Each verdict, also as an
+-- event reports it, is then that of the function which was given under its number, and each critical table has its block. If the bank shows
+-- its moments, each image that a reset may have left since is one of a place of this history (`moments`), at the exit of its last one
+-- (`exit`), and what a restore gave was in one of them (`restored`).
 pub record IsServed {B C : Type 0} (g : Ghosts B) (verdict : C → List ℕ → ℤ) (o : Opening B C) (bank_then : B) (entries : List Entry) : Type 0 where
   pub state : State
   pub legal : g.tells → IsLegal o.state entries state

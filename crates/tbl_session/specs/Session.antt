@@ -1,4 +1,4 @@
--- A session as it is seen from outside: what was read, the history that was served, and what the status and the transcript tell.
+-- A session as it is seen from outside: what was read, the history that was served, and what the status and the transcript say.
 use Rattle.std.specs.Prelude.{◌≡◌, ◌⊎◌, ℕ, ◌<◌, ◌≤◌, List, [], ◌++◌, length, map, Option, Some, true, false, IfSome}
 use Rattle.std.specs.List.{AllByRecursion}
 use Rattle.std.proofs.Common.{ℤ}
@@ -35,8 +35,8 @@ state_from bytes entries admit = first_state (store_of bytes) (owners (given_of 
 abbrev pub opening_of : {B C : Type 0} → Ghosts B → B → List (KitEntry C) → Admitted → Opening B C
 opening_of g bank entries admit = record { state = state_from (g.now bank) entries admit; bank = bank; given = given_of entries }
 
--- what the source had still to give and what the sink had taken, before and after, where they tell it; how often each failed; the
--- status, and the bank that was given back
+-- what the source had still to give and what the sink had taken, before and after, if they show it; how often each failed; the status, and
+-- the bank that was given back
 pub record Ran (B : Type 0) : Type 0 where
   pub left : Option (List ℕ)
   pub left_then : Option (List ℕ)
@@ -64,7 +64,7 @@ ran s k before after ended = record {
   status = ended.0;
 }
 
--- ---- what a status tells
+-- ---- what a status says
 
 -- all records that were read were played
 abbrev pub IsEnded : ℕ → Type 0
@@ -82,27 +82,27 @@ IsBrokenOff status = (status ≡ 1) ⊎ (status ≡ 4)
 abbrev pub IsStatus : ℕ → Type 0
 IsStatus status = IsEnded status ⊎ IsBooted status ⊎ IsBrokenOff status
 
--- which end of the input a status tells, after so many records
+-- which end of the input a status says, after so many records
 pub record EndsAs (status : ℕ) (played : ℕ) (rest : List ℕ) (at_end read_failed : Type 0) : Type 0 where
   pub done : status ≡ 0 → (rest ≡ []) × at_end
   pub cut : status ≡ 3 → IsBeginning played rest × read_failed
   pub bad : status ≡ 5 → (played < record_limit) × (IsBad rest ⊎ (IsShort rest × at_end))
   pub full : status ≡ 6 → (played ≡ record_limit) × (0 < length rest)
 
--- and in the other direction: what stands after the records decides the status, unless a boot ended the session or it was broken off
+-- and in the other direction: what comes after the records decides the status, unless a boot ended the session or it was broken off
 pub record IsExact (status : ℕ) (played : ℕ) (rest : List ℕ) : Type 0 where
   pub bad : played < record_limit → IsBad rest → (status ≡ 5) ⊎ IsBooted status ⊎ IsBrokenOff status
   pub full : played ≡ record_limit → 0 < length rest → (status ≡ 6) ⊎ IsBooted status ⊎ IsBrokenOff status
 
--- which boot a status tells: the last entry tells it, or it was the first one, before anything was read. And where the last entry
--- tells one, the status does, unless the session was broken off
+-- which boot a status says: the last entry has it, or it was the first one, before anything was read. And if the last entry has one, the
+-- status says so, unless the session was broken off
 pub record BootsAs (status : ℕ) (entries : List Entry) (read : List ℕ) (bank_failed bank_stopped : Type 0) : Type 0 where
   pub fault : status ≡ 7 → EndsInBoot false entries ⊎ ((entries ≡ []) × (read ≡ []) × bank_failed)
   pub stop : status ≡ 8 → EndsInBoot true entries ⊎ ((entries ≡ []) × (read ≡ []) × bank_stopped)
   pub told_fault : EndsInBoot false entries → (status ≡ 7) ⊎ IsBrokenOff status
   pub told_stop : EndsInBoot true entries → (status ≡ 8) ⊎ IsBrokenOff status
 
--- 4, 7 and 8 come only where the sink or the bank failed, or the bank was stopped
+-- 4, 7 and 8 come only if the sink or the bank failed, or the bank was stopped
 pub record HasCauses {B : Type 0} (g : Ghosts B) (bank : B) (r : Ran B) : Type 0 where
   pub sink : r.status ≡ 4 → Rose r.unwritten r.unwritten_then
   pub fault : r.status ≡ 7 → RoseBy 1 (g.faults bank) (g.faults r.bank_then)
@@ -110,7 +110,7 @@ pub record HasCauses {B : Type 0} (g : Ghosts B) (bank : B) (r : Ran B) : Type 0
 
 -- ---- what the sink took
 
--- by the status; `would_end` tells the statuses that the session could have had where the sink doesn't fail
+-- by the status; `would_end` has the statuses that the session could have had if the sink didn't fail
 pub record Tells (status : ℕ) (entries : List Entry) (would_end : ℕ → Type 0) (before after : Option (List ℕ)) : Type 0 where
   -- 0, 3, 5, 6, 7, 8: the transcript with this status
   pub whole : IsEnded status ⊎ IsBooted status → after ≡ append_known before (transcript entries status)
@@ -119,13 +119,13 @@ pub record Tells (status : ℕ) (entries : List Entry) (would_end : ℕ → Type
   -- 1: a front of the transcript
   pub starved : status ≡ 1 → TakesFront before after (transcript entries 1)
 
--- the status that a session has where the sink doesn't fail
+-- the status that a session has if the sink doesn't fail
 abbrev pub WouldEnd : ℕ → (ℕ → Type 0) → (ℕ → Type 0) → Type 0
 WouldEnd status ends boots = (status ≡ 1) ⊎ (IsEnded status × ends status) ⊎ (IsBooted status × boots status)
 
 -- ---- the whole
 
--- this end of the input, and this boot, are told by a status
+-- a status says this end of the input, and this boot
 abbrev pub Ends : {B : Type 0} → Ran B → ℕ → List ℕ → ℕ → Type 0
 Ends r played rest status = EndsAs status played rest (IsAtEnd r.left_then) (Rose r.unread r.unread_then)
 
@@ -154,7 +154,7 @@ pub record Session {B C : Type 0} (plays : ℕ → List Pair → List Entry → 
   pub entries : List Entry
   pub requested : plays r.status pairs entries
   pub served : IsServed g verdict o r.bank_then entries
-  -- what is told of it
+  -- what is reported of it
   pub known : IsStatus r.status
   pub ends : Ends r (length pairs) rest r.status
   pub exact : IsExact r.status (length pairs) rest

@@ -23,7 +23,7 @@ abbrev pub AreGiven : {C : Type 0} → (C → List ℕ → ℤ) → List (Option
 AreGiven verdict given r [] = Unit {0}
 AreGiven verdict given r (e ∷ es) = GivesEach verdict given (questions_in r e) e.given.verdicts × AreGiven verdict given (onward r e) es
 
--- a function with the same verdicts stood there at first
+-- a function with the same verdicts was there at first
 abbrev pub IsOf : {C : Type 0} → (C → List ℕ → ℤ) → Option (KitEntry C) → Option (KitEntry C) → Type 0
 IsOf verdict first None = Unit {0}
 IsOf verdict None (Some entry) = ⊥
@@ -32,13 +32,13 @@ IsOf verdict (Some first) (Some entry) = (image : List ℕ) → verdict entry.ch
 abbrev pub AreOf : {C : Type 0} → (C → List ℕ → ℤ) → List (Option (KitEntry C)) → List (Option (KitEntry C)) → Type 0
 AreOf verdict given kit = (number : ℕ) → IsOf verdict (entry_at given number) (entry_at kit number)
 
--- ---- what is told of them
+-- ---- what is reported of them
 
--- what the function of this number answers about an image; 0 where there is none
+-- what the function of this number answers about an image; 0 if there is none
 abbrev pub verdict_of : {C : Type 0} → (C → List ℕ → ℤ) → List (Option (KitEntry C)) → ℕ → List ℕ → ℤ
 verdict_of verdict given number image = option_map_or (λ entry. verdict entry.check image) (entry_at given number) (pos 0)
 
--- each verdict that an entry tells of a table with a function is the one that this function gives on the very image
+-- each verdict that an entry reports of a table with a function is the one that this function gives on the very image
 abbrev pub KeepsToFunctions : {C : Type 0} → (C → List ℕ → ℤ) → List (Option (KitEntry C)) → State → List Entry → Type 0
 KeepsToFunctions verdict given opening entries = (before after : List Entry) (e : Entry) (effect : model.Effect) → entries ≡ before ++ e ∷ after → effect_in (run_from (begins_at opening) before) e ≡ Some effect
     → KeepsTo (verdict_of verdict given) (told (run_from (begins_at opening) before).state e.actor e.request effect)

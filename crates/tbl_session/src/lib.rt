@@ -1,3 +1,3 @@
-//! In specs/ what a session promises, whoever plays it: its opening, the history that was served, what a reset at any moment leaves
-//! and recovers, and how all of it is told; the layers above cite it in their contracts.
+//! specs/ says what a session promises, whoever plays it: its opening, the history that was served, what a reset at any moment leaves and
+//! recovers, and how all of it is reported. The layers above cite it in their contracts.
 #![tactic(auto)]

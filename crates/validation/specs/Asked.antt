@@ -10,7 +10,7 @@ use Rattle.validation.specs.Kits.{entry_at, AskedMore}
 abbrev pub is_for : ℕ → Question → Bool
 is_for number q = q.number == number
 
--- the function that is asked stands in the kit, and gives this verdict on the image
+-- the function that is asked is in the kit, and gives this verdict on the image
 abbrev pub Gives : {C : Type 0} → (C → List ℕ → ℤ) → List (Option (KitEntry C)) → Question → ℤ → Type 0
 Gives verdict kit q v = IsSome (entry_at kit q.number) × ForSome (entry_at kit q.number) (λ entry. v ≡ verdict entry.check q.image)
 
@@ -23,7 +23,7 @@ GivesEach verdict kit (q ∷ more) [] = ⊥
 GivesEach verdict kit (q ∷ more) (None ∷ verdicts) = ⊥
 GivesEach verdict kit (q ∷ more) (Some v ∷ verdicts) = Gives verdict kit q v × GivesEach verdict kit more verdicts
 
--- what stands under a number stands there still, asked so many times more; where there is none, none comes
+-- what has a number has it still, asked so many times more; if there is none, none comes
 abbrev pub Stays : {C : Type 0} → (C → List ℕ → ℤ) → (C → ℕ) → ℕ → Option (KitEntry C) → Option (KitEntry C) → Type 0
 Stays verdict asked times None new = new ≡ None
 Stays verdict asked times (Some old) new = IsSome new × ForSome new (AskedMore verdict asked times old)

@@ -20,17 +20,17 @@ ArePending tables pending = (row : ℕ) (active : Bool) → is_pending row activ
 abbrev pub PendingStay : Tables → Tables → Type 0
 PendingStay old new = (pending : List (ℕ × Bool)) → ArePending old pending → ArePending new pending
 
--- the validation function of each table stands in the kit
+-- the validation function of each table is in the kit
 abbrev pub HaveFunctions : {C : Type 0} → Tables → List (Option (KitEntry C)) → Type 0
 HaveFunctions tables kit = (row : ℕ) → ForSome (table_at tables row) (λ t. ForSome t.validator (λ number. IsSome (entry_at kit number)))
 
--- where the activation of a load is requested, that load is open
+-- if the activation of a load is requested, that load is open
 abbrev pub HasItsLoad : Table → Type 0
 HasItsLoad t = t.activation ≡ true → IsSome t.load
 
 abbrev pub HaveLoads : Tables → Type 0
 HaveLoads tables = (row : ℕ) → ForSome (table_at tables row) HasItsLoad
 
--- the tables stand in the rows where they stood, with the functions that they had
+-- the tables are in the same rows, with the same functions
 abbrev pub HaveSameFunctions : Tables → Tables → Type 0
 HaveSameFunctions old new = (row : ℕ) → option_map (λ (t : Table). t.validator) (table_at new row) ≡ option_map (λ (t : Table). t.validator) (table_at old row)

@@ -62,7 +62,7 @@ fn put_check<C: Validator>(entry: &mut Option<KitEntry<C>>, check: C)
     }
 }
 
-/// Puts another function at a place, if one stands there.
+/// Puts another function at a place, if there is one.
 #[tactic(auto, using(crate::proofs::Handing::handed_past))]
 fn hand_in<C: Validator>(entries: &mut [Option<KitEntry<C>>], at: usize, check: C)
     ensures { Hands at check entries.old entries.new }
@@ -111,7 +111,7 @@ impl<C: Validator> Kit<C> {
         ask(entry, image)
     }
 
-    /// The verdict of the function of this number on an image, where there is a number.
+    /// The verdict of the function of this number on an image, if there is a number.
     #[tactic(auto, using(crate::proofs::Asking::asked_nothing))]
     pub fn judge(&mut self, number: Option<u8>, image: &[u8]) -> Option<i32>
         requires { ForSome number (MayAsk C.asked 1 self.old) }
@@ -122,7 +122,7 @@ impl<C: Validator> Kit<C> {
         Some(self.perform(number, image))
     }
 
-    /// Puts another function in the place of the one of this number, if one stands there. It is the same application's.
+    /// Puts another function in the place of the one of this number, if there is one. It is the same application's.
     pub fn hand(&mut self, number: u8, check: C)
         ensures { Hands number check self.old self.new }
     {

@@ -59,7 +59,7 @@ impl Pending {
         ensures full { (result ≡ Err PendFault.Full) ↔ ((is_pending row active self.old ≡ false) × (length self.old ≡ 10)) }
         ensures err { OnErr result (self.new ≡ self.old) }
     {
-        // That it is pending already is told even where the list is full.
+        // That it is pending already is reported even if the list is full.
         if self.has(row, active) {
             return Err(PendFault::Twice);
         }
