@@ -1,15 +1,15 @@
--- What a handle becomes, and what a list of places becomes where one handle changes.
+-- What a handle becomes, and what a list of places becomes when one handle changes.
 use Rattle.std.specs.Prelude.{ℕ, List, Bool, true, false, ◌==◌, ◌&&◌, if◌then◌else◌, Option, Some, None, slice_set, slice_index_or}
 use Rattle.std.specs.Option.{option_map, option_map_or}
 use Rattle.access_desc.specs.declared.handle_view.HandleView.{HandleView}
 
 -- ---- places
 
--- what stands at a place: nothing past the end
+-- what is at a place: nothing past the end
 abbrev pub at_place : {X : Type 0} → List (Option X) → ℕ → Option X
 at_place places n = slice_index_or places n None
 
--- what stands at one place is changed
+-- what is at one place is changed
 abbrev pub changed_at : {X : Type 0} → (X → X) → List (Option X) → ℕ → List (Option X)
 changed_at change places n = slice_set places n (option_map change (at_place places n))
 
@@ -17,13 +17,13 @@ changed_at change places n = slice_set places n (option_map change (at_place pla
 abbrev pub nothing : {X : Type 0} → Option X → Option X
 nothing place = None
 
--- something stands there, and it passes
+-- something is there, and it passes
 abbrev pub has : {X : Type 0} → (X → Bool) → Option X → Bool
 has test place = option_map_or test place false
 
 -- ---- a handle
 
--- as it is given: nothing pinned, told of no image
+-- as it is given: nothing pinned, and no image known
 abbrev pub new_handle : ℕ → ℕ → HandleView
 new_handle app row = record { app = app; row = Some row; pinned = false; old = false; told = 0 }
 
@@ -47,7 +47,7 @@ with_pin handle = record handle { pinned = true; old = false }
 abbrev pub with_no_pin : HandleView → HandleView
 with_no_pin handle = record handle { pinned = false; old = false }
 
--- it was told of so many images
+-- it knows of so many images
 abbrev pub with_told : ℕ → HandleView → HandleView
 with_told count handle = record handle { told = count }
 

@@ -1,17 +1,17 @@
 ghost use Rattle.std.specs.Prelude.{◌≡◌};
 
-/// What a handle stands for.
+/// What a handle represents.
 #[derive(Clone, Copy, PartialEq, Eq)]
 pub struct HandleView {
     /// The application that it was given to, from 1 to 16.
     pub app: u8,
-    /// The registry row of its table, None where the table is gone.
+    /// The registry row of its table, None if the table is gone.
     pub row: Option<u8>,
     /// Whether it pins an image of its table.
     pub pinned: bool,
     /// Whether the image that it pins is the one before the last.
     pub old: bool,
-    /// How many images of its table it was told of.
+    /// How many images of its table it knows of.
     pub told: u32,
 }
 
@@ -61,7 +61,7 @@ impl HandleView {
         }
     }
 
-    /// What it is once it was told of this many images.
+    /// What it is once it knows of this many images.
     pub(crate) fn with_told(&self, count: u32) -> HandleView
         ensures { result ≡ with_told count self.now }
     {

@@ -13,7 +13,7 @@ use tbl_kinds::Memory;
 /// How many handles there can be (`CFE_PLATFORM_TBL_MAX_NUM_HANDLES`).
 const PLACES: usize = 256;
 
-/// The 256 places for handles: what stands at place n is handle n.
+/// The 256 places for handles: what is at place n is handle n.
 #[derive(Drop)]
 pub struct Handles {
     places: Vec<Option<HandleView>>,
@@ -72,7 +72,7 @@ fn number(place: Option<usize>) -> Option<u16>
     }
 }
 
-/// A place as the number of its handle, where the places are counted from this one on.
+/// A place as the number of its handle, if the places are counted from this one on.
 fn number_from(start: usize, place: Option<usize>) -> Option<u16>
     requires { IfSome place (λ n. start + n < 2 ^ 16) }
     ensures { result ≡ option_map (λ n. start + n) place }
@@ -95,7 +95,7 @@ fn place_after_end(place: Option<HandleView>, row: u8) -> Option<HandleView>
     place.map(|handle| handle.after_end(row))
 }
 
-/// Tells every handle of a row that its table has a new image.
+/// Moves the pins of every handle of a row, since its table has a new image.
 fn move_pins(places: &mut [Option<HandleView>], row: u8)
     ensures { places.new ≡ map (option_map (after_new_image row)) places.old }
 {
@@ -113,7 +113,7 @@ fn end_table(places: &mut [Option<HandleView>], row: u8)
     }
 }
 
-/// Tells the handles of a row that its table has a new image, where any of them pins one.
+/// Moves the pins of the handles of a row, since its table has a new image, if any of them pins one.
 fn move_row(places: &mut [Option<HandleView>], rows: &[RowPins], row: u8)
     requires { AreKept places.old rows.now }
     ensures places { places.new ≡ map (option_map (after_new_image row)) places.old }
@@ -125,7 +125,7 @@ fn move_row(places: &mut [Option<HandleView>], rows: &[RowPins], row: u8)
     }
 }
 
-/// Takes their table and their pin from the handles of a row, of which none is counted any more.
+/// Takes their table and their pin from the handles of a row whose pins aren't counted any more.
 fn end_row(places: &mut [Option<HandleView>], rows: &mut [RowPins], row: u8)
     requires { AreKept places.old rows.old }
     ensures places { places.new ≡ map (option_map (after_end row)) places.old }
@@ -163,7 +163,7 @@ impl Handles {
         })
     }
 
-    /// Gives an application a handle on the table of a row: the least free number. It pins nothing and was told of no image.
+    /// Gives an application a handle on the table of a row: the least free number. It pins nothing and knows of no image.
     #[tactic(auto, using(tbl_kinds::proofs::FreeLaws::none_at))]
     pub fn add(&mut self, app: u8, row: u8) -> Option<u16>
         ensures least_free { result ≡ position is_none self.old }
@@ -232,7 +232,7 @@ impl Handles {
         put(&mut self.places, &mut self.rows, handle as usize, place);
     }
 
-    /// The handle was told of this many images.
+    /// The handle knows of this many images.
     pub fn tell(&mut self, handle: u16, count: u32)
         requires { IsSome (at_place self.old handle) }
         ensures { self.new ≡ changed_at (with_told count) self.old handle }
@@ -241,7 +241,7 @@ impl Handles {
         put(&mut self.places, &mut self.rows, handle as usize, place);
     }
 
-    /// A place before which no handle pins an image of this row's table, None where none does at all.
+    /// A place before which no handle pins an image of this row's table, None if none does at all.
     fn pins_start(&self, row: u8) -> Option<usize>
         ensures none { IfNone result (count_by (has (pins row)) self.now ≡ 0) }
         ensures none_before { IfSome result (λ start. (n : ℕ) → n < start → has (pins row) (at_place self.now n) ≡ false) }
@@ -288,7 +288,7 @@ impl Handles {
         self.places.len() as u16
     }
 
-    /// What a handle stands for, None where no such handle is given.
+    /// What a handle represents, None if no such handle is given.
     pub fn view(&self, handle: u16) -> Option<HandleView>
         ensures handle { result ≡ at_place self.now handle }
         ensures within { OnSome result (handle < 256) }

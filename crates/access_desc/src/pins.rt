@@ -1,4 +1,4 @@
-//! The pins of the table in each row, kept beside the handles: a search for a pin begins where the first can be.
+//! The pins of the table in each row, kept together with the handles: a search for a pin begins at the first place where one can be.
 
 ghost use Rattle.std.specs.Prelude.{◌≡◌, ◌<◌, ◌≤◌, ℕ, IfOk, true, if◌then◌else◌, length, replicate, slice_set};
 ghost use Rattle.access_desc.specs.Steps.{has, pins};
@@ -29,7 +29,7 @@ fn pinned_row(place: Option<HandleView>) -> Option<u8>
     }
 }
 
-/// What stands at this place counts, if it is a pin.
+/// What is at this place counts, if it is a pin.
 fn count_in(rows: &mut [RowPins], at: u8, place: Option<HandleView>)
     requires all_rows { length rows.old ≡ 256 }
     requires few { (row : ℕ) → row < 256 → (row_at rows.old row).count ≤ 256 }
@@ -40,7 +40,7 @@ fn count_in(rows: &mut [RowPins], at: u8, place: Option<HandleView>)
     }
 }
 
-/// What stood at a place doesn't count any more, if it was a pin.
+/// What was at a place doesn't count any more, if it was a pin.
 fn count_out(rows: &mut [RowPins], place: Option<HandleView>)
     requires all_rows { length rows.old ≡ 256 }
     requires counted { (row : ℕ) → row < 256 → has (pins row) place ≡ true → 0 < (row_at rows.old row).count }
@@ -51,7 +51,7 @@ fn count_out(rows: &mut [RowPins], place: Option<HandleView>)
     }
 }
 
-/// Puts a handle, or nothing, at a place: its pin counts from now on, and that of what stood there doesn't any more.
+/// Puts a handle, or nothing, at a place: its pin counts from now on, and that of what was there doesn't any more.
 pub(crate) fn put(
     places: &mut [Option<HandleView>],
     rows: &mut [RowPins],

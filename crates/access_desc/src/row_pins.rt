@@ -1,6 +1,6 @@
 ghost use Rattle.std.specs.Prelude.{◌≡◌, ◌<◌};
 
-/// What is kept of the pins of one row's table: a search for one begins where the first can be.
+/// What is kept of the pins of one row's table: a search for one begins at the first place where one can be.
 #[derive(Clone, Copy)]
 pub(crate) struct RowPins {
     /// How many handles pin an image of the table.

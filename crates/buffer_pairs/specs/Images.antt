@@ -33,7 +33,7 @@ keeping_last images = record images { kept = images.last }
 abbrev pub keeping_none : Images → Images
 keeping_none images = record images { kept = None }
 
--- which image is kept, by where it is
+-- which image is kept, by its place
 abbrev pub kept_of : Kept → Option (List ℕ) → Option (List ℕ) → Option (List ℕ)
 kept_of Nothing last before = None
 kept_of Last last before = last

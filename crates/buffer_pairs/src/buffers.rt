@@ -13,11 +13,11 @@ pub struct Buffers {
     before: Option<Image>,
     double: bool,
     kept: Kept,
-    /// A short image that left its place. The next one may stand in its memory.
+    /// A short image that left its place. The next one may take its memory.
     spare: Option<Image>,
 }
 
-/// Where the image is that is kept whatever comes.
+/// The place of the image that is kept whatever comes.
 #[derive(Drop)]
 enum Kept {
     Nothing,
@@ -58,7 +58,7 @@ fn set_aside(spare: &mut Option<Image>, image: Option<Image>) {
     }
 }
 
-/// Where it is once the image before the last has left its place.
+/// Its place once the image before the last has left its own.
 fn without_before(kept: Kept, before: Option<Image>, spare: &mut Option<Image>) -> Kept
     ensures { (last after : Option (List ℕ)) → kept_of result last after ≡ kept_of kept last before }
 {
@@ -71,7 +71,7 @@ fn without_before(kept: Kept, before: Option<Image>, spare: &mut Option<Image>) 
     }
 }
 
-/// Empties the place before the last, and tells where the kept image is then.
+/// Empties the place before the last, and gives the place of the kept image then.
 fn take_kept(kept: &mut Kept, before: &mut Option<Image>, spare: &mut Option<Image>) -> Kept
     ensures kept { (last after : Option (List ℕ)) → kept_of result last after ≡ kept_of kept.old last before.old }
     ensures before { before.new ≡ None }
@@ -79,7 +79,7 @@ fn take_kept(kept: &mut Kept, before: &mut Option<Image>, spare: &mut Option<Ima
     without_before(std::mem::replace(kept, Kept::Nothing), before.take(), spare)
 }
 
-/// Where it is once the last image has gone to the place before it, which was empty.
+/// Its place once the last image has moved to the place before it, which was empty.
 fn moved_on(kept: Kept) -> Kept
     ensures { (last new : Option (List ℕ)) → kept_of result new last ≡ kept_of kept last None }
 {
@@ -90,7 +90,7 @@ fn moved_on(kept: Kept) -> Kept
     }
 }
 
-/// Where it is once the last image has left its place, with no place before it.
+/// Its place once the last image has left its own, with no place before it.
 fn without_last(kept: Kept, last: Option<Image>, spare: &mut Option<Image>) -> Kept
     ensures { (new : Option (List ℕ)) → kept_of result new None ≡ kept_of kept last None }
 {
@@ -117,21 +117,21 @@ impl Buffers {
         }
     }
 
-    /// An image that the table has no more, for the memory that its bytes stand in. It is given once.
+    /// An image that the table doesn't have any more, for the memory of its bytes. It is given once.
     pub fn take_spare(&mut self) -> Option<Image>
         ensures { self.new ≡ self.old }
     {
         self.spare.take()
     }
 
-    /// The last image, None where the table was never loaded.
+    /// The last image, None if the table was never loaded.
     pub fn active(&self) -> Option<&Image>
         ensures { option_copied result ≡ self.now.last }
     {
         self.last.as_ref()
     }
 
-    /// The image before the last, None for a single buffer, where there were fewer than two images, or once it was dropped.
+    /// The image before the last, None for a single buffer, if there were fewer than two images, or once it was dropped.
     pub fn before(&self) -> Option<&Image>
         ensures { option_copied result ≡ self.now.before }
     {
@@ -173,7 +173,7 @@ impl Buffers {
         self.kept = Kept::Nothing;
     }
 
-    /// The image that is kept, None where there is none.
+    /// The image that is kept, None if there is none.
     pub fn kept(&self) -> Option<&Image>
         ensures { option_copied result ≡ self.now.kept }
     {

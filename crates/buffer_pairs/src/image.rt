@@ -34,7 +34,7 @@ fn write_over(image: &mut [u8], offset: usize, bytes: &[u8])
     image[offset..offset + bytes.len()].copy_from_slice(bytes);
 }
 
-/// Writes bytes over all of the image, where it has as many. Whether it did.
+/// Writes bytes over all of the image, if it has as many. Whether it did.
 fn fill(image: &mut [u8], bytes: &[u8]) -> bool
     ensures { result ≡ true → image.new ≡ bytes.now }
 {
@@ -68,7 +68,7 @@ impl Image {
         })
     }
 
-    /// An image of these bytes. It stands in the memory of the spare one where that is as long and has no other owner.
+    /// An image of these bytes. It takes the memory of the spare one if that is as long and has no other owner.
     pub fn over(alloc: Global, spare: Option<Image>, bytes: &[u8]) -> Result<Image, Memory>
         ensures { IfOk result (λ image. image ≡ bytes.now) }
     {
@@ -80,7 +80,7 @@ impl Image {
         Image::of(alloc, bytes)
     }
 
-    /// Writes as many bytes as it has over all of them, where it has no other owner. Whether it did.
+    /// Writes as many bytes as it has over all of them, if it has no other owner. Whether it did.
     fn take_bytes(&mut self, bytes: &[u8]) -> bool
         ensures { result ≡ true → self.new ≡ bytes.now }
     {
@@ -90,7 +90,7 @@ impl Image {
         }
     }
 
-    /// An image of these bytes. Where they have memory of their own it stands in that too, and no byte is copied.
+    /// An image of these bytes. If they have memory of their own it takes that too, and no byte is copied.
     pub fn of_bytes(alloc: Global, bytes: &mut Bytes) -> Result<Image, Memory>
         ensures image { IfOk result (λ image. image ≡ bytes.old.list) }
         ensures same { bytes.new ≡ bytes.old }
@@ -111,7 +111,7 @@ impl Image {
         })
     }
 
-    /// An image of bytes that stand in their place already, as where they were read into it.
+    /// An image of bytes that are in their place already, for example because they were read into it.
     pub fn from_shared(bytes: Arc<Vec<u8>, Global>) -> Image
         ensures { result ≡ (arc_value bytes).items }
     {
@@ -137,8 +137,7 @@ impl Image {
         self.bytes.as_slice()
     }
 
-    /// A further owner of the same bytes. It copies none and takes no memory, and fails only where there are as many
-    /// owners as can be counted.
+    /// A further owner of the same bytes. It copies none and takes no memory, and fails only if there are as many owners as can be counted.
     pub fn share(&self) -> Result<Image, Memory>
         ensures { IfOk result (λ image. image ≡ self.now) }
     {
@@ -147,15 +146,14 @@ impl Image {
         })
     }
 
-    /// The memory that its bytes stand in, for a further owner.
+    /// The memory of its bytes, for a further owner.
     pub fn shared(&self) -> Result<Arc<Vec<u8>, Global>, Memory>
         ensures { IfOk result (λ shared. (arc_value shared).items ≡ self.now) }
     {
         Ok(Arc::try_clone(&self.bytes)?)
     }
 
-    /// Writes bytes over the image in place, from an offset on. Where it has another owner, it is left as it is and the
-    /// answer is false.
+    /// Writes bytes over the image in place, from an offset on. If it has another owner, it is left as it is and the answer is false.
     pub fn write(&mut self, offset: u32, bytes: &[u8]) -> bool
         requires { offset + length bytes.now ≤ length self.old }
         ensures { self.new ≡ (if result then patched self.old offset bytes.now else self.old) }

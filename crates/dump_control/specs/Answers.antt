@@ -1,4 +1,4 @@
--- What a call is answered, as the effect that it stands for.
+-- The answer to a call, as the effect that it represents.
 use Rattle.std.specs.Prelude.{ℕ, ◌==◌, List, [], Bool, if◌then◌else◌, Option, Some, None}
 use Rattle.tbl_model.specs.State.{State, Table, Tables}
 use Rattle.tbl_model.specs.Tables.{in_use}
@@ -13,7 +13,7 @@ use Rattle.dump_control.specs.declared.requests.DumpAnswer.TheVariants.{Write, A
 use Rattle.tbl_kinds.specs.declared.entry.Answer.{Answer}
 use Rattle.tbl_kinds.specs.declared.status.TheConstants.Status.{SUCCESS, ERR_NEVER_LOADED, ERR_NO_LOAD, ERR_NO_BUFFER_AVAIL}
 
--- which image is missing for a dump of a table, where one is
+-- which image is missing for a dump of a table, if one is
 abbrev pub missing_refusal : Table → Bool → Option Answer
 missing_refusal t active = if has_image t active then None else refusal (if active then ERR_NEVER_LOADED else ERR_NO_LOAD)
 
@@ -22,8 +22,7 @@ abbrev pub unless_refused : Option Answer → DumpAnswer
 unless_refused None = Asked
 unless_refused (Some answer) = Refused answer
 
--- what DUMP is answered. Where no buffer was free, the reply gives the rows that use them; where the image is there, its
--- file is written
+-- the answer to DUMP. If no buffer was free, the reply gives the rows that use them; if the image is there, its file is written
 abbrev pub requested : State → List ℕ → ℕ → Table → DumpAnswer → Tables → Effect
 requested s file row t (Write active) tables = written_effect s (Some row) file (dump_file s t.name (dumped_image t active))
 requested s file row t Asked tables = record (answered s SUCCESS 0) { notice = t.notice; next = record s { tables = tables } }

@@ -26,7 +26,7 @@ name_of_filled (filled file image) = Some file
 abbrev pub filled_name : Option Table → Option (List ℕ)
 filled_name found = option_and_then (λ (t : Table). name_of_filled t.dump) found
 
--- the bytes of its file, none where no filled dump stands
+-- the bytes of its file, none if there is no filled dump
 abbrev pub filled_file : State → Option Table → List ℕ
 filled_file s found = option_map_or (λ (t : Table). option_map_or (dump_file s t.name) (filled_image t.dump) []) found []
 

@@ -81,9 +81,9 @@ pub fn dump_len(tables: &Tables, row: u8) -> usize
     IMAGE_PLACE + table.size as usize
 }
 
-/// Appends the table file of the last image of the table of a row (`active`), or of that of its open load: the file
-/// header with the text `Table image` and this time, the table file header with offset 0 and the table's full name, and
-/// the image (cFE's `CFE_FS_Header_t`, `CFE_TBL_File_Hdr_t`). `dump_len` tells how much room it needs.
+/// Appends the table file of the last image of the table of a row (`active`), or of that of its open load: the file header with the text
+/// `Table image` and this time, the table file header with offset 0 and the table's full name, and the image (cFE's `CFE_FS_Header_t`,
+/// `CFE_TBL_File_Hdr_t`). `dump_len` says how much room it needs.
 pub fn dump_file(tables: &Tables, row: u8, active: bool, out: &mut Bytes, seconds: u32, sub: u16)
     requires table { IsSome (table_at tables.now row) }
     requires image { ForSome (table_at tables.now row) (λ t. CanBeDumped t active) }
@@ -133,8 +133,8 @@ fn write_records(tables: &Tables, out: &mut Bytes)
     }
 }
 
-/// Appends the registry's file (`CFE_TBL_DUMP_REGISTRY_CC`): the file header with the text `Table registry` and this time,
-/// and the registry record of each table, in order of rows. `registry_file_len` tells how much room it needs.
+/// Appends the registry's file (`CFE_TBL_DUMP_REGISTRY_CC`): the file header with the text `Table registry` and this time, and the registry
+/// record of each table, in order of rows. `registry_file_len` says how much room it needs.
 #[tactic(auto, unfolding(tbl_model::specs::Dumps::registry_file))]
 pub fn registry_file(tables: &Tables, out: &mut Bytes, seconds: u32, sub: u16)
     requires { header_len + record_len * table_count tables.now ≤ out.old.spare }

@@ -39,8 +39,8 @@ pub fn fill(tables: &mut Tables, row: u8) -> Answer
     Answer::plain(Status::SUCCESS)
 }
 
-/// How many bytes the file of the filled dump of the table of a row has: 116 and those of the image. None exactly where no
-/// filled dump stands.
+/// How many bytes the file of the filled dump of the table of a row has: 116 and those of the image. None exactly if there is no filled
+/// dump.
 pub fn filled_len(tables: &Tables, row: u8) -> Option<usize>
     ensures len { result ≡ filled_file_len (table_at tables.now row) }
     ensures filled { is_some result ≡ is_filled (table_at tables.now row) }
@@ -50,8 +50,8 @@ pub fn filled_len(tables: &Tables, row: u8) -> Option<usize>
     Some(IMAGE_PLACE + image.len())
 }
 
-/// Appends the file of the filled dump of the table of a row, as `dump_file` writes one, and gives the file's name. None exactly
-/// where no filled dump stands. `filled_len` tells how much room the file needs.
+/// Appends the file of the filled dump of the table of a row, as `dump_file` writes one, and gives the file's name. None exactly if there
+/// is no filled dump. `filled_len` says how much room the file needs.
 pub fn write_filled(
     tables: &Tables,
     row: u8,
@@ -74,9 +74,9 @@ pub fn write_filled(
     Some(file.copy())
 }
 
-/// The filled dump of the table of a row comes to its end: its file is appended, as `dump_file` writes one, and its shared
-/// buffer is free again. The name of the file. None exactly where no filled dump stands, and then nothing was changed.
-/// `filled_len` tells how much room the file needs. A dump that is dropped ends by `Tables::end_dump` alone.
+/// The filled dump of the table of a row comes to its end: its file is appended, as `dump_file` writes one, and its shared buffer is free
+/// again. Returns the name of the file. None exactly if there is no filled dump, and then nothing was changed. `filled_len` says how much
+/// room the file needs. A dump that is dropped ends only by `Tables::end_dump`.
 pub fn finish(
     tables: &mut Tables,
     row: u8,

@@ -21,7 +21,7 @@ use tbl_registry::{Dump, Tables};
 pub enum DumpAnswer {
     /// The file is to be written now: of the table's last image (`active`), else of that of its open load.
     Write { active: bool },
-    /// The owner of the dump-only table is to fill the dump, and to be told.
+    /// The owner of the dump-only table is to fill the dump, and to be notified.
     Asked,
     /// Nothing is dumped.
     Refused(Answer),
@@ -91,10 +91,10 @@ fn missing(tables: &Tables, row: u8, active: bool) -> Option<Answer>
     }))
 }
 
-/// The ground asks for a dump of the table of a row into a file of this name (`CFE_TBL_DUMP_CC`; cFE User's Guide, Table
-/// Services, "Dumping tables"). 1 selects the table's last image and 0 that of its open load; of a dump-only table either
-/// selects the one image that it has, and the dump is requested of its owner. Else the caller writes the file (`dump_file`).
-/// `ERR_NO_BUFFER_AVAIL`: `Tables::in_use` tells which rows have the shared buffers.
+/// The ground asks for a dump of the table of a row into a file of this name (`CFE_TBL_DUMP_CC`; cFE User's Guide, Table Services, "Dumping
+/// tables"). 1 selects the table's last image and 0 that of its open load; of a dump-only table either selects the one image that it has,
+/// and the dump is requested of its owner. Else the caller writes the file (`dump_file`). `ERR_NO_BUFFER_AVAIL`: `Tables::in_use` says
+/// which rows have the shared buffers.
 pub fn request_dump(tables: &mut Tables, row: u8, select: u16, file: &Name64) -> DumpAnswer
     requires { IsSome (table_at tables.old row) }
     ensures effect { (s : State) → s.tables ≡ tables.old → ForSome (table_at tables.old row) (λ t. dump_by s file.now row t (selected t select) ≡ requested s file.now row t result tables.new) }
@@ -108,7 +108,7 @@ pub fn request_dump(tables: &mut Tables, row: u8, select: u16, file: &Name64) ->
     let Some(active) = tables.selected(row, select) else {
         return DumpAnswer::Refused(Answer::plain(Status::ERR_BAD_SELECT));
     };
-    // In cFE that image is memory of the owner, who alone knows when it can be copied.
+    // In cFE that image is memory of the owner, and only the owner knows when it can be copied.
     if is_dump_only(tables, row) {
         return ask(tables, row, file);
     }

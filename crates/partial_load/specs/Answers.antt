@@ -13,7 +13,7 @@ use Rattle.tbl_kinds.specs.declared.entry.Answer.{Answer}
 use Rattle.tbl_kinds.specs.declared.status.TheConstants.Status.{SUCCESS, ERR_NO_BUFFER_AVAIL, ERR_VALIDATION_FAILED}
 use Rattle.partial_load.specs.declared.images.Loaded.{Loaded}
 
--- it is answered so, about this table, and leaves these tables. Where no buffer was free, the reply gives the
+-- it is answered so, about this table, and leaves these tables. If no buffer was free, the reply gives the
 -- rows that use them
 abbrev pub load_answered : State → Option Named → Answer → Tables → Effect
 load_answered s table answer tables = record (answered s answer.status answer.detail) {
@@ -40,7 +40,7 @@ with_verdict_of row image (Some verdict) (Some number) effect = with_verdict row
 abbrev pub active_in : State → ℕ → Table → List ℕ → Tables → Effect
 active_in s row t image tables = record (activate_effect s row t image) { next = record s { tables = set_time row s.seconds s.sub tables } }
 
--- the owner of the table in this row loaded an image, and was answered so: where it is active, this is the effect
+-- the owner of the table in this row loaded an image, and was answered so: if it is active, this is the effect
 abbrev pub owner_answered : State → ℕ → Table → List ℕ → Loaded → Tables → Effect → Effect
 owner_answered s row t image loaded tables active =
     with_verdict_of row image loaded.verdict t.validator (if is_success loaded.answer.status then active else load_answered s None loaded.answer tables)

@@ -4,7 +4,7 @@ use Rattle.std.specs.Option.{option_map_or}
 use Rattle.tbl_model.specs.Telemetry.{Question}
 use Rattle.tbl_kinds.specs.declared.entry.Answer.{Answer}
 
--- the table's function, where nothing refuses the load
+-- the table's function, if nothing refuses the load
 abbrev pub judge_of : Option Answer → Option ℕ → Option ℕ
 judge_of refusal validator = if is_some refusal then None else validator
 

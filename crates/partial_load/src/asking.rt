@@ -18,7 +18,7 @@ use table_files::TableFile;
 use tbl_kinds::{Answer, Memory};
 use tbl_registry::Tables;
 
-/// The function of the table of a row, where nothing refuses the load.
+/// The function of the table of a row, if nothing refuses the load.
 fn judge(tables: &Tables, row: u8, refusal: Option<Answer>) -> Option<u8>
     requires { IsSome (table_at tables.now row) }
     ensures { ForSome (table_at tables.now row) (λ t. result ≡ judge_of refusal t.validator) }

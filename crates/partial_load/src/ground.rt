@@ -20,7 +20,7 @@ use table_files::TableFile;
 use tbl_kinds::{Answer, Memory, Name64, Status};
 use tbl_registry::Tables;
 
-/// Writes bytes into the load of a table, which is opened where none is open. In place, where nobody else has the image.
+/// Writes bytes into the load of a table, which is opened if none is open. In place, if nobody else has the image.
 fn fill(
     alloc: Global,
     tables: &mut Tables,
@@ -60,16 +60,16 @@ pub fn load_into(
     if let Some(answer) = load_refusal(tables, row, parsed.offset, parsed.count) {
         return Ok(answer);
     }
-    // The name comes last: if memory runs out the table still tells the file of its last load.
+    // The name comes last: if memory runs out the table still has the file of its last load.
     fill(alloc, tables, row, parsed.offset, image)?;
     tables.set_file(row, file);
     Ok(Answer::plain(Status::SUCCESS))
 }
 
-/// Loads a file that the ground uplinked (cFE's `CFE_TBL_LOAD_CC`; cFE User's Guide, Table Services, "Loading tables"):
-/// its bytes go into the open load of its table, which opens with the last image, or with zeros, where none is open. The
-/// load isn't validated any more. `image` are the bytes of the file, `file` the name under which it was uplinked.
-/// `ERR_NO_BUFFER_AVAIL`: `Tables::in_use` tells which rows have the shared buffers. Out of memory: nothing was changed.
+/// Loads a file that the ground uplinked (cFE's `CFE_TBL_LOAD_CC`; cFE User's Guide, Table Services, "Loading tables"): its bytes go into
+/// the open load of its table, which opens with the last image, or with zeros, if none is open. The load isn't validated any more. `image`
+/// are the bytes of the file, `file` the name under which it was uplinked. `ERR_NO_BUFFER_AVAIL`: `Tables::in_use` says which rows have the
+/// shared buffers. Out of memory: nothing was changed.
 pub fn ground_load(
     alloc: Global,
     tables: &mut Tables,

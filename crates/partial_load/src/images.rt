@@ -82,7 +82,7 @@ fn admit<C: Validator>(tables: &mut Tables, kit: &mut Kit<C>, row: u8, image: Im
     Loaded { answer, verdict }
 }
 
-/// An image of bytes for the table of a row. Few are copied into memory that the table has already, and many stand once.
+/// An image of bytes for the table of a row. Few are copied into memory that the table has already, and many are kept once.
 fn new_image(
     alloc: Global,
     tables: &mut Tables,
@@ -110,11 +110,11 @@ fn refused(answer: Answer) -> Loaded
     }
 }
 
-/// An image of the whole table of a row, which its owner loads (`CFE_TBL_Load` from an address; cFE User's Guide, Table
-/// Services, "Loading tables"): where nothing refuses it and the table's validation function, if it has one, answers 0,
-/// it is active. The function is asked once, after all other tests. The time of the table's last update stays for the
-/// caller to set. `ERR_NO_BUFFER_AVAIL`: `Tables::in_use` tells which rows have the buffers; `ERR_VALIDATION_FAILED`: the
-/// detail is the verdict. Out of memory: nothing was changed, and nobody was asked.
+/// An image of the whole table of a row, which its owner loads (`CFE_TBL_Load` from an address; cFE User's Guide, Table Services, "Loading
+/// tables"): if nothing refuses it and the table's validation function, if it has one, answers 0, it is active. The function is asked once,
+/// after all other tests. The time of the table's last update stays for the caller to set. `ERR_NO_BUFFER_AVAIL`: `Tables::in_use` says
+/// which rows have the buffers; `ERR_VALIDATION_FAILED`: the detail is the verdict. Out of memory: nothing was changed, and nobody was
+/// asked.
 pub fn load_image<C: Validator>(
     alloc: Global,
     tables: &mut Tables,
@@ -142,12 +142,12 @@ pub fn load_image<C: Validator>(
     Ok(admit(tables, kit, row, image))
 }
 
-/// A file for the table of a row, or for a part of it, which its owner loads (`CFE_TBL_Load` from a file): its bytes over
-/// the last image, or over zeros. Where nothing refuses it and the table's validation function, if it has one, answers 0
-/// on the whole image that this makes, that image is active. The function is asked once, after all other tests. The time
-/// of the table's last update and the file of its last load stay for the caller to set. Call `closed_refusal` before.
-/// `image` are the bytes of the file. `ERR_NO_BUFFER_AVAIL`: `Tables::in_use` tells which rows have the buffers;
-/// `ERR_VALIDATION_FAILED`: the detail is the verdict. Out of memory: nothing was changed, and nobody was asked.
+/// A file for the table of a row, or for a part of it, which its owner loads (`CFE_TBL_Load` from a file): its bytes over the last image,
+/// or over zeros. If nothing refuses it and the table's validation function, if it has one, answers 0 on the whole image that this makes,
+/// that image is active. The function is asked once, after all other tests. The time of the table's last update and the file of its last
+/// load stay for the caller to set. Call `closed_refusal` before. `image` are the bytes of the file. `ERR_NO_BUFFER_AVAIL`:
+/// `Tables::in_use` says which rows have the buffers; `ERR_VALIDATION_FAILED`: the detail is the verdict. Out of memory: nothing was
+/// changed, and nobody was asked.
 pub fn load_part<C: Validator>(
     alloc: Global,
     tables: &mut Tables,

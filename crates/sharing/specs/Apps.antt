@@ -3,7 +3,7 @@ use Rattle.std.specs.Prelude.{◌≡◌, ℕ, ◌-◌, List, true, Option, IfSom
 use Rattle.std.specs.List.{All}
 use Rattle.tbl_kinds.specs.Names.{is_name}
 
--- the name under which application a runs: what stands at place a - 1, none where it doesn't run
+-- the name under which application a runs: what is at place a - 1, none if it doesn't run
 abbrev pub app_name : List (Option (List ℕ)) → ℕ → Option (List ℕ)
 app_name apps app = option_and_then (λ found. found) (slice_get apps (app - 1))
 

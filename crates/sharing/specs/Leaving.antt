@@ -1,4 +1,4 @@
--- What is left when an application goes.
+-- What is left when an application ends.
 use Rattle.std.specs.Prelude.{ℕ, List, Bool, Option}
 use Rattle.tbl_model.specs.State.{State, Tables}
 

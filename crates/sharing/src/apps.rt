@@ -12,7 +12,7 @@ use arrayvec::ArrayVec;
 use std::marker::Model;
 use tbl_kinds::{Name, Name16, Name20, Name40, Status};
 
-/// The names of the sixteen applications: the name of application a stands at place a - 1. Each of them is a name.
+/// The names of the sixteen applications: the name of application a is at place a - 1. Each of them is a name.
 #[derive(Drop)]
 pub struct Apps {
     names: [Option<Name20>; 16],
@@ -59,7 +59,7 @@ fn full_name(app: &Name20, short: &Name16) -> Name40
     Name::of(bytes.as_slice())
 }
 
-/// No name stands at a place any more, if there is such a place.
+/// No name is at a place any more, if there is such a place.
 fn free(names: &mut [Option<Name20>], place: usize)
     ensures { names.new ≡ slice_set names.old place None }
 {
@@ -83,8 +83,8 @@ impl Apps {
         }
     }
 
-    /// Starts an application under a name: `ERR_APP_RUNNING` where it runs already, `ERR_INVALID_NAME` where
-    /// that is no name or has a dot, since the first dot of a full name ends the application's name.
+    /// Starts an application under a name: `ERR_APP_RUNNING` if it runs already, `ERR_INVALID_NAME` if that is no name or has a dot, since
+    /// the first dot of a full name ends the application's name.
     pub fn start(&mut self, app: u8, name: &Name20) -> Status
         requires from { 1 ≤ app }
         requires to { app ≤ 16 }
@@ -122,7 +122,7 @@ pub fn plan_name(apps: &Apps, app: u8, short: &Name16) -> Option<Name40>
     ensures name { result ≡ option_map (λ name. full_name name short.now) (app_name apps.now app) }
     ensures within { IfSome result (λ name. length name ≤ 37) }
 
-    // Where the short name is a name, the full one is.
+    // If the short name is a name, the full one is.
     ensures named { is_name short.now ≡ true → IfSome result (λ name. is_name name ≡ true) }
 {
     Some(full_name(apps.name(app)?, short))

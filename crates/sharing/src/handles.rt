@@ -1,4 +1,4 @@
-//! Further handles on registered tables, and what their registration tells.
+//! Further handles on registered tables, what the registry says of a table, and notices of pending work.
 
 ghost use Rattle.std.specs.Prelude.{◌≡◌, ◌<◌, ◌-◌, IsSome, IfOk, IfErr};
 ghost use Rattle.std.specs.Option.{ForSome};
@@ -29,9 +29,9 @@ fn share_row(tables: &mut Tables, app: u8, row: u8) -> Answer
     }
 }
 
-/// Gives an application a further handle on the table of this full name (`CFE_TBL_Share`), whoever owns it: the least free
-/// one, which is the detail. It was told of no image. `ERR_BAD_APP`: the application doesn't run; `ERR_INVALID_NAME`: no
-/// table has this name; `ERR_HANDLES_FULL`: 256 handles are given.
+/// Gives an application a further handle on the table of this full name (`CFE_TBL_Share`), whoever owns it: the least free one, which is
+/// the detail. It knows of no image. `ERR_BAD_APP`: the application doesn't run; `ERR_INVALID_NAME`: no table has this name;
+/// `ERR_HANDLES_FULL`: 256 handles are given.
 #[tactic(auto, unfolding(tbl_model::specs::Sharing::share_effect))]
 pub fn share(tables: &mut Tables, apps: &Apps, app: u8, name: &Name40) -> Answer
     ensures { (s : State) → s.tables ≡ tables.old → s.apps ≡ apps.now → share_effect s app name.now ≡ answered_with s result tables.new }
@@ -63,17 +63,17 @@ pub fn row_of(tables: &Tables, apps: &Apps, app: u8, name: &Name40) -> Result<u8
     }
 }
 
-/// Whether a packet of this message id, with this function code, can tell an owner of pending work: the id is that of a
-/// command, 0x1800 to 0x1FFF, and the code has seven bits.
+/// Whether a packet of this message id, with this function code, can notify an owner of pending work: the id is that of a command, 0x1800
+/// to 0x1FFF, and the code has seven bits.
 fn is_notice(msg: u16, code: u16) -> bool
     ensures { result ≡ is_notice msg code }
 {
     0x1800 <= msg && msg <= 0x1FFF && code <= 127
 }
 
-/// From now on the owner of the table of a row is told of work that the ground asks for, by a command packet with this
-/// message id, function code and parameter (`CFE_TBL_NotifyByMessage`). `ERR_NOTICE_ID`: the id isn't one of a command,
-/// 0x1800 to 0x1FFF, or the code is above 127.
+/// From now on the owner of the table of a row is notified of work that the ground asks for, by a command packet with this message id,
+/// function code and parameter (`CFE_TBL_NotifyByMessage`). `ERR_NOTICE_ID`: the id isn't one of a command, 0x1800 to 0x1FFF, or the code
+/// is above 127.
 pub fn notify(tables: &mut Tables, row: u8, msg: u16, code: u16, parameter: u32) -> Answer
     requires { IsSome (table_at tables.old row) }
     ensures { (s : State) → s.tables ≡ tables.old → noticed_effect s row msg code parameter ≡ answered_with s result tables.new }

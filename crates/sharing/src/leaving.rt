@@ -16,7 +16,7 @@ use tbl_outside::Validator;
 use tbl_registry::Tables;
 use validation::{Kit, Pending};
 
-/// The table of a row goes, and the handle that registered it.
+/// The table of a row is removed, and the handle that registered it.
 fn take_away(tables: &mut Tables, handle: u16, row: u8)
     requires { registered_by tables.old handle ≡ Some row }
     ensures { tables.new ≡ without_handle handle (remove row tables.old) }
@@ -59,10 +59,9 @@ fn give_back(tables: &mut Tables, pending: &mut Pending, app: u8, handle: u16) -
     Status::SUCCESS
 }
 
-/// Takes a handle back (`CFE_TBL_Unregister`), which is free again; its pin ends. Where its table was registered with it,
-/// that table is gone, with its load and all that is pending for it, and every other handle on it leads to none.
-/// `ERR_BAD_APP`: the application doesn't run; `ERR_INVALID_HANDLE`: no such handle is given; `ERR_NO_ACCESS`: the handle
-/// is another application's.
+/// Takes a handle back (`CFE_TBL_Unregister`), which is free again; its pin ends. If its table was registered with it, that table is gone,
+/// with its load and all that is pending for it, and every other handle on it leads to none. `ERR_BAD_APP`: the application doesn't run;
+/// `ERR_INVALID_HANDLE`: no such handle is given; `ERR_NO_ACCESS`: the handle is another application's.
 #[tactic(auto, unfolding(tbl_model::specs::Sharing::unregister_effect))]
 pub fn unregister(
     tables: &mut Tables,

@@ -92,7 +92,7 @@ fn first_image(alloc: Global, size: u32, flags: &Options) -> Result<Option<Image
     Ok(Some(Image::zeros(alloc, size)?))
 }
 
-/// The answer where a table of this name is there, in this row.
+/// The answer if a table of this name is there, in this row.
 fn duplicate(tables: &Tables, row: u8, app: u8, size: u32) -> Answer
     ensures { result ≡ duplicate_answer app size (table_at tables.now row) }
 {
@@ -111,7 +111,7 @@ fn duplicate(tables: &Tables, row: u8, app: u8, size: u32) -> Answer
     }
 }
 
-/// The answer where a table of this name is there.
+/// The answer if a table of this name is there.
 fn name_refusal(tables: &Tables, app: u8, size: u32, name: &Name40) -> Option<Answer>
     ensures { result ≡ name_refusal tables.now app size name.now }
 {
@@ -152,7 +152,7 @@ pub fn plan_table<C: Validator>(
         → register_effect s app short.now size flags validator note ≡ new_effect s (next_row tables.now) (planned tables.now app plan) note) }
     ensures err { IfErr result (λ answer. (s : State) (note : BankNote) → s.tables ≡ tables.now → s.kit ≡ owners kit.now → s.apps ≡ apps.now
         → register_effect s app short.now size flags validator note ≡ answered s answer.status answer.detail) }
-    // No refusal tells of trouble with the bank.
+    // No refusal reports trouble with the bank.
     ensures harmless { IfErr result (λ answer. tells_trouble answer.status ≡ false) }
 {
     let Some(name) = plan_name(apps, app, short) else {
@@ -161,7 +161,7 @@ pub fn plan_table<C: Validator>(
     if let Some(answer) = plan_refusal(kit, app, short, size, flags, validator) {
         return Err(answer);
     }
-    // An application that registers its table again gets its handle even where the registry is full.
+    // An application that registers its table again gets its handle even if the registry is full.
     if let Some(answer) = name_refusal(tables, app, size, &name) {
         return Err(answer);
     }

@@ -1,4 +1,4 @@
--- What a call is answered, as the effect that it stands for.
+-- The answer to a call, as the effect that it represents.
 use Rattle.std.specs.Prelude.{ℕ, ◌+◌, ◌==◌, List, [], ◌∷◌, ◌++◌, length, Bool, not, ◌&&◌, if◌then◌else◌, Option, Some, None, is_some}
 use Rattle.std.proofs.Common.{ℤ}
 use Rattle.tbl_model.specs.State.{State, Table, Tables}
@@ -21,7 +21,7 @@ use Rattle.table_update.specs.declared.validations.Requested.{Requested}
 use Rattle.table_update.specs.declared.validations.Requested.TheVariants.{Refused, Pending, Finished}
 use Rattle.table_update.specs.declared.validations.Validated.{Validated}
 
--- what telemetry tells of a judgement on an image of the table in this row
+-- what telemetry reports of a judgement on an image of the table in this row
 abbrev pub judgement_event : ℕ → Table → Judgement → TelemetryEvent
 judgement_event row t j = Event_finished row j.active j.check j.verdict t.name
 
@@ -33,7 +33,7 @@ leaving s tables pending effect = record effect { next = record s { tables = tab
 abbrev pub with_judgement : ℕ → Table → Judgement → Effect → Effect
 with_judgement row t j effect = record effect { events = judgement_event row t j ∷ []; images = Some (judged_image t j.active) ∷ [] }
 
--- what is missing for a validation of this image of a table, where something is
+-- what is missing for a validation of this image of a table, if something is
 abbrev pub missing_refusal : Table → Bool → Option Answer
 missing_refusal t active =
     if active && (t.count == 0) then refusal ERR_NEVER_LOADED
@@ -99,7 +99,7 @@ abbrev pub marked_by : ℕ → Bool → Option Judgement → Tables → Tables
 marked_by row active None tables = tables
 marked_by row active (Some j) tables = marked row active j.verdict tables
 
--- these tables and pending validations stand now
+-- these are the tables and pending validations now
 abbrev pub with_tables : Tables → List (ℕ × Bool) → Done → Done
 with_tables tables pending d = record d { state = record d.state { tables = tables; pending = pending } }
 
@@ -121,8 +121,7 @@ answer_by (Some answer) = if answer.status.0 == INFO_TABLE_LOCKED.0 then answer 
 abbrev pub is_updated : Answer → Bool
 is_updated answer = answer.status.0 == INFO_UPDATED.0
 
--- what an owner is answered that has all done that is pending for the table in this row. Where the update was made, the
--- tables lack its time
+-- the answer to an owner that has all done that is pending for the table in this row. If the update was made, the tables lack its time
 abbrev pub managed : State → ℕ → Table → Managed → Tables → List (ℕ × Bool) → Effect
 managed s row t done tables pending =
     let made = is_updated done.answer in

@@ -25,7 +25,7 @@ pub struct Judgement {
     pub active: bool,
     /// The check word of the image that was judged.
     pub check: u16,
-    /// 0 where the image may go active, and else a number of the application's own.
+    /// 0 if the image may go active, and else a number of the application's own.
     pub verdict: i32,
 }
 

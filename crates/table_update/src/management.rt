@@ -32,7 +32,7 @@ pub struct Managed {
     pub second: Option<Judgement>,
 }
 
-/// The validation of this image is done, where it is pending.
+/// The validation of this image is done, if it is pending.
 fn validate_pending<C: Validator>(
     tables: &mut Tables,
     kit: &mut Kit<C>,

@@ -42,8 +42,8 @@ fn activation_refusal(tables: &Tables, pending: &Pending, row: u8) -> Option<Ans
     None
 }
 
-/// The ground asks that the open load of the table of a row goes active (`CFE_TBL_ACTIVATE_CC`; cFE User's Guide, Table
-/// Services, "Activating tables"). It does once the owner updates the table, which is to be told.
+/// The ground asks that the open load of the table of a row goes active (`CFE_TBL_ACTIVATE_CC`; cFE User's Guide, Table Services,
+/// "Activating tables"). It does once the owner, who is to be notified, updates the table.
 pub fn request_activation(tables: &mut Tables, pending: &Pending, row: u8) -> Answer
     requires table { IsSome (table_at tables.old row) }
     requires pending { ArePending tables.old pending.now }

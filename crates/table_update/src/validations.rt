@@ -28,7 +28,7 @@ use validation::{Kit, PendFault, Pending};
 pub enum Requested {
     /// It isn't pending.
     Refused(Answer),
-    /// It is pending, and the owner is to be told.
+    /// It is pending, and the owner is to be notified.
     Pending,
     /// The table has no validation function, and so the image is a good one.
     Finished(Judgement),
@@ -39,11 +39,11 @@ pub enum Requested {
 #[must_use]
 pub struct Validated {
     pub answer: Answer,
-    /// None where none was pending.
+    /// None if none was pending.
     pub judgement: Option<Judgement>,
 }
 
-/// What is missing for a validation of this image of the table of a row, where something is.
+/// What is missing for a validation of this image of the table of a row, if something is.
 fn missing(tables: &Tables, row: u8, active: bool) -> Option<Answer>
     requires { IsSome (table_at tables.now row) }
     ensures { ForSome (table_at tables.now row) (λ t. result ≡ missing_refusal t active) }

@@ -1,4 +1,4 @@
--- Who has which of the shared buffers: a list of places, each none where the buffer is free.
+-- Who has which of the shared buffers: a list of places, each none if the buffer is free.
 use Rattle.std.specs.Prelude.{◌≡◌, ℕ, List, length, Option, Some, None, slice_set, slice_index_or}
 use Rattle.std.specs.Option.{option_map}
 use Rattle.std.specs.List.{refill}
@@ -8,7 +8,7 @@ pub record LentBuffer : Type 0 where
   pub row : ℕ
   pub bytes : List ℕ
 
--- what stands at a place: nothing past the end
+-- what is at a place: nothing past the end
 abbrev pub at_place : List (Option LentBuffer) → ℕ → Option LentBuffer
 at_place places n = slice_index_or places n None
 
