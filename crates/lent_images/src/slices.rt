@@ -7,8 +7,8 @@ use std::alloc::Global;
 use tbl_kinds::{Bytes, INLINE_LIMIT, Memory};
 use tbl_registry::Pin;
 
-/// The bytes that a Read asks for, of the image: so many from an offset on; None if they don't lie inside it. An Err means that memory
-/// ran out. If they are the whole image and more than stand in a value itself, they aren't copied: they have the memory of the image.
+/// The bytes that a Read asks for, of the image: so many from an offset on; None if they don't lie inside it. An Err means that memory ran
+/// out. If they are the whole image and more than a value itself can hold, they aren't copied: they have the memory of the image.
 #[tactic(auto, using(crate::proofs::WholeImages::whole_image))]
 pub fn slice_of(alloc: Global, pin: &Pin, offset: u32, len: u32) -> Result<Option<Bytes>, Memory>
     ensures slice { IfOk result (λ taken. IfSome taken (λ slice. slice.list ≡ piece offset len pin.now.bytes)) }

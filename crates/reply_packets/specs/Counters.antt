@@ -1,4 +1,4 @@
--- What the running numbers stand for, and how they go on as packets are put.
+-- What the running numbers represent, and how they go on as packets are put.
 use Rattle.std.specs.Prelude.{ℕ, ◌+◌, ◌%◌, List, [], ◌&&◌, length, count_by, not, if◌then◌else◌, Bool, Option, None, Some, unwrap_or, is_some, Result}
 use Rattle.std.specs.Option.{option_map}
 use Rattle.tbl_kinds.specs.Statuses.{is_success}
@@ -67,7 +67,7 @@ sent_notice notice c = record c { notices = (c.notices + bit (is_some notice)) %
 abbrev pub latest_update : ℕ → ℕ → Option (List ℕ) → Option Update
 latest_update seconds sub updated = option_map (λ name. record { seconds = seconds; sub = sub; name = name }) updated
 
--- one that is told at this time
+-- one that is reported at this time
 abbrev pub counted_event : ℕ → ℕ → TelemetryEvent → Counts → Counts
 counted_event seconds sub (Finished row active check verdict name) c = record c {
   finished = (c.finished + 1) % 65536;

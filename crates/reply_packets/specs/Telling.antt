@@ -1,4 +1,4 @@
--- How a request is told: its packets, and what it adds to the running numbers.
+-- How a request is reported: its packets, and what it adds to the running numbers.
 use Rattle.std.specs.Prelude.{◌≡◌, ℕ, List}
 use Rattle.tbl_model.specs.Counts.{Told, Counts}
 use Rattle.tbl_model.specs.CountsAfter.{tally_of, counts_after}

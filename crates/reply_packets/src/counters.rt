@@ -62,7 +62,7 @@ fn after(known: u16) -> u16
     (known + 1) % SEQUENCE_COUNTS
 }
 
-/// A counter of commands: 0 where it was cleared, else one more where it counts this one.
+/// A counter of commands: 0 if it was cleared, else one more if it counts this one.
 fn counted(known: u8, is_cleared: bool, counts: bool) -> u8
     ensures { result ≡ (if is_cleared then 0 else (known + bit counts) % 256) }
 {
@@ -157,7 +157,7 @@ impl Counters {
         }
     }
 
-    /// The service began anew: nothing is counted any more, and nothing is the latest.
+    /// The service began again: nothing is counted any more, and nothing is the latest.
     pub fn begin_anew(&mut self)
         ensures { (t : Told) → restarts t ≡ true → counts_view self.new ≡ counts_after (counts_view self.old) (tally_of t) }
     {
@@ -219,7 +219,7 @@ impl Counters {
         self.bad = if clears { 0 } else { self.bad };
     }
 
-    /// Counts what an event tells.
+    /// Counts what an event reports.
     pub(crate) fn count_event(&mut self, clock: Clock, event: &TelemetryEvent)
         ensures { counts_view self.new ≡ counted_event clock.seconds clock.sub event.now (counts_view self.old) }
     {

@@ -93,7 +93,7 @@ fn sent_event(event: &TelemetryEvent) -> Event
     }
 }
 
-/// The function code of a command, which event 1 tells.
+/// The function code of a command, which event 1 has.
 fn command_code(command: &ReadCommand) -> u8
     ensures { result ≡ command_code (Some (read_of command.now)) }
 {
@@ -103,7 +103,7 @@ fn command_code(command: &ReadCommand) -> u8
     }
 }
 
-/// The event of a command itself: 1 where it was accepted, 2 where it was refused.
+/// The event of a command itself: 1 if it was accepted, 2 if it was refused.
 fn command_event(command: &ReadCommand, answer: Answer, table: Option<&Named>) -> Event
     ensures { (is_success answer.status && asks_housekeeping (Some (read_of command.now))) ≡ false
         → answered_events (read_of command.now) answer (option_copied table.entry) ≡ result ∷ [] }

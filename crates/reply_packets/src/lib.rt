@@ -1,5 +1,5 @@
-//! The packets of a reply and the running numbers that they tell: the layer above may rely on it that both are those that the
-//! model has for the request and its effect.
+//! The packets of a reply and the running numbers in them. The layer above may rely on this: both are those that the model has for the
+//! request and its effect.
 #![tactic(auto)]
 
 mod counters;

@@ -1,4 +1,4 @@
-//! What a request did is told by its packets, and counted as they are put.
+//! What a request did is reported by its packets, and counted as they are put.
 
 ghost use Rattle.std.specs.Prelude.{◌≡◌, ◌==◌, ◌&&◌, ℕ, List, ◌≤◌, [], length, Some, None, is_some, IfSome, false, if◌then◌else◌};
 ghost use Rattle.tbl_kinds.specs.Statuses.{is_success};
@@ -56,7 +56,7 @@ fn count_called(counters: &mut Counters, request: &Request, status: Status, tabl
     }
 }
 
-/// Tells what a command did that was read so and answered so, and counts it.
+/// Reports what a command did that was read so and answered so, and counts it.
 fn report_command(
     packets: &mut Bytes,
     clock: Clock,
@@ -70,7 +70,7 @@ fn report_command(
     requires few { length report.now.events ≤ 8 }
     requires code { IfSome report.now.notice HasCode }
     requires room { HasRoom 24 packets.old (told_effect answer [] report.now) }
-    // Telemetry tells neither the reply's bytes nor the note.
+    // Telemetry reports neither the reply's bytes nor the note.
     ensures tells { (request : Asked) → read_command_in request ≡ Some (read_of command.now) → (bytes : List ℕ) (note : BankNote)
         → Tells (counts_view counters.old) (counts_view counters.new)
         (told_at clock.seconds clock.sub tables.now request (reported_effect answer bytes report.now note)) packets.new.list }
@@ -84,7 +84,7 @@ fn report_command(
     put_notice(packets, counters, report.notice());
 }
 
-/// Tells what a call did that was answered so, and counts it.
+/// Reports what a call did that was answered so, and counts it.
 fn report_call(
     packets: &mut Bytes,
     clock: Clock,
@@ -111,8 +111,8 @@ fn report_call(
     put_notice(packets, counters, report.notice());
 }
 
-/// Tells what a command did that was read so and answered so, and counts it. A stop inside it isn't told: nothing was sent
-/// then, and the service began anew.
+/// Reports what a command did that was read so and answered so, and counts it. A stop inside it isn't reported: nothing was sent then, and
+/// the service began again.
 pub fn tell_command(
     packets: &mut Bytes,
     clock: Clock,
@@ -125,7 +125,7 @@ pub fn tell_command(
     requires few { length report.now.events ≤ 8 }
     requires code { IfSome report.now.notice HasCode }
     requires room { HasRoom 24 packets.old (told_effect answer [] report.now) }
-    // Telemetry tells neither the reply's bytes nor the note.
+    // Telemetry reports neither the reply's bytes nor the note.
     ensures tells { (request : Asked) → read_command_in request ≡ Some (read_of command.now) → (bytes : List ℕ) (note : BankNote)
         → Tells (counts_view counters.old) (counts_view counters.new)
         (told_at clock.seconds clock.sub tables.now request (reported_effect answer bytes report.now note)) packets.new.list }
@@ -138,8 +138,8 @@ pub fn tell_command(
     report_command(packets, clock, counters, tables, command, answer, report);
 }
 
-/// Tells what a call did that was answered so, and counts it. A stop inside it isn't told: nothing was sent then,
-/// and the service began anew.
+/// Reports what a call did that was answered so, and counts it. A stop inside it isn't reported: nothing was sent then, and the service
+/// began again.
 pub fn tell_call(
     packets: &mut Bytes,
     clock: Clock,

@@ -1,4 +1,4 @@
--- The effect of a request as the code has it, and what it stands for.
+-- The effect of a request as the code has it, and what it represents.
 use Rattle.std.specs.Prelude.{◌≡◌, ℕ, ◌+◌, ◌*◌, ◌≤◌, List, [], ◌∷◌, ◌++◌, length, map, Option, None, Some, IfSome}
 use Rattle.std.proofs.Common.{ℤ}
 use Rattle.tbl_kinds.specs.Admitted.{all_admitted}
@@ -27,7 +27,7 @@ use Rattle.request_effects.specs.Reports.{Reported, nothing_reported}
 
 -- ---- what a request did
 
--- once it is done: its answer and the reply's bytes, what is told of it, and how its calls of the store went
+-- once it is done: its answer and the reply's bytes, what is reported of it, and how its calls of the store went
 pub record Effect : Type 0 where
   pub answer : Answer
   pub bytes : List ℕ
@@ -50,7 +50,7 @@ reported_effect answer bytes report note = record {
   verdicts = report.verdicts;
 }
 
--- nothing is told but the answer
+-- only the answer is reported
 abbrev pub noted_effect : Answer → List ℕ → BankNote → Effect
 noted_effect answer bytes note = reported_effect answer bytes nothing_reported note
 
@@ -61,7 +61,7 @@ quiet_effect answer bytes = noted_effect answer bytes untouched
 abbrev pub told_effect : Answer → List ℕ → Reported → Effect
 told_effect answer bytes report = reported_effect answer bytes report untouched
 
--- ---- what it stands for
+-- ---- what it represents
 
 -- it is this effect, which asks validation functions these questions, calls nothing of the store, and leaves this state
 pub record IsEffect (done : Effect) (asks : List Question) (after : State) (e : model.Effect) : Type 0 where
@@ -80,7 +80,7 @@ pub record IsEffect (done : Effect) (asks : List Question) (after : State) (e : 
 abbrev pub IsEffectAsking : Effect → State → model.Effect → Type 0
 IsEffectAsking done after e = IsEffect done e.questions after e
 
--- the effect as it is told, which doesn't tell the calls of the store
+-- the effect as it is reported, which is without the calls of the store
 abbrev pub uncalled : model.Effect → model.Effect
 uncalled e = record e { calls = [] }
 
@@ -88,9 +88,9 @@ uncalled e = record e { calls = [] }
 abbrev pub given_of : Effect → Given
 given_of done = record { note = done.note; verdicts = done.verdicts }
 
--- ---- what is told of it
+-- ---- what is reported of it
 
--- the same without images, questions and calls, which telemetry doesn't tell
+-- the same without images, questions and calls, which telemetry doesn't report
 abbrev pub without_images : Effect → State → model.Effect
 without_images done next = record {
   status = done.answer.status;
@@ -106,11 +106,11 @@ without_images done next = record {
   next = next;
 }
 
--- a state of which telemetry tells the same: it has the time and the tables
+-- a state of which telemetry reports the same: it has the time and the tables
 abbrev pub seen_at : ℕ → ℕ → Tables → State
 seen_at seconds sub tables = record (first_state [] [] all_admitted) { tables = tables; seconds = seconds; sub = sub }
 
--- what telemetry tells of a request with this effect, at this time, which leaves these tables
+-- what telemetry reports of a request with this effect, at this time, which leaves these tables
 abbrev pub told_at : ℕ → ℕ → Tables → Request → Effect → Told
 told_at seconds sub tables request done = told (seen_at seconds sub tables) Ground request (without_images done (seen_at seconds sub tables))
 
@@ -125,7 +125,7 @@ abbrev pub listed : Option Event → List Event
 listed None = []
 listed (Some event) = event ∷ []
 
--- ---- how much it tells
+-- ---- how much it reports
 
 -- the length of the packet after the events
 abbrev pub shown_len : Shown → ℕ
@@ -138,7 +138,7 @@ abbrev pub notice_len : Option Notice → ℕ
 notice_len None = 0
 notice_len (Some notice) = 12
 
--- no packet is there yet, and there is room for those that tell the effect, and for so many bytes more
+-- no packet is there yet, and there is room for those that report the effect, and for so many bytes more
 pub record HasRoom (more : ℕ) (packets : Buffer) (done : Effect) : Type 0 where
   pub none : packets.list ≡ []
   pub room : more + 24 * length done.events + shown_len done.shown + notice_len done.notice ≤ packets.spare
@@ -153,7 +153,7 @@ pub record IsWithin (most : ℕ) (done : Effect) : Type 0 where
   pub notice : IfSome done.notice HasCode
   pub bytes : length done.bytes ≤ reply_limit
 
--- it answers, with a reply that is not too long, and no more is told of it than the table that it names
+-- it answers, with a reply that is not too long, and only the table that it names is reported besides
 pub record IsQuiet (done : Effect) : Type 0 where
   pub events : done.events ≡ []
   pub shown : done.shown ≡ Nothing

@@ -1,4 +1,4 @@
--- What telemetry tells of a request.
+-- What telemetry reports of a request.
 use Rattle.std.specs.Prelude.{ℕ, List, [], ◌∷◌, Option, None}
 use Rattle.std.proofs.Common.{ℤ}
 use Rattle.tbl_model.specs.declared.telemetry.Named.{Named}
@@ -7,7 +7,7 @@ use Rattle.tbl_model.specs.declared.telemetry.Shown.{Shown}
 use Rattle.tbl_model.specs.declared.telemetry.Shown.TheVariants.{Nothing}
 use Rattle.tbl_model.specs.declared.telemetry.TelemetryEvent.{TelemetryEvent}
 
--- the table that a command names or a load fills, what was done, the packet after the events, the packet that tells an application of
+-- the table that a command names or a load fills, what was done, the packet after the events, the packet that notifies an application of
 -- pending work, and what validation functions answered
 pub record Reported : Type 0 where
   pub table : Option Named
@@ -19,6 +19,6 @@ pub record Reported : Type 0 where
 abbrev pub nothing_reported : Reported
 nothing_reported = record { table = None; events = []; shown = Nothing; notice = None; verdicts = None ∷ None ∷ [] }
 
--- no request has more events, beside a command's own
+-- no request has more events, besides a command's own
 abbrev pub most_events : ℕ
 most_events = 8

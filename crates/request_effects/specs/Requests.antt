@@ -1,4 +1,4 @@
--- What a request asks, as far as telemetry looks at it.
+-- What a request asks, for what telemetry reports of it.
 use Rattle.std.specs.Prelude.{ℕ, Bool, true, false, Option, Some, None, Result, Ok, Err}
 use Rattle.std.specs.Option.{option_map}
 use Rattle.tbl_kinds.specs.GroundCommands.{GroundCommand, delete_cds}
@@ -23,7 +23,7 @@ abbrev pub asks_delete : model.ReadCommand → Bool
 asks_delete (Some (Ok (delete_cds table))) = true
 asks_delete _ = false
 
--- the handle of a call that the owner of its table alone may make
+-- the handle of a call that only the owner of its table may make
 abbrev pub owners_handle : Request → Option ℕ
 owners_handle (ask.LoadImage handle image) = Some handle
 owners_handle (ask.LoadFile handle name) = Some handle
@@ -35,7 +35,7 @@ owners_handle (ask.Edit handle offset bytes) = Some handle
 owners_handle (ask.Notify handle msg code parameter) = Some handle
 owners_handle _ = None
 
--- a request by which an image of the table can go active
+-- a request that can make an image of the table active
 abbrev pub activates : Request → Bool
 activates (ask.LoadImage handle image) = true
 activates (ask.LoadFile handle name) = true

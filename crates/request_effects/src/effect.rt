@@ -6,7 +6,7 @@ ghost use Rattle.request_effects.specs.Effects.{quiet_effect};
 use std::marker::Model;
 use tbl_kinds::{Answer, Bytes, Note};
 
-/// What a request did that calls the store, once it is done. No packet tells of it.
+/// What a request did that calls the store, once it is done. No packet reports it.
 #[derive(Drop)]
 pub struct Effect {
     pub answer: Answer,

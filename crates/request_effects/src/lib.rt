@@ -1,5 +1,5 @@
-//! What a command was read as, and what a request did, as values: the layer above may rely on it that an effect stands for the
-//! model's in every field that telemetry tells, and says beside them what came from the outside.
+//! What a command was read as, and what a request did, as values. The layer above may rely on this: an effect represents the model's in
+//! every field that telemetry reports, and also says what came from the outside.
 #![tactic(auto)]
 
 mod clock;

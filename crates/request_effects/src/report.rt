@@ -1,4 +1,4 @@
-//! What telemetry tells of a request.
+//! What telemetry reports of a request.
 
 ghost use Rattle.std.specs.Prelude.{◌≡◌, ◌<◌, ◌++◌, [], ◌∷◌, length, None, Some, IfOk};
 ghost use Rattle.std.specs.Option.{option_copied};
@@ -9,11 +9,11 @@ use std::marker::Model;
 use tbl_kinds::Memory;
 use tbl_model::{Named, Notice, Shown, TelemetryEvent};
 
-/// The most events of a request, beside a command's own.
+/// The most events of a request, besides a command's own.
 const EVENT_LIMIT: usize = 8;
 
-/// What telemetry tells of a request. Its memory is taken once and used again by each request, so that telling what was done
-/// can't run out of memory once it is done.
+/// What telemetry reports of a request. Its memory is taken once and used again by each request, so that reporting what was done can't run
+/// out of memory once it is done.
 #[derive(Drop)]
 pub struct Report {
     table: Option<Named>,
@@ -35,7 +35,7 @@ impl Model for Report {
 }
 
 impl Report {
-    /// Nothing is told yet.
+    /// Nothing is reported yet.
     pub fn make(alloc: Global) -> Result<Report, Memory>
         ensures { IfOk result (λ report. report ≡ nothing_reported) }
     {
@@ -48,7 +48,7 @@ impl Report {
         })
     }
 
-    /// Nothing is told any more. The memory stays.
+    /// Nothing is reported any more. The memory stays.
     pub fn clear(&mut self)
         ensures { self.new ≡ nothing_reported }
     {
@@ -80,7 +80,7 @@ impl Report {
         self.shown
     }
 
-    /// The command packet that tells an application of pending work.
+    /// The command packet that notifies an application of pending work.
     pub fn notice(&self) -> Option<Notice>
         ensures { result ≡ self.now.notice }
     {
@@ -116,7 +116,7 @@ impl Report {
         self.shown = shown;
     }
 
-    /// The owner of a table is told of pending work by this packet, if it is to be told.
+    /// The owner of a table is notified of pending work by this packet, if it is to be notified.
     pub fn notify(&mut self, notice: Option<Notice>)
         ensures { self.new ≡ record self.old { notice = notice } }
     {
@@ -130,7 +130,7 @@ impl Report {
         self.verdicts = verdicts;
     }
 
-    /// The processor was reset before it could tell anything but what was done.
+    /// The processor was reset before it could report more than what was done.
     pub fn cut_off(&mut self)
         ensures { self.new ≡ record self.old { table = None; shown = Shown.Nothing; notice = None } }
     {

@@ -1,4 +1,4 @@
-//! What a command asks, as far as telemetry looks at it.
+//! What a command asks, for what telemetry reports of it.
 
 ghost use Rattle.std.specs.Prelude.{◌≡◌};
 ghost use Rattle.tbl_kinds.specs.GroundCommands.{code_of, command_in};
@@ -18,7 +18,7 @@ pub fn read(packet: &[u8], command: &mut ReadCommand)
     read_command(packet, command);
 }
 
-/// The function code of a command, which event 1 tells; 0 of a housekeeping request.
+/// The function code of a command, which event 1 has; 0 for a housekeeping request.
 pub fn code_of(command: &Ground) -> u8
     ensures { result ≡ code_of (command_of command.now) }
 {

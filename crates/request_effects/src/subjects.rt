@@ -25,7 +25,7 @@ pub fn subject(tables: &Tables, name: &Name40) -> Option<Named>
     })
 }
 
-/// The command packet that tells the owner of the table of a row of pending work.
+/// The command packet that notifies the owner of the table of a row of pending work.
 pub fn notice(tables: &Tables, row: u8) -> Option<Notice>
     requires { IsSome (table_at tables.now row) }
     ensures { ForSome (table_at tables.now row) (λ t. result ≡ t.notice) }

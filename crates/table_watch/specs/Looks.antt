@@ -22,7 +22,7 @@ next_look looks place name word = record { place = place; name = name; word = wo
 abbrev pub looked : List Look → ℕ → List ℕ → ℕ → List Look
 looked looks place name word = looks ++ next_look looks place name word ∷ []
 
--- what is seen of a check word beside the one before
+-- what is seen of a check word compared with the one before
 abbrev pub seen_after : Option ℕ → ℕ → Seen
 seen_after None word = First
 seen_after (Some old) word = if old == word then Same word else Changed old word

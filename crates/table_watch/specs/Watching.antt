@@ -50,8 +50,8 @@ watch_on w entries = fold watch_entry w entries
 abbrev pub unwatched : State → Watched
 unwatched opening = record { looks = []; place = 0; run = begins_at opening }
 
--- the looks of a whole history: one for each call by which the watcher got an address, in order, with the place of that entry, the full
--- name of the table and the check word of the image that the handle pins from then on
+-- the looks of a whole history: one for each call that gave the watcher an address, in order, with the place of that entry, the full name
+-- of the table and the check word of the image that the handle pins from then on
 abbrev pub watched_by : State → List Entry → List Look
 watched_by opening entries = (watch_on (unwatched opening) entries).looks
 
@@ -62,7 +62,7 @@ abbrev pub place_by : ℕ → Option ℕ → List ℕ
 place_by place None = []
 place_by place (Some handle) = place ∷ []
 
--- the places of these entries, of which the first has this one, at which the watcher got an address
+-- the places of these entries, where the first has this one, at which the watcher got an address
 abbrev pub places_from : ℕ → List Entry → List ℕ
 places_from place [] = []
 places_from place (e ∷ entries) = place_by place (handle_watched e) ++ places_from (place + 1) entries
@@ -70,8 +70,8 @@ places_from place (e ∷ entries) = place_by place (handle_watched e) ++ places_
 abbrev pub places_of : List Look → List ℕ
 places_of looks = map (λ (look : Look). look.place) looks
 
--- These are the looks of a history. There is one for each call by which the watcher got an address, in order, with the place of its entry;
--- and where the bank tells its bytes, each one has the name and the check word of its image.
+-- These are the looks of a history. There is one for each call that gave the watcher an address, in order, with the place of its entry. If
+-- the bank shows its bytes, each one has the name and the check word of its image.
 pub record AreLooksOf (tells : Type 0) (opening : State) (entries : List Entry) (looks : List Look) : Type 0 where
   pub places : places_of looks ≡ places_from 0 entries
   pub seen : tells → looks ≡ watched_by opening entries

@@ -13,7 +13,7 @@ use std::marker::Model;
 use tbl_kinds::{Bytes, Memory, Name40};
 use tbl_registry::Pin;
 
-/// What a look saw of an image's check word, beside that of the latest look before at a table of the same full name.
+/// What a look saw of an image's check word, compared with that of the latest look before at a table of the same full name.
 #[derive(Clone, Copy, Debug, PartialEq, Eq)]
 pub enum Seen {
     /// No table of that name was looked at before.
@@ -63,7 +63,7 @@ impl Model for Watch {
     ghost invariant = { λ w. (name : List ℕ) → get bytes_eq w.words name ≡ latest_word w.looks.items name };
 }
 
-/// What is seen of a check word beside the one before.
+/// What is seen of a check word compared with the one before.
 fn seen_after(before: Option<u16>, word: u16) -> Seen
     ensures { result ≡ seen_after before word }
 {
@@ -96,7 +96,7 @@ impl Watch {
         self.note(pin.place(), pin.name(), check16(pin.bytes()))
     }
 
-    /// Notes a check word, and tells what was seen. An Err is out of memory.
+    /// Notes a check word, and answers what was seen. An Err is out of memory.
     fn note(&mut self, place: u64, name: &Name40, word: u16) -> Result<Seen, Memory>
         ensures look { OnOk result (self.new ≡ looked self.old place name.now word) }
         ensures seen { IfOk result (λ seen. seen ≡ seen_after (latest_word self.old name.now) word) }

@@ -6,8 +6,8 @@ use Rattle.tbl_outside.specs.declared.bank.Bank.{Ghosts}
 use Rattle.tbl_session.specs.Moments.{AtSomePlace, AtExit, AllGaveLeft}
 use Rattle.tbl_core.specs.Service.{CoreView, FollowsFrom}
 
--- of a core that began with this bank: since then a reset left the blocks of a place of its history, at its last moment those of the
--- last one, and what a restore gave stood in an image that one left
+-- of a core that began with this bank: since then a reset left the blocks of a place of its history, at its last moment those of the last
+-- one, and what a restore gave was in an image that a reset left
 pub record Survives {B C : Type 0} (g : Ghosts B) (opening : State) (bank : B) (core : CoreView B C) : Type 0 where
   pub stands : FollowsFrom g opening core
   pub moments : g.tells_moments → LeavesOnly g.clock g.left_since bank core.state.store.bank (AtSomePlace opening core.entries)

@@ -5,8 +5,8 @@ use Rattle.tbl_session.specs.Trouble.{Rises, HaveCauses}
 use Rattle.tbl_core.specs.Service.{CoreView}
 use Rattle.tbl_kinds.specs.declared.entry.Entry.{Entry}
 
--- of a core that began with this bank: the counts didn't fall, they rose by what the entries tell at least, each answer that tells of
--- trouble has its cause, and the service has ended where the last entry tells it
+-- of a core that began with this bank: the counts didn't fall, they rose by at least what the entries say, each answer that reports trouble
+-- has its cause, and the service has ended if the last entry says so
 pub record IsCaused {B C : Type 0} (g : Ghosts B) (bank : B) (core : CoreView B C) : Type 0 where
   pub fault_up : g.faults bank ≤ g.faults core.state.store.bank
   pub stop_up : g.stops bank ≤ g.stops core.state.store.bank

@@ -17,7 +17,7 @@ use tbl_outside::{Back, Bank, KitEntry, Validator};
 use validation::Kit;
 
 /// A service at its start, with an empty history, these validation functions, and these lists of spacecraft and processors from
-/// which table files may come; or the bank again, where its boot fails or is stopped, or where memory runs out. `serves` says what
+/// which table files may come. An error gives the bank back, if its boot fails or is stopped, or if memory runs out. `serves` says what
 /// the service keeps to from then on, whoever plays its requests: `Core::step`, a crew, or a program's own threads.
 pub fn start<B: Bank, C: Validator>(
     alloc: Global,
